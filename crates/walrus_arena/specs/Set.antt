@@ -1,0 +1,81 @@
+-- What a contract sees of a set: an arena, and a finite map from values to ids.
+use Rattle.std.specs.Prelude.{◌≡◌, ℕ, map, List, [], ◌∷◌, ◌++◌, length, Bool, true, false, ◌&&◌, ◌==◌, if◌then◌else◌, Option, Some, None, option_and_then, refl}
+use Rattle.std.specs.Option.{option_eq}
+use Rattle.std.specs.List.{zip}
+use Rattle.std.specs.Coded.{Coded, code_by, coded×, coded_ℕ, coded_list, coded_option}
+use Rattle.std.specs.Map.{lookup, update_all}
+use Rattle.walrus_arena.specs.Arena.{Slots, get, with_value, without, range}
+
+-- the slots, and the entries of the map, whose order means nothing: `mapped` reads them
+pub record Set (T : Type 0) : Type 0 where
+  pub slots : Slots T
+  pub entries : List (T × ℕ)
+
+-- a set is stored as the pair of its parts
+abbrev pub set_code : {T : Type 0} → Coded T → Coded (Set T)
+set_code {T} code =
+    code_by
+    (List (Option T) × List (T × ℕ))
+    (coded× (coded_list (coded_option code)) (coded_list (coded× code coded_ℕ)))
+    (λ s. (s.slots, s.entries))
+    (λ p. record { slots = p.0; entries = p.1 })
+    (λ _. refl)
+
+-- a clone is equal to its source
+abbrev pub ClonesAreEqual : {T : Type 0} → (T → T → Type 0) → (T → T → Bool) → Type 0
+ClonesAreEqual {T} is_clone eq = (source copy : T) → is_clone source copy → eq source copy ≡ true
+
+-- there is a value, and it passes the test
+abbrev pub holds : {T : Type 0} → (T → Bool) → Option T → Bool
+holds test None = false
+holds test (Some value) = test value
+
+module _ {T : Type 0} (eq : T → T → Bool) where
+  -- the id that the map has at the values equal to this one
+  abbrev pub mapped : Set T → T → Option ℕ
+  mapped s value = lookup (eq value) s.entries
+
+  -- both map each value to the same id
+  abbrev pub SameMap : Set T → Set T → Type 0
+  SameMap old new = (q : T) → mapped new q ≡ mapped old q
+
+module _ {T : Type 0} (eq : T → T → Bool) where
+  -- the mapped id, if it is live and its item is equal to the value
+  abbrev pub found : Set T → T → Option ℕ
+  found s value = option_and_then (λ id. if holds (eq value) (get s.slots id) then Some id else None) (mapped eq s value)
+
+  -- the new map has the id at the values equal to this one, and every other value keeps what it had
+  abbrev pub Maps : Set T → Set T → T → ℕ → Type 0
+  Maps old new value id = (q : T) → mapped eq new q ≡ (if eq value q then Some id else mapped eq old q)
+
+  -- q is equal to the item of the id, and the map has this very id there
+  abbrev pub is_own_entry : Set T → ℕ → T → Bool
+  is_own_entry s id q = holds (λ item. eq item q && option_eq (λ a b. a == b) (mapped eq s item) (Some id)) (get s.slots id)
+
+module _ {T : Type 0} (eq : T → T → Bool) (old new : Set T) where
+  -- the same slots, and the same map
+  pub record IsSame : Type 0 where
+    pub slots : new.slots ≡ old.slots
+    pub map : SameMap eq old new
+
+  -- a new slot at the end has the value, and the map has its id there
+  pub record Adds (value : T) (id : ℕ) : Type 0 where
+    pub named : id ≡ length old.slots
+    pub slots : new.slots ≡ old.slots ++ Some value ∷ []
+    pub map : Maps eq old new value id
+
+  -- the slot of the id has the value, and the map has the id there
+  pub record Registers (id : ℕ) (value : T) : Type 0 where
+    pub slots : new.slots ≡ with_value old.slots id value
+    pub map : Maps eq old new value id
+
+  -- the slot died, and the map lost the entry of its item where that was the slot's own
+  pub record Removes (id : ℕ) : Type 0 where
+    pub slots : new.slots ≡ without old.slots id
+    pub map : (q : T) → mapped eq new q ≡ (if is_own_entry eq old id q then None else mapped eq old q)
+
+module _ {T : Type 0} (eq : T → T → Bool) where
+  -- `Removes` of each of these ids in order
+  abbrev pub RemovesAll : Set T → List ℕ → Set T → Type 0
+  RemovesAll old [] new = IsSame eq old new
+  RemovesAll old (id ∷ ids) new = (between : Set T) × Removes eq old between id × RemovesAll between ids new

@@ -1,0 +1,16 @@
+-- How an arena lays out a slot. No public clause cites this module.
+use Rattle.std.specs.Prelude.{◌≡◌, ℕ, ◌+◌, List, [], ◌∷◌, length, map, Option, Some, None, is_some, count_by, if◌then◌else◌, Bool}
+use Rattle.walrus_arena.specs.declared.tombstone_arena.Slot.{Slot}
+
+module _ {T : Type 0} where
+  -- the value of a slot, if it is live
+  abbrev pub value_of : Slot T → Option T
+  value_of s = if s.is_live then Some s.item else None
+
+  -- the count is that of the live slots
+  abbrev pub IsCounted : List (Slot T) → ℕ → Type 0
+  IsCounted slots live = live ≡ count_by is_some (map value_of slots)
+
+  -- the slot with this item
+  abbrev pub with_item : Slot T → T → Slot T
+  with_item s item = record s { item = item }

@@ -1,0 +1,48 @@
+//! The names of things by id, and what each id is the id of.
+use crate::Type;
+use walrus_arena::Id;
+
+/// A function of a module, of which this layer knows only ids.
+pub enum Function {}
+
+/// A global of a module, of which this layer knows only ids.
+pub enum Global {}
+
+/// A memory of a module, of which this layer knows only ids.
+pub enum Memory {}
+
+/// A table of a module, of which this layer knows only ids.
+pub enum Table {}
+
+/// A data segment of a module, of which this layer knows only ids.
+pub enum Data {}
+
+/// An element segment of a module, of which this layer knows only ids.
+pub enum Element {}
+
+/// A tag of a module, of which this layer knows only ids.
+pub enum Tag {}
+
+/// The id of a type in a `ModuleTypes`.
+pub type TypeId = Id<Type>;
+
+/// The id of a function.
+pub type FunctionId = Id<Function>;
+
+/// The id of a global.
+pub type GlobalId = Id<Global>;
+
+/// The id of a memory.
+pub type MemoryId = Id<Memory>;
+
+/// The id of a table.
+pub type TableId = Id<Table>;
+
+/// The id of a data segment.
+pub type DataId = Id<Data>;
+
+/// The id of an element segment.
+pub type ElementId = Id<Element>;
+
+/// The id of a tag.
+pub type TagId = Id<Tag>;
