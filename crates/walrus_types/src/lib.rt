@@ -1,4 +1,4 @@
-//! The WebAssembly type table: types, the records of a type section, and the normal form of a section.
+//! Types of WebAssembly modules, the records of a type section, and the normal form of a section.
 #![tactic(auto)]
 
 mod indices;
