@@ -1,4 +1,4 @@
-//! A set: an arena, and a map from values to ids.
+//! A set of values in an arena: a value is found again by an equal one.
 ghost use Rattle.std.specs.Prelude.{◌≡◌, ◌∷◌, ◌++◌, [], length, IsTrue, ◌↔◌, IfOk, OnOk, OnErr, IsOk, IsSome, Some, MatchOption, ◌<◌, All, map, nat_eq, true};
 ghost use Rattle.walrus_arena.specs.Arena.{get, IsLive, items, range};
 ghost use Rattle.walrus_arena.specs.Set.{found, holds, Adds, Registers, Removes, IsSame, ClonesAreEqual, RemovesAll};
@@ -12,14 +12,18 @@ use std::hash::{BuildHasherDefault, FoldHasher, Hash};
 use std::marker::Model;
 use std::ops::{Index, IndexMut};
 
-/// An arena whose values are found again by an equal one.
+/// An arena of values with a map from values to ids, so that a value is found again by an equal one.
+///
+/// An item may be changed in place, through `[id]`. The map does not follow such a change; so a mapped id is used only while it is live and its item is equal to the value that was asked for.
+///
+/// A contract sees the slots of the arena and the entries of the map.
 #[derive(Drop)]
-pub struct ArenaSet<T: Clone + Eq + Hash, A: Allocator + Copy = Global> {
+pub struct ArenaSet<T: Clone + Eq + Hash, A: Allocator = Global> {
     arena: TombstoneArena<T, A>,
     map: HashMap<T, Id<T>, BuildHasherDefault<FoldHasher>, A>,
 }
 
-impl<T: Clone + Eq + Hash, A: Allocator + Copy> Model for ArenaSet<T, A> {
+impl<T: Clone + Eq + Hash, A: Allocator> Model for ArenaSet<T, A> {
     ghost use Rattle.walrus_arena.specs.Set.{Set, set_code};
 
     ghost Value = { Set T };
@@ -29,9 +33,11 @@ impl<T: Clone + Eq + Hash, A: Allocator + Copy> Model for ArenaSet<T, A> {
     ghost view = { λ s. record { slots = s.arena; entries = s.map.entries } };
 }
 
-impl<T: Clone + Eq + Hash, A: Allocator + Copy> ArenaSet<T, A> {
-    /// An empty set, which takes no memory.
+impl<T: Clone + Eq + Hash, A: Allocator> ArenaSet<T, A> {
+    /// An empty set. It takes no memory.
     pub fn new(alloc: A) -> Self
+    where
+        A: Copy,
         ensures slots { result.slots ≡ [] }
         ensures map { result.entries ≡ [] }
     {
@@ -41,11 +47,18 @@ impl<T: Clone + Eq + Hash, A: Allocator + Copy> ArenaSet<T, A> {
         }
     }
 
-    /// The id that the next new slot gets.
+    /// The id that the next new slot gets: the number of slots, dead ones counted too.
     pub fn next_id(&self) -> Id<T>
         ensures { result ≡ length self.now.slots }
     {
         self.arena.next_id()
+    }
+
+    /// The live items with their ids, in the order of the ids.
+    pub fn iter(&self) -> Iter<'_, T>
+        ensures { result ≡ items self.now.slots }
+    {
+        self.arena.iter()
     }
 
     /// Whether the id is live.
@@ -55,7 +68,7 @@ impl<T: Clone + Eq + Hash, A: Allocator + Copy> ArenaSet<T, A> {
         self.arena.contains(id)
     }
 
-    /// The mapped id of the value, if it is live and its item is equal.
+    /// The id that the value is mapped to, if that id is live and its item is equal to the value; else `None`.
     pub fn find(&self, value: &T) -> Option<Id<T>>
         ensures { result ≡ found T.eq self.now value.now }
     {
@@ -66,8 +79,10 @@ impl<T: Clone + Eq + Hash, A: Allocator + Copy> ArenaSet<T, A> {
         }
     }
 
-    /// The id that `find` answers, or else a new slot that the value is mapped to.
+    /// The id that `find` answers, if it answers one. Else the value goes into a new slot, is mapped to its id, and this is the answer. After an `AllocError` slots and map are as they were.
     pub fn insert(&mut self, value: T) -> Result<Id<T>, AllocError>
+    where
+        A: Clone,
         requires { ClonesAreEqual T.is_clone T.eq }
         ensures ok { IfOk result (λ id. MatchOption (found T.eq self.old value) (Adds T.eq self.old self.new value id) (λ known. (id ≡ known) × IsSame T.eq self.old self.new)) }
         ensures item { IfOk result (λ id. holds (T.eq value) (get self.new.slots id) ≡ true) }
@@ -83,7 +98,7 @@ impl<T: Clone + Eq + Hash, A: Allocator + Copy> ArenaSet<T, A> {
         Ok(Id::from_index(at))
     }
 
-    /// A new slot. The map stays.
+    /// Puts the value into a new slot, also where an equal one is there. The map stays. After an `AllocError` the set is as it was.
     pub fn alloc_unique(&mut self, value: T) -> Result<Id<T>, AllocError>
         ensures id { IfOk result (λ id. id ≡ length self.old.slots) }
         ensures ok { OnOk result (self.new ≡ record self.old { slots = self.old.slots ++ Some value ∷ [] }) }
@@ -92,8 +107,21 @@ impl<T: Clone + Eq + Hash, A: Allocator + Copy> ArenaSet<T, A> {
         self.arena.alloc(value)
     }
 
-    /// Writes the value over the item of a live id, and maps it to this id.
+    /// Puts the values into new slots, in order, and answers their ids. The map stays. All or none: after an `AllocError` the set is as it was.
+    pub fn alloc_all(&mut self, values: Vec<T, A>) -> Result<Vec<Id<T>, A>, AllocError>
+    where
+        A: Copy,
+        ensures ids { IfOk result (λ ids. ids.items ≡ range (length self.old.slots) (length values.items)) }
+        ensures ok { OnOk result (self.new ≡ record self.old { slots = self.old.slots ++ map Some values.items }) }
+        ensures err { OnErr result (self.new ≡ self.old) }
+    {
+        self.arena.alloc_all(values)
+    }
+
+    /// Writes the value over the item of a live id, and maps it to this id, whatever it was mapped to before. What the old item was mapped to stays. After an `AllocError` slots and map are as they were.
     pub fn replace_and_register(&mut self, id: Id<T>, value: T) -> Result<(), AllocError>
+    where
+        A: Clone,
         requires live { IsLive self.old.slots id }
         requires clones { ClonesAreEqual T.is_clone T.eq }
         ensures ok { OnOk result (Registers T.eq self.old self.new id value) }
@@ -107,7 +135,7 @@ impl<T: Clone + Eq + Hash, A: Allocator + Copy> ArenaSet<T, A> {
         Ok(())
     }
 
-    /// Takes the entry of the present value out of the map, if it points at this id, and deletes the item.
+    /// Deletes the item of a live id. The entry of its present value leaves the map if it points at this very id; an entry that points elsewhere stays. It takes no memory, and always answers `Ok`.
     pub fn remove(&mut self, id: Id<T>) -> Result<(), AllocError>
     where
         T: Tombstone,
@@ -120,11 +148,20 @@ impl<T: Clone + Eq + Hash, A: Allocator + Copy> ArenaSet<T, A> {
         Ok(())
     }
 
-    /// The live items with their ids, in the order of the ids.
-    pub fn iter(&self) -> Iter<'_, T>
-        ensures { result ≡ items self.now.slots }
+    /// `remove` of each of these distinct live ids, in order. It takes no memory, and always answers `Ok`.
+    pub fn remove_all(&mut self, ids: &[Id<T>]) -> Result<(), AllocError>
+    where
+        T: Tombstone,
+        requires live { All (IsLive self.old.slots) ids.now }
+        requires distinct { IsDistinct nat_eq ids.now }
+        ensures ok { OnOk result (RemovesAll T.eq self.old ids.now self.new) }
+        ensures err { OnErr result (IsSame T.eq self.old self.new) }
+        ensures succeeds { IsOk result }
     {
-        self.arena.iter()
+        for id in ids {
+            self.take_out(id.place());
+        }
+        Ok(())
     }
 
     // `remove` of a live id.
@@ -144,34 +181,10 @@ impl<T: Clone + Eq + Hash, A: Allocator + Copy> ArenaSet<T, A> {
         }
         self.arena.let_die(at);
     }
-
-    /// `remove` of each of these distinct live ids in order.
-    pub fn remove_all(&mut self, ids: &[Id<T>]) -> Result<(), AllocError>
-    where
-        T: Tombstone,
-        requires live { All (IsLive self.old.slots) ids.now }
-        requires distinct { IsDistinct nat_eq ids.now }
-        ensures ok { OnOk result (RemovesAll T.eq self.old ids.now self.new) }
-        ensures err { OnErr result (IsSame T.eq self.old self.new) }
-        ensures succeeds { IsOk result }
-    {
-        for id in ids {
-            self.take_out(id.place());
-        }
-        Ok(())
-    }
-
-    /// A new slot for each value in order. The map stays.
-    pub fn alloc_all(&mut self, values: Vec<T, A>) -> Result<Vec<Id<T>, A>, AllocError>
-        ensures ids { IfOk result (λ ids. ids.items ≡ range (length self.old.slots) (length values.items)) }
-        ensures ok { OnOk result (self.new ≡ record self.old { slots = self.old.slots ++ map Some values.items }) }
-        ensures err { OnErr result (self.new ≡ self.old) }
-    {
-        self.arena.alloc_all(values)
-    }
 }
 
-impl<T: Clone + Eq + Hash, A: Allocator + Copy> Index<Id<T>> for ArenaSet<T, A> {
+/// `set[id]` is the item of a live id.
+impl<T: Clone + Eq + Hash, A: Allocator> Index<Id<T>> for ArenaSet<T, A> {
     type Output = T;
 
     ghost can_index = { λ s id. IsLive s.slots id };
@@ -183,7 +196,8 @@ impl<T: Clone + Eq + Hash, A: Allocator + Copy> Index<Id<T>> for ArenaSet<T, A> 
     }
 }
 
-impl<T: Clone + Eq + Hash, A: Allocator + Copy> IndexMut<Id<T>> for ArenaSet<T, A> {
+/// `set[id]` for writing. The map stays as it was.
+impl<T: Clone + Eq + Hash, A: Allocator> IndexMut<Id<T>> for ArenaSet<T, A> {
     ghost use Rattle.walrus_arena.specs.SetLends.{LendsSetItem};
 
     fn index_mut(&mut self, id: Id<T>) -> &mut T

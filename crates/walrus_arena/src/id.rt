@@ -1,4 +1,4 @@
-//! The id of an item: its place in its arena.
+//! The id of an item: its place in its arena. Ids are compared, ordered and hashed by this place alone.
 ghost use Rattle.std.specs.Prelude.{◌≡◌, nat_eq};
 ghost use Rattle.std.proofs.Common.{rules};
 ghost use Rattle.std.specs.Cmp.{partial_order_from_own_ties};
@@ -7,14 +7,17 @@ ghost use Rattle.std.specs.Hash as fed;
 ghost use Rattle.std.specs.Ordering.{nat_cmp, as_partial_cmp};
 
 use std::cmp::Ordering;
+use std::fmt;
 use std::hash::{Hash, Hasher};
 use std::marker::{Model, PhantomData};
 
-/// The id of an item of an arena of `T`, seen as its index. It holds no `T`, so that a `T` may hold ids of its own arena.
+/// The id of an item of an arena of `T`. It holds no `T`, so a `T` may hold ids of its own arena.
+///
+/// An id does not tell which arena it is of: an id of another arena of the same item type is judged by its place alone.
 pub type Id<T> = Key<*const T>;
 
-/// An index that tells by `P` what it is the index of.
-#[derive_where(Clone, Copy, Debug)]
+/// A place in an arena, with `P` for what stands there. A contract sees it as its number. See [`Id`].
+#[derive_where(Clone, Copy)]
 pub struct Key<P> {
     index: usize,
     of: PhantomData<P>,
@@ -31,7 +34,7 @@ impl<P> Model for Key<P> {
 }
 
 impl<P> Key<P> {
-    /// The id of this place.
+    /// The id of the item at this place, whether or not an arena has one there.
     pub fn from_index(index: usize) -> Key<P>
         ensures { result ≡ index }
     {
@@ -41,13 +44,14 @@ impl<P> Key<P> {
         }
     }
 
-    /// Its place in the arena.
+    /// The item's place in its arena: how many slots were there before it.
     pub fn index(self) -> usize
         ensures { result ≡ self }
     {
-        self.index
+        self.place()
     }
 
+    // `index` behind a reference.
     pub(crate) fn place(&self) -> usize
         ensures { result ≡ self.now }
     {
@@ -100,5 +104,11 @@ impl<P> Hash for Key<P> {
 
     fn hash<H: Hasher>(&self, state: &mut H) {
         self.index.hash(state);
+    }
+}
+
+impl<P> fmt::Debug for Key<P> {
+    fn fmt<W: fmt::Write>(&self, f: &mut fmt::Formatter<W>) -> fmt::Result {
+        f.debug_tuple("Id").field(&self.index).finish()
     }
 }

@@ -1,15 +1,48 @@
-//! Arenas whose items are named by ids, and sets of values over them.
+//! Arenas whose items are named by ids, and sets of values over them: the lowest layer of walrus.
+//!
+//! - [`Id`] is the place of an item in its arena. Ids of different item types are different types.
+//! - [`TombstoneArena`] hands out ids for items. A deleted item leaves a dead slot behind, so an id is never handed out again.
+//! - [`ArenaSet`] is such an arena with a map from values to ids, so that an equal value is given the id that it has already.
+//! - [`IdHashMap`] and [`IdHashSet`] are std's map and set with ids as keys.
+//!
+//! Whatever grows answers a `Result`. A refused growth changes nothing, and the deletions take no memory at all.
+//!
+//! # An interner of names
+//!
+//! A set gives each name one id, and the id gives the name back:
+//!
+//! ```
+//! struct Names {
+//!     names: ArenaSet<String>,
+//! }
+//!
+//! impl Names {
+//!     fn id_of(&mut self, name: String) -> Result<Id<String>, AllocError> {
+//!         self.names.insert(name)
+//!     }
+//!
+//!     fn name(&self, id: Id<String>) -> &str
+//!         requires { IsLive self.now.names.slots id }
+//!     {
+//!         self.names[id].as_str()
+//!     }
+//! }
+//! ```
+//!
+//! The tests have it whole.
 #![tactic(auto)]
 
 mod arena_set;
 mod id;
 mod iter;
-mod tombstone;
+pub mod laws;
+mod map;
+#[cfg(test)]
+mod tests;
 mod tombstone_arena;
 
 pub use arena_set::ArenaSet;
 pub use id::{Id, Key};
 pub use iter::Iter;
-pub use tombstone::Tombstone;
-pub use tombstone_arena::TombstoneArena;
-
+pub use map::{IdHashMap, IdHashSet};
+pub use tombstone_arena::{Tombstone, TombstoneArena};

@@ -1,22 +1,32 @@
-//! An arena: items that are named by ids, which are never given out twice.
+//! An arena: items named by ids, of which none is given out twice.
 ghost use Rattle.std.specs.Prelude.{◌≡◌, ◌+◌, ◌<◌, ◌↔◌, [], ◌∷◌, ◌++◌, length, IsTrue, IsOk, IsSome, IfOk, OnOk, OnErr, Some, option_copied, All, map, vec_len, nat_eq};
 ghost use Rattle.std.specs.Option.{option_copied_mut};
 ghost use Rattle.std.specs.List.{IsDistinct};
 ghost use Rattle.std.specs.Borrow.{Lends, sem};
 ghost use Rattle.walrus_arena.specs.Arena.{get, IsLive, live_count, without, without_all, range, items, ids};
 
-use crate::{Id, Iter, Tombstone};
+use crate::{Id, Iter};
 use std::alloc::{AllocError, Allocator, Global};
 use std::marker::Model;
 use std::ops::{Index, IndexMut};
 
-/// Items that are named by ids. A deleted item leaves a dead slot, so that no id is given out twice.
+/// What happens to an item when it is deleted.
+pub trait Tombstone {
+    /// Gives back what the item holds, as memory. It runs once for a deletion, when the slot is dead already. The item must stay valid, since it is dropped with its arena; no call shows it any more.
+    fn on_delete(&mut self) {}
+}
+
+/// Items named by ids. A deleted item leaves a dead slot, so that no id is given out twice.
+///
+/// A contract sees an arena as the list of its slots: `Some item` where a slot is live, and `None` where it is dead. An id is a place in this list.
 #[derive(Drop)]
 pub struct TombstoneArena<T, A: Allocator = Global> {
     slots: Vec<Slot<T>, A>,
+    // How many of the slots are live.
     live: usize,
 }
 
+// The item of a dead slot is as `on_delete` left it.
 #[derive(Drop)]
 pub(crate) struct Slot<T> {
     pub(crate) item: T,
@@ -36,10 +46,10 @@ impl<T, A: Allocator> Model for TombstoneArena<T, A> {
     ghost invariant = { λ a. IsCounted a.slots.items a.live };
 }
 
-impl<T, A: Allocator + Copy> TombstoneArena<T, A> {
+impl<T, A: Allocator> TombstoneArena<T, A> {
     ghost use Rattle.walrus_arena.specs.Lends.{LendsItem, LendsItemIf};
 
-    /// An arena with no slots, which takes no memory.
+    /// An arena without slots. It takes no memory.
     pub fn new(alloc: A) -> Self
         ensures { result ≡ [] }
     {
@@ -49,7 +59,7 @@ impl<T, A: Allocator + Copy> TombstoneArena<T, A> {
         }
     }
 
-    /// Puts `value` into a new slot at the end.
+    /// Puts `value` into a new slot at the end, and answers its id. After an `AllocError` the arena is as it was, and `value` is dropped.
     pub fn alloc(&mut self, value: T) -> Result<Id<T>, AllocError>
     where
         T: Drop,
@@ -66,32 +76,48 @@ impl<T, A: Allocator + Copy> TombstoneArena<T, A> {
         Ok(id)
     }
 
-    /// The id that the next slot gets.
-    pub fn next_id(&self) -> Id<T>
-        ensures { result ≡ length self.now }
+    /// Puts the item that `make` makes of its own id into a new slot at the end, and answers the id. The room is taken before `make` runs: after an `AllocError` `make` did not run, and the arena is as it was.
+    pub fn alloc_with_id<F: FnOnce(Id<T>) -> T + Drop>(
+        &mut self,
+        make: F,
+    ) -> Result<Id<T>, AllocError>
+        requires { F.pre make (length self.old) }
+        ensures id { IfOk result (λ id. id ≡ length self.old) }
+        ensures ok { OnOk result ((value : T) × F.post make (length self.old) value × (self.new ≡ self.old ++ Some value ∷ [])) }
+        ensures err { OnErr result (self.new ≡ self.old) }
     {
-        Id::from_index(self.slots.len())
+        self.slots.reserve(1)?;
+        let at = self.slots.len();
+        let item = make(Id::from_index(at));
+        self.slots.push_reserved(Slot {
+            item,
+            is_live: true,
+        });
+        self.live += 1;
+        Ok(Id::from_index(at))
     }
 
-    /// The number of live items.
-    pub fn len(&self) -> usize
-        ensures { result ≡ live_count self.now }
+    /// Puts `values` into new slots at the end, in order, and answers their ids. All or none: after an `AllocError` the arena is as it was.
+    pub fn alloc_all(&mut self, values: Vec<T, A>) -> Result<Vec<Id<T>, A>, AllocError>
+    where
+        T: Drop,
+        A: Copy,
+        ensures ids { IfOk result (λ all. all.items ≡ range (length self.old) (vec_len values)) }
+        ensures ok { OnOk result (self.new ≡ self.old ++ map Some values.items) }
+        ensures err { OnErr result (self.new ≡ self.old) }
     {
-        self.live
-    }
-
-    /// Whether no item is live.
-    pub fn is_empty(&self) -> bool
-        ensures { IsTrue result ↔ (live_count self.now ≡ 0) }
-    {
-        self.live == 0
-    }
-
-    /// Whether the id is live.
-    pub fn contains(&self, id: Id<T>) -> bool
-        ensures { IsTrue result ↔ IsLive self.now id }
-    {
-        self.get(id).is_some()
+        let count = values.len();
+        let mut all = Vec::with_capacity(*self.slots.allocator(), count)?;
+        self.slots.reserve(count)?;
+        for item in values {
+            all.push_reserved(Id::from_index(self.slots.len()));
+            self.slots.push_reserved(Slot {
+                item,
+                is_live: true,
+            });
+            self.live += 1;
+        }
+        Ok(all)
     }
 
     /// The item of the id, if it is live.
@@ -115,12 +141,33 @@ impl<T, A: Allocator + Copy> TombstoneArena<T, A> {
         }
     }
 
-    fn item_mut(&mut self, at: usize) -> &mut T
-        requires { IsLive self.old at }
-        ensures* writes_back { sem 𝓛 (LendsItem T.row A.row A.Allocator self.entry at result) }
-        ensures value { get self.old at ≡ Some result.now }
+    /// Whether the id is live.
+    pub fn contains(&self, id: Id<T>) -> bool
+        ensures { IsTrue result ↔ IsLive self.now id }
     {
-        self.slots[at].item_mut()
+        self.get(id).is_some()
+    }
+
+    /// The number of live items.
+    pub fn len(&self) -> usize
+        ensures { result ≡ live_count self.now }
+    {
+        // Counted as items come and go.
+        self.live
+    }
+
+    /// Whether no item is live.
+    pub fn is_empty(&self) -> bool
+        ensures { IsTrue result ↔ (live_count self.now ≡ 0) }
+    {
+        self.live == 0
+    }
+
+    /// The id that the next slot gets: the number of slots, dead ones counted too.
+    pub fn next_id(&self) -> Id<T>
+        ensures { result ≡ length self.now }
+    {
+        Id::from_index(self.slots.len())
     }
 
     /// The live items with their ids, in the order of the ids.
@@ -133,8 +180,10 @@ impl<T, A: Allocator + Copy> TombstoneArena<T, A> {
         }
     }
 
-    /// The live ids in order.
+    /// The live ids in order. With `get_mut` it goes over the items for writing.
     pub fn live_ids(&self) -> Result<Vec<Id<T>, A>, AllocError>
+    where
+        A: Copy,
         ensures { IfOk result (λ all. all.items ≡ ids self.now) }
     {
         let mut all = Vec::new(*self.slots.allocator());
@@ -144,20 +193,20 @@ impl<T, A: Allocator + Copy> TombstoneArena<T, A> {
         Ok(all)
     }
 
-    // Lets the slot of a live id die, and tells its item.
-    pub(crate) fn let_die(&mut self, at: usize)
+    /// Deletes the item of a live id: its slot dies, and its `on_delete` runs. It takes no memory, and always answers `Ok`.
+    pub fn delete(&mut self, id: Id<T>) -> Result<(), AllocError>
     where
         T: Tombstone,
-        requires { IsLive self.old at }
-        ensures { self.new ≡ without self.old at }
+        requires { IsLive self.old id }
+        ensures ok { OnOk result (self.new ≡ without self.old id) }
+        ensures err { OnErr result (self.new ≡ self.old) }
+        ensures succeeds { IsOk result }
     {
-        let slot = &mut self.slots[at];
-        slot.is_live = false;
-        slot.item.on_delete();
-        self.live -= 1;
+        self.let_die(id.index());
+        Ok(())
     }
 
-    /// `delete` of each of these distinct live ids in order.
+    /// `delete` of each of these distinct live ids, in order. It takes no memory, and always answers `Ok`.
     pub fn delete_all(&mut self, ids: &[Id<T>]) -> Result<(), AllocError>
     where
         T: Tombstone,
@@ -173,60 +222,26 @@ impl<T, A: Allocator + Copy> TombstoneArena<T, A> {
         Ok(())
     }
 
-    /// Puts these values into new slots at the end, in order.
-    pub fn alloc_all(&mut self, values: Vec<T, A>) -> Result<Vec<Id<T>, A>, AllocError>
-    where
-        T: Drop,
-        ensures ids { IfOk result (λ all. all.items ≡ range (length self.old) (vec_len values)) }
-        ensures ok { OnOk result (self.new ≡ self.old ++ map Some values.items) }
-        ensures err { OnErr result (self.new ≡ self.old) }
-    {
-        let count = values.len();
-        let mut all = Vec::with_capacity(*self.slots.allocator(), count)?;
-        self.slots.reserve(count)?;
-        for item in values {
-            all.push_reserved(Id::from_index(self.slots.len()));
-            self.slots.push_reserved(Slot {
-                item,
-                is_live: true,
-            });
-            self.live += 1;
-        }
-        Ok(all)
-    }
-
-    /// Lets the slot of a live id die, and tells its item.
-    pub fn delete(&mut self, id: Id<T>) -> Result<(), AllocError>
+    // Lets the slot of a live id die, and tells its item.
+    pub(crate) fn let_die(&mut self, at: usize)
     where
         T: Tombstone,
-        requires { IsLive self.old id }
-        ensures ok { OnOk result (self.new ≡ without self.old id) }
-        ensures err { OnErr result (self.new ≡ self.old) }
-        ensures succeeds { IsOk result }
+        requires { IsLive self.old at }
+        ensures { self.new ≡ without self.old at }
     {
-        self.let_die(id.index());
-        Ok(())
+        let slot = &mut self.slots[at];
+        slot.is_live = false;
+        slot.item.on_delete();
+        self.live -= 1;
     }
 
-    /// Puts the item that `make` makes of its id into a new slot at the end. Room is taken before `make` runs.
-    pub fn alloc_with_id<F: FnOnce(Id<T>) -> T + Drop>(
-        &mut self,
-        make: F,
-    ) -> Result<Id<T>, AllocError>
-        requires { F.pre make (length self.old) }
-        ensures id { IfOk result (λ id. id ≡ length self.old) }
-        ensures ok { OnOk result ((value : T) × F.post make (length self.old) value × (self.new ≡ self.old ++ Some value ∷ [])) }
-        ensures err { OnErr result (self.new ≡ self.old) }
+    // The item of a live id for writing.
+    fn item_mut(&mut self, at: usize) -> &mut T
+        requires { IsLive self.old at }
+        ensures* writes_back { sem 𝓛 (LendsItem T.row A.row A.Allocator self.entry at result) }
+        ensures value { get self.old at ≡ Some result.now }
     {
-        self.slots.reserve(1)?;
-        let at = self.slots.len();
-        let item = make(Id::from_index(at));
-        self.slots.push_reserved(Slot {
-            item,
-            is_live: true,
-        });
-        self.live += 1;
-        Ok(Id::from_index(at))
+        self.slots[at].item_mut()
     }
 }
 
@@ -242,7 +257,8 @@ impl<T> Slot<T> {
     }
 }
 
-impl<T, A: Allocator + Copy> Index<Id<T>> for TombstoneArena<T, A> {
+/// `arena[id]` is the item of a live id.
+impl<T, A: Allocator> Index<Id<T>> for TombstoneArena<T, A> {
     type Output = T;
 
     ghost can_index = { IsLive };
@@ -254,7 +270,8 @@ impl<T, A: Allocator + Copy> Index<Id<T>> for TombstoneArena<T, A> {
     }
 }
 
-impl<T, A: Allocator + Copy> IndexMut<Id<T>> for TombstoneArena<T, A> {
+/// `arena[id]` for writing.
+impl<T, A: Allocator> IndexMut<Id<T>> for TombstoneArena<T, A> {
     ghost use Rattle.walrus_arena.specs.Lends.{LendsItem};
 
     fn index_mut(&mut self, id: Id<T>) -> &mut T

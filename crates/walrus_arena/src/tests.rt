@@ -1,0 +1,32 @@
+//! What no contract says: that calls succeed with ample memory, that `on_delete` runs once, and worked rows.
+use super::*;
+use std::alloc::{AllocError, Global};
+use std::process::Abort;
+use std::test::Fail;
+
+mod arena;
+mod deletions;
+mod ids;
+mod interner;
+mod refusals;
+mod set;
+
+// A value that is equal by its key alone.
+#[derive(Clone, Copy)]
+#[derive_where(PartialEq, Eq, Hash)]
+struct Tagged {
+    key: u32,
+    #[derive_where(skip(EqHashOrd))]
+    note: u32,
+}
+
+impl Tombstone for Tagged {}
+
+fn make_tagged(key: u32, note: u32) -> Tagged {
+    Tagged { key, note }
+}
+
+// The index that `find` answers.
+fn index_of(set: &ArenaSet<Tagged>, key: u32) -> Option<usize> {
+    Some(set.find(&make_tagged(key, 0))?.index())
+}

@@ -1,0 +1,103 @@
+//! A set of values that are equal by a part of them.
+use super::*;
+
+// Writes the key of an item in place.
+fn write_key(rt: &impl Abort, set: &mut ArenaSet<Tagged>, at: usize, key: u32) {
+    assert!(rt; set.contains(Id::from_index(at)));
+    set[Id::from_index(at)].key = key;
+}
+
+fn remove(rt: &impl Abort, set: &mut ArenaSet<Tagged>, at: usize) -> Result<(), AllocError> {
+    assert!(rt; set.contains(Id::from_index(at)));
+    set.remove(Id::from_index(at))
+}
+
+fn note_of(rt: &impl Abort, set: &ArenaSet<Tagged>, at: usize) -> u32 {
+    assert!(rt; set.contains(Id::from_index(at)));
+    set[Id::from_index(at)].note
+}
+
+// A set of two items with key 1, of which the first is mapped.
+fn two_equal(alloc: Global) -> Result<ArenaSet<Tagged>, AllocError> {
+    let mut set = ArenaSet::new(alloc);
+    set.insert(make_tagged(1, 10))?;
+    set.alloc_unique(make_tagged(1, 30))?;
+    Ok(set)
+}
+
+// The same, where the key of the first item was changed to 2, and then 2 and 1 were inserted.
+fn changed(rt: &impl Abort, alloc: Global) -> Result<ArenaSet<Tagged>, AllocError> {
+    let mut set = two_equal(alloc)?;
+    write_key(rt, &mut set, 0, 2);
+    set.insert(make_tagged(2, 0))?;
+    set.insert(make_tagged(1, 0))?;
+    Ok(set)
+}
+
+#[test]
+fn an_equal_value_is_found(rt: HostRuntime) -> Result<(), Fail> {
+    let mut set = ArenaSet::new(rt.alloc());
+    assert_eq!(rt; set.insert(make_tagged(1, 10))?.index(), 0);
+    assert_eq!(rt; set.insert(make_tagged(1, 20))?.index(), 0);
+    assert_eq!(rt; note_of(&rt, &set, 0), 10);
+    assert_eq!(rt; set.alloc_unique(make_tagged(1, 30))?.index(), 1);
+    assert_eq!(rt; index_of(&set, 1), Some(0));
+    Ok(())
+}
+
+#[test]
+fn a_changed_value_is_not_found(rt: HostRuntime) -> Result<(), Fail> {
+    let mut set = two_equal(rt.alloc())?;
+    write_key(&rt, &mut set, 0, 2);
+    assert_eq!(rt; index_of(&set, 1), None);
+    assert_eq!(rt; index_of(&set, 2), None);
+    assert_eq!(rt; set.insert(make_tagged(2, 0))?.index(), 2);
+    assert_eq!(rt; set.insert(make_tagged(1, 0))?.index(), 3);
+    Ok(())
+}
+
+#[test]
+fn a_removal_leaves_the_entry_of_another(rt: HostRuntime) -> Result<(), Fail> {
+    let mut set = changed(&rt, rt.alloc())?;
+    remove(&rt, &mut set, 0)?;
+    assert_eq!(rt; index_of(&set, 2), Some(2));
+    Ok(())
+}
+
+#[test]
+fn a_replaced_value_takes_the_entry(rt: HostRuntime) -> Result<(), Fail> {
+    let mut set = changed(&rt, rt.alloc())?;
+    remove(&rt, &mut set, 0)?;
+    assert!(rt; set.contains(Id::from_index(1)));
+    set.replace_and_register(Id::from_index(1), make_tagged(2, 5))?;
+    assert_eq!(rt; index_of(&set, 2), Some(1));
+    remove(&rt, &mut set, 1)?;
+    assert_eq!(rt; index_of(&set, 2), None);
+    assert!(rt; set.contains(Id::from_index(2)));
+    Ok(())
+}
+
+#[test]
+fn many_new_values_leave_the_map(rt: HostRuntime) -> Result<(), Fail> {
+    let mut set = two_equal(rt.alloc())?;
+    let values = vec![in rt.alloc(); make_tagged(1, 1), make_tagged(2, 2)]?;
+    let ids = set.alloc_all(values)?;
+    assert_eq!(rt; ids.len(), 2);
+    assert_eq!(rt; set.next_id().index(), 4);
+    assert_eq!(rt; index_of(&set, 1), Some(0));
+    assert_eq!(rt; index_of(&set, 2), None);
+    Ok(())
+}
+
+#[test]
+#[tactic(auto, using(crate::proofs::ArenaLemmas::distinct_pair))]
+fn many_are_removed_at_once(rt: HostRuntime) -> Result<(), Fail> {
+    let mut set = two_equal(rt.alloc())?;
+    let ids: [Id<Tagged>; 2] = [Id::from_index(1), Id::from_index(0)];
+    assert!(rt; set.contains(ids[0]));
+    assert!(rt; set.contains(ids[1]));
+    set.remove_all(ids.as_slice())?;
+    assert_eq!(rt; index_of(&set, 1), None);
+    assert!(rt; set.iter().next().is_none());
+    Ok(())
+}
