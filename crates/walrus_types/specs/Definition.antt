@@ -1,6 +1,6 @@
 -- What a type is defined to be, over numbers that stand for types: an id in a module, an index in a section.
 -- WebAssembly core specification, "Types": composite types and sub types.
-use Rattle.std.specs.Prelude.{ℕ, Bool, List, [], ◌∷◌, ◌++◌, map, Option, Some, None, option_map}
+use Rattle.std.specs.Prelude.{ℕ, Bool, List, [], ◌∷◌, ◌++◌, map, Option, Some, None, option_map, Contains}
 use Rattle.std.specs.List.{flat_map}
 use Rattle.std.specs.declared.cmp.Ordering.{Ordering}
 use Rattle.std.specs.declared.cmp.Ordering.TheVariants.{Less, Equal, Greater}
@@ -33,6 +33,10 @@ supertype_names (Some k) = k ∷ []
 
 abbrev pub names_of : Definition → List ℕ
 names_of d = composite_names d.composite ++ supertype_names d.supertype
+
+-- the definition names k
+abbrev pub Names : Definition → ℕ → Type 0
+Names d k = Contains (names_of d) k
 
 -- the same with each number k replaced by m k
 

@@ -1,5 +1,5 @@
 -- What contracts see of the types of a module.
-use Rattle.std.specs.Prelude.{ℕ, Bool, List, Option}
+use Rattle.std.specs.Prelude.{ℕ, Bool, List, [], Option, Some, None}
 use Rattle.std.specs.declared.string.String.{String}
 use Rattle.std.specs.declared.alloc.Global.{Global}
 use Rattle.walrus_types.specs.declared.ty.value.Val.{Val}
@@ -25,3 +25,33 @@ kind_composite (kind.Array a) = Array a.field
 -- what the type is defined to be, over the ids of types
 abbrev pub type_definition : ModuleType → Definition
 type_definition t = record { composite = kind_composite t.kind; is_final = t.is_final; supertype = t.supertype }
+
+-- a type without a name
+abbrev pub nameless : CompositeType → Bool → Option ℕ → Bool → ℕ → ModuleType
+nameless kind is_final supertype is_for_function_entry id = record {
+  kind = kind;
+  is_final = is_final;
+  supertype = supertype;
+  is_for_function_entry = is_for_function_entry;
+  id = id;
+  name = None;
+}
+
+abbrev pub function : List (Val ℕ) → List (Val ℕ) → CompositeType
+function params results = kind.Function (record { params = params; results = results })
+
+-- its parameters and results, if it is a function type
+abbrev pub signature_of : CompositeType → Option Signature
+signature_of (kind.Function f) = Some f
+signature_of (kind.Struct s) = None
+signature_of (kind.Array a) = None
+
+-- the type made of this instead
+abbrev pub with_kind : ModuleType → CompositeType → ModuleType
+with_kind t kind = record t { kind = kind }
+
+-- what is left of it once its lists are given back
+abbrev pub emptied : CompositeType → CompositeType
+emptied (kind.Function f) = function [] []
+emptied (kind.Struct s) = function [] []
+emptied (kind.Array a) = kind.Array a

@@ -22,8 +22,11 @@ heap_names (heap.Abstract a) = []
 heap_names (heap.Concrete k) = k ∷ []
 heap_names (heap.Exact k) = k ∷ []
 
+abbrev pub reference_names : Reference ℕ → List ℕ
+reference_names r = heap_names r.heap_type
+
 abbrev pub val_names : Val ℕ → List ℕ
-val_names (val.Ref r) = heap_names r.heap_type
+val_names (val.Ref r) = reference_names r
 val_names val.I32 = []
 val_names val.I64 = []
 val_names val.F32 = []
@@ -45,8 +48,11 @@ heap_renamed m (heap.Abstract a) = heap.Abstract a
 heap_renamed m (heap.Concrete k) = heap.Concrete (m k)
 heap_renamed m (heap.Exact k) = heap.Exact (m k)
 
+abbrev pub reference_renamed : (ℕ → ℕ) → Reference ℕ → Reference ℕ
+reference_renamed m r = record { nullable = r.nullable; heap_type = heap_renamed m r.heap_type }
+
 abbrev pub val_renamed : (ℕ → ℕ) → Val ℕ → Val ℕ
-val_renamed m (val.Ref r) = val.Ref (record { nullable = r.nullable; heap_type = heap_renamed m r.heap_type })
+val_renamed m (val.Ref r) = val.Ref (reference_renamed m r)
 val_renamed m val.I32 = val.I32
 val_renamed m val.I64 = val.I64
 val_renamed m val.F32 = val.F32

@@ -1,5 +1,12 @@
-//! The names of things by id, and what each id is the id of.
+//! The names of things by id, what each id is the id of, and the maps between ids and the indices of a section.
+mod ids_to_indices;
+mod indices_to_ids;
+#[cfg(test)]
+mod tests;
+
 use crate::Type;
+pub use ids_to_indices::IdsToIndices;
+pub use indices_to_ids::IndicesToIds;
 use walrus_arena::Id;
 
 /// A function of a module, of which this layer knows only ids.

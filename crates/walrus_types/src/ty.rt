@@ -1,5 +1,12 @@
 //! Types as a module holds them: their definition, and what a module remembers of them beside it.
+ghost use Rattle.std.specs.Prelude.{◌≡◌, [], true, false, IsSome, IsSomeAnd, Some, None, option_copied};
+ghost use Rattle.std.specs.Borrow.{Lends, sem};
+ghost use Rattle.walrus_types.specs.Types.{nameless, function, signature_of, with_kind, emptied};
+ghost use Rattle.walrus_types.specs.contracts.ty.«Type».{the_row};
+ghost use Rattle.walrus_types.specs.contracts.ty.composite.CompositeType.{the_row as kind_row};
+
 mod composite;
+mod names;
 mod value;
 
 use crate::TypeId;
@@ -9,6 +16,7 @@ pub use value::{
     AbstractHeapType, Field, FieldType, Heap, HeapType, RefType, Reference, Storage, StorageType,
     Val, ValType,
 };
+use walrus_arena::Tombstone;
 
 /// A type of a module: a composite type, whether it is final, and its supertype.
 ///
@@ -16,7 +24,7 @@ pub use value::{
 #[derive(Clone, Drop)]
 #[derive_where(PartialEq, Eq, PartialOrd, Ord, Hash, Debug)]
 pub struct Type {
-    kind: CompositeType,
+    pub(crate) kind: CompositeType,
     /// Whether no type may name this one as its supertype.
     pub is_final: bool,
     /// The type that this one is declared to be a subtype of.
@@ -51,4 +59,109 @@ impl Model for Type {
       id = t.id;
       name = t.name;
     } };
+}
+
+impl Type {
+    // A type without a name and without the mark of a function entry.
+    pub(crate) fn new_composite(
+        id: TypeId,
+        kind: CompositeType,
+        is_final: bool,
+        supertype: Option<TypeId>,
+    ) -> Type
+        ensures { result ≡ nameless kind is_final supertype false id }
+    {
+        Type {
+            kind,
+            is_final,
+            supertype,
+            is_for_function_entry: false,
+            id,
+            name: None,
+        }
+    }
+
+    // The function type without parameters that marks what a function body gives back.
+    pub(crate) fn for_function_entry(id: TypeId, results: Vec<ValType>) -> Type
+        ensures { result ≡ nameless (function [] results.items) true None true id }
+    {
+        let no_params = Vec::new(*results.allocator());
+        Type {
+            kind: CompositeType::Function(FunctionType::new(no_params, results)),
+            is_final: true,
+            supertype: None,
+            is_for_function_entry: true,
+            id,
+            name: None,
+        }
+    }
+
+    /// The id that it was made with.
+    pub fn id(&self) -> TypeId
+        ensures { result ≡ self.now.id }
+    {
+        self.id
+    }
+
+    /// What it is made of.
+    pub fn kind(&self) -> &CompositeType
+        ensures { result.now ≡ self.now.kind }
+    {
+        &self.kind
+    }
+
+    /// What it is made of, for writing.
+    pub fn kind_mut(&mut self) -> &mut CompositeType
+        ensures* writes_back { sem 𝓛 (Lends the_row kind_row self.entry result (with_kind self.old)) }
+        ensures value { result.now ≡ self.old.kind }
+    {
+        &mut self.kind
+    }
+
+    /// The parameters of a function type.
+    pub fn params(&self) -> &[ValType]
+        requires { IsSome (signature_of self.now.kind) }
+        ensures { IsSomeAnd (signature_of self.now.kind) (λ f. result.now ≡ f.params) }
+    {
+        self.signature().unwrap().params()
+    }
+
+    /// The results of a function type.
+    pub fn results(&self) -> &[ValType]
+        requires { IsSome (signature_of self.now.kind) }
+        ensures { IsSomeAnd (signature_of self.now.kind) (λ f. result.now ≡ f.results) }
+    {
+        self.signature().unwrap().results()
+    }
+
+    fn signature(&self) -> Option<&FunctionType>
+        ensures { option_copied result ≡ signature_of self.now.kind }
+    {
+        match &self.kind {
+            CompositeType::Function(f) => Some(f),
+            CompositeType::Struct(_) => None,
+            CompositeType::Array(_) => None,
+        }
+    }
+
+    /// Whether it stands for the block type of a function body. Such a type is no definition of its module's section.
+    pub fn is_for_function_entry(&self) -> bool
+        ensures { result ≡ self.now.is_for_function_entry }
+    {
+        self.is_for_function_entry
+    }
+}
+
+impl Tombstone for Type {
+    /// Gives back the lists that it holds: a function or struct type becomes the function type without parameters and results. An array type holds none, and stays.
+    fn on_delete(&mut self)
+        ensures { self.new ≡ with_kind self.old (emptied self.old.kind) }
+    {
+        let alloc = match &self.kind {
+            CompositeType::Function(f) => f.allocator(),
+            CompositeType::Struct(s) => s.fields.allocator(),
+            CompositeType::Array(_) => return,
+        };
+        self.kind = CompositeType::Function(FunctionType::new(Vec::new(alloc), Vec::new(alloc)));
+    }
 }

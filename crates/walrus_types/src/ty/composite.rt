@@ -2,6 +2,7 @@
 ghost use Rattle.std.specs.Prelude.{◌≡◌};
 
 use crate::{FieldType, Listed, ValType};
+use std::alloc::Global;
 use std::marker::Model;
 
 /// A function type.
@@ -66,5 +67,9 @@ impl FunctionType {
         ensures { result.now ≡ self.now.results }
     {
         self.results.as_slice()
+    }
+
+    pub(crate) fn allocator(&self) -> Global {
+        self.params.allocator()
     }
 }

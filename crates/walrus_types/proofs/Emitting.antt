@@ -1,0 +1,4 @@
+pub mod ByIndex
+pub mod Made
+pub mod Groups
+pub mod Emits

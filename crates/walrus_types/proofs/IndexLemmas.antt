@@ -1,0 +1,124 @@
+-- Lists of ids and the indices that they are given.
+use Rattle.std.proofs.Common.{◌≡◌, ℕ, zero, suc, ◌+◌, ◌<◌, ◌==◌, cond, List, [], ◌∷◌, ◌++◌, take, length, get_or, refl, sym, ap, subst, ◌∙◌, arith, append_assoc, Some, None, Option, true, false, Bool, eq-eqb, eqb-true, All, nat_eq, ◌⊎◌, inl, inr, length-append}
+use Rattle.std.specs.List.{slice_get, IsDistinct, AllByRecursion}
+use Rattle.std.proofs.lemmas.List.{take_more, length_push, length-take, get_or-take, get_or_default, get_or-append-add}
+use Rattle.std.proofs.lemmas.Option.{slice_get_within, get_or_from_slice_get}
+use Rattle.std.proofs.lemmas.Map.Keys.{apart_from_distinct}
+use Rattle.walrus_types.specs.Indices.{Given, Indexes, GivesNext}
+
+slice_get-left : (xs ys : List ℕ) (k x : ℕ) → slice_get xs k ≡ Some x → slice_get (xs ++ ys) k ≡ Some x
+slice_get-left [] ys k x h = cc
+slice_get-left (y ∷ xs) ys zero x h = h
+slice_get-left (y ∷ xs) ys (suc k) x h = slice_get-left xs ys k x h
+
+slice_get-at : (xs ys : List ℕ) (x : ℕ) → slice_get (xs ++ x ∷ ys) (length xs) ≡ Some x
+slice_get-at [] ys x = refl
+slice_get-at (y ∷ xs) ys x = slice_get-at xs ys x
+
+-- what stands in a list of two parts
+slice_get-parts : (xs ys : List ℕ) (k x : ℕ) → slice_get (xs ++ ys) k ≡ Some x → (slice_get xs k ≡ Some x) ⊎ ((j : ℕ) × (k ≡ length xs + j) × (slice_get ys j ≡ Some x))
+slice_get-parts [] ys k x h = inr (k, omega arith, h)
+slice_get-parts (y ∷ xs) ys zero x h = inl h
+slice_get-parts (y ∷ xs) ys (suc k) x h = elim (slice_get-parts xs ys k x h) [ inl w ↦ inl w | inr w ↦ inr (w.0, omega (arith, w.1), w.2) ]
+
+slice_get-single : (x y j : ℕ) → slice_get (x ∷ []) j ≡ Some y → (j ≡ 0) × (x ≡ y)
+slice_get-single x y zero h = (refl, cc)
+slice_get-single x y (suc j) h = cc
+
+-- the id stands nowhere in the list
+abbrev pub IsAbsent : List ℕ → ℕ → Type 0
+IsAbsent known id = (k : ℕ) → slice_get known k ≡ Some id → ⊥
+
+pub absent_from_none : (known : List ℕ) (x : Given) (id : ℕ) → Indexes known x → x.index id ≡ None → IsAbsent known id
+absent_from_none known x id is none k h = let e : x.index id ≡ Some k = (is.index id k).1 h in cc
+
+-- the next id goes to the end of the list
+pub indexes_push : (known : List ℕ) (id : ℕ) (old new : Given) → IsAbsent known id → Indexes known old → GivesNext old new id → Indexes (known ++ id ∷ []) new
+indexes_push known id old new absent is gives = record {
+  count = gives.count ∙ ap (λ n. n + 1) is.count ∙ sym (length_push known id);
+  index = λ other k. (to other k (id == other) refl, from other k (id == other) refl);
+}
+  where
+    to : (other k : ℕ) (b : Bool) → b ≡ (id == other) → new.index other ≡ Some k → slice_get (known ++ id ∷ []) k ≡ Some other
+    to other k true e h =
+        let same : id ≡ other = eqb-true id other (sym e) in
+        let at : new.index other ≡ Some old.count = gives.index other ∙ ap (λ b. cond b (Some old.count) (old.index other)) (sym e) in
+        let place : k ≡ length known = (let f : Some k ≡ Some old.count = sym h ∙ at in let g : k ≡ old.count = cc in g ∙ is.count) in
+        subst (λ n. slice_get (known ++ id ∷ []) n ≡ Some other) (sym place) (slice_get-at known [] id ∙ ap (λ n. Some n) same)
+    to other k false e h =
+        let at : new.index other ≡ old.index other = gives.index other ∙ ap (λ b. cond b (Some old.count) (old.index other)) (sym e) in
+        slice_get-left known (id ∷ []) k other ((is.index other k).0 (sym at ∙ h))
+
+    earlier : (other k : ℕ) (b : Bool) → b ≡ (id == other) → slice_get known k ≡ Some other → new.index other ≡ Some k
+    earlier other k true e w = absurd (absent k (w ∙ ap (λ n. Some n) (sym (eqb-true id other (sym e)))))
+    earlier other k false e w = gives.index other ∙ ap (λ b. cond b (Some old.count) (old.index other)) (sym e) ∙ (is.index other k).1 w
+
+    from : (other k : ℕ) (b : Bool) → b ≡ (id == other) → slice_get (known ++ id ∷ []) k ≡ Some other → new.index other ≡ Some k
+    from other k b e h = elim (slice_get-parts known (id ∷ []) k other h) [
+      | inl w ↦ earlier other k b e w
+      | inr w ↦
+          let single : (w.0 ≡ 0) × (id ≡ other) = slice_get-single id other w.0 w.2 in
+          let test : (id == other) ≡ true = eq-eqb id other single.1 in
+          gives.index other ∙ ap (λ b. cond b (Some old.count) (old.index other)) test ∙ ap (λ n. Some n) (let place : old.count ≡ k = omega (arith, is.count, w.1, single.0) in place)
+    ]
+
+-- a list of distinct ids has the one at i nowhere before
+absent_before : (ids : List ℕ) (i : ℕ) → i < length ids → IsDistinct nat_eq ids → IsAbsent (take i ids) (get_or ids i 0)
+absent_before ids i below distinct k h =
+    let within : k < i = (let w : k < length (take i ids) = slice_get_within (take i ids) k (get_or ids i 0) h in omega (arith, w, length-take i ids)) in
+    let same : get_or ids k 0 ≡ get_or ids i 0 = sym (get_or-take i ids k 0 within) ∙ get_or_from_slice_get (take i ids) k (get_or ids i 0) 0 h in
+    let apart : (get_or ids k 0 == get_or ids i 0) ≡ false = apart_from_distinct nat_eq ids k i 0 distinct within below in
+    let equal : (get_or ids k 0 == get_or ids i 0) ≡ true = eq-eqb (get_or ids k 0) (get_or ids i 0) same in
+    cc
+
+-- the next of the ids that are given indices
+pub indexes_next : (known ids : List ℕ) (i id : ℕ) (first old new : Given) → i < length ids → id ≡ get_or ids i id → All (λ id. first.index id ≡ None) ids → IsDistinct nat_eq ids → Indexes known first → Indexes (known ++ take i ids) old → GivesNext old new id → Indexes (known ++ take (i + 1) ids) new
+indexes_next known ids i id first old new below at fresh distinct was is gives =
+    let place : id ≡ get_or ids i 0 = at ∙ get_or_default ids i id 0 below in
+    let here : known ++ take (i + 1) ids ≡ (known ++ take i ids) ++ id ∷ [] = ap (λ (t : List ℕ). known ++ t) (take_more ids i 0 below ∙ ap (λ (n : ℕ). take i ids ++ n ∷ []) (sym place)) ∙ sym (append_assoc known (take i ids) (id ∷ [])) in
+    let none : first.index id ≡ None = subst (λ n. first.index n ≡ None) (sym place) (fresh i 0 below) in
+    let absent : IsAbsent (known ++ take i ids) id = λ k h. elim (slice_get-parts known (take i ids) k id h) [
+      | inl w ↦ absent_from_none known first id was none k w
+      | inr w ↦ absent_before ids i below distinct w.0 (w.2 ∙ ap (λ n. Some n) place)
+    ] in
+    subst (λ (k : List ℕ). Indexes k new) (sym here) (indexes_push (known ++ take i ids) id old new absent is gives)
+
+-- an index stays where more are given
+pub index_kept : (known more : List ℕ) (x y : Given) (id k : ℕ) → Indexes known x → Indexes (known ++ more) y → x.index id ≡ Some k → y.index id ≡ Some k
+index_kept known more x y id k is later h = (later.index id k).1 (slice_get-left known more k id ((is.index id k).0 h))
+
+none_from_absent : (known : List ℕ) (x : Given) (id : ℕ) → Indexes known x → IsAbsent known id → x.index id ≡ None
+none_from_absent known x id is absent = by_index (x.index id) refl
+  where
+    by_index : (o : Option ℕ) → o ≡ x.index id → x.index id ≡ None
+    by_index None e = sym e
+    by_index (Some k) e = absurd (absent k ((is.index id k).0 (sym e)))
+
+-- in a list of distinct ids that begins with those that have indices, the rest has none
+pub fresh_after : (known ids : List ℕ) (x : Given) → IsDistinct nat_eq (known ++ ids) → Indexes known x → All (λ id. x.index id ≡ None) ids
+fresh_after known ids x distinct is = λ i d below. none_from_absent known x (get_or ids i d) is (absent i d below)
+  where
+    absent : (i d : ℕ) → i < length ids → IsAbsent known (get_or ids i d)
+    absent i d below k h =
+        let within : k < length known = slice_get_within known k (get_or ids i d) h in
+        let all : length (known ++ ids) ≡ length known + length ids = length-append known ids in
+        let at_k : get_or (known ++ ids) k d ≡ get_or ids i d = get_or_from_slice_get (known ++ ids) k (get_or ids i d) d (slice_get-left known ids k (get_or ids i d) h) in
+        let at_i : get_or (known ++ ids) (length known + i) d ≡ get_or ids i d = get_or-append-add known ids i d in
+        let apart : (get_or (known ++ ids) k d == get_or (known ++ ids) (length known + i) d) ≡ false = apart_from_distinct nat_eq (known ++ ids) k (length known + i) d distinct (omega (arith, within)) (omega (arith, below, all)) in
+        let equal : (get_or (known ++ ids) k d == get_or (known ++ ids) (length known + i) d) ≡ true = eq-eqb (get_or (known ++ ids) k d) (get_or (known ++ ids) (length known + i) d) (at_k ∙ sym at_i) in
+        cc
+
+all_front : (P : ℕ → Type 0) (xs ys : List ℕ) → AllByRecursion P (xs ++ ys) → AllByRecursion P xs
+all_front P [] ys h = tt
+all_front P (x ∷ xs) ys h = (h.0, all_front P xs ys h.1)
+
+-- each part of a list of distinct ids is one
+pub distinct_front : (xs ys : List ℕ) → IsDistinct nat_eq (xs ++ ys) → IsDistinct nat_eq xs
+unfolding IsDistinct
+distinct_front [] ys h = tt
+distinct_front (x ∷ xs) ys h = (all_front (λ y. nat_eq x y ≡ false) xs ys h.0, distinct_front xs ys h.1)
+
+pub distinct_back : (xs ys : List ℕ) → IsDistinct nat_eq (xs ++ ys) → IsDistinct nat_eq ys
+unfolding IsDistinct
+distinct_back [] ys h = h
+distinct_back (x ∷ xs) ys h = distinct_back xs ys h.1

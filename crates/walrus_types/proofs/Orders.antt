@@ -1,0 +1,5 @@
+pub mod Bare
+pub mod Indices
+pub mod Ids
+pub mod Records
+pub mod Types

@@ -1,0 +1,147 @@
+-- What a reader has read, after one more group.
+use Rattle.std.proofs.Common.{◌≡◌, ℕ, zero, suc, ◌+◌, List, [], ◌∷◌, ◌++◌, length, map, refl, sym, ap, subst, ◌∙◌, Some, None, Option, Bool, true, false, cond, if◌then◌else◌, MatchOption, option_and_then}
+use Rattle.std.specs.List.{range_with_len}
+use Rattle.std.specs.Cmp.{IsEquivalence}
+use Rattle.std.proofs.lemmas.List.{map-append, length-map}
+use Rattle.walrus_arena.specs.Arena.{Slots, get, range}
+use Rattle.walrus_arena.specs.Set.{Set, mapped, found, holds}
+use Rattle.walrus_types.specs.declared.ty.composite.CompositeType.{CompositeType}
+use Rattle.walrus_types.specs.declared.ty.composite.CompositeType.TheVariants as kind
+use Rattle.walrus_types.specs.Definition.{Definition, renamed}
+use Rattle.walrus_types.specs.Section.{Section, Single, Rec, numbered}
+use Rattle.walrus_types.specs.NormalForm.{image}
+use Rattle.walrus_types.specs.ReadTable.{TypeGroup}
+use Rattle.walrus_types.specs.contracts.ty.TypeEq.TheImpl.Laws.{laws-law}
+use Rattle.walrus_types.specs.Types.{ModuleType, kind_composite, nameless}
+use Rattle.walrus_types.specs.Table.{Table, AddsType, AddsGroup, Member, placed, type_eq, IsSameTable, next_id}
+use Rattle.walrus_types.specs.TableReads.{ReadsSingle, UsesUpId, member_definition}
+use Rattle.walrus_types.specs.Fault.{fault_at}
+use Rattle.walrus_types.specs.Reading.{Reads, stored, stored_from, present, composite_kind}
+use Rattle.walrus_types.specs.Reader.{HasRead, contents}
+use Rattle.walrus_types.proofs.SameType.{same_from_eq, eq_from_same}
+use Rattle.walrus_types.proofs.ReadSection.{TellsTypes, stored_definition}
+use Rattle.walrus_types.proofs.ReadNext.{reads_found, reads_new, reads_rec}
+
+pub kind_back : (k : CompositeType) → composite_kind (kind_composite k) ≡ k
+kind_back (kind.Function f) = refl
+kind_back (kind.Struct s) = refl
+kind_back (kind.Array a) = refl
+
+definition : CompositeType → Bool → Option ℕ → Definition
+definition k f t = record { composite = kind_composite k; is_final = f; supertype = t }
+
+same_definition : (k l : CompositeType) (f g : Bool) (t u : Option ℕ) → k ≡ l → f ≡ g → t ≡ u → definition k f t ≡ definition l g u
+same_definition k l f g t u a b c = rw (a, b, c) refl
+
+type_laws : IsEquivalence type_eq
+unfolding type_eq
+type_laws = laws-law
+
+-- equality of types looks at the definition and the mark
+pub tells : TellsTypes type_eq
+unfolding definition
+tells = record {
+  laws = type_laws;
+  definition = λ a b h. (let s = same_from_eq a b h in same_definition a.kind b.kind a.is_final b.is_final a.supertype b.supertype s.kind s.is_final s.supertype);
+  mark = λ a b h. (same_from_eq a b h).is_for_function_entry;
+  same = λ a b d m. eq_from_same a b (record {
+    kind = sym (kind_back a.kind) ∙ (ap (λ (d : Definition). composite_kind d.composite) d ∙ kind_back b.kind);
+    is_final = ap (λ (d : Definition). d.is_final) d;
+    supertype = ap (λ (d : Definition). d.supertype) d;
+    is_for_function_entry = m;
+  });
+}
+
+-- the same reading, said of what is the same
+reads_at : (s : Section) (r r' : List ℕ) (slots slots' : Slots ModuleType) (f g : ModuleType → Option ℕ) (groups groups' : List TypeGroup) → r ≡ r' → slots ≡ slots' → ((q : ModuleType) → g q ≡ f q) → groups ≡ groups' → Reads s r slots f groups → Reads s r' slots' g groups'
+reads_at s r r' slots slots' f g groups groups' a b e c is =
+    let with_g : Reads s r slots g groups = record {
+      well_named = is.well_named;
+      one_each = is.one_each;
+      rule = is.rule;
+      slot_each = is.slot_each;
+      live = is.live;
+      dead = is.dead;
+      found = λ q j. ((λ h. (is.found q j).0 (sym (e q) ∙ h)), (λ h. e q ∙ (is.found q j).1 h));
+      grouped = is.grouped;
+    } in
+    subst (λ (x : List ℕ). Reads s x slots' g groups') a (subst (λ (x : Slots ModuleType). Reads s r x g groups') b (subst (λ (x : List TypeGroup). Reads s r slots g x) c with_g))
+
+-- a refused change leaves what was read
+pub read_still : (s : Section) (old new : Table) (r : List ℕ) → IsSameTable old new → HasRead s old r → HasRead s new r
+read_still s old new r same is =
+    reads_at s r r old.types.slots new.types.slots (mapped type_eq old.types) (mapped type_eq new.types) (map contents old.groups) (map contents new.groups) refl (sym same.types.slots) same.types.map (ap (map contents) (sym same.groups)) is
+
+module _ (s : Section) (old : Table) (r : List ℕ) (is : HasRead s old r) where
+  -- what the map has is live and equal, so it is found
+  found_by : (q : ModuleType) (o : Option ℕ) → mapped type_eq old.types q ≡ o → option_and_then (λ id. if holds (type_eq q) (get old.types.slots id) then Some id else None) o ≡ o
+  found_by q None h = refl
+  found_by q (Some j) h =
+      let f = (is.found q j).0 h in
+      let at : get old.types.slots j ≡ Some (stored _ j) = is.live j f.below f.live in
+      let same : type_eq q (stored _ j) ≡ true = tells.same q (stored _ j) (f.same ∙ sym (stored_definition _ j)) f.plain in
+      ap (λ o. if holds (type_eq q) o then Some j else None) at ∙ ap (λ (b : Bool). if b then Some j else None) same
+
+  found_is : (q : ModuleType) → found type_eq old.types q ≡ mapped type_eq old.types q
+  found_is q = found_by q (mapped type_eq old.types q) refl
+
+  module _ (d : Definition) (fine : fault_at (numbered s).count (d ∷ []) ≡ None) (new : Table) (id : ℕ) where
+    abbrev b : ℕ
+    b = (numbered s).count
+
+    abbrev ty : ModuleType
+    ty = stored (renamed (image (r ++ b ∷ [])) d) b
+
+    single_by : (o : Option ℕ) → found type_eq old.types ty ≡ o → MatchOption o (AddsType old new ty id) (λ known. (id ≡ known) × UsesUpId old new) → HasRead (s ++ Single d ∷ []) new (r ++ id ∷ [])
+    single_by None h adds =
+        let here : b ≡ id = sym is.slot_each ∙ sym adds.types.named in
+        reads_at (s ++ Single d ∷ []) (r ++ b ∷ []) (r ++ id ∷ []) (old.types.slots ++ Some ty ∷ []) new.types.slots (mapped type_eq new.types) (mapped type_eq new.types) (map contents old.groups ++ record { ids = b ∷ []; is_explicit = false } ∷ []) (map contents new.groups)
+        (ap (λ (i : ℕ). r ++ i ∷ []) here) (sym adds.types.slots) (λ q. refl)
+        (ap (λ (i : ℕ). map contents old.groups ++ record { ids = i ∷ []; is_explicit = false } ∷ []) here ∙ sym (ap (map contents) adds.groups ∙ map-append contents old.groups _))
+        (reads_new type_eq tells s r old.types.slots (mapped type_eq old.types) (map contents old.groups) is d fine (sym (found_is ty) ∙ h) (mapped type_eq new.types) (λ q. adds.types.map q ∙ ap (λ (i : ℕ). cond (type_eq ty q) (Some i) (mapped type_eq old.types q)) (sym here)))
+    single_by (Some j) h uses =
+        reads_at (s ++ Single d ∷ []) (r ++ j ∷ []) (r ++ id ∷ []) (old.types.slots ++ None ∷ []) new.types.slots (mapped type_eq old.types) (mapped type_eq new.types) (map contents old.groups) (map contents new.groups)
+        (ap (λ (i : ℕ). r ++ i ∷ []) (sym uses.0)) (sym uses.1.slots) uses.1.map (ap (map contents) (sym uses.1.groups))
+        (reads_found type_eq tells s r old.types.slots (mapped type_eq old.types) (map contents old.groups) is d fine j (sym (found_is ty) ∙ h))
+
+    pub single_read : ReadsSingle old new ty id → HasRead (s ++ Single d ∷ []) new (r ++ id ∷ [])
+    single_read reads = single_by (found type_eq old.types ty) refl reads
+
+range_is : (a n : ℕ) → range a n ≡ range_with_len a n
+range_is a zero = refl
+range_is a (suc n) = ap (λ xs. a ∷ xs) (range_is (a + 1) n)
+
+tail_same : (x y : Definition) (xs ys : List Definition) → x ∷ xs ≡ y ∷ ys → xs ≡ ys
+tail_same x y xs ys h = cc
+
+head_same : (x y : Definition) (xs ys : List Definition) → x ∷ xs ≡ y ∷ ys → x ≡ y
+head_same x y xs ys h = cc
+
+pub member_stored : (m : Member) (d : Definition) (id : ℕ) → member_definition m ≡ d → nameless m.0 m.1 m.2 false id ≡ stored d id
+member_stored m d id h = ap (λ (k : CompositeType). nameless k m.1 m.2 false id) (sym (kind_back m.0)) ∙ ap (λ (d : Definition). stored d id) h
+
+placed_is : (f : ℕ → ℕ) (id : ℕ) (members : List Member) (ds : List Definition) → map member_definition members ≡ map (renamed f) ds → placed id members ≡ stored_from f id ds
+placed_is f id [] [] h = refl
+placed_is f id [] (d ∷ ds) h = absurd cc
+placed_is f id (m ∷ members) [] h = absurd cc
+placed_is f id (m ∷ members) (d ∷ ds) h =
+    let first = member_stored m (renamed f d) id (head_same (member_definition m) (renamed f d) (map member_definition members) (map (renamed f) ds) h) in
+    let rest = placed_is f (id + 1) members ds (tail_same (member_definition m) (renamed f d) (map member_definition members) (map (renamed f) ds) h) in
+    ap (λ (x : ModuleType). x ∷ placed (id + 1) members) first ∙ ap (λ (xs : List ModuleType). stored (renamed f d) id ∷ xs) rest
+
+module _ (s : Section) (old : Table) (r : List ℕ) (is : HasRead s old r) (ds : List Definition) (fine : fault_at (numbered s).count ds ≡ None) (new : Table) (members : List Member) where
+  abbrev own : List ℕ
+  own = range_with_len (numbered s).count (length ds)
+
+  pub rec_read : map member_definition members ≡ map (renamed (image (r ++ own))) ds → AddsGroup old new members → HasRead (s ++ Rec ds ∷ []) new (r ++ own)
+  rec_read same adds =
+      let first : next_id old ≡ (numbered s).count = is.slot_each in
+      let many : length members ≡ length ds = sym (length-map members member_definition) ∙ (ap length same ∙ length-map ds (renamed (image (r ++ own)))) in
+      let tys : placed (next_id old) members ≡ stored_from (image (r ++ own)) (numbered s).count ds = placed_is (image (r ++ own)) (next_id old) members ds same ∙ ap (λ (i : ℕ). stored_from (image (r ++ own)) i ds) first in
+      let ids : range (next_id old) (length members) ≡ own = range_is (next_id old) (length members) ∙ (ap (λ (i : ℕ). range_with_len i (length members)) first ∙ ap (range_with_len (numbered s).count) many) in
+      reads_at (s ++ Rec ds ∷ []) (r ++ own) (r ++ own) (old.types.slots ++ present (stored_from (image (r ++ own)) (numbered s).count ds)) new.types.slots (mapped type_eq old.types) (mapped type_eq new.types) (map contents old.groups ++ record { ids = own; is_explicit = true } ∷ []) (map contents new.groups)
+      refl
+      (ap (λ (xs : List ModuleType). old.types.slots ++ present xs) (sym tys) ∙ sym (ap (λ (t : Set ModuleType). t.slots) adds.types))
+      (λ q. ap (λ (t : Set ModuleType). mapped type_eq t q) adds.types)
+      (ap (λ (xs : List ℕ). map contents old.groups ++ record { ids = xs; is_explicit = true } ∷ []) (sym ids) ∙ sym (ap (map contents) adds.groups ∙ map-append contents old.groups _))
+      (reads_rec type_eq tells s r old.types.slots (mapped type_eq old.types) (map contents old.groups) is ds fine)

@@ -1,0 +1,3 @@
+pub mod Tokens
+pub mod Spelled
+pub mod Injective

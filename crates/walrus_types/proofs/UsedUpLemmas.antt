@@ -1,0 +1,89 @@
+-- A table whose next id is used up.
+use Rattle.std.proofs.Common.{◌≡◌, ℕ, zero, suc, ◌+◌, ◌-◌, ◌<◌, ◌≤◌, List, [], ◌∷◌, ◌++◌, length, get_or, set, refl, sym, ap, subst, ◌∙◌, arith, Some, None, Option, IsSome, Bool, true, false, cond, ◌&&◌, ◌==◌, ◌⊎◌, inl, inr, Result, Ok, Err, IsOk, OnOk}
+use Rattle.std.specs.List.{slice_get, slice_index}
+use Rattle.std.specs.Option.{option_eq}
+use Rattle.std.proofs.Math.Bool.{and-false}
+use Rattle.std.proofs.Math.Seq.{set-append_seam}
+use Rattle.std.proofs.lemmas.Bool.{cases_lt, ne_eqb}
+use Rattle.std.proofs.lemmas.List.{length_push, get_or_append_left, get_or-append_right, get_or_at}
+use Rattle.walrus_arena.specs.Arena.{Slots, get, IsLive}
+use Rattle.walrus_arena.specs.Set.{Set, SameMap, Removes, mapped, holds, is_own_entry}
+use Rattle.walrus_types.specs.declared.table.RecGroup.{RecGroup}
+use Rattle.walrus_types.specs.Types.{ModuleType}
+use Rattle.walrus_types.specs.Table.{Table, IsMember, group_at, type_eq}
+use Rattle.walrus_types.specs.TableIndex.{IsIndexed}
+use Rattle.walrus_types.specs.TableReads.{UsesUpId}
+use Rattle.walrus_types.proofs.TableLemmas.{live_below}
+
+none_there : {T : Type 0} (k : ℕ) → get {T = T} (None ∷ []) k ≡ None
+none_there zero = refl
+none_there (suc k) = refl
+
+live_old : {T : Type 0} (s : Slots T) (id : ℕ) → IsLive (s ++ None ∷ []) id → IsLive s id
+live_old {T} s id live = elim (cases_lt id (length s)) [
+  | inl w ↦ subst IsSome (get_or_append_left s (None ∷ []) None id w) live
+  | inr w ↦ (let e : get (s ++ None ∷ []) id ≡ None = get_or-append_right s (None ∷ []) (length s) id None refl w ∙ none_there {T = T} (id - length s) in let h : false ≡ true = subst IsSome e live in let k : ⊥ = cc in absurd k)
+]
+
+module _ (t new : Table) (go : List ℕ) (is : IsIndexed t go) (uses : UsesUpId t new) where
+  abbrev go' : List ℕ
+  go' = go ++ 0 ∷ []
+
+  was_live : (id : ℕ) → IsLive new.types.slots id → IsLive t.types.slots id
+  was_live id live = live_old t.types.slots id (subst (λ (s : Slots ModuleType). IsLive s id) uses.slots live)
+
+  still_live : (id : ℕ) → IsLive t.types.slots id → IsLive new.types.slots id
+  still_live id live = subst (λ (s : Slots ModuleType). IsLive s id) (sym uses.slots) (subst IsSome (sym (get_or_append_left t.types.slots (None ∷ []) None id (live_below t.types.slots id live))) live)
+
+  same_number : (id : ℕ) → IsLive t.types.slots id → slice_index go' id ≡ slice_index go id
+  same_number id live = let b = live_below t.types.slots id live in get_or_append_left go (0 ∷ []) 0 id (omega (arith, b, is.indexed))
+
+  was_member : (k u id : ℕ) → IsMember new.groups k u id → IsMember t.groups k u id
+  was_member k u id m = subst (λ (gs : List RecGroup). IsMember gs k u id) uses.groups m
+
+  same_group : (k : ℕ) → group_at new.groups k ≡ group_at t.groups k
+  same_group k = ap (λ (gs : List RecGroup). group_at gs k) uses.groups
+
+  was_mapped : (q : ModuleType) (id : ℕ) → mapped type_eq new.types q ≡ Some id → mapped type_eq t.types q ≡ Some id
+  was_mapped q id h = sym (uses.map q) ∙ h
+
+  pub used_up_indexed : IsIndexed new go'
+  used_up_indexed = record {
+    indexed = omega (arith, length_push go 0, is.indexed, ap length uses.slots, length_push t.types.slots None);
+    grouped = λ id live. (let old = was_live id live in let m = is.grouped id old in (m.0, subst (λ (k : ℕ). IsMember new.groups k m.0 id) (sym (same_number id old)) (subst (λ (gs : List RecGroup). IsMember gs (slice_index go id) m.0 id) (sym uses.groups) m.1)));
+    live = λ k u id m. still_live id (is.live k u id (was_member k u id m));
+    own = λ k u id m. (let old = was_member k u id m in same_number id (is.live k u id old) ∙ is.own k u id old);
+    once = λ k u v id m l. is.once k u v id (was_member k u id m) (was_member k v id l);
+    single = λ k h. subst (λ (g : RecGroup). length g.types ≤ 1) (sym (same_group k)) (is.single k (ap (λ (g : RecGroup). g.is_explicit) (sym (same_group k)) ∙ h));
+    candidates = λ q id h live. (let old = was_live id live in ap (λ (k : ℕ). (group_at new.groups k).is_explicit) (same_number id old) ∙ (ap (λ (g : RecGroup). g.is_explicit) (same_group (slice_index go id)) ∙ is.candidates q id (was_mapped q id h) old));
+    known = λ q id h. (let b = is.known q id (was_mapped q id h) in omega (arith, b, ap length uses.slots, length_push t.types.slots None));
+  }
+
+-- a type that was put into a new slot without being found, and then was removed
+module _ (old new : Set ModuleType) (ty : ModuleType) (id : ℕ) (last : id ≡ length old.slots) (known : (q : ModuleType) (j : ℕ) → mapped type_eq old q ≡ Some j → j < length old.slots) (removes : Removes type_eq (record { slots = old.slots ++ Some ty ∷ []; entries = old.entries }) new id) where
+  abbrev with_it : Set ModuleType
+  with_it = record { slots = old.slots ++ Some ty ∷ []; entries = old.entries }
+
+  pub dead_slot : new.slots ≡ old.slots ++ None ∷ []
+  dead_slot = removes.slots ∙ (ap (λ (i : ℕ). set (old.slots ++ Some ty ∷ []) i None) last ∙ set-append_seam old.slots (Some ty) [] None)
+
+  elsewhere : (o : Option ℕ) → ((j : ℕ) → o ≡ Some j → j < length old.slots) → option_eq (λ a b. a == b) o (Some id) ≡ false
+  elsewhere None h = refl
+  elsewhere (Some j) h = let b = h j refl in ne_eqb j id (λ e. omega (arith, e, b, last))
+
+  not_own : (q : ModuleType) → is_own_entry type_eq with_it id q ≡ false
+  not_own q =
+      let at : get with_it.slots id ≡ Some ty = get_or_at old.slots (Some ty) [] None id (sym last) in
+      ap (holds (λ (item : ModuleType). type_eq item q && option_eq (λ a b. a == b) (mapped type_eq with_it item) (Some id))) at
+      ∙ (ap (λ (b : Bool). type_eq ty q && b) (elsewhere (mapped type_eq old ty) (known ty)) ∙ and-false (type_eq ty q))
+
+  pub same_map : SameMap type_eq old new
+  same_map q = removes.map q ∙ ap (λ (b : Bool). cond b None (mapped type_eq with_it q)) (not_own q)
+
+pub ok_at : {X E P : Type 0} (r : Result X E) → IsOk r → OnOk r P → P
+ok_at (Ok x) s h = h
+ok_at (Err e) s h = absurd cc
+
+pub on_ok_holds : {X E P : Type 0} (r : Result X E) → P → OnOk r P
+on_ok_holds (Ok x) h = h
+on_ok_holds (Err e) h = tt

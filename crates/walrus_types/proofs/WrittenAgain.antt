@@ -1,0 +1,119 @@
+-- A table that a section was read into: what its groups hold, that it can be written, and what is written.
+use Rattle.std.proofs.Common.{◌≡◌, ℕ, zero, suc, ◌+◌, ◌<◌, ◌≤◌, ◌∙◌, refl, sym, ap, subst, arith, inl, inr, ◌⊎◌, Some, None, Bool, false, List, map, length, IsSome, get_or}
+use Rattle.std.specs.List.{slice_get}
+use Rattle.std.proofs.lemmas.Bool.{cases_lt, cases_eq}
+use Rattle.std.proofs.lemmas.List.{ext_get_or, get_or_default, get_or-map, length-map}
+use Rattle.std.proofs.lemmas.List.FromFn.{length-map-range_with_len, get_or-map-range_with_len}
+use Rattle.std.proofs.lemmas.Option.{slice_get_within, get_or_from_slice_get}
+use Rattle.walrus_arena.specs.Arena.{get}
+use Rattle.walrus_types.specs.Definition.{Composite, Function, Struct, Array, Definition, Names, names_of, renamed}
+use Rattle.walrus_types.specs.Section.{Section, numbered, places_from, IsWellNamed}
+use Rattle.walrus_types.specs.NormalForm.{image, IsNormalForm}
+use Rattle.walrus_types.specs.ReadTable.{IsRead, TypeGroup, read_definition, read_groups}
+use Rattle.walrus_types.specs.Emission.{group_at, IsMember, IsGrouped, IsWritten, IsTurned, IsEmission}
+use Rattle.walrus_types.specs.Emitted.{type_groups, definition_at, slot_definition, is_entry_at, IsWrittenId, IsEmitted}
+use Rattle.walrus_types.specs.Indices.{Given}
+use Rattle.walrus_types.specs.Naming.{value_in}
+use Rattle.walrus_types.specs.Refusal.{HasIndexBy, IsMissing, IsFirstMissing}
+use Rattle.walrus_types.specs.Reading.{stored, composite_kind, Reads}
+use Rattle.walrus_types.specs.Reader.{HasRead, contents}
+use Rattle.walrus_types.specs.Records.{section_of}
+use Rattle.walrus_types.specs.Table.{Table}
+use Rattle.walrus_types.specs.Types.{ModuleType, kind_composite, type_definition}
+use Rattle.walrus_types.specs.declared.records.GroupAt.{GroupAt}
+use Rattle.walrus_types.proofs.Sections.Rows.{at, laid_out}
+use Rattle.walrus_types.proofs.Emitting.Made.{down, twice}
+use Rattle.walrus_types.proofs.Emitting.Groups.{AreGroups, Kind, groups}
+use Rattle.walrus_types.proofs.Emitting.Emits.{sent, read_then_emitted, names_stand}
+use Rattle.walrus_types.proofs.SameEmission.{same_emission, same_stands}
+
+kept_composite : (c : Composite) → kind_composite (composite_kind c) ≡ c
+kept_composite (Function ps rs) = refl
+kept_composite (Struct fs) = refl
+kept_composite (Array f) = refl
+
+kept_definition : (d : Definition) (id : ℕ) → type_definition (stored d id) ≡ d
+kept_definition d id = ap (λ (c : Composite). record { composite = c; is_final = d.is_final; supertype = d.supertype }) (kept_composite d.composite)
+
+module _ (s : Section) (t : Table) (ids : List ℕ) (has : HasRead s t ids) where
+  abbrev r : ℕ → ℕ
+  r = image ids
+
+  abbrev S : List TypeGroup
+  S = read_groups 0 r s
+
+  none : (i : ℕ) → zero + i ≡ i
+  none i = omega arith
+
+  all : AreGroups 0 r S (places_from 0 0 s)
+  all = groups 0 0 r s (λ i x h o. ap r (none i) ∙ (has.rule.recs i h (x, o) ∙ sym (none i)))
+
+  -- the members of the groups are the live slots
+  member_is : (g u x : ℕ) → IsMember S g u x → (x < (numbered s).count) × (r x ≡ x) × Kind (group_at S g) (at (places_from 0 0 s) x) u
+  member_is g u x m =
+      let q = all.is g u x m in
+      let q1 = q.1 in let q2 = q.2 in
+      let e : q.0 ≡ x = omega arith in
+      (omega arith, q.3, subst (λ (j : ℕ). Kind (group_at S g) (at (places_from 0 0 s) j) u) e q.4)
+
+  member_of : (i : ℕ) → i < (numbered s).count → r i ≡ i → (g : ℕ) × (u : ℕ) × IsMember S g u i
+  member_of i h v =
+      let m = all.has i h (ap r (none i) ∙ (v ∙ sym (none i))) in
+      (m.0, m.1, subst (IsMember S m.0 m.1) (none i) m.2)
+
+  slot_of : (g u i : ℕ) → IsMember S g u i → get t.types.slots i ≡ Some (stored (read_definition (numbered s) r i) i)
+  slot_of g u i m = let w = member_is g u i m in has.live i w.0 w.1
+
+  defines : (g u i : ℕ) → IsMember S g u i → definition_at t.types.slots i ≡ read_definition (numbered s) r i
+  defines g u i m = ap slot_definition (slot_of g u i m) ∙ kept_definition (read_definition (numbered s) r i) i
+
+  no_entry : (g u i : ℕ) → IsMember S g u i → is_entry_at t.types.slots i ≡ false
+  no_entry g u i m = rw (slot_of g u i m) refl
+
+  -- what is written is the normal form, and each index goes where its slot goes
+  pub normal_again : (out : List GroupAt) (x : Given) → IsEmitted t out x → IsNormalForm s (section_of out) (sent s r (value_in x.index))
+  normal_again out x em =
+      let on : IsEmission S (definition_at t.types.slots) (is_entry_at t.types.slots) (section_of out) (value_in x.index) = subst (λ (gs : List TypeGroup). IsEmission gs (definition_at t.types.slots) (is_entry_at t.types.slots) (section_of out) (value_in x.index)) has.grouped em.section in
+      read_then_emitted s (section_of out) r (value_in x.index) has.well_named has.rule (same_emission S _ _ _ _ (section_of out) (value_in x.index) defines no_entry on)
+
+  -- what a member names has an index by the time its group is written
+  named_has_index : (g u i k : ℕ) → IsMember S g u i → Names (read_definition (numbered s) r i) k → HasIndexBy S (definition_at t.types.slots) (is_entry_at t.types.slots) g k
+  named_has_index g u i k m names =
+      let home = names_stand s r has.well_named.below_ends has.rule g u i k m names in
+      record {
+        home = home.0;
+        place = home.1;
+        written = (home.1, k, home.2, no_entry home.0 home.1 k home.2);
+        member = home.2;
+        by = elim home.3 [
+          | inl e ↦ inl e
+          | inr stands ↦ inr (same_stands S (read_definition (numbered s) r) (definition_at t.types.slots) (λ a v x n. sym (defines a v x n)) home.0 g stands)
+        ];
+      }
+
+  -- so no name lacks its index
+  none_missing : (g u n i k : ℕ) → ¬ (IsMissing S (definition_at t.types.slots) (is_entry_at t.types.slots) g u n i k)
+  none_missing g u n i k x =
+      let names : Names (definition_at t.types.slots i) k = (n, slice_get_within (names_of (definition_at t.types.slots i)) n k x.name, get_or_from_slice_get (names_of (definition_at t.types.slots i)) n k k x.name) in
+      x.missing (named_has_index g u i k x.member (subst (λ (d : Definition). Names d k) (defines g u i x.member) names))
+
+  pub never_missing : (i k : ℕ) → ¬ (IsFirstMissing (type_groups t.groups) (definition_at t.types.slots) (is_entry_at t.types.slots) i k)
+  never_missing i k x = subst (λ (gs : List TypeGroup). (g u n j l : ℕ) → ¬ (IsMissing gs (definition_at t.types.slots) (is_entry_at t.types.slots) g u n j l)) (sym has.grouped) none_missing x.group x.place x.name i k x.is
+
+  -- the id that an index stands for has an index in what is written
+  pub each_indexed : (out : List GroupAt) (x : Given) → IsEmitted t out x → (i d : ℕ) → i < length ids → IsSome (x.index (get_or ids i d))
+  each_indexed out x em i d below =
+      let within : i < (numbered s).count = omega (arith, below, has.one_each) in
+      let lower = down (numbered s) r has.rule i within in
+      let home = member_of (r i) (omega (arith, within, lower)) (twice (numbered s) r has.rule i within) in
+      let written : IsWrittenId S (is_entry_at t.types.slots) (r i) = (home.0, home.1, (home.1, r i, home.2, no_entry home.0 home.1 (r i) home.2), home.2) in
+      let there : IsWrittenId (type_groups t.groups) (is_entry_at t.types.slots) (r i) = subst (λ (gs : List TypeGroup). IsWrittenId gs (is_entry_at t.types.slots) (r i)) (sym has.grouped) written in
+      subst (λ (k : ℕ). IsSome (x.index k)) (get_or_default ids i 0 d below) ((em.indexed (r i)).1 there)
+
+  -- the indices of the ids are where the indices of the section go
+  pub sent_by_ids : (f : ℕ → ℕ) → map f ids ≡ sent s r f
+  sent_by_ids f =
+      ext_get_or 0 (map f ids) (sent s r f) (length-map ids f ∙ has.one_each ∙ sym (length-map-range_with_len (λ i. f (r i)) 0 (numbered s).count))
+      (λ i below.
+      let within : i < length ids = omega (arith, below, length-map ids f) in
+      get_or-map f ids i 0 0 within ∙ sym (get_or-map-range_with_len (λ i. f (r i)) 0 (numbered s).count i i 0 (omega (arith, within, has.one_each)) (none i)))

@@ -1,0 +1,8 @@
+use Rattle.std.proofs.Common.{◌≡◌, ℕ, ◌<◌, length, Some, ◌≤◌}
+use Rattle.walrus_types.specs.Definition.{Names}
+use Rattle.walrus_types.specs.NormalForm.{IsKept, image}
+use Rattle.walrus_types.specs.Section.{numbered_places, IsSingle}
+use Rattle.walrus_types.proofs.checker.laws.maps_onto.Given as goal
+
+abbrev pub invariant-loop-target : goal.invariant-loop-target
+invariant-loop-target l = (p : ℕ) → p < l.target → (i : ℕ) × (i < length l.section) × (image l.map i ≡ p)

@@ -1,0 +1,12 @@
+use Rattle.std.proofs.Common.{◌≡◌, ℕ, ◌<◌, length, arith}
+use Rattle.walrus_types.specs.Checker.{Differ}
+use Rattle.walrus_types.specs.NormalForm.{image}
+use Rattle.walrus_types.specs.Section.{numbered_places}
+use Rattle.walrus_types.proofs.Deciding.{from_false, not_each_pair, each_pair_more}
+use Rattle.walrus_types.proofs.checker.pairs.singles_differ.Goals as goal
+
+pub returns-then-not-differs_from_earlier : goal.returns-then-not-differs_from_earlier
+returns-then-not-differs_from_earlier c = (from_false, not_each_pair (Differ (numbered_places c.args.output.now)) (length c.args.output.now) c.loop-later.later c.differs_from_earlier.result c.loop-later-test.true c.differs_from_earlier.ensures.1 c.if-not-differs_from_earlier.true)
+
+pub loop-later-preserved : goal.loop-later-preserved
+loop-later-preserved c = each_pair_more (Differ (numbered_places c.args.output.now)) c.loop-later.later c.differs_from_earlier.result c.loop-later.invariant c.differs_from_earlier.ensures.0 c.if-not-differs_from_earlier.false

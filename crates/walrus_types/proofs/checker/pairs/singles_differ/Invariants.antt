@@ -1,0 +1,8 @@
+use Rattle.std.proofs.Common.{ℕ, ◌<◌}
+use Rattle.walrus_types.specs.Checker.{Differ, KeepsAnchors, OrdersFree}
+use Rattle.walrus_types.specs.NormalForm.{image}
+use Rattle.walrus_types.specs.Section.{numbered_places}
+use Rattle.walrus_types.proofs.checker.pairs.singles_differ.Given as goal
+
+abbrev pub invariant-loop-later : goal.invariant-loop-later
+invariant-loop-later l = (p q : ℕ) → p < q → q < l.later → Differ (numbered_places l.output) p q

@@ -1,0 +1,7 @@
+use Rattle.std.proofs.Common.{◌≡◌, take, map}
+use Rattle.walrus_types.specs.FreeGroups.{head}
+use Rattle.walrus_types.specs.Runs.{heads_of}
+use Rattle.walrus_types.proofs.emit.free.heads.Given as goal
+
+abbrev pub invariant-loop-group : goal.invariant-loop-group
+invariant-loop-group l = heads_of l.heads.items ≡ map (head l.table.types.slots) (take l.group-index l.groups)

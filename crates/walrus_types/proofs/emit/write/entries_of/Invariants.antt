@@ -1,0 +1,15 @@
+use Rattle.std.proofs.Common.{◌≡◌, ℕ, ◌<◌, take, map, Some, None}
+use Rattle.std.specs.List.{slice_get}
+use Rattle.walrus_types.specs.Definition.{names_of}
+use Rattle.walrus_types.specs.Emitted.{definition_at}
+use Rattle.walrus_types.specs.Indices.{type_index}
+use Rattle.walrus_types.specs.Naming.{first_missing}
+use Rattle.walrus_types.specs.Records.{entry_definition}
+use Rattle.walrus_types.specs.WrittenGroups.{indexed}
+use Rattle.walrus_types.proofs.emit.write.entries_of.Given as goal
+
+abbrev pub invariant-loop-id : goal.invariant-loop-id
+invariant-loop-id l = record {
+  done : map entry_definition l.entries.items ≡ map (indexed (type_index l.indices) (definition_at l.table.types.slots)) (take l.id-index l.ids);
+  complete : (u i : ℕ) → u < l.id-index → slice_get l.ids u ≡ Some i → first_missing (type_index l.indices) (names_of (definition_at l.table.types.slots i)) ≡ None;
+}

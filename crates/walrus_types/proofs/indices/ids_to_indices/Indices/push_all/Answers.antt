@@ -1,0 +1,13 @@
+use Rattle.std.proofs.Common.{◌≡◌, ℕ, ◌∙◌, subst, arith}
+use Rattle.walrus_types.specs.Indices.{given, GivesNext}
+use Rattle.walrus_types.proofs.IndexLemmas.{indexes_next}
+use Rattle.walrus_types.proofs.indices.ids_to_indices.Indices.push_all.Goals as goal
+
+pub loop-id-preserved : goal.loop-id-preserved
+loop-id-preserved g c =
+    let same : c.from_index.result ≡ c.id-item.result = c.from_index.ensures ∙ c.index.ensures in
+    let gives : GivesNext (given c.loop-id.self) (given c.push.new.self) c.id-item.result = subst (λ (id : ℕ). GivesNext (given c.loop-id.self) (given c.push.new.self) id) same ((c.in_ok-push.ensures {u = tt}).ok) in
+    record {
+      count = omega (arith, gives.count, c.loop-id.invariant.count);
+      index = λ known is. indexes_next known c.args.ids.now c.loop-id.id-index c.id-item.result (given c.args.self.now) (given c.loop-id.self) (given c.push.new.self) c.loop-id-test.true c.id-item.is c.requires.fresh c.requires.distinct is (c.loop-id.invariant.index known is) gives;
+    }

@@ -1,0 +1,10 @@
+use Rattle.walrus_types.specs.Table.{IsPlainFunction}
+use Rattle.walrus_types.proofs.FindLemmas.{HasPassed}
+use Rattle.walrus_types.proofs.table.ModuleTypes.find.Given as goal
+
+abbrev pub invariant-loop-item : goal.invariant-loop-item
+invariant-loop-item l = record {
+  can_next : (goal.iterator-loop-item).can_next l.left;
+  finite : (goal.iterator-loop-item).is_finite l.left;
+  passed : HasPassed (IsPlainFunction l.params l.results) l.self.types.slots l.left;
+}

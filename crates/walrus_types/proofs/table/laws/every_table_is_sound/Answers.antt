@@ -1,0 +1,5 @@
+use Rattle.walrus_types.proofs.CallLemmas.{every_table_is_sound}
+use Rattle.walrus_types.proofs.table.laws.every_table_is_sound.Goals as goal
+
+pub returns : goal.returns
+returns c = every_table_is_sound

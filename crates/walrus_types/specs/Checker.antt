@@ -1,0 +1,18 @@
+-- The laws of the normal form on two indices.
+use Rattle.std.specs.Prelude.{◌≡◌, ℕ, ◌<◌, ◌↔◌, ◌⊎◌}
+use Rattle.std.specs.declared.cmp.Ordering.TheVariants.{Less}
+use Rattle.walrus_types.specs.Definition.{definition_cmp}
+use Rattle.walrus_types.specs.Section.{Numbered, IsSingle}
+use Rattle.walrus_types.specs.NormalForm.{IsKept, IsAnchor, AreFree}
+
+-- p and q are not two `Single`s of one definition
+abbrev pub Differ : Numbered → ℕ → ℕ → Type 0
+Differ n p q = IsSingle n p → IsSingle n q → ¬ (n.definition p ≡ n.definition q)
+
+-- where both are kept and one is an anchor, i comes first
+abbrev pub KeepsAnchors : Numbered → (ℕ → ℕ) → ℕ → ℕ → Type 0
+KeepsAnchors s m i j = IsKept m i → IsKept m j → IsAnchor s m i ⊎ IsAnchor s m j → m i < m j
+
+-- where both are kept and nothing from i to j is an anchor, i comes first exactly where it is less
+abbrev pub OrdersFree : Numbered → (ℕ → ℕ) → ℕ → ℕ → Type 0
+OrdersFree s m i j = IsKept m i → IsKept m j → AreFree s m i j → (m i < m j ↔ definition_cmp (s.definition i) (s.definition j) ≡ Less)

@@ -1,0 +1,47 @@
+-- When a recursion group of a section cannot be read, and why: the section gets too long, or an entry names an index that its group and those before it do not have.
+-- WebAssembly core specification, "Types": the indices of a recursion group reach to its own end.
+use Rattle.std.specs.Prelude.{◌≡◌, ℕ, ◌+◌, ◌^◌, nat_le, List, [], ◌∷◌, ◌++◌, length, map, find, Option, Some, option_map, if◌then◌else◌}
+use Rattle.walrus_types.specs.declared.error.ReadError.{ReadError}
+use Rattle.walrus_types.specs.declared.error.ReadError.TheVariants.{BadIndex, TooMany}
+use Rattle.walrus_types.specs.Definition.{Definition, names_of}
+use Rattle.walrus_types.specs.Section.{Group, Single, Rec, Section, numbered, IsWellNamed}
+
+-- every section has fewer entries than this, as its indices have 32 bits
+abbrev pub entry_limit : ℕ
+entry_limit = 2 ^ 32
+
+-- an entry names an index
+pub record Naming : Type 0 where
+  pub entry : ℕ
+  pub index : ℕ
+
+-- all that these definitions name, from left to right, where they are numbered from i on
+abbrev pub namings_from : ℕ → List Definition → List Naming
+namings_from i [] = []
+namings_from i (d ∷ ds) = map (λ k. record { entry = i; index = k }) (names_of d) ++ namings_from (i + 1) ds
+
+-- the first that is at or past the end
+abbrev pub first_bad : ℕ → List Naming → Option Naming
+first_bad end namings = find (λ n. nat_le end n.index) namings
+
+abbrev pub definitions_of : Group → List Definition
+definitions_of (Single d) = d ∷ []
+definitions_of (Rec ds) = ds
+
+-- what is wrong with a group of these definitions, where so many definitions stand before it: it brings their number to the limit,
+-- or else names an index at or past its end
+abbrev pub fault_at : ℕ → List Definition → Option ReadError
+fault_at start ds =
+    let end = start + length ds in
+    if nat_le entry_limit end
+    then Some TooMany
+    else option_map (λ n. BadIndex n.entry n.index end) (first_bad end (namings_from start ds))
+
+-- the fault of the first group of the section that has one; the groups before it can be read
+pub record IsFirstFault (s : Section) (fault : ReadError) : Type 0 where
+  pub before : Section
+  pub group : Group
+  pub after : Section
+  pub split : s ≡ before ++ group ∷ after
+  pub read : IsWellNamed before
+  pub is : fault_at (numbered before).count (definitions_of group) ≡ Some fault

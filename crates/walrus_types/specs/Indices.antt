@@ -1,0 +1,51 @@
+-- Which indices the ids of a module were given in a section.
+use Rattle.std.specs.Prelude.{◌≡◌, ℕ, ◌+◌, ◌==◌, ◌++◌, List, length, Option, Some, None, nat_eq, slice_get, ◌↔◌, if◌then◌else◌}
+use Rattle.std.specs.HashMap.{get}
+use Rattle.walrus_types.specs.declared.indices.ids_to_indices.Indices.{Indices}
+use Rattle.walrus_types.specs.declared.indices.ids_to_indices.IdsToIndices.{IdsToIndices}
+
+-- the indices of one kind: how many ids have one, and which one an id has
+pub record Given : Type 0 where
+  pub count : ℕ
+  pub index : ℕ → Option ℕ
+
+abbrev pub given : {T : Type 0} → Indices T → Given
+given x = record { count = x.count; index = λ id. get nat_eq x.by_id id }
+
+abbrev pub type_indices : IdsToIndices → Given
+type_indices x = given x.types
+
+abbrev pub func_indices : IdsToIndices → Given
+func_indices x = given x.funcs
+
+abbrev pub global_indices : IdsToIndices → Given
+global_indices x = given x.globals
+
+-- the index of a type
+abbrev pub type_index : IdsToIndices → ℕ → Option ℕ
+type_index x = (type_indices x).index
+
+-- no id has an index
+pub record IsEmpty (x : Given) : Type 0 where
+  pub count : x.count ≡ 0
+  pub index : (id : ℕ) → x.index id ≡ None
+
+-- the same ids have the same indices
+pub record IsSame (old new : Given) : Type 0 where
+  pub count : new.count ≡ old.count
+  pub index : (id : ℕ) → new.index id ≡ old.index id
+
+-- this id got the next index, and each other id keeps what it had
+pub record GivesNext (old new : Given) (id : ℕ) : Type 0 where
+  pub count : new.count ≡ old.count + 1
+  pub index : (other : ℕ) → new.index other ≡ (if id == other then Some old.count else old.index other)
+
+-- the k-th of these ids has the index k, and no other id has one
+pub record Indexes (known : List ℕ) (x : Given) : Type 0 where
+  pub count : x.count ≡ length known
+  pub index : (id k : ℕ) → (x.index id ≡ Some k) ↔ (slice_get known k ≡ Some id)
+
+-- these ids got the next indices in order: they go to the end of the list of those that have one
+pub record GivesAll (old new : Given) (ids : List ℕ) : Type 0 where
+  pub count : new.count ≡ old.count + length ids
+  pub index : (known : List ℕ) → Indexes known old → Indexes (known ++ ids) new

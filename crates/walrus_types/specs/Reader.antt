@@ -1,0 +1,24 @@
+-- What contracts see of a section that is read group by group.
+use Rattle.std.specs.Prelude.{◌≡◌, ℕ, List, map}
+use Rattle.walrus_arena.specs.Set.{mapped}
+use Rattle.walrus_types.specs.declared.table.RecGroup.{RecGroup}
+use Rattle.walrus_types.specs.Section.{Section}
+use Rattle.walrus_types.specs.ReadTable.{TypeGroup}
+use Rattle.walrus_types.specs.Table.{Table, IsSameTable, type_eq}
+use Rattle.walrus_types.specs.Reading.{Reads}
+
+-- the table so far, and the id that each index stands for
+pub record Reader : Type 0 where
+  pub table : Table
+  pub ids : List ℕ
+
+abbrev pub contents : RecGroup → TypeGroup
+contents g = record { ids = g.types; is_explicit = g.is_explicit }
+
+-- the table and the ids are what this section is read into
+abbrev pub HasRead : Section → Table → List ℕ → Type 0
+HasRead s t ids = Reads s ids t.types.slots (mapped type_eq t.types) (map contents t.groups)
+
+pub record IsSameReader (old new : Reader) : Type 0 where
+  pub table : IsSameTable old.table new.table
+  pub ids : new.ids ≡ old.ids

@@ -1,0 +1,46 @@
+-- Runs of free things in a list, and the order that sorts each run by itself.
+use Rattle.std.specs.Prelude.{◌≡◌, ℕ, ◌<◌, ◌≤◌, List, length, map, slice_get, slice_index, Some, Option, option_copied, Bool, true, ◌⊎◌, IsPermutation}
+use Rattle.std.specs.List.{range_with_len}
+use denote.Ref.{Bor}
+use Rattle.std.specs.declared.cmp.Ordering.{Ordering}
+use Rattle.std.specs.declared.cmp.Ordering.TheVariants.{Less}
+
+-- all are free from g to h
+abbrev pub AllFree : List Bool → ℕ → ℕ → Type 0
+AllFree free g h = (a : ℕ) → g ≤ a → a ≤ h → slice_get free a ≡ Some true
+
+-- of two, the later has the same start where all are free from the one to the other, else a greater one
+pub record AreStarts (free : List Bool) (starts : List ℕ) : Type 0 where
+  pub as_many : length starts ≡ length free
+  pub together : (g h : ℕ) → g < h → h < length free → AllFree free g h → slice_index starts g ≡ slice_index starts h
+  pub apart : (g h : ℕ) → g < h → h < length free → AllFree free g h ⊎ (slice_index starts g < slice_index starts h)
+
+-- the heads that these references are of
+abbrev pub heads_of : {T : Type 0} → List (Option (Bor T)) → List (Option T)
+heads_of hs = map option_copied hs
+
+-- the start and the head that each of these pairs holds
+abbrev pub keys_of : {T : Type 0} → List (ℕ × Option (Bor T)) → List (ℕ × Option T)
+keys_of ks = map (λ k. (k.0, option_copied k.1)) ks
+
+-- each one's start and head
+pub record AreKeys {T : Type 0} (starts : List ℕ) (heads : List (Option T)) (keys : List (ℕ × Option T)) : Type 0 where
+  pub as_many : length keys ≡ length heads
+  pub each : (g : ℕ) (h : Option T) → slice_get heads g ≡ Some h → slice_get keys g ≡ Some (slice_index starts g, h)
+
+-- the later h, with the head y, stands before the earlier g, with the head x
+pub record IsTurnedRound {T : Type 0} (cmp : T → T → Ordering) (free : List Bool) (g : ℕ) (x : T) (h : ℕ) (y : T) : Type 0 where
+  pub run : AllFree free g h
+  pub less : cmp y x ≡ Less
+
+-- g stands before h
+abbrev pub StandsBefore : {T : Type 0} → (T → T → Ordering) → List Bool → ℕ → T → ℕ → T → Type 0
+StandsBefore cmp free g x h y = ((g < h) × (¬ IsTurnedRound cmp free g x h y)) ⊎ ((h < g) × IsTurnedRound cmp free h y g x)
+
+-- all places, each once, in the order in which each run is sorted by itself and all else stays
+pub record SortsRuns {T : Type 0} (cmp : T → T → Ordering) (free : List Bool) (heads : List (Option T)) (order : List ℕ) : Type 0 where
+  pub as_many : length order ≡ length heads
+  pub permutation : IsPermutation (range_with_len 0 (length heads)) order
+  pub within : (k : ℕ) → k < length order → slice_index order k < length heads
+  pub onto : (g : ℕ) → g < length heads → (k : ℕ) × ((k < length order) × (slice_index order k ≡ g))
+  pub stands : (i j : ℕ) → i < j → j < length order → (x y : T) → slice_get heads (slice_index order i) ≡ Some (Some x) → slice_get heads (slice_index order j) ≡ Some (Some y) → StandsBefore cmp free (slice_index order i) x (slice_index order j) y

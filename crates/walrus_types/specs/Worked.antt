@@ -1,0 +1,40 @@
+-- Small sections, to see the normal form at.
+use Rattle.std.specs.Prelude.{ℕ, true, false, [], ◌∷◌, None}
+use Rattle.walrus_types.specs.declared.ty.value.Heap.TheVariants as heap
+use Rattle.walrus_types.specs.declared.ty.value.Val.TheVariants as val
+use Rattle.walrus_types.specs.declared.ty.value.Storage.TheVariants as storage
+use Rattle.walrus_types.specs.Definition.{Composite, Function, Struct, Definition}
+use Rattle.walrus_types.specs.Section.{Section, Single, Rec}
+
+abbrev pub final : Composite → Definition
+final c = record { composite = c; is_final = true; supertype = None }
+
+-- a function without parameters and results
+abbrev pub func : Definition
+func = final (Function [] [])
+
+-- a struct of one i32
+abbrev pub int_struct : Definition
+int_struct = final (Struct (record { element_type = storage.Val val.I32; mutable = false } ∷ []))
+
+-- a struct of one nullable reference to k
+abbrev pub link : ℕ → Definition
+link k = final (Struct (record { element_type = storage.Val (val.Ref (record { nullable = true; heap_type = heap.Concrete k })); mutable = false } ∷ []))
+
+-- the two are out of order
+abbrev pub out_of_order : Section
+out_of_order = Single int_struct ∷ Single func ∷ []
+
+abbrev pub in_order : Section
+in_order = Single func ∷ Single int_struct ∷ []
+
+-- the last repeats the first
+abbrev pub repeated : Section
+repeated = Single func ∷ Rec (func ∷ []) ∷ Single func ∷ []
+
+abbrev pub told_once : Section
+told_once = Single func ∷ Rec (func ∷ []) ∷ []
+
+-- each names itself
+abbrev pub two_loops : Section
+two_loops = Single (link 0) ∷ Single (link 1) ∷ []

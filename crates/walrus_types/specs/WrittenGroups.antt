@@ -1,0 +1,102 @@
+-- Groups that are written one after the other, and the indices that their ids get. No public clause cites this module.
+use Rattle.std.specs.Prelude.{◌≡◌, ℕ, Bool, ◌+◌, ◌<◌, ◌⊎◌, cond, List, length, map, take, slice_get, slice_index, slice_index_or, Contains, Option, Some, None, unwrap_or}
+use Rattle.std.specs.List.{flat_map}
+use Rattle.walrus_types.specs.Definition.{Definition, names_of, renamed}
+use Rattle.walrus_types.specs.Section.{Group, Single, Rec}
+use Rattle.walrus_types.specs.ReadTable.{TypeGroup}
+use Rattle.walrus_types.specs.Records.{section_of}
+use Rattle.walrus_types.specs.declared.records.GroupAt.{GroupAt}
+use Rattle.walrus_types.specs.declared.error.EmitError.{EmitError}
+use Rattle.walrus_types.specs.declared.error.EmitError.TheVariants as emit
+use Rattle.walrus_types.specs.declared.error.ToRecordError.{ToRecordError}
+use Rattle.walrus_types.specs.declared.error.ToRecordError.TheVariants as to_record
+use Rattle.walrus_types.specs.declared.error.NoIndex.TheVariants.{OfType, OfFunc, OfGlobal}
+use Rattle.walrus_types.specs.Indices.{Given, Indexes}
+use Rattle.walrus_types.specs.Naming.{first_missing}
+use Rattle.walrus_types.specs.Emission.{group_at, IsWritten}
+use Rattle.walrus_types.specs.Emission.{Stands}
+
+-- the ids of these groups in order
+abbrev pub ids_in : List TypeGroup → List ℕ
+ids_in ws = flat_map (λ w. w.ids) ws
+
+-- the groups at these places
+abbrev pub picked : List TypeGroup → List ℕ → List TypeGroup
+picked gs order = map (group_at gs) order
+
+-- the group, each of its ids written as this definition
+abbrev pub written_group : (ℕ → Definition) → TypeGroup → Group
+written_group d w = cond w.is_explicit (Rec (map d w.ids)) (Single (d (slice_index w.ids 0)))
+
+-- the definition of the id, with each name replaced by its index
+abbrev pub indexed : (ℕ → Option ℕ) → (ℕ → Definition) → ℕ → Definition
+indexed index definition i = renamed (λ k. unwrap_or (index k) 0) (definition i)
+
+-- the u-th id of the a-th group is i, and its t-th name k is none of the ids up to the end of this group
+pub record IsMissingIn (definition : ℕ → Definition) (ws : List TypeGroup) (a u t i k : ℕ) : Type 0 where
+  pub group : a < length ws
+  pub member : slice_get (group_at ws a).ids u ≡ Some i
+  pub name : slice_get (names_of (definition i)) t ≡ Some k
+  pub missing : ¬ (Contains (ids_in (take (a + 1) ws)) k)
+
+-- of the names in groups in order, this one comes before that
+abbrev pub ComesBefore : ℕ → ℕ → ℕ → ℕ → ℕ → ℕ → Type 0
+ComesBefore a u t b v s = (a < b) ⊎ ((a ≡ b) × ((u < v) ⊎ ((u ≡ v) × (t < s))))
+
+pub record IsFirstMissingIn (definition : ℕ → Definition) (ws : List TypeGroup) (i k : ℕ) : Type 0 where
+  pub group : ℕ
+  pub place : ℕ
+  pub name : ℕ
+  pub is : IsMissingIn definition ws group place name i k
+  pub first : (a u t j l : ℕ) → IsMissingIn definition ws a u t j l → ¬ (ComesBefore a u t group place name)
+
+-- the written groups, in the order in which they are written
+pub record IsWritingOrder (gs : List TypeGroup) (definition : ℕ → Definition) (is_entry : ℕ → Bool) (order : List ℕ) : Type 0 where
+  pub written : (a : ℕ) → a < length order → IsWritten gs is_entry (slice_index order a)
+  pub onto : (g : ℕ) → IsWritten gs is_entry g → (a : ℕ) × (a < length order) × (slice_index order a ≡ g)
+  pub stands : (a b : ℕ) → a < b → b < length order → Stands gs definition (slice_index order a) (slice_index order b)
+
+-- the groups are written one after the other: each id gets the next index, and each name has one by the end of its group
+pub record AreWritten (definition : ℕ → Definition) (ws : List TypeGroup) (out : List GroupAt) (x : Given) : Type 0 where
+  pub indexes : Indexes (ids_in ws) x
+  pub section : section_of out ≡ map (written_group (indexed x.index definition)) ws
+  pub complete : (a u t i k : ℕ) → ¬ (IsMissingIn definition ws a u t i k)
+
+-- how many ids the groups at these places have
+abbrev pub written_in : List TypeGroup → List ℕ → ℕ
+written_in gs order = length (ids_in (picked gs order))
+
+-- no id stands in the list twice
+abbrev pub IsApart : List ℕ → Type 0
+IsApart ids = (p q i : ℕ) → slice_get ids p ≡ Some i → slice_get ids q ≡ Some i → p ≡ q
+
+-- each name in these types has an index
+abbrev pub AllIndexed : (ℕ → Option ℕ) → (ℕ → Definition) → List ℕ → Type 0
+AllIndexed index definition ids = (u i : ℕ) → slice_get ids u ≡ Some i → first_missing index (names_of (definition i)) ≡ None
+
+-- i is the first of these types that has a name without an index, and k is its first such name
+pub record IsFirstUnindexed (index : ℕ → Option ℕ) (definition : ℕ → Definition) (ids : List ℕ) (i k : ℕ) : Type 0 where
+  pub place : ℕ
+  pub member : slice_get ids place ≡ Some i
+  pub name : first_missing index (names_of (definition i)) ≡ Some k
+  pub earlier : (v j : ℕ) → v < place → slice_get ids v ≡ Some j → first_missing index (names_of (definition j)) ≡ None
+
+-- the error is that memory was refused, or that a type names one without an index, and then P holds of both ids
+abbrev pub FailsBy : EmitError → (ℕ → ℕ → Type 0) → Type 0
+FailsBy (emit.NoIndex from to) P = P from to
+FailsBy emit.TooMany P = ⊥
+FailsBy emit.Memory P = Unit {0}
+
+-- the error is that memory was refused, or that a type has no index
+abbrev pub RefusesType : ToRecordError → Type 0
+RefusesType (to_record.NoIndex (OfType to)) = Unit {0}
+RefusesType (to_record.NoIndex (OfFunc func)) = ⊥
+RefusesType (to_record.NoIndex (OfGlobal global)) = ⊥
+RefusesType to_record.Memory = Unit {0}
+
+-- the same error, in a type
+abbrev pub refused : ℕ → ToRecordError → EmitError
+refused from (to_record.NoIndex (OfType to)) = emit.NoIndex from to
+refused from (to_record.NoIndex (OfFunc func)) = emit.Memory
+refused from (to_record.NoIndex (OfGlobal global)) = emit.Memory
+refused from to_record.Memory = emit.Memory

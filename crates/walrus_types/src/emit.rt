@@ -1,0 +1,106 @@
+//! Emission: the type section of a table.
+ghost use Rattle.std.specs.Prelude.{◌≡◌, ◌≤◌, ◌<◌, ◌^◌, ◌↔◌, IfOk, IfErr, IsTrue, IsErrOf, All, filter, length, not};
+ghost use Rattle.std.specs.List.{list_any};
+ghost use Rattle.walrus_arena.specs.Arena.{IsLive};
+ghost use Rattle.walrus_types.specs.declared.table.RecGroup.{RecGroup};
+ghost use Rattle.walrus_types.specs.Emitted.{type_groups, definition_at, is_entry_at, written_types, IfNameMissing, IsEmitted, MissesFirst};
+ghost use Rattle.walrus_types.specs.Indices.{IsEmpty, type_indices, func_indices, global_indices};
+ghost use Rattle.walrus_types.specs.declared.error.EmitError.TheVariants.{TooMany};
+ghost use Rattle.walrus_types.specs.Refusal.{written_count};
+ghost use Rattle.walrus_types.specs.FreeGroups.{is_written_at};
+ghost use Rattle.walrus_types.specs.WrittenGroups.{FailsBy, IsWritingOrder, written_in};
+
+mod free;
+mod order;
+mod write;
+
+use crate::{EmitError, GroupAt, IdsToIndices, ModuleTypes, RecGroup};
+use free::{free_groups, heads, is_written_group};
+use order::group_order;
+use std::alloc::{AllocError, Global};
+use write::write_groups;
+
+// The number of types that can't be written.
+const TOO_MANY: usize = 1 << 32;
+
+// Whether 2^32 types or more stand in written groups.
+fn has_too_many(table: &ModuleTypes, groups: &[RecGroup]) -> bool
+    requires { All (λ (g : RecGroup). All (IsLive table.now.types.slots) g.types) groups.now }
+    ensures { IsTrue result ↔ (2 ^ 32 ≤ written_count (is_entry_at table.now.types.slots) (type_groups groups.now)) }
+{
+    let mut count = 0;
+    for group in groups {
+        if is_written_group(table, group) {
+            count += group.types.as_slice().len();
+            if count >= TOO_MANY {
+                return true;
+            }
+        }
+    }
+    false
+}
+
+// Those of the groups at these places that are written.
+fn written_places(
+    alloc: Global,
+    table: &ModuleTypes,
+    groups: &[RecGroup],
+    order: &[usize],
+) -> Result<Vec<usize>, AllocError>
+    requires live { All (λ (g : RecGroup). All (IsLive table.now.types.slots) g.types) groups.now }
+    requires within { All (λ g. g < length groups.now) order.now }
+    ensures { IfOk result (λ v. v.items ≡ filter (is_written_at table.now.types.slots groups.now) order.now) }
+{
+    let mut written = Vec::with_capacity(alloc, order.len())?;
+    for place in order {
+        if is_written_group(table, &groups[*place]) {
+            written.push(*place)?;
+        }
+    }
+    Ok(written)
+}
+
+// The places of the groups that are written, in the order in which they are.
+fn writing_order(alloc: Global, table: &ModuleTypes) -> Result<Vec<usize>, AllocError>
+    ensures order { IfOk result (λ v. IsWritingOrder (type_groups table.now.groups) (definition_at table.now.types.slots) (is_entry_at table.now.types.slots) v.items) }
+    ensures count { IfOk result (λ v. written_in (type_groups table.now.groups) v.items ≡ written_count (is_entry_at table.now.types.slots) (type_groups table.now.groups)) }
+{
+    let groups = table.rec_groups();
+    let free = free_groups(alloc, table, groups)?;
+    let heads = heads(alloc, table, groups)?;
+    let order = group_order(alloc, free.as_slice(), heads.as_slice())?;
+    written_places(alloc, table, groups, order.as_slice())
+}
+
+// The section of a table that has not too many types.
+fn write_table(
+    alloc: Global,
+    table: &ModuleTypes,
+) -> Result<(Vec<GroupAt>, IdsToIndices), EmitError>
+    requires { written_types table.now < 2 ^ 32 }
+    ensures written { IfOk result (λ r. IsEmitted table.now r.0.items (type_indices r.1)) }
+    ensures others { IfOk result (λ r. IsEmpty (func_indices r.1) × IsEmpty (global_indices r.1)) }
+    ensures missing { IfErr result (λ e. FailsBy e (MissesFirst table.now)) }
+{
+    let order = writing_order(alloc, table)?;
+    write_groups(alloc, table, table.rec_groups(), order.as_slice())
+}
+
+impl ModuleTypes {
+    /// The type section of the table, and the index that each type has in it.
+    ///
+    /// Empty groups are left out, and groups whose types all stand for entries of functions. A group that isn't explicit and whose type names no other live type is free: neighbouring free groups are sorted by their types, and groups with equal types keep their order. All other groups stay where they are.
+    ///
+    /// `TooMany` is answered where 2^32 types or more would be written, before anything else is looked at. `NoIndex` has the first type in the order of the section that names one which has no index by the end of its own group, and its first such name. The table is never changed.
+    pub fn emit(&self) -> Result<(Vec<GroupAt>, IdsToIndices), EmitError>
+        ensures written { IfOk result (λ r. IsEmitted self.now r.0.items (type_indices r.1)) }
+        ensures others { IfOk result (λ r. IsEmpty (func_indices r.1) × IsEmpty (global_indices r.1)) }
+        ensures too_many { IsErrOf result TooMany ↔ (2 ^ 32 ≤ written_types self.now) }
+        ensures missing { IfErr result (λ e. IfNameMissing e (MissesFirst self.now)) }
+    {
+        if has_too_many(self, self.rec_groups()) {
+            return Err(EmitError::TooMany);
+        }
+        write_table(self.allocator(), self)
+    }
+}

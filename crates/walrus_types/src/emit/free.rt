@@ -1,0 +1,167 @@
+// Which groups stop no run, and which are written.
+ghost use Rattle.std.specs.Prelude.{◌≡◌, IfOk, map, All, not, option_copied};
+ghost use Rattle.std.specs.List.{list_all, list_any};
+ghost use Rattle.walrus_arena.specs.Arena.{IsLive};
+ghost use Rattle.walrus_types.specs.declared.table.RecGroup.{RecGroup};
+ghost use Rattle.walrus_types.specs.Definition.{composite_names, supertype_names, names_of};
+ghost use Rattle.walrus_types.specs.Emitted.{is_entry_at};
+ghost use Rattle.walrus_types.specs.FreeGroups.{is_own_or_dead, names_none_other, is_free, head};
+ghost use Rattle.walrus_types.specs.Runs.{heads_of};
+ghost use Rattle.walrus_types.specs.Types.{kind_composite, type_definition};
+ghost use Rattle.walrus_types.specs.Value.{heap_names, val_names, storage_names, field_names};
+
+use crate::{
+    CompositeType, FieldType, Heap, HeapType, ModuleTypes, RecGroup, Storage, StorageType, Type,
+    TypeId, Val, ValType,
+};
+use std::alloc::{AllocError, Global};
+
+// The following say whether something names no live type but `own`.
+
+fn name_is_none_other(table: &ModuleTypes, own: TypeId, name: TypeId) -> bool
+    ensures { result ≡ is_own_or_dead table.now.types.slots own name }
+{
+    name == own || !table.contains(name)
+}
+
+fn heap_names_none_other(table: &ModuleTypes, own: TypeId, heap: &HeapType) -> bool
+    ensures { result ≡ names_none_other table.now.types.slots own (heap_names heap.now) }
+{
+    match heap {
+        Heap::Abstract(_) => true,
+        Heap::Concrete(name) => name_is_none_other(table, own, *name),
+        Heap::Exact(name) => name_is_none_other(table, own, *name),
+    }
+}
+
+fn val_names_none_other(table: &ModuleTypes, own: TypeId, val: &ValType) -> bool
+    ensures { result ≡ names_none_other table.now.types.slots own (val_names val.now) }
+{
+    match val {
+        Val::I32 => true,
+        Val::I64 => true,
+        Val::F32 => true,
+        Val::F64 => true,
+        Val::V128 => true,
+        Val::Ref(reference) => heap_names_none_other(table, own, &reference.heap_type),
+    }
+}
+
+fn storage_names_none_other(table: &ModuleTypes, own: TypeId, storage: &StorageType) -> bool
+    ensures { result ≡ names_none_other table.now.types.slots own (storage_names storage.now) }
+{
+    match storage {
+        Storage::Val(val) => val_names_none_other(table, own, val),
+        Storage::I8 => true,
+        Storage::I16 => true,
+    }
+}
+
+fn vals_name_none_other(table: &ModuleTypes, own: TypeId, vals: &[ValType]) -> bool
+    ensures { result ≡ list_all (λ v. names_none_other table.now.types.slots own (val_names v)) vals.now }
+{
+    vals.iter().all(|val| val_names_none_other(table, own, val))
+}
+
+fn fields_name_none_other(table: &ModuleTypes, own: TypeId, fields: &[FieldType]) -> bool
+    ensures { result ≡ list_all (λ f. names_none_other table.now.types.slots own (field_names f)) fields.now }
+{
+    fields.iter().all(|field| storage_names_none_other(table, own, &field.element_type))
+}
+
+#[tactic(auto, using(crate::proofs::FreeNames::list_all_flat_map, crate::proofs::FreeNames::list_all_both))]
+fn composite_names_none_other(table: &ModuleTypes, own: TypeId, kind: &CompositeType) -> bool
+    ensures { result ≡ names_none_other table.now.types.slots own (composite_names (kind_composite kind.now)) }
+{
+    match kind {
+        CompositeType::Function(function) => {
+            vals_name_none_other(table, own, function.params())
+                && vals_name_none_other(table, own, function.results())
+        }
+        CompositeType::Struct(of) => fields_name_none_other(table, own, of.fields.as_slice()),
+        CompositeType::Array(of) => storage_names_none_other(table, own, &of.field.element_type),
+    }
+}
+
+fn supertype_names_none_other(table: &ModuleTypes, own: TypeId, supertype: Option<TypeId>) -> bool
+    ensures { result ≡ names_none_other table.now.types.slots own (supertype_names supertype) }
+{
+    match supertype {
+        Some(name) => name_is_none_other(table, own, name),
+        None => true,
+    }
+}
+
+#[tactic(auto, using(crate::proofs::FreeNames::list_all_both))]
+fn type_names_none_other(table: &ModuleTypes, own: TypeId, ty: &Type) -> bool
+    ensures { result ≡ names_none_other table.now.types.slots own (names_of (type_definition ty.now)) }
+{
+    composite_names_none_other(table, own, &ty.kind)
+        && supertype_names_none_other(table, own, ty.supertype)
+}
+
+// Whether the group stops no run: it has no types, or it isn't explicit and its one type names no live type but itself.
+fn is_free_group(table: &ModuleTypes, group: &RecGroup) -> bool
+    requires { All (IsLive table.now.types.slots) group.now.types }
+    ensures { result ≡ is_free table.now.types.slots group.now }
+{
+    match group.types.as_slice() {
+        [] => true,
+        [id] => !group.is_explicit && type_names_none_other(table, *id, table.get(*id)),
+        _ => false,
+    }
+}
+
+pub(super) fn free_groups(
+    alloc: Global,
+    table: &ModuleTypes,
+    groups: &[RecGroup],
+) -> Result<Vec<bool>, AllocError>
+    requires { All (λ (g : RecGroup). All (IsLive table.now.types.slots) g.types) groups.now }
+    ensures { IfOk result (λ v. v.items ≡ map (is_free table.now.types.slots) groups.now) }
+{
+    let mut free = Vec::with_capacity(alloc, groups.len())?;
+    for group in groups {
+        free.push(is_free_group(table, group))?;
+    }
+    Ok(free)
+}
+
+fn head_of<'a>(table: &'a ModuleTypes, group: &RecGroup) -> Option<&'a Type>
+    requires { All (IsLive table.now.types.slots) group.now.types }
+    ensures { option_copied result ≡ head table.now.types.slots group.now }
+{
+    match group.types.as_slice() {
+        [] => None,
+        [id, ..] => Some(table.get(*id)),
+    }
+}
+
+// The first type of each group.
+pub(super) fn heads<'a>(
+    alloc: Global,
+    table: &'a ModuleTypes,
+    groups: &[RecGroup],
+) -> Result<Vec<Option<&'a Type>>, AllocError>
+    requires { All (λ (g : RecGroup). All (IsLive table.now.types.slots) g.types) groups.now }
+    ensures { IfOk result (λ v. heads_of v.items ≡ map (head table.now.types.slots) groups.now) }
+{
+    let mut heads = Vec::with_capacity(alloc, groups.len())?;
+    for group in groups {
+        heads.push(head_of(table, group))?;
+    }
+    Ok(heads)
+}
+
+// Whether some type of the group stands for more than the entry of a function.
+pub(super) fn is_written_group(table: &ModuleTypes, group: &RecGroup) -> bool
+    requires { All (IsLive table.now.types.slots) group.now.types }
+    ensures { result ≡ list_any (λ i. not (is_entry_at table.now.types.slots i)) group.now.types }
+{
+    for id in group.types.as_slice() {
+        if !table.get(*id).is_for_function_entry() {
+            return true;
+        }
+    }
+    false
+}

@@ -1,0 +1,192 @@
+//! Reading a type section into a table of types.
+ghost use Rattle.std.specs.Prelude.{◌≡◌, ◌+◌, ◌⊎◌, [], ◌∷◌, ◌++◌, List, length, map, IfOk, IfErr, OnOk, OnErr, MatchResult, None, Some};
+ghost use Rattle.walrus_types.specs.declared.error.ReadError.TheVariants as error;
+ghost use Rattle.walrus_types.specs.Definition.{renamed};
+ghost use Rattle.walrus_types.specs.Section.{Section, Single, Rec};
+ghost use Rattle.walrus_types.specs.NormalForm.{image};
+ghost use Rattle.walrus_types.specs.Records.{entry_definition, group_of, section_of};
+ghost use Rattle.walrus_types.specs.Fault.{fault_at, definitions_of, IsFirstFault};
+ghost use Rattle.walrus_types.specs.Table.{IsSameTable};
+ghost use Rattle.walrus_types.specs.TableReads.{ReadsSingle, ReadsRec, member_definition};
+ghost use Rattle.walrus_types.specs.Reading.{stored};
+ghost use Rattle.walrus_types.specs.Reader.{HasRead, IsSameReader};
+
+#[cfg(test)]
+mod tests;
+
+use crate::convert::SubType;
+use crate::fault::fault_of;
+use crate::{
+    CompositeType, EntryAt, FromRecordError, GroupAt, IndicesToIds, ModuleTypes, ReadError, Type,
+    TypeId,
+};
+use std::alloc::Global;
+use std::marker::Model;
+use std::slice;
+
+/// Reads a type section into a table of types, one recursion group after the other.
+///
+/// Each entry gets an id of its own, which is its index. An entry that stands alone and is equal to an earlier one that stands alone is sent to that one, and its own id is dead. The entries of a `Rec` are never sent elsewhere.
+#[derive(Drop)]
+pub struct SectionReader {
+    types: ModuleTypes,
+    ids: IndicesToIds,
+}
+
+impl Model for SectionReader {
+    ghost use Rattle.walrus_types.specs.Reader.{Reader};
+
+    ghost Value = { Reader };
+
+    ghost view = { λ r. record { table = r.types; ids = r.ids.types } };
+}
+
+impl SectionReader {
+    /// A reader that has read the empty section. It takes no memory.
+    pub fn new(alloc: Global) -> SectionReader
+        ensures { HasRead [] result.table result.ids }
+    {
+        SectionReader {
+            types: ModuleTypes::new(alloc),
+            ids: IndicesToIds::new(alloc),
+        }
+    }
+
+    /// Reads one more group.
+    ///
+    /// `TooMany` comes where the group brings the number of entries to 2^32 or more. Else `BadIndex` comes where an entry of it names an index at or past the group's end: it has the first such entry and the first such index in it, the composite type from left to right before the supertype. `Memory` comes where there was no room. After an error the reader is as it was.
+    pub fn push_group(&mut self, group: &GroupAt) -> Result<(), ReadError>
+        ensures ok { (s : Section) → HasRead s self.old.table self.old.ids
+            → OnOk result (HasRead (s ++ group_of group.now ∷ []) self.new.table self.new.ids) }
+        ensures fault { MatchResult result
+            (λ _. fault_at (length self.old.ids) (definitions_of (group_of group.now)) ≡ None)
+            (λ e. (e ≡ error.Memory) ⊎ (fault_at (length self.old.ids) (definitions_of (group_of group.now)) ≡ Some e)) }
+        ensures err { OnErr result (IsSameReader self.old self.new) }
+        ensures kept { (s : Section) → HasRead s self.old.table self.old.ids
+            → OnErr result (HasRead s self.new.table self.new.ids) }
+    {
+        match group {
+            GroupAt::Single(entry) => self.push_single(entry),
+            GroupAt::Rec(entries) => self.push_rec(entries.as_slice()),
+        }
+    }
+
+    /// The table of the section that was read, and the id that each index stands for. It takes no memory.
+    pub fn finish(self) -> (ModuleTypes, Vec<TypeId>)
+        ensures types { result.0 ≡ self.table }
+        ensures ids { result.1.items ≡ self.ids }
+    {
+        (self.types, self.ids.into_types())
+    }
+
+    fn push_single(&mut self, entry: &EntryAt) -> Result<(), ReadError>
+        ensures ok { (s : Section) → HasRead s self.old.table self.old.ids
+            → OnOk result (HasRead (s ++ Single (entry_definition entry.now) ∷ []) self.new.table self.new.ids) }
+        ensures fault { MatchResult result
+            (λ _. fault_at (length self.old.ids) (entry_definition entry.now ∷ []) ≡ None)
+            (λ e. (e ≡ error.Memory) ⊎ (fault_at (length self.old.ids) (entry_definition entry.now ∷ []) ≡ Some e)) }
+        ensures err { OnErr result (IsSameReader self.old self.new) }
+    {
+        let index = self.ids.type_count();
+        if let Some(fault) = fault_of(slice::from_ref(entry), index) {
+            return Err(fault);
+        }
+        self.ids.push_type(TypeId::from_index(index))?;
+        match read_single(&mut self.types, &self.ids, entry) {
+            Ok(id) => {
+                self.ids.remap_type(index as u32, id);
+                Ok(())
+            }
+            // All indices are known here, so it was memory.
+            Err(_) => {
+                self.ids.truncate_types(index);
+                Err(ReadError::Memory)
+            }
+        }
+    }
+
+    fn push_rec(&mut self, entries: &[EntryAt]) -> Result<(), ReadError>
+        ensures ok { (s : Section) → HasRead s self.old.table self.old.ids
+            → OnOk result (HasRead (s ++ Rec (map entry_definition entries.now) ∷ []) self.new.table self.new.ids) }
+        ensures fault { MatchResult result
+            (λ _. fault_at (length self.old.ids) (map entry_definition entries.now) ≡ None)
+            (λ e. (e ≡ error.Memory) ⊎ (fault_at (length self.old.ids) (map entry_definition entries.now) ≡ Some e)) }
+        ensures err { OnErr result (IsSameReader self.old self.new) }
+    {
+        let first = self.ids.type_count();
+        if let Some(fault) = fault_of(entries, first) {
+            return Err(fault);
+        }
+        self.ids.push_types(first, entries.len())?;
+        match read_rec(&mut self.types, &self.ids, entries) {
+            Ok(()) => Ok(()),
+            // All indices are known here, so it was memory.
+            Err(_) => {
+                self.ids.truncate_types(first);
+                Err(ReadError::Memory)
+            }
+        }
+    }
+}
+
+// Puts an entry that stands alone into the table, with an id for each index.
+fn read_single(
+    types: &mut ModuleTypes,
+    ids: &IndicesToIds,
+    entry: &EntryAt,
+) -> Result<TypeId, FromRecordError>
+    ensures ok { IfOk result (λ id. ReadsSingle types.old types.new (stored (renamed (image ids.now.types) (entry_definition entry.now)) (length types.old.types.slots)) id) }
+    ensures err { OnErr result (IsSameTable types.old types.new) }
+{
+    let id = types.next_id();
+    let sub = SubType::from_record(types.allocator(), entry, ids)?;
+    let ty = Type::new_composite(id, sub.kind, sub.is_final, sub.supertype);
+    Ok(types.read_single(ty)?)
+}
+
+// Puts the entries of a `Rec` into the table, with an id for each index.
+fn read_rec(
+    types: &mut ModuleTypes,
+    ids: &IndicesToIds,
+    entries: &[EntryAt],
+) -> Result<(), FromRecordError>
+    ensures ok { OnOk result (ReadsRec types.old types.new (map (renamed (image ids.now.types)) (map entry_definition entries.now))) }
+    ensures err { OnErr result (IsSameTable types.old types.new) }
+{
+    let members = members(types.allocator(), entries, ids)?;
+    types.place_group(members)?;
+    Ok(())
+}
+
+// What the entries of a `Rec` say, with an id for each index.
+fn members(
+    alloc: Global,
+    entries: &[EntryAt],
+    ids: &IndicesToIds,
+) -> Result<Vec<(CompositeType, bool, Option<TypeId>)>, FromRecordError>
+    ensures { IfOk result (λ members. map member_definition members.items ≡ map (renamed (image ids.now.types)) (map entry_definition entries.now)) }
+{
+    let mut members = Vec::with_capacity(alloc, entries.len())?;
+    for entry in entries {
+        let sub = SubType::from_record(alloc, entry, ids)?;
+        members.push((sub.kind, sub.is_final, sub.supertype))?;
+    }
+    Ok(members)
+}
+
+/// Reads a whole section: the table of its types, and the id that each index stands for.
+///
+/// The first group that `SectionReader::push_group` refuses decides.
+pub fn parse_types(
+    alloc: Global,
+    groups: &[GroupAt],
+) -> Result<(ModuleTypes, Vec<TypeId>), ReadError>
+    ensures ok { IfOk result (λ read. HasRead (section_of groups.now) read.0 read.1.items) }
+    ensures err { IfErr result (λ e. (e ≡ error.Memory) ⊎ IsFirstFault (section_of groups.now) e) }
+{
+    let mut reader = SectionReader::new(alloc);
+    for group in groups {
+        reader.push_group(group)?;
+    }
+    Ok(reader.finish())
+}

@@ -1,0 +1,168 @@
+//! The types of a module, and the recursion groups that they stand in.
+ghost use Rattle.std.specs.Prelude.{◌≡◌, ◌↔◌, [], IsTrue, IsSome, IsSomeAnd, Some, length, option_copied};
+ghost use Rattle.std.specs.Borrow.{sem};
+ghost use Rattle.walrus_arena.specs.Arena.{get, IsLive};
+ghost use Rattle.walrus_types.specs.Table.{IsTable, group_of, live_types, signature_at};
+ghost use Rattle.walrus_types.specs.TableLends.{LendsType};
+
+mod add;
+mod delete;
+mod find;
+mod iter;
+mod laws;
+mod read;
+mod rec_group;
+
+use crate::{Listed, Type, TypeId, ValType};
+pub use iter::TypesIter;
+pub use laws::every_table_is_sound;
+pub use rec_group::AddRecGroupError;
+use std::alloc::Global;
+use std::marker::Model;
+use walrus_arena::{ArenaSet, Id};
+
+/// A recursion group: `rectype` in the WebAssembly core specification.
+#[derive(Clone, Debug, Drop)]
+pub struct RecGroup {
+    /// The ids of its types in order.
+    pub types: Listed<TypeId>,
+    /// Whether it was given as a group. A type that was given alone has a group without this mark.
+    pub is_explicit: bool,
+}
+
+/// The id of a recursion group: its place among the groups of its module.
+pub type RecGroupId = Id<RecGroup>;
+
+/// The types of a module, each in one recursion group.
+///
+/// A type that is added alone is the same as an equal one that was added alone before, and gets no second slot. The types of explicit groups are never shared.
+#[derive(Drop)]
+pub struct ModuleTypes {
+    types: ArenaSet<Type>,
+    groups: Vec<RecGroup>,
+    // For each slot the place of the group that its type stands in, or stood in while it lived.
+    group_of: Vec<usize>,
+}
+
+impl Model for ModuleTypes {
+    ghost use Rattle.walrus_types.specs.Table.{Table};
+    ghost use Rattle.walrus_types.specs.TableIndex.{IsIndexed};
+
+    ghost Value = { Table };
+
+    ghost view = { λ t. record { types = t.types; groups = t.groups.items } };
+
+    ghost invariant = { λ t. IsIndexed (record { types = t.types; groups = t.groups.items }) t.group_of.items };
+}
+
+impl ModuleTypes {
+    /// A table without types. It takes no memory.
+    pub fn new(alloc: Global) -> Self
+        ensures { result ≡ record { types = record { slots = []; entries = [] }; groups = [] } }
+    {
+        ModuleTypes {
+            types: ArenaSet::new(alloc),
+            groups: Vec::new(alloc),
+            group_of: Vec::new(alloc),
+        }
+    }
+
+    /// Whether the id is live.
+    pub fn contains(&self, id: TypeId) -> bool
+        ensures { IsTrue result ↔ IsLive self.now.types.slots id }
+    {
+        self.types.contains(id)
+    }
+
+    /// The type of a live id.
+    pub fn get(&self, id: TypeId) -> &Type
+        requires { IsLive self.now.types.slots id }
+        ensures { get self.now.types.slots id ≡ Some result.now }
+    {
+        &self.types[id]
+    }
+
+    /// The live types in the order of their ids.
+    pub fn iter(&self) -> TypesIter<'_>
+        ensures { result ≡ live_types self.now }
+    {
+        TypesIter {
+            items: self.types.iter(),
+        }
+    }
+
+    /// All recursion groups in the order in which they came, those without types too.
+    pub fn rec_groups(&self) -> &[RecGroup]
+        ensures groups { result.now ≡ self.now.groups }
+        ensures grouped { IsTable self.now }
+    {
+        self.groups.as_slice()
+    }
+
+    /// The group that has the id, if the id is live.
+    pub fn rec_group_for_type(&self, id: TypeId) -> Option<&RecGroup>
+        ensures { option_copied result ≡ group_of self.now.groups id }
+    {
+        if self.types.contains(id) {
+            Some(&self.groups[self.group_of[id.index()]])
+        } else {
+            None
+        }
+    }
+
+    pub(crate) fn allocator(&self) -> Global {
+        *self.groups.allocator()
+    }
+
+    /// The type of a live id, for writing. A whole type that is written keeps the id that it brings, and the table goes on by slots: what was found before the write is still found at this id, as long as it is equal.
+    pub fn get_mut(&mut self, id: TypeId) -> &mut Type
+        requires { IsLive self.old.types.slots id }
+        ensures* writes_back { sem 𝓛 (LendsType self.entry id result) }
+        ensures value { get self.old.types.slots id ≡ Some result.now }
+    {
+        &mut self.types[id]
+    }
+
+    /// The parameters of a function type.
+    pub fn params(&self, id: TypeId) -> &[ValType]
+        requires { IsSome (signature_at self.now id) }
+        ensures { IsSomeAnd (signature_at self.now id) (λ f. result.now ≡ f.params) }
+    {
+        self.types[id].params()
+    }
+
+    /// The results of a function type.
+    pub fn results(&self, id: TypeId) -> &[ValType]
+        requires { IsSome (signature_at self.now id) }
+        ensures { IsSomeAnd (signature_at self.now id) (λ f. result.now ≡ f.results) }
+    {
+        self.types[id].results()
+    }
+
+    /// The parameters and the results of a function type.
+    pub fn params_results(&self, id: TypeId) -> (&[ValType], &[ValType])
+        requires { IsSome (signature_at self.now id) }
+        ensures { IsSomeAnd (signature_at self.now id) (λ f. (result.0.now ≡ f.params) × (result.1.now ≡ f.results)) }
+    {
+        let ty = &self.types[id];
+        (ty.params(), ty.results())
+    }
+
+    // The type of the id, if it is live.
+    pub(crate) fn get_if_live(&self, id: TypeId) -> Option<&Type>
+        ensures { option_copied result ≡ get self.now.types.slots id }
+    {
+        if self.types.contains(id) {
+            Some(&self.types[id])
+        } else {
+            None
+        }
+    }
+
+    // The number of slots, live and dead.
+    pub(crate) fn types_len(&self) -> usize
+        ensures { result ≡ length self.now.types.slots }
+    {
+        self.types.next_id().index()
+    }
+}

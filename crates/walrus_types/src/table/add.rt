@@ -1,0 +1,118 @@
+//! Adding types to a table.
+ghost use Rattle.std.specs.Prelude.{◌≡◌, [], IfOk, OnErr, Some, None, IfSome, true, false};
+ghost use Rattle.walrus_arena.specs.Set.{found};
+ghost use Rattle.walrus_types.specs.Types.{nameless, function};
+ghost use Rattle.walrus_types.specs.Table.{type_eq, FindsOrAdds, IsAnswer, AddsType, IsSameTable, next_id};
+ghost use Rattle.walrus_types.specs.declared.ty.composite.CompositeType.TheVariants as kind;
+
+use super::{ModuleTypes, RecGroup};
+use crate::{
+    ArrayType, CompositeType, FieldType, FunctionType, Listed, StructType, Type, TypeId, ValType,
+};
+use std::alloc::AllocError;
+
+impl ModuleTypes {
+    /// The id of the final function type with these parameters and results, and without supertype.
+    pub fn add(&mut self, params: &[ValType], results: &[ValType]) -> Result<TypeId, AllocError>
+        ensures answer { IfOk result (λ id. IsAnswer self.new (nameless (function params.now results.now) true None false (next_id self.old)) id) }
+        ensures ok { IfOk result (λ id. FindsOrAdds self.old self.new (nameless (function params.now results.now) true None false (next_id self.old)) id) }
+        ensures err { OnErr result (IsSameTable self.old self.new) }
+    {
+        let alloc = *self.groups.allocator();
+        let ty = FunctionType::new(params.to_vec(alloc)?, results.to_vec(alloc)?);
+        self.add_composite(CompositeType::Function(ty), true, None)
+    }
+
+    /// The id of the final struct type with these fields, and without supertype.
+    pub fn add_struct(&mut self, fields: Vec<FieldType>) -> Result<TypeId, AllocError>
+        ensures answer { IfOk result (λ id. IsAnswer self.new (nameless (kind.Struct (record { fields = fields.items })) true None false (next_id self.old)) id) }
+        ensures ok { IfOk result (λ id. FindsOrAdds self.old self.new (nameless (kind.Struct (record { fields = fields.items })) true None false (next_id self.old)) id) }
+        ensures err { OnErr result (IsSameTable self.old self.new) }
+    {
+        let ty = StructType {
+            fields: Listed::from_vec(fields),
+        };
+        self.add_composite(CompositeType::Struct(ty), true, None)
+    }
+
+    /// The id of the final array type with these elements, and without supertype.
+    pub fn add_array(&mut self, element: FieldType) -> Result<TypeId, AllocError>
+        ensures answer { IfOk result (λ id. IsAnswer self.new (nameless (kind.Array (record { field = element })) true None false (next_id self.old)) id) }
+        ensures ok { IfOk result (λ id. FindsOrAdds self.old self.new (nameless (kind.Array (record { field = element })) true None false (next_id self.old)) id) }
+        ensures err { OnErr result (IsSameTable self.old self.new) }
+    {
+        self.add_composite(
+            CompositeType::Array(ArrayType { field: element }),
+            true,
+            None,
+        )
+    }
+
+    /// The id of the type with this composite, finality and supertype.
+    ///
+    /// It is the id of an equal type that was added alone, where the table knows one, or else that of a new type without a name, in a group of its own at the end.
+    /// After an error no id is used up.
+    pub fn add_composite(
+        &mut self,
+        comp: CompositeType,
+        is_final: bool,
+        supertype: Option<TypeId>,
+    ) -> Result<TypeId, AllocError>
+        ensures answer { IfOk result (λ id. IsAnswer self.new (nameless comp is_final supertype false (next_id self.old)) id) }
+        ensures ok { IfOk result (λ id. FindsOrAdds self.old self.new (nameless comp is_final supertype false (next_id self.old)) id) }
+        ensures err { OnErr result (IsSameTable self.old self.new) }
+    {
+        let id = self.types.next_id();
+        self.insert(Type::new_composite(id, comp, is_final, supertype))
+    }
+
+    /// The id of the type that stands for a function body with these results: a final function type without parameters and supertype, with the mark of a function entry.
+    pub fn add_entry_ty(&mut self, results: &[ValType]) -> Result<TypeId, AllocError>
+        ensures answer { IfOk result (λ id. IsAnswer self.new (nameless (function [] results.now) true None true (next_id self.old)) id) }
+        ensures ok { IfOk result (λ id. FindsOrAdds self.old self.new (nameless (function [] results.now) true None true (next_id self.old)) id) }
+        ensures err { OnErr result (IsSameTable self.old self.new) }
+    {
+        let results = results.to_vec(*self.groups.allocator())?;
+        let id = self.types.next_id();
+        self.insert(Type::for_function_entry(id, results))
+    }
+
+    // The id of an equal type that was added alone, or of this one as a new type.
+    fn insert(&mut self, ty: Type) -> Result<TypeId, AllocError>
+        ensures answer { IfOk result (λ id. IsAnswer self.new ty id) }
+        ensures ok { IfOk result (λ id. FindsOrAdds self.old self.new ty id) }
+        ensures err { OnErr result (IsSameTable self.old self.new) }
+    {
+        match self.known(&ty) {
+            Some(id) => Ok(id),
+            None => self.add_new(ty),
+        }
+    }
+
+    pub(super) fn known(&self, ty: &Type) -> Option<TypeId>
+        ensures value { result ≡ found type_eq self.now.types ty.now }
+        ensures answer { IfSome result (λ id. IsAnswer self.now ty.now id) }
+    {
+        self.types.find(ty)
+    }
+
+    // A type that isn't found gets a new slot, and a group of its own.
+    pub(super) fn add_new(&mut self, ty: Type) -> Result<TypeId, AllocError>
+        requires { found type_eq self.old.types ty ≡ None }
+        ensures answer { IfOk result (λ id. IsAnswer self.new ty id) }
+        ensures ok { IfOk result (λ id. AddsType self.old self.new ty id) }
+        ensures err { OnErr result (IsSameTable self.old self.new) }
+    {
+        let at = self.types.next_id();
+        let ids = vec![in *self.groups.allocator(); at]?;
+        self.groups.reserve(1)?;
+        self.group_of.reserve(1)?;
+        let id = self.types.insert(ty)?;
+        self.group_of.push_reserved(self.groups.len());
+        self.groups.push_reserved(RecGroup {
+            types: Listed::from_vec(ids),
+            is_explicit: false,
+        });
+        Ok(id)
+    }
+}

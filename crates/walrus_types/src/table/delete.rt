@@ -1,0 +1,75 @@
+//! Deleting types from a table.
+ghost use Rattle.std.specs.Prelude.{◌≡◌, ◌↔◌, IsOk, IsTrue, IfOk, OnOk, MatchBool};
+ghost use Rattle.walrus_arena.specs.Arena.{IsLive};
+ghost use Rattle.walrus_types.specs.Table.{Deletes, DeletesGroup, IsNamedInGroup, IsOtherNamer};
+
+use super::ModuleTypes;
+use crate::{Listed, TypeId};
+use std::alloc::AllocError;
+use std::mem;
+
+impl ModuleTypes {
+    /// Deletes the type of a live id, which leaves its group. It takes no memory, and answers `Ok`.
+    ///
+    /// It is for the caller to see that nothing names the id any more.
+    pub fn delete(&mut self, id: TypeId) -> Result<(), AllocError>
+        requires { IsLive self.old.types.slots id }
+        ensures ok { OnOk result (Deletes self.old self.new id) }
+        ensures succeeds { IsOk result }
+    {
+        let at = self.group_of[id.index()];
+        let group = &mut self.groups[at];
+        group.types.leave(id);
+        self.types.remove(id)
+    }
+
+    /// Deletes the type of a live id, unless another type of its group names it: then the answer is `false`, and nothing has changed. It takes no memory, and answers `Ok`.
+    ///
+    /// A type that names itself is deleted. Names from outside the group are not looked at.
+    pub fn try_delete(&mut self, id: TypeId) -> Result<bool, AllocError>
+        requires { IsLive self.old.types.slots id }
+        ensures answer { IfOk result (λ deleted. MatchBool deleted (IsNamedInGroup self.old id → ⊥) (IsNamedInGroup self.old id)) }
+        ensures ok { IfOk result (λ deleted. MatchBool deleted (Deletes self.old self.new id) (self.new ≡ self.old)) }
+        ensures succeeds { IsOk result }
+    {
+        if self.is_named_in_group(id) {
+            return Ok(false);
+        }
+        self.delete(id)?;
+        Ok(true)
+    }
+
+    /// Deletes all types of the group of a live id. The group stays, without types. It takes no memory, and answers `Ok`.
+    pub fn delete_entire_group(&mut self, id: TypeId) -> Result<(), AllocError>
+        requires { IsLive self.old.types.slots id }
+        ensures ok { OnOk result (DeletesGroup self.old self.new id) }
+        ensures succeeds { IsOk result }
+    {
+        let at = self.group_of[id.index()];
+        let none = Listed::from_vec(Vec::new(*self.groups.allocator()));
+        let group = &mut self.groups[at];
+        let members = mem::replace(&mut group.types, none);
+        self.types.remove_all(members.as_slice())
+    }
+
+    fn is_named_in_group(&self, id: TypeId) -> bool
+        requires { IsLive self.now.types.slots id }
+        ensures { IsTrue result ↔ IsNamedInGroup self.now id }
+    {
+        let group = &self.groups[self.group_of[id.index()]];
+        let members = group.types.as_slice();
+        for other in members {
+            if self.is_other_namer(*other, id) {
+                return true;
+            }
+        }
+        false
+    }
+
+    fn is_other_namer(&self, other: TypeId, id: TypeId) -> bool
+        requires { IsLive self.now.types.slots other }
+        ensures { IsTrue result ↔ IsOtherNamer self.now other id }
+    {
+        other != id && self.types[other].names(id)
+    }
+}

@@ -1,0 +1,120 @@
+//! Adding explicit recursion groups to a table.
+ghost use Rattle.std.specs.Prelude.{◌≡◌, ◌≢◌, ◌+◌, ◌<◌, ◌≤◌, ◌^◌, ℕ, ◌++◌, length, replicate, vec_len, vec_capacity, IfOk, OnOk, OnErr, Ok, Err};
+ghost use Rattle.std.specs.Fn.{FnOnceReturnsAt};
+ghost use Rattle.walrus_arena.specs.Arena.{range};
+ghost use Rattle.walrus_types.specs.Table.{placed, AddsGroup, next_id, Builds};
+ghost use Rattle.walrus_types.specs.declared.table.rec_group.AddRecGroupError.TheVariants.{Count};
+
+use super::{ModuleTypes, RecGroup};
+use crate::{CompositeType, Listed, Type, TypeId};
+use std::alloc::AllocError;
+use thiserror::Error;
+
+/// Why a recursion group was not added.
+#[derive(Clone, Copy, PartialEq, Eq, Debug, Error)]
+pub enum AddRecGroupError {
+    /// Another number of types was built than was asked for.
+    #[error("wanted {wanted}, got {got}")]
+    Count { wanted: usize, got: usize },
+    /// There was no memory left, here or for what builds the types.
+    #[error("out of memory")]
+    Memory,
+}
+
+impl From<AllocError> for AddRecGroupError {
+    ghost use Rattle.std.specs.Prelude.{◌≡◌};
+    ghost use Rattle.walrus_types.specs.declared.table.rec_group.AddRecGroupError.TheVariants.{Memory};
+
+    ghost from_gives = { λ _ e. e ≡ Memory };
+
+    fn from(_: AllocError) -> AddRecGroupError {
+        AddRecGroupError::Memory
+    }
+}
+
+impl ModuleTypes {
+    /// Adds an explicit recursion group of `count` types at the end, and answers their ids.
+    ///
+    /// The types are made by `build`, which gets the ids that they will have, in order, so that they can name each other. Each gets its composite, finality and supertype from it, and no name. They are not shared: no later addition of an equal type answers one of them.
+    /// `Count` comes where `build` made another number of types than `count`. `Memory` comes where there was no room, or `build` said so. After an error the table is as it was, and no id is used up.
+    pub fn add_rec_group<
+        F: FnOnce(&[TypeId]) -> Result<Vec<(CompositeType, bool, Option<TypeId>)>, AllocError>
+            + Drop,
+    >(&mut self, count: usize, build: F) -> Result<Vec<TypeId>, AddRecGroupError>
+        requires { F.IsAlwaysCallable build }
+        ensures ids { IfOk result (λ ids. ids.items ≡ range (next_id self.old) count) }
+        ensures ok { OnOk result (Builds (FnOnceReturnsAt F.FnOnce build) (range (next_id self.old) count) (λ members. (length members ≡ count) × AddsGroup self.old self.new members)) }
+        ensures err { OnErr result (self.new ≡ self.old) }
+        ensures count { (wanted : ℕ) (got : ℕ) → result ≡ Err (Count wanted got) → (wanted ≡ count) × (got ≢ count) × Builds (FnOnceReturnsAt F.FnOnce build) (range (next_id self.old) count) (λ members. length members ≡ got) }
+    {
+        let ids = self.next_ids(count)?;
+        let members = build(ids.as_slice())?;
+        if members.len() != count {
+            return Err(AddRecGroupError::Count {
+                wanted: count,
+                got: members.len(),
+            });
+        }
+        self.place_group(members)?;
+        Ok(ids)
+    }
+
+    // The ids that so many new types will have.
+    fn next_ids(&self, count: usize) -> Result<Vec<TypeId>, AllocError>
+        ensures { IfOk result (λ ids. ids.items ≡ range (next_id self.now) count) }
+    {
+        let first = self.group_of.len();
+        let mut ids = Vec::with_capacity(*self.groups.allocator(), count)?;
+        for k in 0..count {
+            ids.push_reserved(TypeId::from_index(first + k));
+        }
+        Ok(ids)
+    }
+
+    // Gives each of these types a new slot, and all of them one explicit group at the end. None of them is found by value.
+    pub(crate) fn place_group(
+        &mut self,
+        members: Vec<(CompositeType, bool, Option<TypeId>)>,
+    ) -> Result<(), AllocError>
+        ensures ok { OnOk result (AddsGroup self.old self.new members.items) }
+        ensures err { OnErr result (self.new ≡ self.old) }
+    {
+        let count = members.len();
+        let types = named(self.group_of.len(), members)?;
+        self.groups.reserve(1)?;
+        self.group_of.reserve(count)?;
+        let ids = self.types.alloc_all(types)?;
+        push_all(&mut self.group_of, self.groups.len(), count);
+        self.groups.push_reserved(RecGroup {
+            types: Listed::from_vec(ids),
+            is_explicit: true,
+        });
+        Ok(())
+    }
+}
+
+// The types with these definitions, under ids from the first on.
+fn named(
+    first: usize,
+    members: Vec<(CompositeType, bool, Option<TypeId>)>,
+) -> Result<Vec<Type>, AllocError>
+    requires { first + vec_len members < 2 ^ 64 }
+    ensures { IfOk result (λ types. types.items ≡ placed first members.items) }
+{
+    let mut types = Vec::with_capacity(*members.allocator(), members.len())?;
+    for (kind, is_final, supertype) in members {
+        let id = TypeId::from_index(first + types.len());
+        types.push_reserved(Type::new_composite(id, kind, is_final, supertype));
+    }
+    Ok(types)
+}
+
+// The number so many times more, for which there is room.
+fn push_all(numbers: &mut Vec<usize>, number: usize, count: usize)
+    requires { vec_len numbers.old + count ≤ vec_capacity numbers.old }
+    ensures { numbers.new.items ≡ numbers.old.items ++ replicate count number }
+{
+    for _ in 0..count {
+        numbers.push_reserved(number);
+    }
+}
