@@ -1,0 +1,4 @@
+pub mod WordLemmas
+pub mod IndexLemmas
+pub mod EntryLemmas
+pub mod LineLemmas

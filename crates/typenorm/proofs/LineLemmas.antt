@@ -1,0 +1,14 @@
+-- Lines of a section.
+use Rattle.std.proofs.Common.{◌≡◌, ℕ, List, [], ◌∷◌, Bool, true, false}
+use Rattle.std.specs.Prelude.{codes, not}
+use Rattle.typenorm.specs.declared.parse.line.Line.{Line}
+use Rattle.typenorm.specs.declared.parse.line.Line.TheVariants as line
+use Rattle.typenorm.specs.Words.{has_items}
+use Rattle.typenorm.specs.Text.{IsEntryLine}
+use Rattle.typenorm.specs.Lines.{IsLine}
+
+pub no_line : (ws : List (List ℕ)) → ¬ (ws ≡ []) → ¬ (ws ≡ codes "rec" ∷ []) → ¬ (ws ≡ codes "end" ∷ []) → ¬ IsEntryLine ws → ¬ IsLine ws
+no_line ws blank begin end entry (line.Blank, fits, e) = blank e
+no_line ws blank begin end entry (line.Begin, fits, e) = begin e
+no_line ws blank begin end entry (line.End, fits, e) = end e
+no_line ws blank begin end entry (line.Entry d, fits, e) = entry (d, fits, e)

@@ -1,0 +1,26 @@
+-- The lines of a section, one by one.
+use Rattle.std.specs.Prelude.{◌≡◌, ℕ, List, [], ◌∷◌, ◌++◌, map, Option, Some, None, codes}
+use Rattle.walrus_types.specs.declared.records.EntryAt.{EntryAt}
+use Rattle.walrus_types.specs.declared.records.GroupAt.{GroupAt}
+use Rattle.walrus_types.specs.Definition.{names_of}
+use Rattle.walrus_types.specs.Records.{entry_definition}
+use Rattle.typenorm.specs.declared.parse.line.Line.{Line}
+use Rattle.typenorm.specs.declared.parse.line.Line.TheVariants as line
+use Rattle.typenorm.specs.Text.{AreIndices, IsText, entry_words, section_lines}
+
+-- the words of a line
+abbrev pub line_words : Line → List (List ℕ)
+line_words line.Blank = []
+line_words line.Begin = codes "rec" ∷ []
+line_words line.End = codes "end" ∷ []
+line_words (line.Entry e) = entry_words e
+
+-- the numbers in it can stand for types
+abbrev pub HasIndices : Line → Type 0
+HasIndices line.Blank = Unit {0}
+HasIndices line.Begin = Unit {0}
+HasIndices line.End = Unit {0}
+HasIndices (line.Entry e) = AreIndices (names_of (entry_definition e))
+
+abbrev pub IsLine : List (List ℕ) → Type 0
+IsLine words = IsText line_words HasIndices words

@@ -1,0 +1,84 @@
+//! The groups of a section, gathered line by line.
+ghost use Rattle.std.specs.Prelude.{◌≡◌, ◌++◌, ◌∷◌, [], codes, IsTrue, IfOk, OnOk, IfSome};
+ghost use Rattle.typenorm.specs.Text.{entry_words, section_lines};
+ghost use Rattle.typenorm.specs.Sections.{gathered_lines, worded};
+
+use crate::parse::Line;
+use std::alloc::{AllocError, Global};
+use walrus_types::{EntryAt, GroupAt, Listed};
+
+/// The groups of the lines so far, and the recursion group that is open, if one is.
+#[derive(Drop)]
+pub struct Gathered {
+    groups: Vec<GroupAt>,
+    open: Option<Vec<EntryAt>>,
+    alloc: Global,
+}
+
+impl Gathered {
+    /// No lines so far.
+    pub fn new(alloc: Global) -> Gathered
+        ensures { gathered_lines result ≡ [] }
+    {
+        Gathered {
+            groups: Vec::new(alloc),
+            open: None,
+            alloc,
+        }
+    }
+
+    /// Takes one more line. `false` says that it may not stand here, and then nothing changes.
+    pub fn add(&mut self, line: Line) -> Result<bool, AllocError>
+        ensures { IfOk result (λ taken. IsTrue taken → gathered_lines self.new ≡ gathered_lines self.old ++ worded line) }
+    {
+        match line {
+            Line::Blank => Ok(true),
+            Line::Begin => Ok(self.begin()),
+            Line::End => self.end(),
+            Line::Entry(entry) => {
+                self.push(entry)?;
+                Ok(true)
+            }
+        }
+    }
+
+    fn begin(&mut self) -> bool
+        ensures { IsTrue result → gathered_lines self.new ≡ gathered_lines self.old ++ (codes "rec" ∷ []) ∷ [] }
+    {
+        if self.open.is_some() {
+            return false;
+        }
+        self.open = Some(Vec::new(self.alloc));
+        true
+    }
+
+    fn end(&mut self) -> Result<bool, AllocError>
+        ensures { IfOk result (λ taken. IsTrue taken → gathered_lines self.new ≡ gathered_lines self.old ++ (codes "end" ∷ []) ∷ []) }
+    {
+        let Some(entries) = self.open.take() else {
+            return Ok(false);
+        };
+        self.groups.push(GroupAt::Rec(Listed::from_vec(entries)))?;
+        Ok(true)
+    }
+
+    fn push(&mut self, entry: EntryAt) -> Result<(), AllocError>
+        ensures { OnOk result (gathered_lines self.new ≡ gathered_lines self.old ++ entry_words entry ∷ []) }
+    {
+        match &mut self.open {
+            Some(entries) => entries.push(entry)?,
+            None => self.groups.push(GroupAt::Single(entry))?,
+        }
+        Ok(())
+    }
+
+    /// The groups, where no recursion group is open.
+    pub fn finish(self) -> Option<Vec<GroupAt>>
+        ensures { IfSome result (λ groups. section_lines groups.items ≡ gathered_lines self) }
+    {
+        if self.open.is_some() {
+            return None;
+        }
+        Some(self.groups)
+    }
+}
