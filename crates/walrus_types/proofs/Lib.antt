@@ -21,6 +21,7 @@ pub mod ReadSection
 pub mod ReadGroups
 pub mod ReadNext
 pub mod SameType
+pub mod SameRecords
 pub mod AddLemmas
 pub mod TableLemmas
 pub mod NamingLemmas

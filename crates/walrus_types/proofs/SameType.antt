@@ -48,7 +48,7 @@ and_right : (p q : Bool) → (p && q) ≡ true → q ≡ true
 and_right true q h = h
 and_right false q h = cc
 
-pointwise_exact : {A : Type 0} (E : A → A → Bool) → ((x y : A) → E x y ≡ true → x ≡ y) → (xs ys : List A) → pointwise E xs ys ≡ true → xs ≡ ys
+pub pointwise_exact : {A : Type 0} (E : A → A → Bool) → ((x y : A) → E x y ≡ true → x ≡ y) → (xs ys : List A) → pointwise E xs ys ≡ true → xs ≡ ys
 pointwise_exact E e [] [] h = refl
 pointwise_exact E e [] (y ∷ ys) h = cc
 pointwise_exact E e (x ∷ xs) [] h = cc

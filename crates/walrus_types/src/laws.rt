@@ -50,6 +50,14 @@ pub fn second_round()
         IsNormalForm n n (identity n) }
 {}
 
+/// A section that is its own normal form has no other: what stands in order already stays as it is.
+pub fn normal_form_stays()
+    ensures section { (s n : Section) (m : List ℕ) → IsWellNamed s → IsNormalForm s s (identity s) → IsNormalForm s n m →
+        n ≡ s }
+    ensures map { (s n : Section) (m : List ℕ) → IsWellNamed s → IsNormalForm s s (identity s) → IsNormalForm s n m →
+        m ≡ identity s }
+{}
+
 /// The renumbered swap of two neighbouring `Single`s that name no type keeps the output, and exchanges their two items of
 /// the map.
 pub fn swap_keeps_output()

@@ -9,6 +9,7 @@ mod fault;
 mod indices;
 pub mod laws;
 mod listed;
+mod moves;
 mod normal_form;
 pub mod record_laws;
 mod records;
@@ -23,6 +24,7 @@ pub use indices::{
     IndicesToIds, Memory, MemoryId, Table, TableId, Tag, TagId, TypeId,
 };
 pub use listed::Listed;
+pub use moves::same_up_to_moves;
 pub use normal_form::normalise;
 pub use records::{CompAt, EntryAt, FieldAt, GroupAt, HeapAt, RefAt, StorageAt, ValAt};
 pub use section_reader::{SectionReader, parse_types};

@@ -10,7 +10,7 @@ ghost use Rattle.walrus_types.specs.NormalForm.{IsNormalForm, identity};
 ghost use Rattle.walrus_types.specs.Records.{section_of};
 ghost use Rattle.walrus_types.specs.Section.{Section, IsWellNamed};
 
-use crate::laws::{one_normal_form, second_round, swap_keeps_output};
+use crate::laws::{contents_tell_records, one_normal_form, second_round, swap_keeps_output};
 use crate::{EmitError, GroupAt, IdsToIndices, ReadError, TypeId, parse_types};
 use std::alloc::{AllocError, Global};
 
@@ -40,9 +40,18 @@ pub fn normalise(alloc: Global, groups: &[GroupAt]) -> Result<(Vec<GroupAt>, Vec
     ensures swapped { IfOk result (λ r. (t : Section) (i : ℕ) → IsRenumberedSwap (section_of groups.now) t i →
         IsNormalForm t (section_of r.0.items) (swap r.1.items i (suc i))) }
 
+    // A section that is its own normal form stays as it is.
+    ensures stays { IfOk result (λ r.
+        IsNormalForm (section_of groups.now) (section_of groups.now) (identity (section_of groups.now)) →
+        r.0.items ≡ groups.now) }
+    ensures stays_map { IfOk result (λ r.
+        IsNormalForm (section_of groups.now) (section_of groups.now) (identity (section_of groups.now)) →
+        r.1.items ≡ identity (section_of groups.now)) }
+
     // The first group that can't be read decides.
     ensures refused { IfErr result (λ e. (e ≡ read.Memory) ⊎ IsFirstFault (section_of groups.now) e) }
 {
+    contents_tell_records();
     one_normal_form();
     second_round();
     swap_keeps_output();
