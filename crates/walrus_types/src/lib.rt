@@ -13,6 +13,8 @@ mod moves;
 mod normal_form;
 pub mod record_laws;
 mod records;
+#[cfg(test)]
+mod sample;
 mod section_reader;
 mod table;
 mod ty;

@@ -1,3 +1,5 @@
+mod wrong_outputs;
+
 use super::is_normal_form;
 use crate::{CompAt, EntryAt, FieldAt, GroupAt, HeapAt, Listed, RefAt, StorageAt, ValAt};
 use std::alloc::{AllocError, Global};
