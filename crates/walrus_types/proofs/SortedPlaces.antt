@@ -13,8 +13,7 @@ use Rattle.std.specs.Ordering.{nat_cmp, ordering_then, is_lt, ordering_reverse}
 use Rattle.std.specs.declared.cmp.Ordering.{Ordering}
 use Rattle.std.specs.declared.cmp.Ordering.TheVariants.{Less, Equal, Greater}
 use Rattle.std.proofs.lemmas.Grind.{common_steps}
-use denote.Ref.{Bor}
-use Rattle.walrus_types.specs.StableOrder.{numbered, read, IsOrder, Before}
+use Rattle.walrus_types.specs.StableOrder.{numbered, IsOrder, Before}
 
 pub numbered-push : {T : Type 0} (i : ℕ) (xs : List T) (x : T) → numbered i (xs ++ x ∷ []) ≡ numbered i xs ++ (x, i + length xs) ∷ []
 numbered-push i [] x = grind arith
@@ -33,11 +32,12 @@ numbered-at i (x ∷ xs) (suc k) p h = let r : (p.1 ≡ i + 1 + k) × (slice_get
 numbered-own : {T : Type 0} (xs : List T) → All (λ (p : T × ℕ). slice_get xs p.1 ≡ Some p.0) (numbered 0 xs)
 numbered-own xs k d h = let at_k : slice_get (numbered 0 xs) k ≡ Some (get_or (numbered 0 xs) k d) = slice_get-get_or (numbered 0 xs) k d h in let two : _ = numbered-at 0 xs k (get_or (numbered 0 xs) k d) at_k in let e : (get_or (numbered 0 xs) k d).1 ≡ k = omega (arith, two.0) in rw e two.1
 
-pub read-push : {T : Type 0} (xs : List T) (ps : List (Bor T × ℕ)) (i : ℕ) (b : Bor T) → i < length xs → b.now ≡ get_or xs i b.now → read ps ≡ numbered 0 (take i xs) → read (ps ++ (b, i) ∷ []) ≡ numbered 0 (take (i + 1) xs)
-read-push xs ps i b below is so_far =
-    let grown : take (i + 1) xs ≡ take i xs ++ b.now ∷ [] = take_more xs i b.now below ∙ ap (λ x. take i xs ++ x ∷ []) (sym is) in
+-- one pair more
+pub numbered-more : {T : Type 0} (xs : List T) (ps : List (T × ℕ)) (i : ℕ) (x : T) → i < length xs → x ≡ get_or xs i x → ps ≡ numbered 0 (take i xs) → ps ++ (x, i) ∷ [] ≡ numbered 0 (take (i + 1) xs)
+numbered-more xs ps i x below is so_far =
+    let grown : take (i + 1) xs ≡ take i xs ++ x ∷ [] = take_more xs i x below ∙ ap (λ y. take i xs ++ y ∷ []) (sym is) in
     let len : 0 + length (take i xs) ≡ i = grind (arith, common_steps) in
-    map-append (λ p. (p.0.now, p.1)) ps ((b, i) ∷ []) ∙ ap (λ t. t ++ (b.now, i) ∷ []) so_far ∙ ap (λ (n : ℕ). numbered 0 (take i xs) ++ (b.now, n) ∷ []) (sym len) ∙ sym (ap (numbered 0) grown ∙ numbered-push 0 (take i xs) b.now)
+    ap (λ t. t ++ (x, i) ∷ []) so_far ∙ ap (λ (n : ℕ). numbered 0 (take i xs) ++ (x, n) ∷ []) (sym len) ∙ sym (ap (numbered 0) grown ∙ numbered-push 0 (take i xs) x)
 
 -- no two pairs have the same place
 numbered-apart : {T : Type 0} (xs : List T) (i j : ℕ) (d : T × ℕ) → i < j → j < length (numbered 0 xs) → eqb (get_or (numbered 0 xs) i d).1 (get_or (numbered 0 xs) j d).1 ≡ false
@@ -58,66 +58,58 @@ numbered-get i (y ∷ xs) zero x h = let e : y ≡ x = cc in let n : i + zero �
 numbered-get i (y ∷ xs) (suc k) x h = let n : i + 1 + k ≡ i + suc k = omega arith in let r : slice_get (numbered (i + 1) xs) k ≡ Some (x, i + 1 + k) = numbered-get (i + 1) xs k x h in r ∙ ap (λ (t : ℕ). Some (x, t)) n
 
 -- what a pair that is not greater, at another place, says
-before : {T : Type 0} (cmp : T → T → Ordering) → IsTotalOrder cmp → (p q : Bor T × ℕ) → is_lt (ordering_then (cmp q.0.now p.0.now) (nat_cmp q.1 p.1)) ≡ false → p.1 ≢ q.1 → (cmp p.0.now q.0.now ≡ Less) ⊎ ((cmp p.0.now q.0.now ≡ Equal) × (p.1 < q.1))
-before cmp o p q h apart = elim (split (cmp q.0.now p.0.now) (nat_cmp q.1 p.1) h) [
-  | inl g ↦ inl (o.antisymm p.0.now q.0.now ∙ ap ordering_reverse g)
-  | inr e ↦ inr (o.antisymm p.0.now q.0.now ∙ ap ordering_reverse e.0, let le : p.1 ≤ q.1 = ge_from_not_lt q.1 p.1 e.1 in omega arith)
+before : {T : Type 0} (cmp : T → T → Ordering) → IsTotalOrder cmp → (p q : T × ℕ) → is_lt (ordering_then (cmp q.0 p.0) (nat_cmp q.1 p.1)) ≡ false → p.1 ≢ q.1 → (cmp p.0 q.0 ≡ Less) ⊎ ((cmp p.0 q.0 ≡ Equal) × (p.1 < q.1))
+before cmp o p q h apart = elim (split (cmp q.0 p.0) (nat_cmp q.1 p.1) h) [
+  | inl g ↦ inl (o.antisymm p.0 q.0 ∙ ap ordering_reverse g)
+  | inr e ↦ inr (o.antisymm p.0 q.0 ∙ ap ordering_reverse e.0, let le : p.1 ≤ q.1 = ge_from_not_lt q.1 p.1 e.1 in omega arith)
 ]
 
 some_inj : {A : Type 0} {x y : A} → Some x ≡ Some y → x ≡ y
 some_inj h = cc
 
-far : {T : Type 0} (cmp : T → T → Ordering) → IsTotalOrder cmp → (qs : List (Bor T × ℕ)) → IsSorted (λ (p q : Bor T × ℕ). ordering_then (cmp p.0.now q.0.now) (nat_cmp p.1 q.1)) qs → (i j : ℕ) (p q : Bor T × ℕ) → i < j → slice_get qs i ≡ Some p → slice_get qs j ≡ Some q → is_lt (ordering_then (cmp q.0.now p.0.now) (nat_cmp q.1 p.1)) ≡ false
+far : {T : Type 0} (cmp : T → T → Ordering) → IsTotalOrder cmp → (qs : List (T × ℕ)) → IsSorted (λ (p q : T × ℕ). ordering_then (cmp p.0 q.0) (nat_cmp p.1 q.1)) qs → (i j : ℕ) (p q : T × ℕ) → i < j → slice_get qs i ≡ Some p → slice_get qs j ≡ Some q → is_lt (ordering_then (cmp q.0 p.0) (nat_cmp q.1 p.1)) ≡ false
 far cmp o qs up i j p q less at_i at_j =
     let at_i' : get_or qs i p ≡ p = get_or_from_slice_get qs i p p at_i in
     let at_j' : get_or qs j p ≡ q = get_or_from_slice_get qs j q p at_j in
-    let h : _ = sorted_far (λ (p q : Bor _ × ℕ). is_lt (ordering_then (cmp p.0.now q.0.now) (nat_cmp p.1 q.1))) (ranks_by (then_total (on_total (λ (t : Bor _ × ℕ). t.0.now) o) (on_total (λ (t : Bor _ × ℕ). t.1) nat_cmp_total)) (λ t. t)) qs up i j p (omega arith) (slice_get_within qs j q at_j) in
+    let h : _ = sorted_far (λ (p q : _ × ℕ). is_lt (ordering_then (cmp p.0 q.0) (nat_cmp p.1 q.1))) (ranks_by (then_total (on_total (λ (t : _ × ℕ). t.0) o) (on_total (λ (t : _ × ℕ). t.1) nat_cmp_total)) (λ t. t)) qs up i j p (omega arith) (slice_get_within qs j q at_j) in
     rw (at_i', at_j') at h
 
-pair_apart : {T : Type 0} (qs : List (Bor T × ℕ)) (i j : ℕ) (p q : Bor T × ℕ) → i < j → slice_get qs i ≡ Some p → slice_get qs j ≡ Some q → ((i j : ℕ) (d : T × ℕ) → i < j → j < length (read qs) → eqb (get_or (read qs) i d).1 (get_or (read qs) j d).1 ≡ false) → eqb p.1 q.1 ≡ false
+pair_apart : {T : Type 0} (qs : List (T × ℕ)) (i j : ℕ) (p q : T × ℕ) → i < j → slice_get qs i ≡ Some p → slice_get qs j ≡ Some q → ((i j : ℕ) (d : T × ℕ) → i < j → j < length qs → eqb (get_or qs i d).1 (get_or qs j d).1 ≡ false) → eqb p.1 q.1 ≡ false
 pair_apart {T} qs i j p q less at_i at_j apart =
-    let f : Bor T × ℕ → T × ℕ = λ p. (p.0.now, p.1) in
-    let at_i' : get_or (read qs) i (f p) ≡ f p = get_or_from_slice_get (read qs) i (f p) (f p) (slice_get-map f qs i ∙ ap (option_map f) at_i) in
-    let read_j : slice_get (read qs) j ≡ Some (f q) = slice_get-map f qs j ∙ ap (option_map f) at_j in
-    let at_j' : get_or (read qs) j (f p) ≡ f q = get_or_from_slice_get (read qs) j (f q) (f p) read_j in
-    let h : _ = apart i j (f p) less (slice_get_within (read qs) j (f q) read_j) in
+    let at_i' : get_or qs i p ≡ p = get_or_from_slice_get qs i p p at_i in
+    let at_j' : get_or qs j p ≡ q = get_or_from_slice_get qs j q p at_j in
+    let h : _ = apart i j p less (slice_get_within qs j q at_j) in
     rw (at_i', at_j') at h
-
--- the places that the pairs hold
-seconds : {T : Type 0} (ps : List (Bor T × ℕ)) → map (λ (p : Bor T × ℕ). p.1) ps ≡ map (λ (p : T × ℕ). p.1) (read ps)
-seconds [] = refl
-seconds (p ∷ ps) = ap (λ (ns : List ℕ). p.1 ∷ ns) (seconds ps)
 
 numbered-range : {T : Type 0} (i : ℕ) (xs : List T) → map (λ (p : T × ℕ). p.1) (numbered i xs) ≡ range_with_len i (length xs)
 numbered-range i [] = refl
 numbered-range i (x ∷ xs) = ap (λ (ns : List ℕ). i ∷ ns) (numbered-range (i + 1) xs)
 
-pub order_from_sort : {T : Type 0} (cmp : T → T → Ordering) → IsTotalOrder cmp → (xs : List T) (ps qs : List (Bor T × ℕ)) → read ps ≡ numbered 0 xs → IsPermutation ps qs → IsSorted (λ (p q : Bor T × ℕ). ordering_then (cmp p.0.now q.0.now) (nat_cmp p.1 q.1)) qs → IsOrder cmp xs (map (λ p. p.1) qs)
+pub order_from_sort : {T : Type 0} (cmp : T → T → Ordering) → IsTotalOrder cmp → (xs : List T) (ps qs : List (T × ℕ)) → ps ≡ numbered 0 xs → IsPermutation ps qs → IsSorted (λ (p q : T × ℕ). ordering_then (cmp p.0 q.0) (nat_cmp p.1 q.1)) qs → IsOrder cmp xs (map (λ p. p.1) qs)
 order_from_sort {T} cmp o xs ps qs all perm up =
-    let f : Bor T × ℕ → T × ℕ = λ p. (p.0.now, p.1) in
-    let snd : Bor T × ℕ → ℕ = λ p. p.1 in
-    let P : List (T × ℕ) → Type 0 = λ z. IsPermutation z (read qs) in
-    let moved : IsPermutation (numbered 0 xs) (read qs) = subst P all (IsPermutation-map f ps qs perm) in
-    let lengths : length qs ≡ length xs = omega (arith, length_permutation ps qs perm, ap length all, length-map ps f, length-numbered 0 xs) in
+    let snd : T × ℕ → ℕ = λ p. p.1 in
+    let P : List (T × ℕ) → Type 0 = λ z. IsPermutation z qs in
+    let moved : IsPermutation (numbered 0 xs) qs = subst P all perm in
+    let lengths : length qs ≡ length xs = omega (arith, length_permutation ps qs perm, ap length all, length-numbered 0 xs) in
     let places_long : length (map snd qs) ≡ length qs = length-map qs snd in
-    let firsts : map snd ps ≡ range_with_len 0 (length xs) = seconds ps ∙ ap (map (λ (p : T × ℕ). p.1)) all ∙ numbered-range 0 xs in
+    let firsts : map snd ps ≡ range_with_len 0 (length xs) = ap (map snd) all ∙ numbered-range 0 xs in
     let Own : T × ℕ → Type 0 = λ p. slice_get xs p.1 ≡ Some p.0 in
-    let own : (k : ℕ) (q : Bor T × ℕ) → slice_get qs k ≡ Some q → slice_get xs q.1 ≡ Some q.0.now = λ k q h. (let read_at : slice_get (read qs) k ≡ Some (f q) = slice_get-map f qs k ∙ ap (option_map f) h in let e : get_or (read qs) k (f q) ≡ f q = get_or_from_slice_get (read qs) k (f q) (f q) read_at in subst Own e (All-permutation Own (numbered 0 xs) (read qs) moved (numbered-own xs) k (f q) (slice_get_within (read qs) k (f q) read_at))) in
-    let place : (k : ℕ) (q : Bor T × ℕ) → slice_get qs k ≡ Some q → slice_index (map snd qs) k ≡ q.1 = λ k q h. get_or-map snd qs k q 0 (slice_get_within qs k q h) ∙ ap snd (get_or_from_slice_get qs k q q h) in
-    let apart : (i j : ℕ) (d : T × ℕ) → i < j → j < length (read qs) → eqb (get_or (read qs) i d).1 (get_or (read qs) j d).1 ≡ false = λ i j d h below. apart_from_distinct (λ (a b : T × ℕ). eqb a.1 b.1) (read qs) i j d (IsDistinct-IsPermutation (λ (a b : T × ℕ). eqb a.1 b.1) (λ a b. nat_eq_equiv.symm a.1 b.1) (numbered 0 xs) (read qs) moved (IsDistinct-from_apart (λ (a b : T × ℕ). eqb a.1 b.1) (numbered 0 xs) (numbered-apart xs))) h below in
+    let own : (k : ℕ) (q : T × ℕ) → slice_get qs k ≡ Some q → slice_get xs q.1 ≡ Some q.0 = λ k q h. subst Own (get_or_from_slice_get qs k q q h) (All-permutation Own (numbered 0 xs) qs moved (numbered-own xs) k q (slice_get_within qs k q h)) in
+    let place : (k : ℕ) (q : T × ℕ) → slice_get qs k ≡ Some q → slice_index (map snd qs) k ≡ q.1 = λ k q h. get_or-map snd qs k q 0 (slice_get_within qs k q h) ∙ ap snd (get_or_from_slice_get qs k q q h) in
+    let apart : (i j : ℕ) (d : T × ℕ) → i < j → j < length qs → eqb (get_or qs i d).1 (get_or qs j d).1 ≡ false = λ i j d h below. apart_from_distinct (λ (a b : T × ℕ). eqb a.1 b.1) qs i j d (IsDistinct-IsPermutation (λ (a b : T × ℕ). eqb a.1 b.1) (λ a b. nat_eq_equiv.symm a.1 b.1) (numbered 0 xs) qs moved (IsDistinct-from_apart (λ (a b : T × ℕ). eqb a.1 b.1) (numbered 0 xs) (numbered-apart xs))) h below in
     record {
       as_many = places_long ∙ lengths;
       permutation = subst (λ (ns : List ℕ). IsPermutation ns (map snd qs)) firsts (IsPermutation-map snd ps qs perm);
-      within = λ k h. elim (slice_get_cases qs k).1 [ inl w ↦ rw (place k w.0 w.2) (slice_get_within xs w.0.1 w.0.0.now (own k w.0 w.2)) | inr w ↦ absurd (omega (arith, h, places_long, w.0)) ];
+      within = λ k h. elim (slice_get_cases qs k).1 [ inl w ↦ rw (place k w.0 w.2) (slice_get_within xs w.0.1 w.0.0 (own k w.0 w.2)) | inr w ↦ absurd (omega (arith, h, places_long, w.0)) ];
       onto = λ p h. elim (slice_get_cases xs p).1 [
         | inl w ↦
             let there : slice_get (numbered 0 xs) p ≡ Some (w.0, p) = numbered-get 0 xs p w.0 w.2 ∙ ap (λ (t : ℕ). Some (w.0, t)) (zero-add p) in
-            let among : Contains (read qs) (w.0, p) = Contains-permutation (numbered 0 xs) (read qs) (w.0, p) moved (p, slice_get_within (numbered 0 xs) p (w.0, p) there, get_or_from_slice_get (numbered 0 xs) p (w.0, p) (w.0, p) there) in
+            let among : Contains qs (w.0, p) = Contains-permutation (numbered 0 xs) qs (w.0, p) moved (p, slice_get_within (numbered 0 xs) p (w.0, p) there, get_or_from_slice_get (numbered 0 xs) p (w.0, p) (w.0, p) there) in
             let k : ℕ = among.0 in
-            let within_k : k < length qs = omega (arith, among.1, length-map qs f) in
+            let within_k : k < length qs = among.1 in
             elim (slice_get_cases qs k).1 [
               | inl v ↦
-                  let e : f v.0 ≡ (w.0, p) = sym (get_or_from_slice_get (read qs) k (f v.0) (w.0, p) (slice_get-map f qs k ∙ ap (option_map f) v.2)) ∙ among.2 in
+                  let e : v.0 ≡ (w.0, p) = sym (get_or_from_slice_get qs k v.0 (w.0, p) v.2) ∙ among.2 in
                   (k, (omega (arith, within_k, places_long), place k v.0 v.2 ∙ ap (λ (t : T × ℕ). t.1) e))
               | inr v ↦ absurd (omega (arith, within_k, v.0))
             ]
@@ -129,8 +121,8 @@ order_from_sort {T} cmp o xs ps qs all perm up =
           elim (slice_get_cases qs i).1 [
             | inl v ↦ elim (slice_get_cases qs j).1 [
               | inl w ↦
-                  let x_is : x ≡ v.0.0.now = some_inj (sym at_i ∙ ap (slice_get xs) (place i v.0 v.2) ∙ own i v.0 v.2) in
-                  let y_is : y ≡ w.0.0.now = some_inj (sym at_j ∙ ap (slice_get xs) (place j w.0 w.2) ∙ own j w.0 w.2) in
+                  let x_is : x ≡ v.0.0 = some_inj (sym at_i ∙ ap (slice_get xs) (place i v.0 v.2) ∙ own i v.0 v.2) in
+                  let y_is : y ≡ w.0.0 = some_inj (sym at_j ∙ ap (slice_get xs) (place j w.0 w.2) ∙ own j w.0 w.2) in
                   let other : eqb v.0.1 w.0.1 ≡ false = pair_apart qs i j v.0 w.0 less v.2 w.2 apart in
                   let B : ℕ → ℕ → T → T → Type 0 = λ m n a b. (cmp a b ≡ Less) ⊎ ((cmp a b ≡ Equal) × (m < n)) in
                   rw (place i v.0 v.2, place j w.0 w.2, x_is, y_is) (before cmp o v.0 w.0 (far cmp o qs up i j v.0 w.0 less v.2 w.2) (λ e. eqb-false v.0.1 w.0.1 other e))

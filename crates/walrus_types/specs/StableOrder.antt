@@ -1,7 +1,6 @@
 -- The places of a list in ascending order of its elements.
-use Rattle.std.specs.Prelude.{◌≡◌, ℕ, ◌+◌, ◌<◌, List, [], ◌∷◌, length, slice_get, slice_index, Some, ◌⊎◌, map, IsPermutation}
+use Rattle.std.specs.Prelude.{◌≡◌, ℕ, ◌+◌, ◌<◌, List, [], ◌∷◌, length, slice_get, slice_index, Some, ◌⊎◌, IsPermutation}
 use Rattle.std.specs.List.{range_with_len}
-use denote.Ref.{Bor}
 use Rattle.std.specs.declared.cmp.Ordering.{Ordering}
 use Rattle.std.specs.declared.cmp.Ordering.TheVariants.{Less, Equal}
 
@@ -21,7 +20,3 @@ pub record IsOrder {T : Type 0} (cmp : T → T → Ordering) (xs : List T) (plac
 abbrev pub numbered : {T : Type 0} → ℕ → List T → List (T × ℕ)
 numbered i [] = []
 numbered i (x ∷ xs) = (x, i) ∷ numbered (i + 1) xs
-
--- what a list of references and places refers to
-abbrev pub read : {T : Type 0} → List (Bor T × ℕ) → List (T × ℕ)
-read ps = map (λ p. (p.0.now, p.1)) ps

@@ -1,6 +1,6 @@
 // The order in which groups are written.
 ghost use Rattle.std.specs.Prelude.{◌≡◌, IfOk, map, length};
-ghost use Rattle.walrus_types.specs.StableOrder.{IsOrder, numbered, read};
+ghost use Rattle.walrus_types.specs.StableOrder.{IsOrder, numbered};
 ghost use Rattle.walrus_types.specs.Runs.{AreStarts, AreKeys, SortsRuns, heads_of, keys_of};
 
 use std::alloc::{AllocError, Global};
@@ -30,30 +30,30 @@ fn keyed<'a, T>(
     requires { length starts.now ≡ length heads.now }
     ensures { IfOk result (λ v. AreKeys starts.now (heads_of heads.now) (keys_of v.items)) }
 {
-    let mut keys = Vec::new(alloc);
+    let mut keys = Vec::with_capacity(alloc, heads.len())?;
     for (group, head) in heads.iter().enumerate() {
         keys.push((starts[group], *head))?;
     }
     Ok(keys)
 }
 
-fn paired<'a, T>(alloc: Global, items: &'a [T]) -> Result<Vec<(&'a T, usize)>, AllocError>
-    ensures { IfOk result (λ v. read v.items ≡ numbered 0 items.now) }
+fn paired<T: Copy>(alloc: Global, items: &[T]) -> Result<Vec<(T, usize)>, AllocError>
+    ensures { IfOk result (λ v. v.items ≡ numbered 0 items.now) }
 {
-    let mut pairs = Vec::new(alloc);
+    let mut pairs = Vec::with_capacity(alloc, items.len())?;
     for (place, item) in items.iter().enumerate() {
-        pairs.push((item, place))?;
+        pairs.push((*item, place))?;
     }
     Ok(pairs)
 }
 
-fn second_of<T>(alloc: Global, pairs: &[(&T, usize)]) -> Result<Vec<usize>, AllocError>
+fn second_of<T>(alloc: Global, pairs: &[(T, usize)]) -> Result<Vec<usize>, AllocError>
     ensures { IfOk result (λ v. v.items ≡ map (λ p. p.1) pairs.now) }
 {
     pairs.iter().map(|pair| pair.1).collect(alloc)
 }
 
-fn places_in_order<T: Ord>(alloc: Global, items: &[T]) -> Result<Vec<usize>, AllocError>
+fn places_in_order<T: Ord + Copy>(alloc: Global, items: &[T]) -> Result<Vec<usize>, AllocError>
     ensures { IfOk result (λ v. IsOrder T.cmp items.now v.items) }
 {
     let mut pairs = paired(alloc, items)?;

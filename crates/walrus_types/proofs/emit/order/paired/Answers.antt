@@ -1,8 +1,8 @@
 use Rattle.std.proofs.Common.{rules, ◌≡◌, ◌∙◌, ap, refl, take, length, arith, ◌<◌}
 use Rattle.std.proofs.lemmas.List.{take_more, map-append}
-use Rattle.walrus_types.specs.StableOrder.{numbered, read}
-use Rattle.walrus_types.proofs.SortedPlaces.{read-push}
+use Rattle.walrus_types.specs.StableOrder.{numbered}
+use Rattle.walrus_types.proofs.SortedPlaces.{numbered-more}
 use Rattle.walrus_types.proofs.emit.order.paired.Goals as goal
 
 pub loop-place-preserved : goal.loop-place-preserved
-loop-place-preserved g c = rw c.in_ok-push.ensures.items (read-push _ _ _ _ c.loop-place-test.true c.index-items-place.is c.loop-place.invariant)
+loop-place-preserved g c = rw c.in_ok-push.ensures.items (numbered-more _ _ _ _ c.loop-place-test.true c.index-items-place.is c.loop-place.invariant)
