@@ -8,7 +8,7 @@ use Rattle.walrus_arena.specs.Set.{mapped, found, holds}
 use Rattle.walrus_types.specs.declared.table.RecGroup.{RecGroup}
 use Rattle.walrus_types.specs.Types.{ModuleType}
 use Rattle.walrus_types.specs.Table.{Table, group_at, no_group, own_group, IsMember, type_eq, IsSameType, AddsType, IsAnswer}
-use Rattle.walrus_types.specs.TableIndex.{IsIndexed}
+use Rattle.walrus_types.specs.Steps.TableIndex.{IsIndexed}
 use Rattle.walrus_types.proofs.SameType.{same_from_eq}
 use Rattle.walrus_types.proofs.TableLemmas.{Grows, Extends, table_grown, member_below, some_inj, none_some}
 

@@ -9,7 +9,7 @@ use Rattle.walrus_types.specs.declared.table.RecGroup.{RecGroup}
 use Rattle.walrus_types.specs.Types.{ModuleType}
 use Rattle.walrus_types.specs.Table.{Table, group_at, type_eq, next_id, DeletesGroup, placed}
 use Rattle.walrus_types.specs.TableLends.{with_type}
-use Rattle.walrus_types.specs.TableIndex.{IsIndexed}
+use Rattle.walrus_types.specs.Steps.TableIndex.{IsIndexed}
 use Rattle.walrus_types.specs.TableCalls.{Call, Keeps, Adds, Groups, Writes, Dies, Ends, new_ids, Calls, Start, Then, empty_table, EveryTableIsSound}
 use Rattle.walrus_types.proofs.TableLemmas.{IsHome, is_table, indexed_same, live_below, member_below, group_answer, none_some, many_grown}
 use Rattle.walrus_types.proofs.AddLemmas.{table_added}

@@ -17,7 +17,7 @@ use Rattle.walrus_types.specs.Naming.{value_in}
 use Rattle.walrus_types.specs.Table as table
 use Rattle.walrus_types.specs.Table.{Table, IsTable}
 use Rattle.walrus_types.specs.Emitted.{type_groups, definition_at, is_entry_at, IfNameMissing, IsWrittenId, IsEmitted, MissesFirst}
-use Rattle.walrus_types.specs.WrittenGroups.{AreWritten, FailsBy, IsApart, IsFirstMissingIn, IsWritingOrder, ids_in, picked}
+use Rattle.walrus_types.specs.Steps.WrittenGroups.{AreWritten, FailsBy, IsApart, IsFirstMissingIn, IsWritingOrder, ids_in, picked}
 use Rattle.walrus_types.proofs.WrittenPlaces.{Home, home, member_at}
 use Rattle.walrus_types.proofs.WrittenOrder.{at_member, to_member, emission, none_missing, first_missing, placed_member}
 use Rattle.walrus_types.proofs.WritingOrder.{single, same_member}

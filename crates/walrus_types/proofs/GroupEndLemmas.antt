@@ -9,7 +9,7 @@ use Rattle.walrus_arena.specs.Set.{Set, mapped, is_own_entry, RemovesAll}
 use Rattle.walrus_types.specs.declared.table.RecGroup.{RecGroup}
 use Rattle.walrus_types.specs.Types.{ModuleType}
 use Rattle.walrus_types.specs.Table.{Table, group_at, IsMember, type_eq, DeletesGroup, group_ended}
-use Rattle.walrus_types.specs.TableIndex.{IsIndexed}
+use Rattle.walrus_types.specs.Steps.TableIndex.{IsIndexed}
 use Rattle.walrus_types.proofs.TableLemmas.{IsHome, live_below, none_some, has_any, any_has, group_answer}
 use Rattle.walrus_types.proofs.ShrinkLemmas.{table_shrunk, without_at, kept_old}
 

@@ -5,8 +5,8 @@ use Rattle.std.proofs.lemmas.List.{map-append, length-map}
 use Rattle.std.proofs.lemmas.Option.{slice_get-map, slice_get_read}
 use Rattle.std.proofs.lemmas.Bool.{cases_lt}
 use denote.Ref.{Bor}
-use Rattle.walrus_types.specs.Runs.{heads_of}
-use Rattle.walrus_types.specs.Runs.{keys_of}
+use Rattle.walrus_types.specs.Steps.Runs.{heads_of}
+use Rattle.walrus_types.specs.Steps.Runs.{keys_of}
 use Rattle.walrus_types.proofs.Growing.{slice_get-left, slice_get-end}
 
 some_inj : {A : Type 0} {x y : A} → Some x ≡ Some y → x ≡ y

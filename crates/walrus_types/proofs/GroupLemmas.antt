@@ -9,7 +9,7 @@ use Rattle.walrus_types.specs.declared.table.rec_group.AddRecGroupError.TheVaria
 use Rattle.walrus_types.specs.Types.{nameless}
 use Rattle.walrus_types.specs.Table.{Table, Member, placed, AddsGroup, next_id, type_eq}
 use Rattle.walrus_arena.specs.Set.{mapped}
-use Rattle.walrus_types.specs.TableIndex.{IsIndexed}
+use Rattle.walrus_types.specs.Steps.TableIndex.{IsIndexed}
 use Rattle.walrus_types.proofs.TableLemmas.{Grows, Extends, table_grown}
 
 range_push_suc : (first count : ℕ) → range first count ++ (first + count) ∷ [] ≡ range first (suc count)

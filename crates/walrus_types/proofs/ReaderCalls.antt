@@ -19,7 +19,7 @@ use Rattle.walrus_types.specs.Records.{entry_definition, group_of, section_of}
 use Rattle.walrus_types.specs.Section.{Section, Single, Rec, numbered}
 use Rattle.walrus_types.specs.SubTypes.{sub_type_definition}
 use Rattle.walrus_types.specs.Table.{Table, Member}
-use Rattle.walrus_types.specs.TableReads.{ReadsSingle, ReadsRec, member_definition}
+use Rattle.walrus_types.specs.Steps.TableReads.{ReadsSingle, ReadsRec, member_definition}
 use Rattle.walrus_types.specs.Types.{ModuleType, nameless}
 use Rattle.walrus_types.proofs.Definitions.{renamed_agree}
 use Rattle.walrus_types.proofs.ReaderLemmas.{read_still, single_read, rec_read, member_stored}

@@ -14,7 +14,7 @@ use Rattle.walrus_types.specs.ReadTable.{TypeGroup}
 use Rattle.walrus_types.specs.contracts.ty.TypeEq.TheImpl.Laws.{laws-law}
 use Rattle.walrus_types.specs.Types.{ModuleType, kind_composite, nameless}
 use Rattle.walrus_types.specs.Table.{Table, AddsType, AddsGroup, Member, placed, type_eq, IsSameTable, next_id}
-use Rattle.walrus_types.specs.TableReads.{ReadsSingle, UsesUpId, member_definition}
+use Rattle.walrus_types.specs.Steps.TableReads.{ReadsSingle, UsesUpId, member_definition}
 use Rattle.walrus_types.specs.Fault.{fault_at}
 use Rattle.walrus_types.specs.Reading.{Reads, stored, stored_from, present, composite_kind}
 use Rattle.walrus_types.specs.Reader.{HasRead, contents}

@@ -8,7 +8,7 @@ use Rattle.walrus_arena.specs.Set.{Set, mapped, is_own_entry, Removes}
 use Rattle.walrus_types.specs.declared.table.RecGroup.{RecGroup}
 use Rattle.walrus_types.specs.Types.{ModuleType}
 use Rattle.walrus_types.specs.Table.{Table, group_at, IsMember, type_eq, Deletes, group_without}
-use Rattle.walrus_types.specs.TableIndex.{IsIndexed}
+use Rattle.walrus_types.specs.Steps.TableIndex.{IsIndexed}
 use Rattle.walrus_types.proofs.TableLemmas.{IsHome, live_below, some_inj}
 
 -- these ids died and left their groups, and the map lost entries at most

@@ -13,7 +13,7 @@ use Rattle.std.specs.Ordering.{nat_cmp, ordering_then, is_lt, ordering_reverse}
 use Rattle.std.specs.declared.cmp.Ordering.{Ordering}
 use Rattle.std.specs.declared.cmp.Ordering.TheVariants.{Less, Equal, Greater}
 use Rattle.std.proofs.lemmas.Grind.{common_steps}
-use Rattle.walrus_types.specs.StableOrder.{numbered, IsOrder, Before}
+use Rattle.walrus_types.specs.Steps.StableOrder.{numbered, IsOrder, Before}
 
 pub numbered-push : {T : Type 0} (i : ℕ) (xs : List T) (x : T) → numbered i (xs ++ x ∷ []) ≡ numbered i xs ++ (x, i + length xs) ∷ []
 numbered-push i [] x = grind arith

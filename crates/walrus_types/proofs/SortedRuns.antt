@@ -11,10 +11,10 @@ use Rattle.std.proofs.lemmas.Option.{slice_get_within}
 use Rattle.std.proofs.lemmas.Bool.{cases_lt}
 use Rattle.std.proofs.lemmas.Bool.Decides.{nat_tests}
 use denote.Ref.{Bor}
-use Rattle.walrus_types.specs.StableOrder.{IsOrder}
-use Rattle.walrus_types.specs.Runs.{AreStarts}
-use Rattle.walrus_types.specs.Runs.{heads_of, StandsBefore, SortsRuns}
-use Rattle.walrus_types.specs.Runs.{keys_of, AreKeys}
+use Rattle.walrus_types.specs.Steps.StableOrder.{IsOrder}
+use Rattle.walrus_types.specs.Steps.Runs.{AreStarts}
+use Rattle.walrus_types.specs.Steps.Runs.{heads_of, StandsBefore, SortsRuns}
+use Rattle.walrus_types.specs.Steps.Runs.{keys_of, AreKeys}
 
 some_inj : {A : Type 0} {x y : A} → Some x ≡ Some y → x ≡ y
 some_inj h = cc

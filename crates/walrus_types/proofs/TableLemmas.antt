@@ -11,7 +11,7 @@ use Rattle.walrus_arena.specs.Set.{mapped}
 use Rattle.walrus_types.specs.declared.table.RecGroup.{RecGroup}
 use Rattle.walrus_types.specs.Types.{ModuleType}
 use Rattle.walrus_types.specs.Table.{Table, group_at, no_group, group_of, IsMember, IsTable, IsSameTable, type_eq}
-use Rattle.walrus_types.specs.TableIndex.{IsIndexed}
+use Rattle.walrus_types.specs.Steps.TableIndex.{IsIndexed}
 
 pub some_inj : {A : Type 0} {x y : A} → Some x ≡ Some y → x ≡ y
 some_inj h = cc

@@ -11,8 +11,8 @@ use Rattle.walrus_arena.specs.Set.{Set, SameMap, Removes, mapped, holds, is_own_
 use Rattle.walrus_types.specs.declared.table.RecGroup.{RecGroup}
 use Rattle.walrus_types.specs.Types.{ModuleType}
 use Rattle.walrus_types.specs.Table.{Table, IsMember, group_at, type_eq}
-use Rattle.walrus_types.specs.TableIndex.{IsIndexed}
-use Rattle.walrus_types.specs.TableReads.{UsesUpId}
+use Rattle.walrus_types.specs.Steps.TableIndex.{IsIndexed}
+use Rattle.walrus_types.specs.Steps.TableReads.{UsesUpId}
 use Rattle.walrus_types.proofs.TableLemmas.{live_below}
 
 none_there : {T : Type 0} (k : ℕ) → get {T = T} (None ∷ []) k ≡ None

@@ -19,7 +19,7 @@ use Rattle.walrus_types.specs.declared.table.RecGroup.{RecGroup}
 use Rattle.walrus_types.specs.Emitted.{type_groups}
 use Rattle.walrus_types.specs.Naming.{first_missing}
 use Rattle.walrus_types.specs.Records.{group_of, section_of}
-use Rattle.walrus_types.specs.WrittenGroups.{AllIndexed, AreWritten, ComesBefore, FailsBy, IsApart, IsFirstMissingIn, IsFirstUnindexed, IsMissingIn, ids_in, indexed, picked, written_group}
+use Rattle.walrus_types.specs.Steps.WrittenGroups.{AllIndexed, AreWritten, ComesBefore, FailsBy, IsApart, IsFirstMissingIn, IsFirstUnindexed, IsMissingIn, ids_in, indexed, picked, written_group}
 use Rattle.walrus_types.proofs.Definitions.{renamed_agree}
 use Rattle.walrus_types.proofs.WrittenPlaces.{member_at}
 

@@ -18,13 +18,13 @@ use Rattle.walrus_types.specs.ReadTable.{TypeGroup}
 use Rattle.walrus_types.specs.Emission as emission
 use Rattle.walrus_types.specs.Emission.{IsMember, IsGrouped, IsWritten, IsFreeGroup, IsTurned}
 use Rattle.walrus_types.specs.Emission.{Stands}
-use Rattle.walrus_types.specs.Runs.{AllFree, IsTurnedRound, StandsBefore, SortsRuns}
+use Rattle.walrus_types.specs.Steps.Runs.{AllFree, IsTurnedRound, StandsBefore, SortsRuns}
 use Rattle.walrus_types.specs.Types.{ModuleType, type_definition}
 use Rattle.walrus_types.specs.Table as table
 use Rattle.walrus_types.specs.Table.{Table, IsTable}
 use Rattle.walrus_types.specs.Emitted.{type_groups, slot_definition, definition_at, slot_is_entry, is_entry_at}
-use Rattle.walrus_types.specs.FreeGroups.{is_own_or_dead, names_none_other, slot_names_none_other, is_free_of, is_free, head, is_written_at}
-use Rattle.walrus_types.specs.WrittenGroups.{IsWritingOrder, written_in}
+use Rattle.walrus_types.specs.Steps.FreeGroups.{is_own_or_dead, names_none_other, slot_names_none_other, is_free_of, is_free, head, is_written_at}
+use Rattle.walrus_types.specs.Steps.WrittenGroups.{IsWritingOrder, written_in}
 use Rattle.walrus_types.specs.Refusal.{written_count}
 use Rattle.walrus_types.proofs.WrittenCount.{count_of_order}
 use Rattle.walrus_types.proofs.TypeOrder.{type_cmp, type_order}

@@ -10,7 +10,7 @@ use Rattle.walrus_types.specs.ReadTable.{TypeGroup}
 use Rattle.walrus_types.specs.Emission.{no_group, group_at}
 use Rattle.walrus_types.specs.Emitted.{type_groups}
 use Rattle.walrus_types.specs.Refusal.{written_count}
-use Rattle.walrus_types.specs.WrittenGroups.{ids_in, picked, written_in}
+use Rattle.walrus_types.specs.Steps.WrittenGroups.{ids_in, picked, written_in}
 
 module _ (is_entry : ℕ → Bool) where
   abbrev is_written : List ℕ → Bool

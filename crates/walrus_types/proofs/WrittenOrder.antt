@@ -12,7 +12,7 @@ use Rattle.walrus_types.specs.Emission.{no_group, group_at, IsMember, IsWritten,
 use Rattle.walrus_types.specs.Emission.{Stands}
 use Rattle.walrus_types.specs.Refusal.{HasIndexBy, IsMissing, Precedes, IsFirstMissing}
 use Rattle.walrus_types.specs.Indices.{Given, Indexes}
-use Rattle.walrus_types.specs.WrittenGroups.{ids_in, picked, written_group, indexed, IsMissingIn, ComesBefore, IsFirstMissingIn, IsWritingOrder}
+use Rattle.walrus_types.specs.Steps.WrittenGroups.{ids_in, picked, written_group, indexed, IsMissingIn, ComesBefore, IsFirstMissingIn, IsWritingOrder}
 use Rattle.walrus_types.proofs.WrittenPlaces as places
 use Rattle.walrus_types.proofs.WrittenPlaces.{IsTidy, AllTidy, recs, spot_of, home, member_at}
 

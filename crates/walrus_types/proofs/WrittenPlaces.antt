@@ -7,7 +7,7 @@ use Rattle.walrus_types.specs.Definition.{Definition}
 use Rattle.walrus_types.specs.Section.{Section, Group, Single, Rec, Place, no_place, rec_places, recs_after, places_from}
 use Rattle.walrus_types.specs.ReadTable.{TypeGroup}
 use Rattle.walrus_types.specs.Emission.{no_group, group_at}
-use Rattle.walrus_types.specs.WrittenGroups.{ids_in, written_group}
+use Rattle.walrus_types.specs.Steps.WrittenGroups.{ids_in, written_group}
 
 some_inj : {A : Type 0} {x y : A} → Some x ≡ Some y → x ≡ y
 some_inj h = cc

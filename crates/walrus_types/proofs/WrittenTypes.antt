@@ -9,7 +9,7 @@ use Rattle.walrus_types.specs.declared.error.ToRecordError.TheVariants as to_rec
 use Rattle.walrus_types.specs.declared.error.NoIndex.TheVariants.{OfType, OfFunc, OfGlobal}
 use Rattle.walrus_types.specs.Definition.{Definition}
 use Rattle.walrus_types.specs.Naming.{IfNoIndex}
-use Rattle.walrus_types.specs.WrittenGroups.{FailsBy, RefusesType, refused}
+use Rattle.walrus_types.specs.Steps.WrittenGroups.{FailsBy, RefusesType, refused}
 
 pub done_more : {E : Type 0} (f : E → Definition) (d : ℕ → Definition) (es : List E) (ids : List ℕ) (i x : ℕ) (e : E) → i < length ids → x ≡ get_or ids i x → map f es ≡ map d (take i ids) → f e ≡ d x → map f (es ++ e ∷ []) ≡ map d (take (i + 1) ids)
 done_more f d es ids i x e below at so_far is =

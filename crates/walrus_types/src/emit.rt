@@ -7,8 +7,8 @@ ghost use Rattle.walrus_types.specs.Emitted.{type_groups, definition_at, is_entr
 ghost use Rattle.walrus_types.specs.Indices.{IsEmpty, type_indices, func_indices, global_indices};
 ghost use Rattle.walrus_types.specs.declared.error.EmitError.TheVariants.{TooMany};
 ghost use Rattle.walrus_types.specs.Refusal.{written_count};
-ghost use Rattle.walrus_types.specs.FreeGroups.{is_written_at};
-ghost use Rattle.walrus_types.specs.WrittenGroups.{FailsBy, IsWritingOrder, written_in};
+ghost use Rattle.walrus_types.specs.Steps.FreeGroups.{is_written_at};
+ghost use Rattle.walrus_types.specs.Steps.WrittenGroups.{FailsBy, IsWritingOrder, written_in};
 
 mod free;
 mod order;

@@ -7,7 +7,7 @@ ghost use Rattle.walrus_types.specs.NormalForm.{image};
 ghost use Rattle.walrus_types.specs.Records.{entry_definition, group_of, section_of};
 ghost use Rattle.walrus_types.specs.Fault.{fault_at, definitions_of, IsFirstFault};
 ghost use Rattle.walrus_types.specs.Table.{IsSameTable};
-ghost use Rattle.walrus_types.specs.TableReads.{ReadsSingle, ReadsRec, member_definition};
+ghost use Rattle.walrus_types.specs.Steps.TableReads.{ReadsSingle, ReadsRec, member_definition};
 ghost use Rattle.walrus_types.specs.Reading.{stored};
 ghost use Rattle.walrus_types.specs.Reader.{HasRead, IsSameReader};
 

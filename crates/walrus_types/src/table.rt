@@ -46,7 +46,7 @@ pub struct ModuleTypes {
 
 impl Model for ModuleTypes {
     ghost use Rattle.walrus_types.specs.Table.{Table};
-    ghost use Rattle.walrus_types.specs.TableIndex.{IsIndexed};
+    ghost use Rattle.walrus_types.specs.Steps.TableIndex.{IsIndexed};
 
     ghost Value = { Table };
 

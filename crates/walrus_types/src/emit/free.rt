@@ -5,8 +5,8 @@ ghost use Rattle.walrus_arena.specs.Arena.{IsLive};
 ghost use Rattle.walrus_types.specs.declared.table.RecGroup.{RecGroup};
 ghost use Rattle.walrus_types.specs.Definition.{composite_names, supertype_names, names_of};
 ghost use Rattle.walrus_types.specs.Emitted.{is_entry_at};
-ghost use Rattle.walrus_types.specs.FreeGroups.{is_own_or_dead, names_none_other, is_free, head};
-ghost use Rattle.walrus_types.specs.Runs.{heads_of};
+ghost use Rattle.walrus_types.specs.Steps.FreeGroups.{is_own_or_dead, names_none_other, is_free, head};
+ghost use Rattle.walrus_types.specs.Steps.Runs.{heads_of};
 ghost use Rattle.walrus_types.specs.Types.{kind_composite, type_definition};
 ghost use Rattle.walrus_types.specs.Value.{heap_names, val_names, storage_names, field_names};
 

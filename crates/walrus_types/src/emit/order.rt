@@ -1,7 +1,7 @@
 // The order in which groups are written.
 ghost use Rattle.std.specs.Prelude.{◌≡◌, IfOk, map, length};
-ghost use Rattle.walrus_types.specs.StableOrder.{IsOrder, numbered};
-ghost use Rattle.walrus_types.specs.Runs.{AreStarts, AreKeys, SortsRuns, heads_of, keys_of};
+ghost use Rattle.walrus_types.specs.Steps.StableOrder.{IsOrder, numbered};
+ghost use Rattle.walrus_types.specs.Steps.Runs.{AreStarts, AreKeys, SortsRuns, heads_of, keys_of};
 
 use std::alloc::{AllocError, Global};
 

@@ -9,7 +9,7 @@ ghost use Rattle.walrus_types.specs.Emitted.{type_groups, definition_at};
 ghost use Rattle.walrus_types.specs.Indices.{IsEmpty, type_index, type_indices, func_indices, global_indices};
 ghost use Rattle.walrus_types.specs.Naming.{first_missing};
 ghost use Rattle.walrus_types.specs.Records.{entry_definition, group_of};
-ghost use Rattle.walrus_types.specs.WrittenGroups.{AllIndexed, AreWritten, FailsBy, IsApart, IsFirstMissingIn, IsFirstUnindexed, RefusesType, ids_in, indexed, picked, refused, written_group};
+ghost use Rattle.walrus_types.specs.Steps.WrittenGroups.{AllIndexed, AreWritten, FailsBy, IsApart, IsFirstMissingIn, IsFirstUnindexed, RefusesType, ids_in, indexed, picked, refused, written_group};
 
 use crate::{
     EmitError, EntryAt, GroupAt, IdsToIndices, Listed, ModuleTypes, NoIndex, RecGroup,

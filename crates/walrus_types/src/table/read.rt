@@ -1,7 +1,7 @@
 //! What reading a section does to a table, beside adding types.
 ghost use Rattle.std.specs.Prelude.{◌≡◌, length, IfOk, OnOk, OnErr};
 ghost use Rattle.walrus_types.specs.Table.{IsSameTable};
-ghost use Rattle.walrus_types.specs.TableReads.{ReadsSingle, UsesUpId};
+ghost use Rattle.walrus_types.specs.Steps.TableReads.{ReadsSingle, UsesUpId};
 
 use super::ModuleTypes;
 use crate::{CompositeType, FunctionType, Type, TypeId};

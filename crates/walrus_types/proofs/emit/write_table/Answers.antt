@@ -5,7 +5,7 @@ use Rattle.walrus_types.specs.declared.table.RecGroup.{RecGroup}
 use Rattle.walrus_types.specs.Emission.{group_at}
 use Rattle.walrus_types.specs.Emitted.{type_groups, definition_at}
 use Rattle.walrus_types.specs.Indices.{type_indices}
-use Rattle.walrus_types.specs.WrittenGroups.{AreWritten, FailsBy, IsApart, IsFirstMissingIn, ids_in, picked}
+use Rattle.walrus_types.specs.Steps.WrittenGroups.{AreWritten, FailsBy, IsApart, IsFirstMissingIn, ids_in, picked}
 use Rattle.walrus_types.proofs.EmittedTables.{within, filled, singles, live_groups, carried, apart, emitted, misses}
 use Rattle.walrus_types.proofs.emit.write_table.Goals as goal
 

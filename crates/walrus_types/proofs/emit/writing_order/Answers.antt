@@ -1,7 +1,7 @@
 use Rattle.std.proofs.Common.{◌∙◌, ap, filter}
 use Rattle.std.proofs.lemmas.Result.{IfOk-weaker}
-use Rattle.walrus_types.specs.FreeGroups.{is_written_at}
-use Rattle.walrus_types.specs.Runs.{heads_of}
+use Rattle.walrus_types.specs.Steps.FreeGroups.{is_written_at}
+use Rattle.walrus_types.specs.Steps.Runs.{heads_of}
 use Rattle.walrus_types.proofs.WritingOrder.{order_from_sort, count_from_sort}
 use Rattle.walrus_types.proofs.emit.writing_order.Goals as goal
 

@@ -1,5 +1,5 @@
 use Rattle.std.proofs.Common.{◌∙◌, sym, slice_index}
-use Rattle.walrus_types.specs.FreeGroups.{is_written_at}
+use Rattle.walrus_types.specs.Steps.FreeGroups.{is_written_at}
 use Rattle.walrus_types.proofs.WritingOrder.{kept_more, left_out, test_of_group}
 use Rattle.walrus_types.proofs.emit.written_places.Goals as goal
 use Rattle.walrus_types.proofs.emit.written_places.Goals.{then-is_written_group+in_ok-push, else-is_written_group}

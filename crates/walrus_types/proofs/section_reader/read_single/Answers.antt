@@ -3,7 +3,7 @@ use Rattle.walrus_types.specs.Definition.{renamed}
 use Rattle.walrus_types.specs.NormalForm.{image}
 use Rattle.walrus_types.specs.Reading.{stored}
 use Rattle.walrus_types.specs.Records.{entry_definition}
-use Rattle.walrus_types.specs.TableReads.{ReadsSingle}
+use Rattle.walrus_types.specs.Steps.TableReads.{ReadsSingle}
 use Rattle.walrus_types.specs.Types.{ModuleType, nameless}
 use Rattle.walrus_types.proofs.ReaderCalls.{sub_type_stored}
 use Rattle.walrus_types.proofs.section_reader.read_single.Goals as goal

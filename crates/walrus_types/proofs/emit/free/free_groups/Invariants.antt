@@ -1,5 +1,5 @@
 use Rattle.std.proofs.Common.{◌≡◌, take, map}
-use Rattle.walrus_types.specs.FreeGroups.{is_free}
+use Rattle.walrus_types.specs.Steps.FreeGroups.{is_free}
 use Rattle.walrus_types.proofs.emit.free.free_groups.Given as goal
 
 abbrev pub invariant-loop-group : goal.invariant-loop-group

@@ -1,7 +1,7 @@
 use Rattle.std.proofs.Common.{◌≡◌, ◌+◌, length, arith, ◌∙◌, refl, sym, ap}
 use Rattle.std.proofs.lemmas.List.{length-map, length_push}
 use Rattle.std.proofs.lemmas.Option.{slice_get_within}
-use Rattle.walrus_types.specs.Runs.{heads_of}
+use Rattle.walrus_types.specs.Steps.Runs.{heads_of}
 use Rattle.walrus_types.proofs.GroupKeys.{keys_more}
 use Rattle.walrus_types.proofs.emit.order.keyed.Goals as goal
 

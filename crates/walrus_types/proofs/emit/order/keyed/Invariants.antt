@@ -1,7 +1,7 @@
 use Rattle.std.proofs.Common.{◌≡◌, ℕ, ◌<◌, length, Option, Some}
 use Rattle.std.specs.List.{slice_get, slice_index}
-use Rattle.walrus_types.specs.Runs.{heads_of}
-use Rattle.walrus_types.specs.Runs.{keys_of}
+use Rattle.walrus_types.specs.Steps.Runs.{heads_of}
+use Rattle.walrus_types.specs.Steps.Runs.{keys_of}
 use Rattle.walrus_types.proofs.emit.order.keyed.Given as goal
 
 abbrev pub invariant-loop-group : goal.invariant-loop-group

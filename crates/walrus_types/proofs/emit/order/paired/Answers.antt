@@ -1,6 +1,6 @@
 use Rattle.std.proofs.Common.{rules, ◌≡◌, ◌∙◌, ap, refl, take, length, arith, ◌<◌}
 use Rattle.std.proofs.lemmas.List.{take_more, map-append}
-use Rattle.walrus_types.specs.StableOrder.{numbered}
+use Rattle.walrus_types.specs.Steps.StableOrder.{numbered}
 use Rattle.walrus_types.proofs.SortedPlaces.{numbered-more}
 use Rattle.walrus_types.proofs.emit.order.paired.Goals as goal
 

@@ -1,5 +1,5 @@
 use Rattle.std.proofs.Common.{◌≡◌, take}
-use Rattle.walrus_types.specs.StableOrder.{numbered}
+use Rattle.walrus_types.specs.Steps.StableOrder.{numbered}
 use Rattle.walrus_types.proofs.emit.order.paired.Given as goal
 
 abbrev pub invariant-loop-place : goal.invariant-loop-place

@@ -5,7 +5,7 @@ use Rattle.walrus_types.specs.Emitted.{definition_at}
 use Rattle.walrus_types.specs.Indices.{type_index}
 use Rattle.walrus_types.specs.Naming.{first_missing}
 use Rattle.walrus_types.specs.Records.{entry_definition}
-use Rattle.walrus_types.specs.WrittenGroups.{indexed}
+use Rattle.walrus_types.specs.Steps.WrittenGroups.{indexed}
 use Rattle.walrus_types.proofs.emit.write.entries_of.Given as goal
 
 abbrev pub invariant-loop-id : goal.invariant-loop-id

@@ -4,7 +4,7 @@ use Rattle.std.proofs.lemmas.Result.{err_from_is_err_and}
 use Rattle.walrus_types.specs.ReadTable.{TypeGroup}
 use Rattle.walrus_types.specs.Emitted.{type_groups, definition_at}
 use Rattle.walrus_types.specs.Indices.{Indexes, type_indices, func_indices, global_indices}
-use Rattle.walrus_types.specs.WrittenGroups.{picked}
+use Rattle.walrus_types.specs.Steps.WrittenGroups.{picked}
 use Rattle.walrus_types.proofs.WritingGroups.{FailsBy-weaker, advances, by_ids, distinct, empty_same, filled_at, finishes, fresh, group_here, many, room, stops}
 use Rattle.walrus_types.proofs.emit.write.write_groups.Goals as goal
 

@@ -1,6 +1,6 @@
 use Rattle.walrus_types.specs.Emitted.{type_groups, definition_at}
 use Rattle.walrus_types.specs.Indices.{IsEmpty, type_indices, func_indices, global_indices}
-use Rattle.walrus_types.specs.WrittenGroups.{picked}
+use Rattle.walrus_types.specs.Steps.WrittenGroups.{picked}
 use Rattle.walrus_types.proofs.WritingGroups.{IsProgress}
 use Rattle.walrus_types.proofs.emit.write.write_groups.Given as goal
 

@@ -2,7 +2,7 @@ use Rattle.std.proofs.Common.{◌≡◌, ℕ, List, [], ◌∷◌, ◌++◌, Som
 use Rattle.walrus_arena.specs.Set.{Set, Removes}
 use Rattle.walrus_types.specs.Types.{ModuleType}
 use Rattle.walrus_types.specs.Table.{Table, type_eq}
-use Rattle.walrus_types.specs.TableReads.{UsesUpId}
+use Rattle.walrus_types.specs.Steps.TableReads.{UsesUpId}
 use Rattle.walrus_types.proofs.UsedUpLemmas.{used_up_indexed, dead_slot, same_map, ok_at, on_ok_holds}
 use Rattle.walrus_types.proofs.table.ModuleTypes.use_up_id.Goals as goal
 

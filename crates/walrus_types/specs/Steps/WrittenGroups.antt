@@ -1,4 +1,4 @@
--- Groups that are written one after the other, and the indices that their ids get. No public clause cites this module.
+-- Groups that are written one after the other, and the indices that their ids get.
 use Rattle.std.specs.Prelude.{◌≡◌, ℕ, Bool, ◌+◌, ◌<◌, ◌⊎◌, cond, List, length, map, take, slice_get, slice_index, slice_index_or, Contains, Option, Some, None, unwrap_or}
 use Rattle.std.specs.List.{flat_map}
 use Rattle.walrus_types.specs.Definition.{Definition, names_of, renamed}

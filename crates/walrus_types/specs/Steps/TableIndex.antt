@@ -1,4 +1,4 @@
--- How a table finds the group of a type. No public clause cites this module.
+-- How a table finds the group of a type.
 use Rattle.std.specs.Prelude.{◌≡◌, ℕ, ◌<◌, ◌≤◌, List, length, slice_index, Some, false}
 use Rattle.walrus_arena.specs.Arena.{IsLive}
 use Rattle.walrus_arena.specs.Set.{mapped}

@@ -1,4 +1,4 @@
--- What reading does to a table. No public clause cites this module.
+-- What reading does to a table.
 use Rattle.std.specs.Prelude.{◌≡◌, ℕ, List, [], ◌∷◌, ◌++◌, map, None, MatchOption}
 use Rattle.walrus_arena.specs.Set.{SameMap, found}
 use Rattle.walrus_types.specs.Definition.{Definition}
