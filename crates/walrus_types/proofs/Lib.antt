@@ -4,7 +4,6 @@ pub mod RunStarts
 pub mod GroupKeys
 pub mod SortedRuns
 pub mod SortedPlaces
-pub mod TypeOrder
 pub mod WrittenPlaces
 pub mod IndexLemmas
 pub mod WrittenOrder

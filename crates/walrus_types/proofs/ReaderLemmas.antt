@@ -17,7 +17,8 @@ use Rattle.walrus_types.specs.Table.{Table, AddsType, AddsGroup, Member, placed,
 use Rattle.walrus_types.specs.Steps.TableReads.{ReadsSingle, UsesUpId, member_definition}
 use Rattle.walrus_types.specs.Fault.{fault_at}
 use Rattle.walrus_types.specs.Reading.{Reads, stored, stored_from, present, composite_kind}
-use Rattle.walrus_types.specs.Reader.{HasRead, contents}
+use Rattle.walrus_types.specs.Emitted.{contents}
+use Rattle.walrus_types.specs.Reader.{HasRead}
 use Rattle.walrus_types.proofs.SameType.{same_from_eq, eq_from_same}
 use Rattle.walrus_types.proofs.ReadSection.{TellsTypes, stored_definition}
 use Rattle.walrus_types.proofs.ReadNext.{reads_found, reads_new, reads_rec}

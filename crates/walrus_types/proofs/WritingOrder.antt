@@ -27,7 +27,7 @@ use Rattle.walrus_types.specs.Steps.FreeGroups.{is_own_or_dead, names_none_other
 use Rattle.walrus_types.specs.Steps.WrittenGroups.{IsWritingOrder, written_in}
 use Rattle.walrus_types.specs.Refusal.{written_count}
 use Rattle.walrus_types.proofs.WrittenCount.{count_of_order}
-use Rattle.walrus_types.proofs.TypeOrder.{type_cmp, type_order}
+use Rattle.walrus_types.proofs.Orders.Types.{type_cmp, type_is}
 use Rattle.walrus_types.proofs.WrittenOrder.{at_member, to_member}
 
 some_inj : {A : Type 0} {x y : A} → Some x ≡ Some y → x ≡ y
@@ -322,7 +322,7 @@ module _ (t : Table) (is : IsTable t) where
   turned_round : (g h : ℕ) (a : Headed g) (b : Headed h) → IsTurned gs def g h → IsTurnedRound type_cmp free g a.type h b.type
   turned_round g h a b tr = record {
     run = λ c low high. from_free_group c (omega (arith, high, in_groups h 0 b.id b.member)) (λ u i m. tr.free c low high u i m);
-    less = type_order b.type a.type ∙ then_left _ _ (sym (less_is a.id b.id a.type b.type a.at b.at) ∙ tr.less 0 a.id 0 b.id a.member b.member);
+    less = type_is b.type a.type ∙ then_left _ _ (sym (less_is a.id b.id a.type b.type a.at b.at) ∙ tr.less 0 a.id 0 b.id a.member b.member);
   }
 
   from_turned_round : (g h : ℕ) (w : IsWritten gs entry g) (w' : IsWritten gs entry h) (a : Headed g) (b : Headed h) → g < h → IsTurnedRound type_cmp free g a.type h b.type → IsTurned gs def g h
@@ -331,7 +331,7 @@ module _ (t : Table) (is : IsTable t) where
       let free_h : slice_get free h ≡ Some true = tr.run h (omega (arith, lt)) (omega arith) in
       let ea : a.type.is_for_function_entry ≡ false = unmarked g w a free_g in
       let eb : b.type.is_for_function_entry ≡ false = unmarked h w' b free_h in
-      let both : ordering_then (definition_cmp (type_definition b.type) (type_definition a.type)) Equal ≡ Less = ap (λ (p : Bool). ordering_then (definition_cmp (type_definition b.type) (type_definition a.type)) (bool_cmp false p)) (sym ea) ∙ (ap (λ (p : Bool). ordering_then (definition_cmp (type_definition b.type) (type_definition a.type)) (bool_cmp p a.type.is_for_function_entry)) (sym eb) ∙ (sym (type_order b.type a.type) ∙ tr.less)) in
+      let both : ordering_then (definition_cmp (type_definition b.type) (type_definition a.type)) Equal ≡ Less = ap (λ (p : Bool). ordering_then (definition_cmp (type_definition b.type) (type_definition a.type)) (bool_cmp false p)) (sym ea) ∙ (ap (λ (p : Bool). ordering_then (definition_cmp (type_definition b.type) (type_definition a.type)) (bool_cmp p a.type.is_for_function_entry)) (sym eb) ∙ (sym (type_is b.type a.type) ∙ tr.less)) in
       let less : definition_cmp (def b.id) (def a.id) ≡ Less = less_is a.id b.id a.type b.type a.at b.at ∙ then_equal _ both in
       record {
         free = λ c low high u i m. free_group c u i (tr.run c low high) m;

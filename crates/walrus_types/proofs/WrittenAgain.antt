@@ -16,7 +16,7 @@ use Rattle.walrus_types.specs.Indices.{Given}
 use Rattle.walrus_types.specs.Naming.{value_in}
 use Rattle.walrus_types.specs.Refusal.{HasIndexBy, IsMissing, IsFirstMissing}
 use Rattle.walrus_types.specs.Reading.{stored, composite_kind, Reads}
-use Rattle.walrus_types.specs.Reader.{HasRead, contents}
+use Rattle.walrus_types.specs.Reader.{HasRead}
 use Rattle.walrus_types.specs.Records.{section_of}
 use Rattle.walrus_types.specs.Table.{Table}
 use Rattle.walrus_types.specs.Types.{ModuleType, kind_composite, type_definition}

@@ -17,9 +17,12 @@ use Rattle.walrus_types.specs.Naming.{value_in}
 use Rattle.walrus_types.specs.Indices.{Given}
 use Rattle.walrus_types.specs.Table.{Table}
 
+abbrev pub contents : RecGroup → TypeGroup
+contents g = record { ids = g.types; is_explicit = g.is_explicit }
+
 -- the groups of a table, by ids
 abbrev pub type_groups : List RecGroup → List TypeGroup
-type_groups groups = map (λ (g : RecGroup). record { ids = g.types; is_explicit = g.is_explicit }) groups
+type_groups groups = map contents groups
 
 abbrev pub slot_definition : Option ModuleType → Definition
 slot_definition None = no_place.definition

@@ -1,9 +1,8 @@
 -- What contracts see of a section that is read group by group.
-use Rattle.std.specs.Prelude.{◌≡◌, ℕ, List, map}
+use Rattle.std.specs.Prelude.{◌≡◌, ℕ, List}
 use Rattle.walrus_arena.specs.Set.{mapped}
-use Rattle.walrus_types.specs.declared.table.RecGroup.{RecGroup}
 use Rattle.walrus_types.specs.Section.{Section}
-use Rattle.walrus_types.specs.ReadTable.{TypeGroup}
+use Rattle.walrus_types.specs.Emitted.{type_groups}
 use Rattle.walrus_types.specs.Table.{Table, IsSameTable, type_eq}
 use Rattle.walrus_types.specs.Reading.{Reads}
 
@@ -12,12 +11,9 @@ pub record Reader : Type 0 where
   pub table : Table
   pub ids : List ℕ
 
-abbrev pub contents : RecGroup → TypeGroup
-contents g = record { ids = g.types; is_explicit = g.is_explicit }
-
 -- the table and the ids are what this section is read into
 abbrev pub HasRead : Section → Table → List ℕ → Type 0
-HasRead s t ids = Reads s ids t.types.slots (mapped type_eq t.types) (map contents t.groups)
+HasRead s t ids = Reads s ids t.types.slots (mapped type_eq t.types) (type_groups t.groups)
 
 pub record IsSameReader (old new : Reader) : Type 0 where
   pub table : IsSameTable old.table new.table

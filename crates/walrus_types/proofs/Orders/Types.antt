@@ -68,6 +68,10 @@ then_three Equal Equal c d = refl
 then_same : (a b c d e f : Ordering) → a ≡ d → b ≡ e → c ≡ f → ordering_then a (ordering_then b c) ≡ ordering_then d (ordering_then e f)
 then_same a b c d e f p q r = cc
 
+-- the order of types
+abbrev pub type_cmp : ModuleType → ModuleType → Ordering
+type_cmp = (type_order.ghosts).cmp
+
 pub type_is : (t u : ModuleType) → (type_order.ghosts).cmp t u ≡ ordering_then (definition_cmp (type_definition t) (type_definition u)) (bool_cmp t.is_for_function_entry u.is_for_function_entry)
 type_is t u =
     then_three ((kind_order.ghosts).cmp t.kind u.kind) ((bool_order.ghosts).cmp t.is_final u.is_final) ((option_order.ghosts (Key.the_row Builtin.RawPtr) (id_order.ghosts Builtin.RawPtr) (id_order.dict Builtin.RawPtr) (id_eq.ghosts Builtin.RawPtr) (id_eq.dict Builtin.RawPtr) (id_partial_eq.ghosts Builtin.RawPtr) (id_partial_eq.dict Builtin.RawPtr) (id_partial_order.ghosts Builtin.RawPtr) (id_partial_order.dict Builtin.RawPtr)).cmp t.supertype u.supertype) ((bool_order.ghosts).cmp t.is_for_function_entry u.is_for_function_entry)
