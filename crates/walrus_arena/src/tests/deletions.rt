@@ -53,3 +53,14 @@ fn delete_all_tells_each_item_once(rt: HostRuntime) -> Result<(), Fail> {
     assert!(rt; arena.is_empty());
     Ok(())
 }
+
+#[test]
+fn no_ids_delete_nothing(rt: HostRuntime) -> Result<(), Fail> {
+    let count = Rc::new(rt.alloc(), Cell::new(0))?;
+    let mut arena = two_items(rt.alloc(), &count)?;
+    let ids: [Id<Told>; 0] = [];
+    arena.delete_all(ids.as_slice())?;
+    assert_eq!(rt; count.get(), 0);
+    assert_eq!(rt; arena.len(), 2);
+    Ok(())
+}

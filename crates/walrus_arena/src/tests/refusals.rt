@@ -142,3 +142,98 @@ fn a_refused_alloc_with_id_makes_nothing(rt: HostRuntime) -> Result<(), Fail> {
     assert_eq!(rt; arena.len(), 20);
     Ok(())
 }
+
+// Adds an item. After a refusal the arena must be as it was, and the call is made again.
+fn alloc_one(
+    rt: &impl Abort,
+    arena: &mut TombstoneArena<Tagged>,
+    key: u32,
+) -> Result<usize, AllocError> {
+    let before = arena.len();
+    if let Ok(id) = arena.alloc(make_tagged(key, 0)) {
+        return Ok(id.index());
+    }
+    assert_eq!(rt; arena.len(), before);
+    assert_eq!(rt; arena.next_id().index(), before);
+    Ok(arena.alloc(make_tagged(key, 0))?.index())
+}
+
+// An arena of twenty items.
+fn twenty_items(rt: &impl Abort, alloc: Global) -> Result<TombstoneArena<Tagged>, AllocError> {
+    let mut arena = TombstoneArena::new(alloc);
+    for key in 0..20u32 {
+        assert_eq!(rt; alloc_one(rt, &mut arena, key)?, key as usize);
+    }
+    Ok(arena)
+}
+
+#[test]
+fn a_refused_alloc_adds_nothing(rt: HostRuntime) -> Result<(), Fail> {
+    let arena = twenty_items(&rt, rt.alloc())?;
+    assert_eq!(rt; arena.next_id().index(), 20);
+    Ok(())
+}
+
+#[test]
+fn refused_live_ids_are_listed_when_asked_again(rt: HostRuntime) -> Result<(), Fail> {
+    let arena = twenty_items(&rt, rt.alloc())?;
+    let ids = match arena.live_ids() {
+        Ok(ids) => ids,
+        Err(_) => arena.live_ids()?,
+    };
+    assert_eq!(rt; ids.len(), 20);
+    assert_eq!(rt; ids[19].index(), 19);
+    Ok(())
+}
+
+// Adds a value without mapping it. After a refusal the set must be as it was, and the call is made again.
+fn add_unique(rt: &impl Abort, set: &mut ArenaSet<Tagged>, key: u32) -> Result<usize, AllocError> {
+    let before = set.next_id().index();
+    if let Ok(id) = set.alloc_unique(make_tagged(key, 0)) {
+        return Ok(id.index());
+    }
+    assert_eq!(rt; set.next_id().index(), before);
+    Ok(set.alloc_unique(make_tagged(key, 0))?.index())
+}
+
+#[test]
+fn a_refused_alloc_unique_adds_nothing(rt: HostRuntime) -> Result<(), Fail> {
+    let mut set = ArenaSet::new(rt.alloc());
+    for key in 0..20u32 {
+        assert_eq!(rt; add_unique(&rt, &mut set, key)?, key as usize);
+        assert_eq!(rt; index_of(&set, key), None);
+    }
+    Ok(())
+}
+
+// Writes a new key over the first item, whose key is `old`. After a refusal the set must be as it was, and the call is made again.
+fn replace_first(
+    rt: &impl Abort,
+    set: &mut ArenaSet<Tagged>,
+    old: u32,
+    new: u32,
+) -> Result<(), AllocError> {
+    assert!(rt; set.contains(Id::from_index(0)));
+    if set
+        .replace_and_register(Id::from_index(0), make_tagged(new, 0))
+        .is_ok()
+    {
+        return Ok(());
+    }
+    assert_eq!(rt; index_of(set, old), Some(0));
+    assert_eq!(rt; index_of(set, new), None);
+    assert!(rt; set.contains(Id::from_index(0)));
+    set.replace_and_register(Id::from_index(0), make_tagged(new, 0))
+}
+
+#[test]
+fn a_refused_replacement_changes_nothing(rt: HostRuntime) -> Result<(), Fail> {
+    let mut set = ArenaSet::new(rt.alloc());
+    assert_eq!(rt; insert_new(&rt, &mut set, 0)?, 0);
+    for key in 0..20u32 {
+        replace_first(&rt, &mut set, key, key + 1)?;
+        assert_eq!(rt; index_of(&set, key), None);
+        assert_eq!(rt; index_of(&set, key + 1), Some(0));
+    }
+    Ok(())
+}
