@@ -10,6 +10,9 @@ ghost use Rattle.walrus_types.specs.NormalForm.{IsNormalForm, identity};
 ghost use Rattle.walrus_types.specs.Records.{section_of};
 ghost use Rattle.walrus_types.specs.Section.{Section, IsWellNamed};
 
+#[cfg(test)]
+mod tests;
+
 use crate::laws::{contents_tell_records, one_normal_form, second_round, swap_keeps_output};
 use crate::{EmitError, GroupAt, IdsToIndices, ReadError, TypeId, parse_types};
 use std::alloc::{AllocError, Global};
