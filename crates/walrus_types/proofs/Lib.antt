@@ -48,3 +48,4 @@ pub mod NameLemmas
 pub mod NamedLemmas
 pub mod ReaderCalls
 pub mod FaultLaws
+pub mod Texts

@@ -23,3 +23,5 @@ pub mod Reader
 pub mod TableLends
 pub mod TableCalls
 pub mod Steps
+pub mod Text
+pub mod Views

@@ -1,4 +1,4 @@
-//! Laws of type sections. Each function does nothing; its clauses are theorems, which a caller gets by calling it.
+//! Laws of type sections. Each function does nothing, or answers what its clause speaks of; its clauses are theorems, which a caller gets by calling it.
 //!
 //! A section is the list of the contents of its recursion groups, as `section_of` gives them for a list of `GroupAt`.
 ghost use Rattle.std.specs.List.{range_with_len, swap};
@@ -21,13 +21,16 @@ ghost use Rattle.walrus_types.specs.declared.records.GroupAt.{GroupAt};
 ghost use Rattle.walrus_types.specs.ReadTable.{IsCandidate, IsRead, read_definition, read_groups};
 ghost use Rattle.walrus_types.specs.Records.{entry_definition, section_of};
 ghost use Rattle.walrus_types.specs.Section.{IsWellNamed, Section, numbered};
+ghost use Rattle.walrus_types.specs.Text.{HasPlaces, val_text};
 ghost use Rattle.walrus_types.specs.Types.{ModuleType, type_definition};
 ghost use Rattle.walrus_types.specs.Value.{bool_cmp};
+ghost use Rattle.walrus_types.specs.Views.{constant_of};
 ghost use Rattle.walrus_types.specs.Worked.{in_order, out_of_order, repeated, told_once, two_loops};
 ghost use Rattle.walrus_types.specs.declared.records.EntryAt.{EntryAt};
+ghost use Rattle.walrus_types.specs.declared.ty.value.Val.{Val};
 
 pub use crate::table::every_table_is_sound;
-use crate::{EntryAt, Type};
+use crate::{AbstractHeapType, EntryAt, RefType, Type};
 
 /// A well-named section has one normal form: one section, and one map onto it.
 pub fn one_normal_form()
@@ -153,3 +156,28 @@ pub fn worked_sections()
     ensures merged { IsNormalForm repeated told_once (0 ∷ 1 ∷ 0 ∷ []) }
     ensures both_kept { IsNormalForm two_loops two_loops (0 ∷ 1 ∷ []) }
 {}
+
+/// Two value types with the same text are equal.
+pub fn text_tells_value_types()
+    ensures { (v w : Val ℕ) → HasPlaces v → HasPlaces w → val_text v ≡ val_text w → v ≡ w }
+{}
+
+/// What each constant of `RefType` is: the nullable reference to the heap type of its name. `NoExn` has no constant.
+pub fn reference_constant(name: AbstractHeapType) -> Option<RefType>
+    ensures { result ≡ constant_of name }
+{
+    match name {
+        AbstractHeapType::Func => Some(RefType::FUNCREF),
+        AbstractHeapType::Extern => Some(RefType::EXTERNREF),
+        AbstractHeapType::Any => Some(RefType::ANYREF),
+        AbstractHeapType::None => Some(RefType::NULLREF),
+        AbstractHeapType::NoExtern => Some(RefType::NULLEXTERNREF),
+        AbstractHeapType::NoFunc => Some(RefType::NULLFUNCREF),
+        AbstractHeapType::Eq => Some(RefType::EQREF),
+        AbstractHeapType::Struct => Some(RefType::STRUCTREF),
+        AbstractHeapType::Array => Some(RefType::ARRAYREF),
+        AbstractHeapType::I31 => Some(RefType::I31REF),
+        AbstractHeapType::Exn => Some(RefType::EXNREF),
+        AbstractHeapType::NoExn => None,
+    }
+}

@@ -1,13 +1,16 @@
 //! Types as a module holds them: their definition, and what a module remembers of them beside it.
-ghost use Rattle.std.specs.Prelude.{◌≡◌, [], true, false, IsSome, IsSomeAnd, Some, None, option_copied};
+ghost use Rattle.std.specs.Prelude.{◌≡◌, [], true, false, IsSome, IsSomeAnd, None};
 ghost use Rattle.std.specs.Borrow.{Lends, sem};
 ghost use Rattle.walrus_types.specs.Types.{nameless, function, signature_of, with_kind, emptied};
 ghost use Rattle.walrus_types.specs.contracts.ty.«Type».{the_row};
 ghost use Rattle.walrus_types.specs.contracts.ty.composite.CompositeType.{the_row as kind_row};
 
 mod composite;
+mod display;
 mod names;
+mod referenced;
 mod value;
+mod views;
 
 use crate::TypeId;
 pub use composite::{ArrayType, CompositeType, FunctionType, StructType};
@@ -123,7 +126,7 @@ impl Type {
         requires { IsSome (signature_of self.now.kind) }
         ensures { IsSomeAnd (signature_of self.now.kind) (λ f. result.now ≡ f.params) }
     {
-        self.signature().unwrap().params()
+        self.kind.unwrap_function().params()
     }
 
     /// The results of a function type.
@@ -131,17 +134,7 @@ impl Type {
         requires { IsSome (signature_of self.now.kind) }
         ensures { IsSomeAnd (signature_of self.now.kind) (λ f. result.now ≡ f.results) }
     {
-        self.signature().unwrap().results()
-    }
-
-    fn signature(&self) -> Option<&FunctionType>
-        ensures { option_copied result ≡ signature_of self.now.kind }
-    {
-        match &self.kind {
-            CompositeType::Function(f) => Some(f),
-            CompositeType::Struct(_) => None,
-            CompositeType::Array(_) => None,
-        }
+        self.kind.unwrap_function().results()
     }
 
     /// Whether it stands for the block type of a function body. Such a type is no definition of its module's section.

@@ -1,0 +1,83 @@
+//! Which ids a type is made with, and in which order.
+use super::*;
+use crate::{ArrayType, FunctionType, HeapType, Id, Listed, Reference, StructType};
+use std::alloc::Global;
+use std::test::Fail;
+
+fn concrete(index: usize) -> ValType {
+    reference(Heap::Concrete(Id::from_index(index)))
+}
+
+fn reference(heap_type: HeapType) -> ValType {
+    Val::Ref(Reference {
+        nullable: true,
+        heap_type,
+    })
+}
+
+fn field(element: ValType) -> FieldType {
+    Field {
+        element_type: Storage::Val(element),
+        mutable: false,
+    }
+}
+
+fn ty(kind: CompositeType, supertype: Option<TypeId>) -> Type {
+    Type::new_composite(Id::from_index(9), kind, true, supertype)
+}
+
+// The places of the ids that the type is made with, after a 7 that is there before.
+fn referenced(alloc: Global, ty: &Type) -> Result<Vec<usize>, AllocError> {
+    let mut list = vec![in alloc; Id::from_index(7)]?;
+    ty.referenced_types(&mut list)?;
+    let mut places = Vec::new(alloc);
+    for id in &list {
+        places.push(id.index())?;
+    }
+    Ok(places)
+}
+
+#[test]
+fn the_supertype_comes_first_and_repeats_are_kept(rt: HostRuntime) -> Result<(), Fail> {
+    let alloc = rt.alloc();
+    let params = vec![in alloc; concrete(1), concrete(1)]?;
+    let results = vec![in alloc; reference(Heap::Exact(Id::from_index(0)))]?;
+    let kind = CompositeType::Function(FunctionType::new(params, results));
+    let made = ty(kind, Some(Id::from_index(2)));
+    assert_eq!(rt;
+        referenced(alloc, &made)?.as_slice(),
+        [7, 2, 1, 1, 0].as_slice()
+    );
+    Ok(())
+}
+
+#[test]
+fn fields_come_in_order(rt: HostRuntime) -> Result<(), Fail> {
+    let alloc = rt.alloc();
+    let fields = Listed::from_vec(vec![in alloc;
+        field(concrete(4)),
+        field(Val::I32),
+        field(concrete(3)),
+    ]?);
+    let made = ty(CompositeType::Struct(StructType { fields }), None);
+    assert_eq!(rt; referenced(alloc, &made)?.as_slice(), [7, 4, 3].as_slice());
+    let array = CompositeType::Array(ArrayType {
+        field: field(concrete(5)),
+    });
+    let made = ty(array, Some(Id::from_index(6)));
+    assert_eq!(rt; referenced(alloc, &made)?.as_slice(), [7, 6, 5].as_slice());
+    Ok(())
+}
+
+#[test]
+fn a_type_may_be_made_with_no_id(rt: HostRuntime) -> Result<(), Fail> {
+    let array = CompositeType::Array(ArrayType {
+        field: FieldType {
+            element_type: Storage::I8,
+            mutable: true,
+        },
+    });
+    let made = ty(array, None);
+    assert_eq!(rt; referenced(rt.alloc(), &made)?.as_slice(), [7].as_slice());
+    Ok(())
+}
