@@ -1,0 +1,4 @@
+mod HexText
+mod ConstExprLemmas
+
+-- lemmas

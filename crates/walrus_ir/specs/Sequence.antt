@@ -1,0 +1,18 @@
+-- What contracts see of a sequence of instructions.
+use Rattle.std.specs.Prelude.{ℕ, List, []}
+use Rattle.walrus_ir.specs.declared.instr_seq_type.InstrSeqType.{InstrSeqType}
+use Rattle.walrus_ir.specs.declared.ir.instr.Instr.{Instr}
+
+-- the number of the default location, which no instruction of a binary has
+abbrev pub no_location : ℕ
+no_location = 0xffff_ffff
+
+pub record Sequence : Type 0 where
+  pub id : ℕ
+  pub ty : InstrSeqType
+  pub instrs : List (Instr × ℕ)
+  pub end : ℕ
+
+-- without instructions, its end at the default location
+abbrev pub empty_sequence : ℕ → InstrSeqType → Sequence
+empty_sequence id ty = record { id = id; ty = ty; instrs = []; end = no_location }

@@ -1,0 +1,104 @@
+//! The types of instruction sequences.
+ghost use Rattle.std.specs.Prelude.{◌≡◌, Some, None, IfSome, IfOk, OnErr, Ok, MatchOption, option_map};
+ghost use Rattle.walrus_types.specs.Table.{FindsOrAdds, IsAnswer, IsSameTable, IsFirst, IsPlainFunction};
+ghost use Rattle.walrus_ir.specs.BlockTypes.{simple_result, new_function, IsMultiValue};
+ghost use Rattle.walrus_ir.specs.declared.instr_seq_type.InstrSeqType.TheVariants.{Simple, MultiValue};
+
+#[cfg(test)]
+mod tests;
+
+use std::alloc::AllocError;
+use walrus_types::{ModuleTypes, TypeId, ValType};
+
+/// The type of an instruction sequence: what it takes from the stack, and what it leaves there. `blocktype` in the
+/// WebAssembly core specification.
+#[derive(Clone, Copy, PartialEq, Eq, Debug)]
+pub enum InstrSeqType {
+    /// It takes nothing, and leaves one value of this type or nothing.
+    Simple(Option<ValType>),
+    /// It takes the parameters of this function type, and leaves its results.
+    MultiValue(TypeId),
+}
+
+impl InstrSeqType {
+    /// The type of sequences that take `params` and leave `results`. Without `params` and with one result at most it is
+    /// `Simple`, and the table stays as it is. Else it is the id that `ModuleTypes::add` answers; after its refusal the
+    /// table is as it was.
+    pub fn new(
+        types: &mut ModuleTypes,
+        params: &[ValType],
+        results: &[ValType],
+    ) -> Result<InstrSeqType, AllocError>
+        ensures simple { IfSome (simple_result params.now results.now) (λ of. result ≡ Ok (Simple of)) }
+        ensures unchanged { IfSome (simple_result params.now results.now) (λ of. types.new ≡ types.old) }
+        ensures answer { simple_result params.now results.now ≡ None → IfOk result (λ ty. IsMultiValue ty
+            (λ id. IsAnswer types.new (new_function types.old params.now results.now) id)) }
+        ensures ok { simple_result params.now results.now ≡ None → IfOk result (λ ty. IsMultiValue ty
+            (λ id. FindsOrAdds types.old types.new (new_function types.old params.now results.now) id)) }
+        ensures err { OnErr result (IsSameTable types.old types.new) }
+    {
+        match simple(params, results) {
+            Some(ty) => Ok(ty),
+            None => Ok(InstrSeqType::MultiValue(types.add(params, results)?)),
+        }
+    }
+
+    /// The type of sequences that take `params` and leave `results`, if the table need not grow for it: the one that
+    /// `new` answers where it is `Simple`, or else the function type that `ModuleTypes::find` answers. It takes no memory.
+    pub fn existing(
+        types: &ModuleTypes,
+        params: &[ValType],
+        results: &[ValType],
+    ) -> Option<InstrSeqType>
+        ensures simple { IfSome (simple_result params.now results.now) (λ of. result ≡ Some (Simple of)) }
+        ensures found { simple_result params.now results.now ≡ None → MatchOption result
+            (IsFirst types.now (IsPlainFunction params.now results.now) None)
+            (λ ty. IsMultiValue ty (λ id. IsFirst types.now (IsPlainFunction params.now results.now) (Some id))) }
+    {
+        match simple(params, results) {
+            Some(ty) => Some(ty),
+            None => match types.find(params, results) {
+                Some(id) => Some(InstrSeqType::MultiValue(id)),
+                None => None,
+            },
+        }
+    }
+}
+
+// The form that needs no function type, where there is one.
+fn simple(params: &[ValType], results: &[ValType]) -> Option<InstrSeqType>
+    ensures { result ≡ option_map Simple (simple_result params.now results.now) }
+{
+    match (params, results) {
+        ([], []) => Some(InstrSeqType::Simple(None)),
+        ([], [only]) => Some(InstrSeqType::Simple(Some(*only))),
+        _ => None,
+    }
+}
+
+/// The type of sequences that take nothing and leave one value of this type, or nothing.
+impl From<Option<ValType>> for InstrSeqType {
+    ghost from_gives = { λ of ty. ty ≡ Simple of };
+
+    fn from(of: Option<ValType>) -> InstrSeqType {
+        InstrSeqType::Simple(of)
+    }
+}
+
+/// The type of sequences that take nothing and leave one value of this type.
+impl From<ValType> for InstrSeqType {
+    ghost from_gives = { λ of ty. ty ≡ Simple (Some of) };
+
+    fn from(of: ValType) -> InstrSeqType {
+        InstrSeqType::Simple(Some(of))
+    }
+}
+
+/// The type of sequences that take the parameters of this function type and leave its results.
+impl From<TypeId> for InstrSeqType {
+    ghost from_gives = { λ id ty. ty ≡ MultiValue id };
+
+    fn from(id: TypeId) -> InstrSeqType {
+        InstrSeqType::MultiValue(id)
+    }
+}
