@@ -1,6 +1,4 @@
 //! Instructions as data: each instruction's struct, the operators and kinds that they hold, sequences of instructions, and where instructions stand in a binary.
-//!
-//! Variants, fields and their order are those of walrus's `ir` module. Nothing here says what is valid: any instruction may stand anywhere.
 pub mod aggregates;
 pub mod atomics;
 pub mod binary_op;

@@ -4,7 +4,7 @@
 //! - [`InstrSeq`] is a sequence of instructions, each with an [`InstrLocId`]. Instructions that have sequences inside name them by [`InstrSeqId`], so a function's body is a list of sequences.
 //! - [`Local`] is a local of a function, [`Value`] what a constant gives.
 //!
-//! Nothing here says what is valid: any instruction may stand anywhere. Names, fields and their order are those of walrus's `ir`.
+//! Nothing here says what is valid: any instruction may stand anywhere. Names, fields and their order are those of walrus's `ir`, but for the struct [`DropInstr`] and the fields `data_id`, which are `Drop` and `data` there.
 //!
 //! # A branch
 //!
@@ -159,6 +159,8 @@ pub use walrus_types::GlobalId;
 pub use walrus_types::Id;
 pub use walrus_types::Memory;
 pub use walrus_types::MemoryId;
+pub use walrus_types::RecGroup;
+pub use walrus_types::RecGroupId;
 pub use walrus_types::Table;
 pub use walrus_types::TableId;
 pub use walrus_types::Tag;

@@ -66,6 +66,19 @@ fn a_table_of_catches(rt: HostRuntime) -> Result<(), Fail> {
 }
 
 #[test]
+fn a_sequence(rt: HostRuntime) -> Result<(), Fail> {
+    let alloc = rt.alloc();
+    let mut seq = InstrSeq::new(alloc, Id::from_index(3), InstrSeqType::Simple(None));
+    seq.instrs.push((make_table(alloc)?, InstrLocId::new(8)))?;
+    seq.end = InstrLocId::new(9);
+    let copy = seq.clone()?;
+    assert_eq!(rt; copy.id().index(), 3);
+    assert_eq!(rt; copy.instrs.len(), 1);
+    assert!(rt; copy.end == InstrLocId::new(9));
+    Ok(())
+}
+
+#[test]
 fn big_enums_print_their_name(rt: HostRuntime) -> Result<(), Fail> {
     let instr = Instr::Drop(DropInstr {});
     assert_eq!(rt; format!(in rt.alloc(); "{instr:?}")?.as_str(), "Instr");

@@ -14,6 +14,11 @@ fn branches(rt: HostRuntime) {
     assert!(rt; !stops(&Instr::BrOnNonNull(BrOnNonNull { block })));
     assert!(rt; !stops(&Instr::from(Block { seq: block })));
     assert!(rt; !stops(&Instr::from(Loop { seq: block })));
+    let both = IfElse {
+        consequent: block,
+        alternative: block,
+    };
+    assert!(rt; !stops(&Instr::from(both)));
 }
 
 #[test]
