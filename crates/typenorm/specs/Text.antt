@@ -151,3 +151,16 @@ IsSupertypeWord word = IsText (λ k. codes "sub:" ++ decimal k) (λ k. k < 2 ^ 3
 
 abbrev pub IsArrayLine : List (List ℕ) → Type 0
 IsArrayLine words = IsText (λ f. codes "array" ∷ field_word f ∷ []) (λ f. AreIndices (field_names f)) words
+
+-- the numbers in a group can stand for types
+abbrev pub HasGroupIndices : GroupAt → Type 0
+HasGroupIndices (group.Single e) = AreIndices (names_of (entry_definition e))
+HasGroupIndices (group.Rec es) = AllByRecursion (λ e. AreIndices (names_of (entry_definition e))) es
+
+-- the lines are those of a section whose numbers can stand for types
+abbrev pub IsSectionText : List (List (List ℕ)) → Type 0
+IsSectionText lines = IsText section_lines (λ groups. AllByRecursion HasGroupIndices groups) lines
+
+-- however these lines go on, they are those of no section
+abbrev pub IsAstray : List (List (List ℕ)) → Type 0
+IsAstray lines = (more : List (List (List ℕ))) → ¬ IsSectionText (lines ++ more)

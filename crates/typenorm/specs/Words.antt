@@ -10,6 +10,10 @@ has_items (x ∷ xs) = true
 abbrev pub words_of : List ℕ → List (List ℕ)
 words_of line = filter has_items (slice_split (λ b. b == 32) line)
 
+-- the words of one line, where it has any
+abbrev pub worded_line : List ℕ → List (List (List ℕ))
+worded_line line = filter has_items (words_of line ∷ [])
+
 -- the words of each line of a text that has any; a line ends with a line feed, which the last one may lack
 abbrev pub lines_of : List ℕ → List (List (List ℕ))
 lines_of text = filter has_items (map words_of (slice_split (λ b. b == 10) text))

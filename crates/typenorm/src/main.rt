@@ -1,6 +1,12 @@
 //! Reads a type section as text and writes its normal form, and where each entry went.
 #![tactic(auto)]
 
+ghost use Rattle.std.specs.Prelude.{◌≡◌, ◌⊎◌, ◌<◌, IfErr, OnOk, IfSome};
+ghost use Rattle.std.specs.Io.KnownBytes.{Appends, Keeps};
+ghost use Rattle.typenorm.specs.Words.{lines_of};
+ghost use Rattle.typenorm.specs.Text.{IsSectionText, output_text};
+ghost use Rattle.typenorm.specs.Stops.{IsIllNamedText, IsNormalised, Tells, status_of};
+
 mod parse;
 mod print;
 mod reading;
@@ -13,10 +19,10 @@ mod words;
 use print::write_output;
 use reading::read_section;
 use std::alloc::Global;
-use std::io::{BufWriter, Read, Write};
+use std::io::{Read, Write};
 use std::process::ExitCode;
 use stop::{Stop, report};
-use walrus_types::{ReadError, normalise};
+use walrus_types::{GroupAt, ReadError, normalise};
 
 /// Reads a section from `reader`, and writes its normal form and the place of each entry in it to `out`.
 ///
@@ -29,27 +35,47 @@ pub fn run<R: Read, W: Write, E: Write>(
     reader: &mut R,
     out: &mut W,
     err: &mut E,
-) -> u8 {
+) -> u8
+    ensures done { result ≡ 0 → IfSome (R.remaining reader.old) (λ text. IsNormalised (lines_of text) (W.contents out.old) (W.contents out.new)) }
+    ensures silent { result ≡ 0 → Keeps (E.contents err.old) (E.contents err.new) }
+    ensures bad_text { result ≡ 1 → IfSome (R.remaining reader.old) (λ text. ¬ IsSectionText (lines_of text)) }
+    ensures ill_named { result ≡ 2 → IfSome (R.remaining reader.old) (λ text. IsIllNamedText (lines_of text)) }
+    ensures unwritten { (result ≡ 1) ⊎ (result ≡ 2) → Keeps (W.contents out.old) (W.contents out.new) }
+{
     match normalise_text(alloc, reader, out) {
         Ok(()) => 0,
         Err(stop) => report(&stop, err),
     }
 }
 
-fn normalise_text<R: Read, W: Write>(
-    alloc: Global,
-    reader: &mut R,
-    out: &mut W,
-) -> Result<(), Stop> {
+fn normalise_text<R: Read, W: Write>(alloc: Global, reader: &mut R, out: &mut W) -> Result<(), Stop>
+    ensures done { OnOk result (IfSome (R.remaining reader.old) (λ text. IsNormalised (lines_of text) (W.contents out.old) (W.contents out.new))) }
+    ensures stopped { IfErr result (λ stop. IfSome (R.remaining reader.old) (λ text. Tells stop (lines_of text))) }
+    ensures unwritten { IfErr result (λ stop. (status_of stop ≡ 1) ⊎ (status_of stop ≡ 2) → Keeps (W.contents out.old) (W.contents out.new)) }
+{
     let section = read_section(alloc, reader)?;
     let (groups, map) = normalise(alloc, section.as_slice())?;
-    let Ok(mut buffered) = BufWriter::new(alloc, out) else {
+    write_whole(alloc, out, groups.as_slice(), map.as_slice())
+}
+
+/// Writes the output, once all of its text is there.
+fn write_whole<W: Write>(
+    alloc: Global,
+    out: &mut W,
+    groups: &[GroupAt],
+    map: &[u32],
+) -> Result<(), Stop>
+    ensures written { OnOk result (Appends (W.contents out.old) (W.contents out.new) (output_text groups.now map.now)) }
+    ensures stopped { IfErr result (λ stop. 2 < status_of stop) }
+{
+    let mut text = Vec::new(alloc);
+    let Ok(()) = write_output(&mut text, groups, map) else {
         return Err(Stop::Memory);
     };
-    let Ok(()) = write_output(&mut buffered, groups.as_slice(), map.as_slice()) else {
+    let Ok(()) = out.write_all(text.as_slice()) else {
         return Err(Stop::Stream);
     };
-    let Ok(()) = buffered.flush() else {
+    let Ok(()) = out.flush() else {
         return Err(Stop::Stream);
     };
     Ok(())

@@ -1,4 +1,11 @@
 //! A section from a reader, one line of text at a time.
+ghost use Rattle.std.specs.Prelude.{◌≡◌, ◌++◌, ◌∷◌, [], ℕ, List, false, IsTrue, IfOk, IfErr, OnOk, IfSome};
+ghost use Rattle.typenorm.specs.Words.{lines_of, worded_line};
+ghost use Rattle.typenorm.specs.Text.{IsAstray, section_lines};
+ghost use Rattle.typenorm.specs.Sections.{gathered_lines};
+ghost use Rattle.typenorm.specs.Reading.{HasRead, IsJudged};
+ghost use Rattle.typenorm.specs.Stops.{Tells};
+
 use crate::parse::read_line;
 use crate::section::Gathered;
 use crate::stop::Stop;
@@ -13,7 +20,10 @@ const READ_LIMIT: u64 = 1 << 48;
 const BLOCK: usize = 8192;
 
 /// The groups of a text, whose first bad line ends it.
-pub fn read_section<R: Read>(alloc: Global, reader: &mut R) -> Result<Vec<GroupAt>, Stop> {
+pub fn read_section<R: Read>(alloc: Global, reader: &mut R) -> Result<Vec<GroupAt>, Stop>
+    ensures read { IfOk result (λ groups. IfSome (R.remaining reader.old) (λ text. lines_of text ≡ section_lines groups.items)) }
+    ensures stopped { IfErr result (λ stop. IfSome (R.remaining reader.old) (λ text. Tells stop (lines_of text))) }
+{
     let mut text = Text::new(alloc);
     let mut block = [0u8; BLOCK];
     for _ in 0..READ_LIMIT {
@@ -43,7 +53,10 @@ struct Text {
 }
 
 impl Text {
-    fn new(alloc: Global) -> Text {
+    #[tactic(auto, using(crate::proofs::ReadingLemmas::nothing_read))]
+    fn new(alloc: Global) -> Text
+        ensures { HasRead result [] }
+    {
         Text {
             section: Gathered::new(alloc),
             line: Vec::new(alloc),
@@ -53,14 +66,18 @@ impl Text {
         }
     }
 
-    fn take(&mut self, block: &[u8]) -> Result<(), AllocError> {
+    fn take(&mut self, block: &[u8]) -> Result<(), AllocError>
+        ensures { OnOk result ((bytes : List ℕ) → HasRead self.old bytes → HasRead self.new (bytes ++ block.now)) }
+    {
         for byte in block {
             self.take_byte(*byte)?;
         }
         Ok(())
     }
 
-    fn take_byte(&mut self, byte: u8) -> Result<(), AllocError> {
+    fn take_byte(&mut self, byte: u8) -> Result<(), AllocError>
+        ensures { OnOk result ((bytes : List ℕ) → HasRead self.old bytes → HasRead self.new (bytes ++ byte ∷ [])) }
+    {
         if byte == b'\n' {
             return self.end_line();
         }
@@ -68,26 +85,60 @@ impl Text {
         Ok(())
     }
 
-    fn end_line(&mut self) -> Result<(), AllocError> {
+    /// Ends the line, as a line feed does.
+    fn end_line(&mut self) -> Result<(), AllocError>
+        ensures empty { OnOk result (self.new.line.items ≡ []) }
+        ensures read { OnOk result ((bytes : List ℕ) → HasRead self.old bytes → HasRead self.new (bytes ++ 10 ∷ [])) }
+    {
         self.lines = self.lines.saturating_add(1);
-        if self.bad.is_none() && !self.add_line()? {
-            self.bad = Some(self.lines);
-        }
+        self.judge_line()?;
         self.line.clear();
         Ok(())
     }
 
-    fn add_line(&mut self) -> Result<bool, AllocError> {
+    /// Adds the line to the section, and marks it where it is the first bad one.
+    fn judge_line(&mut self) -> Result<(), AllocError>
+        ensures line { OnOk result (self.new.line.items ≡ self.old.line.items) }
+        ensures judged { OnOk result ((lines : List (List (List ℕ))) → IsJudged self.old.section self.old.bad lines → IsJudged self.new.section self.new.bad (lines ++ worded_line self.old.line.items)) }
+    {
+        if self.bad.is_some() {
+            return Ok(());
+        }
+        if !self.add_line()? {
+            self.bad = Some(self.lines);
+        }
+        Ok(())
+    }
+
+    /// Adds the line to the section. `false` says that no text of a section has it here.
+    fn add_line(&mut self) -> Result<bool, AllocError>
+        ensures line { self.new.line.items ≡ self.old.line.items }
+        ensures bad { self.new.bad ≡ self.old.bad }
+        ensures taken { IfOk result (λ taken. IsTrue taken → gathered_lines self.new.section ≡ gathered_lines self.old.section ++ worded_line self.old.line.items) }
+        ensures refused { IfOk result (λ taken. taken ≡ false → IsAstray (gathered_lines self.old.section ++ worded_line self.old.line.items)) }
+    {
         match read_line(self.alloc, self.line.as_slice())? {
             Some(line) => self.section.add(line),
             None => Ok(false),
         }
     }
 
-    fn finish(mut self) -> Result<Vec<GroupAt>, Stop> {
-        if !self.line.is_empty() {
-            self.end_line()?;
+    /// Ends the last line, whose line feed may be missing.
+    fn end_last_line(&mut self) -> Result<(), AllocError>
+        ensures { OnOk result ((bytes : List ℕ) → HasRead self.old bytes → IsJudged self.new.section self.new.bad (lines_of bytes)) }
+    {
+        if self.line.as_slice().is_empty() {
+            return Ok(());
         }
+        self.end_line()?;
+        Ok(())
+    }
+
+    fn finish(mut self) -> Result<Vec<GroupAt>, Stop>
+        ensures read { IfOk result (λ groups. (bytes : List ℕ) → HasRead self bytes → lines_of bytes ≡ section_lines groups.items) }
+        ensures stopped { IfErr result (λ stop. (bytes : List ℕ) → HasRead self bytes → Tells stop (lines_of bytes)) }
+    {
+        self.end_last_line()?;
         if let Some(line) = self.bad {
             return Err(Stop::BadText { line });
         }

@@ -1,6 +1,6 @@
 //! The groups of a section, gathered line by line.
-ghost use Rattle.std.specs.Prelude.{◌≡◌, ◌++◌, ◌∷◌, [], codes, IsTrue, IfOk, OnOk, IfSome};
-ghost use Rattle.typenorm.specs.Text.{entry_words, section_lines};
+ghost use Rattle.std.specs.Prelude.{◌≡◌, ◌++◌, ◌∷◌, [], codes, false, IsTrue, IfOk, OnOk, IfSome, IfNone};
+ghost use Rattle.typenorm.specs.Text.{IsAstray, IsSectionText, entry_words, section_lines};
 ghost use Rattle.typenorm.specs.Sections.{gathered_lines, worded};
 
 use crate::parse::Line;
@@ -27,9 +27,10 @@ impl Gathered {
         }
     }
 
-    /// Takes one more line. `false` says that it may not stand here, and then nothing changes.
+    /// Takes one more line. `false` says that it may not stand here: no text of a section begins so.
     pub fn add(&mut self, line: Line) -> Result<bool, AllocError>
-        ensures { IfOk result (λ taken. IsTrue taken → gathered_lines self.new ≡ gathered_lines self.old ++ worded line) }
+        ensures taken { IfOk result (λ taken. IsTrue taken → gathered_lines self.new ≡ gathered_lines self.old ++ worded line) }
+        ensures refused { IfOk result (λ taken. taken ≡ false → IsAstray (gathered_lines self.old ++ worded line)) }
     {
         match line {
             Line::Blank => Ok(true),
@@ -43,7 +44,8 @@ impl Gathered {
     }
 
     fn begin(&mut self) -> bool
-        ensures { IsTrue result → gathered_lines self.new ≡ gathered_lines self.old ++ (codes "rec" ∷ []) ∷ [] }
+        ensures taken { IsTrue result → gathered_lines self.new ≡ gathered_lines self.old ++ (codes "rec" ∷ []) ∷ [] }
+        ensures refused { result ≡ false → IsAstray (gathered_lines self.old ++ (codes "rec" ∷ []) ∷ []) }
     {
         if self.open.is_some() {
             return false;
@@ -53,7 +55,8 @@ impl Gathered {
     }
 
     fn end(&mut self) -> Result<bool, AllocError>
-        ensures { IfOk result (λ taken. IsTrue taken → gathered_lines self.new ≡ gathered_lines self.old ++ (codes "end" ∷ []) ∷ []) }
+        ensures taken { IfOk result (λ taken. IsTrue taken → gathered_lines self.new ≡ gathered_lines self.old ++ (codes "end" ∷ []) ∷ []) }
+        ensures refused { IfOk result (λ taken. taken ≡ false → IsAstray (gathered_lines self.old ++ (codes "end" ∷ []) ∷ [])) }
     {
         let Some(entries) = self.open.take() else {
             return Ok(false);
@@ -73,8 +76,10 @@ impl Gathered {
     }
 
     /// The groups, where no recursion group is open.
+    #[tactic(auto, using(crate::proofs::Astray::still_open))]
     pub fn finish(self) -> Option<Vec<GroupAt>>
-        ensures { IfSome result (λ groups. section_lines groups.items ≡ gathered_lines self) }
+        ensures found { IfSome result (λ groups. section_lines groups.items ≡ gathered_lines self) }
+        ensures none { IfNone result (¬ IsSectionText (gathered_lines self)) }
     {
         if self.open.is_some() {
             return None;

@@ -1,4 +1,7 @@
 //! What ends a run without a normal form, and how it is told.
+ghost use Rattle.std.specs.Prelude.{◌≡◌, ◌⊎◌};
+ghost use Rattle.typenorm.specs.Stops.{status_of};
+
 use crate::ReadError;
 use std::alloc::AllocError;
 use std::fmt;
@@ -52,14 +55,18 @@ impl From<ReadError> for Stop {
 }
 
 /// Writes the line that tells the stop, and answers its exit status, which is 4 where that write failed.
-pub fn report<E: Write>(stop: &Stop, err: &mut E) -> u8 {
+pub fn report<E: Write>(stop: &Stop, err: &mut E) -> u8
+    ensures { (result ≡ status_of stop.now) ⊎ (result ≡ 4) }
+{
     if writeln!(err, "{stop}").is_err() {
         return 4;
     }
     status(stop)
 }
 
-fn status(stop: &Stop) -> u8 {
+fn status(stop: &Stop) -> u8
+    ensures { result ≡ status_of stop.now }
+{
     match stop {
         Stop::BadText { .. } => 1,
         Stop::Refused(ReadError::Memory) => 3,

@@ -55,6 +55,7 @@ fn delete_all_tells_each_item_once(rt: HostRuntime) -> Result<(), Fail> {
 }
 
 #[test]
+#[tactic(auto, using(crate::proofs::ArenaLemmas::distinct_none))]
 fn no_ids_delete_nothing(rt: HostRuntime) -> Result<(), Fail> {
     let count = Rc::new(rt.alloc(), Cell::new(0))?;
     let mut arena = two_items(rt.alloc(), &count)?;

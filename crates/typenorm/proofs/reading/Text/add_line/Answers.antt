@@ -1,0 +1,25 @@
+use Rattle.std.proofs.Common.{◌≡◌, ◌++◌, ◌∷◌, [], List, ℕ, filter, true, false, sym, ap, subst, ◌∙◌}
+use Rattle.std.specs.Prelude.{IfOk, IsTrue}
+use Rattle.typenorm.specs.Words.{has_items, words_of, worded_line}
+use Rattle.typenorm.specs.Text.{IsAstray}
+use Rattle.typenorm.specs.Lines.{IsLine, line_words}
+use Rattle.typenorm.specs.Sections.{gathered_lines, worded}
+use Rattle.typenorm.proofs.Astray.{worded_is, bad_line}
+use Rattle.typenorm.proofs.reading.Text.add_line.Goals as goal
+
+pub returns-in-Some-clause-taken : goal.returns-in-Some-clause-taken
+returns-in-Some-clause-taken c =
+    let words : words_of c.as_slice.result.now ≡ line_words c.in-Some.line = rw c.in-Some.is at c.in_ok-line.ensures.found in
+    let same : worded c.in-Some.line ≡ worded_line c.args.self.now.line.items = worded_is c.in-Some.line ∙ ap (λ ws. filter has_items (ws ∷ [])) (sym words ∙ ap words_of c.as_slice.ensures.value) in
+    subst (λ ls. IfOk c.add.result (λ taken. IsTrue taken → gathered_lines c.add.new.self ≡ gathered_lines c.args.self.now.section ++ ls)) same c.add.ensures.taken
+
+pub returns-in-Some-clause-refused : goal.returns-in-Some-clause-refused
+returns-in-Some-clause-refused c =
+    let words : words_of c.as_slice.result.now ≡ line_words c.in-Some.line = rw c.in-Some.is at c.in_ok-line.ensures.found in
+    let same : worded c.in-Some.line ≡ worded_line c.args.self.now.line.items = worded_is c.in-Some.line ∙ ap (λ ws. filter has_items (ws ∷ [])) (sym words ∙ ap words_of c.as_slice.ensures.value) in
+    subst (λ ls. IfOk c.add.result (λ taken. taken ≡ false → IsAstray (gathered_lines c.args.self.now.section ++ ls))) same c.add.ensures.refused
+
+pub returns-in-None-clause-refused : goal.returns-in-None-clause-refused
+returns-in-None-clause-refused c =
+    let none : ¬ IsLine (words_of c.as_slice.result.now) = rw c.in-None.is at c.in_ok-line.ensures.none in
+    λ _. bad_line c.args.self.now.section (words_of c.args.self.now.line.items) (subst (λ l. ¬ IsLine (words_of l)) c.as_slice.ensures.value none)

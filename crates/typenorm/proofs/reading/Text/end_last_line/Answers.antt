@@ -1,0 +1,14 @@
+use Rattle.std.proofs.Common.{◌≡◌, ◌++◌, ◌∷◌, [], length, sym, subst, ◌∙◌, arith}
+use Rattle.typenorm.specs.Reading.{IsJudged}
+use Rattle.typenorm.proofs.ReadingLemmas.{all_read, last_feed, no_items}
+use Rattle.typenorm.proofs.reading.Text.end_last_line.Goals as goal
+
+pub returns-then-is_empty : goal.returns-then-is_empty
+returns-then-is_empty c =
+    let none : length c.args.self.now.line.items ≡ 0 = grind arith in
+    λ bytes h. all_read c.args.self.now bytes (no_items c.args.self.now.line.items none) h
+
+pub returns : goal.returns
+returns c = λ bytes h.
+    subst (IsJudged c.end_line.new.self.section c.end_line.new.self.bad) (last_feed c.args.self.now bytes h)
+    (all_read c.end_line.new.self (bytes ++ 10 ∷ []) c.in_ok-end_line.ensures.empty (c.in_ok-end_line.ensures.read bytes h))
