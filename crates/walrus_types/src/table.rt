@@ -12,6 +12,8 @@ mod iter;
 mod laws;
 mod read;
 mod rec_group;
+#[cfg(test)]
+mod tests;
 
 use crate::{Listed, Type, TypeId, ValType};
 pub use iter::TypesIter;

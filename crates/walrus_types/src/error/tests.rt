@@ -1,6 +1,6 @@
 //! The texts of the errors.
 use super::*;
-use crate::Id;
+use crate::{AddRecGroupError, Id};
 use std::test::Fail;
 
 #[test]
@@ -28,6 +28,33 @@ fn an_error_in_an_error_prints_its_own_text(rt: HostRuntime) -> Result<(), Fail>
     let text = format!(in alloc; "{}", ToRecordError::NoIndex(none))?;
     assert_eq!(rt; text.as_str(), "no index for type 3");
     let text = format!(in alloc; "{}", ToRecordError::Memory)?;
+    assert_eq!(rt; text.as_str(), "out of memory");
+    Ok(())
+}
+
+#[test]
+fn errors_of_tables_print_what_is_wrong(rt: HostRuntime) -> Result<(), Fail> {
+    let alloc = rt.alloc();
+    let none = EmitError::NoIndex {
+        from: Id::from_index(1),
+        to: Id::from_index(0),
+    };
+    let text = format!(in alloc; "{}", none)?;
+    assert_eq!(rt; text.as_str(), "type 1 names 0, which has no index");
+    let text = format!(in alloc; "{}", EmitError::TooMany)?;
+    assert_eq!(rt; text.as_str(), "too many entries");
+    let text = format!(in alloc; "{}", EmitError::Memory)?;
+    assert_eq!(rt; text.as_str(), "out of memory");
+    Ok(())
+}
+
+#[test]
+fn errors_of_groups_print_what_is_wrong(rt: HostRuntime) -> Result<(), Fail> {
+    let alloc = rt.alloc();
+    let count = AddRecGroupError::Count { wanted: 2, got: 1 };
+    let text = format!(in alloc; "{}", count)?;
+    assert_eq!(rt; text.as_str(), "wanted 2, got 1");
+    let text = format!(in alloc; "{}", AddRecGroupError::Memory)?;
     assert_eq!(rt; text.as_str(), "out of memory");
     Ok(())
 }
