@@ -12,6 +12,8 @@ ghost use Rattle.walrus_types.specs.Steps.WrittenGroups.{FailsBy, IsWritingOrder
 
 mod free;
 mod order;
+#[cfg(test)]
+mod tests;
 mod write;
 
 use crate::{EmitError, GroupAt, IdsToIndices, ModuleTypes, RecGroup};

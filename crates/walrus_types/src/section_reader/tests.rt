@@ -1,55 +1,11 @@
 //! That sections are read, what is read of them, and which refusal comes.
 use super::*;
-use crate::{CompAt, Field, FieldAt, Heap, Listed, Reference, Storage, Val};
-use std::alloc::AllocError;
+use crate::sample::{Piece, Shape, entry, group, section, to};
+use crate::{RecGroup, ValAt};
+use Piece::{Many, One};
+use Shape::{Func, Struct};
+use std::process::Abort;
 use std::test::Fail;
-
-// A final entry without supertype.
-fn entry(comp: CompAt) -> EntryAt {
-    EntryAt {
-        comp,
-        is_final: true,
-        supertype: None,
-    }
-}
-
-fn func(alloc: Global) -> EntryAt {
-    entry(CompAt::Function {
-        params: Listed::from_vec(Vec::new(alloc)),
-        results: Listed::from_vec(Vec::new(alloc)),
-    })
-}
-
-fn structure(alloc: Global, field: FieldAt) -> Result<EntryAt, AllocError> {
-    Ok(entry(CompAt::Struct {
-        fields: Listed::from_vec(vec![in alloc; field]?),
-    }))
-}
-
-fn number() -> FieldAt {
-    Field {
-        element_type: Storage::Val(Val::I32),
-        mutable: false,
-    }
-}
-
-fn reference(index: u32) -> FieldAt {
-    Field {
-        element_type: Storage::Val(Val::Ref(Reference {
-            nullable: true,
-            heap_type: Heap::Concrete(index),
-        })),
-        mutable: false,
-    }
-}
-
-fn single(entry: EntryAt) -> GroupAt {
-    GroupAt::Single(entry)
-}
-
-fn rec(entries: Vec<EntryAt>) -> GroupAt {
-    GroupAt::Rec(Listed::from_vec(entries))
-}
 
 // Whether these are the ids of these indices.
 fn are(ids: &[TypeId], indices: &[usize]) -> bool {
@@ -60,38 +16,51 @@ fn are(ids: &[TypeId], indices: &[usize]) -> bool {
             .all(|(id, index)| id.index() == *index)
 }
 
+// Whether the group has these members and this mark.
+fn is(group: &RecGroup, members: &[usize], is_explicit: bool) -> bool {
+    group.is_explicit == is_explicit && are(group.types.as_slice(), members)
+}
+
+fn is_refused(
+    rt: &impl Abort,
+    alloc: Global,
+    pieces: &[Piece<'_>],
+    wanted: ReadError,
+) -> Result<(), Fail> {
+    let groups = section(alloc, pieces)?;
+    let refused = parse_types(alloc, groups.as_slice()).err();
+    assert_eq!(rt; refused, Some(wanted));
+    Ok(())
+}
+
 #[test]
 fn a_refused_group_leaves_the_reader(rt: HostRuntime) -> Result<(), Fail> {
     let alloc = rt.alloc();
     let mut reader = SectionReader::new(alloc);
-    reader.push_group(&single(func(alloc)))?;
-    let bad = reader.push_group(&single(structure(alloc, reference(5))?));
+    reader.push_group(&group(alloc, One(Func(&[])))?)?;
+    let refused = reader.push_group(&group(alloc, One(Struct(&[to(5)])))?);
     let expected = ReadError::BadIndex {
         entry: 1,
         index: 5,
         end: 2,
     };
-    assert_eq!(rt; bad, Err(expected));
-    reader.push_group(&rec(vec![in alloc; structure(alloc, reference(1))?]?))?;
+    assert_eq!(rt; refused, Err(expected));
+    reader.push_group(&group(alloc, Many(&[Struct(&[to(1)])]))?)?;
     let (types, ids) = reader.finish();
     assert!(rt; are(ids.as_slice(), &[0, 1]));
     let groups = types.rec_groups();
     assert_eq!(rt; groups.len(), 2);
-    assert!(rt; !groups[0].is_explicit);
-    assert!(rt; are(groups[0].types.as_slice(), &[0]));
-    assert!(rt; groups[1].is_explicit);
-    assert!(rt; are(groups[1].types.as_slice(), &[1]));
+    assert!(rt; is(&groups[0], &[0], false));
+    assert!(rt; is(&groups[1], &[1], true));
     Ok(())
 }
 
 #[test]
 fn an_equal_entry_is_sent_to_the_first(rt: HostRuntime) -> Result<(), Fail> {
     let alloc = rt.alloc();
-    let mut reader = SectionReader::new(alloc);
-    reader.push_group(&single(func(alloc)))?;
-    reader.push_group(&single(func(alloc)))?;
-    reader.push_group(&rec(vec![in alloc; structure(alloc, number())?]?))?;
-    let (types, ids) = reader.finish();
+    let rec = Many(&[Struct(&[ValAt::I32])]);
+    let groups = section(alloc, &[One(Func(&[])), One(Func(&[])), rec])?;
+    let (types, ids) = parse_types(alloc, groups.as_slice())?;
     assert!(rt; are(ids.as_slice(), &[0, 0, 2]));
     assert!(rt; types.contains(TypeId::from_index(0)));
     assert!(rt; !types.contains(TypeId::from_index(1)));
@@ -102,59 +71,53 @@ fn an_equal_entry_is_sent_to_the_first(rt: HostRuntime) -> Result<(), Fail> {
 #[test]
 fn an_empty_group_is_kept(rt: HostRuntime) -> Result<(), Fail> {
     let alloc = rt.alloc();
-    let groups = vec![in alloc; rec(Vec::new(alloc))]?;
+    let groups = section(alloc, &[Many(&[])])?;
     let (types, ids) = parse_types(alloc, groups.as_slice())?;
     assert_eq!(rt; ids.len(), 0);
     assert_eq!(rt; types.rec_groups().len(), 1);
-    assert!(rt; types.rec_groups()[0].is_explicit);
-    assert_eq!(rt; types.rec_groups()[0].types.as_slice().len(), 0);
+    assert!(rt; is(&types.rec_groups()[0], &[], true));
     Ok(())
 }
 
 #[test]
 fn names_may_point_forward_within_their_group(rt: HostRuntime) -> Result<(), Fail> {
     let alloc = rt.alloc();
-    let pair = vec![in alloc; structure(alloc, reference(1))?, func(alloc)]?;
-    let groups = vec![in alloc; rec(pair), single(structure(alloc, reference(2))?)]?;
+    let rec = Many(&[Struct(&[to(1)]), Func(&[])]);
+    let groups = section(alloc, &[rec, One(Struct(&[to(2)]))])?;
     let (_, ids) = parse_types(alloc, groups.as_slice())?;
     assert!(rt; are(ids.as_slice(), &[0, 1, 2]));
     Ok(())
 }
 
 #[test]
-fn the_first_bad_index_is_answered(rt: HostRuntime) -> Result<(), Fail> {
-    let alloc = rt.alloc();
-    let alone = vec![in alloc; single(structure(alloc, reference(1))?)]?;
-    let expected = ReadError::BadIndex {
+fn an_index_past_its_group_is_refused(rt: HostRuntime) -> Result<(), Fail> {
+    let alone = ReadError::BadIndex {
         entry: 0,
         index: 1,
         end: 1,
     };
-    assert_eq!(rt; parse_types(alloc, alone.as_slice()).err(), Some(expected));
-    let pair = vec![in alloc; structure(alloc, reference(2))?, func(alloc)]?;
-    let groups = vec![in alloc; rec(pair)]?;
-    let expected = ReadError::BadIndex {
+    is_refused(&rt, rt.alloc(), &[One(Struct(&[to(1)]))], alone)?;
+    let in_rec = ReadError::BadIndex {
         entry: 0,
         index: 2,
         end: 2,
     };
-    assert_eq!(rt; parse_types(alloc, groups.as_slice()).err(), Some(expected));
-    let mut both = structure(alloc, reference(5))?;
+    let rec = Many(&[Struct(&[to(2)]), Func(&[])]);
+    is_refused(&rt, rt.alloc(), &[rec], in_rec)
+}
+
+#[test]
+fn a_field_is_refused_before_a_supertype(rt: HostRuntime) -> Result<(), Fail> {
+    let alloc = rt.alloc();
+    let mut both = entry(alloc, Struct(&[to(5)]))?;
     both.supertype = Some(7);
-    let groups = vec![in alloc; single(both)]?;
     let expected = ReadError::BadIndex {
         entry: 0,
         index: 5,
         end: 1,
     };
-    assert_eq!(rt; parse_types(alloc, groups.as_slice()).err(), Some(expected));
-    let groups = vec![in alloc; single(structure(alloc, reference(u32::MAX))?)]?;
-    let expected = ReadError::BadIndex {
-        entry: 0,
-        index: u32::MAX,
-        end: 1,
-    };
-    assert_eq!(rt; parse_types(alloc, groups.as_slice()).err(), Some(expected));
+    let refused = parse_types(alloc, &[GroupAt::Single(both)]).err();
+    assert_eq!(rt; refused, Some(expected));
     Ok(())
 }
 
