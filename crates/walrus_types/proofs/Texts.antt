@@ -1,5 +1,5 @@
 -- What a text was printed of: reading it back gives the value type, so two value types with one text are the same.
-use Rattle.std.proofs.Common.{◌≡◌, ℕ, ◌<◌, ◌^◌, Bool, true, false, List, [], ◌∷◌, ◌++◌, take, drop, length, refl, sym, ◌∙◌, ap, arith}
+use Rattle.std.proofs.Common.{◌≡◌, ℕ, ◌<◌, ◌^◌, Bool, true, false, List, [], ◌∷◌, ◌++◌, take, drop, refl, sym, ◌∙◌, ap, arith}
 use Rattle.std.specs.Prelude.{◌&&◌, nat_lt, nat_eq, codes, decimal, if◌then◌else◌}
 use Rattle.std.specs.Char.{digit_value}
 use Rattle.std.specs.Str.Parse.{IsNumeral, digits_value}
@@ -9,10 +9,9 @@ use Rattle.walrus_types.specs.declared.ty.value.AbstractHeapType.{AbstractHeapTy
 use Rattle.walrus_types.specs.declared.ty.value.AbstractHeapType.TheVariants as abstract
 use Rattle.walrus_types.specs.declared.ty.value.Heap.{Heap}
 use Rattle.walrus_types.specs.declared.ty.value.Heap.TheVariants as heap
-use Rattle.walrus_types.specs.declared.ty.value.Reference.{Reference}
 use Rattle.walrus_types.specs.declared.ty.value.Val.{Val}
 use Rattle.walrus_types.specs.declared.ty.value.Val.TheVariants as val
-use Rattle.walrus_types.specs.Text.{heap_text, val_text, HasPlaces}
+use Rattle.walrus_types.specs.Text.{val_text, HasPlaces}
 
 abbrev same : List ℕ → List ℕ → Bool
 same [] [] = true

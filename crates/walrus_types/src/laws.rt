@@ -3,7 +3,7 @@
 //! A section is the list of the contents of its recursion groups, as `section_of` gives them for a list of `GroupAt`.
 ghost use Rattle.std.specs.List.{range_with_len, swap};
 ghost use Rattle.std.specs.Ordering.{ordering_reverse, ordering_then};
-ghost use Rattle.std.specs.Prelude.{◌<◌, ◌≡◌, ◌∷◌, ◌↔◌, ◌⊎◌, [], IsTrue, List, false, map, suc, ℕ};
+ghost use Rattle.std.specs.Prelude.{◌<◌, ◌^◌, ◌≡◌, ◌∷◌, ◌↔◌, ◌⊎◌, [], IsTrue, List, false, map, suc, ℕ};
 ghost use Rattle.std.specs.declared.cmp.Ordering.TheVariants.{Equal, Less};
 ghost use Rattle.walrus_types.specs.Definition.{Definition, Names, definition_cmp};
 ghost use Rattle.walrus_types.specs.Emission.{IsEmission, IsMember, Stands};
@@ -27,10 +27,10 @@ ghost use Rattle.walrus_types.specs.Value.{bool_cmp};
 ghost use Rattle.walrus_types.specs.Views.{constant_of};
 ghost use Rattle.walrus_types.specs.Worked.{in_order, out_of_order, repeated, told_once, two_loops};
 ghost use Rattle.walrus_types.specs.declared.records.EntryAt.{EntryAt};
-ghost use Rattle.walrus_types.specs.declared.ty.value.Val.{Val};
+ghost use Rattle.walrus_types.specs.declared.ty.value.Val as value;
 
 pub use crate::table::every_table_is_sound;
-use crate::{AbstractHeapType, EntryAt, RefType, Type};
+use crate::{AbstractHeapType, EntryAt, Heap, RefType, Type, TypeId, Val, ValType};
 
 /// A well-named section has one normal form: one section, and one map onto it.
 pub fn one_normal_form()
@@ -159,8 +159,16 @@ pub fn worked_sections()
 
 /// Two value types with the same text are equal.
 pub fn text_tells_value_types()
-    ensures { (v w : Val ℕ) → HasPlaces v → HasPlaces w → val_text v ≡ val_text w → v ≡ w }
+    ensures { (v w : value.Val ℕ) → HasPlaces v → HasPlaces w → val_text v ≡ val_text w → v ≡ w }
 {}
+
+/// Two value types at hand with the same text are equal.
+pub fn same_text(v: &ValType, w: &ValType)
+    ensures { val_text v.now ≡ val_text w.now → v.now ≡ w.now }
+{
+    has_places(v);
+    has_places(w);
+}
 
 /// What each constant of `RefType` is: the nullable reference to the heap type of its name. `NoExn` has no constant.
 pub fn reference_constant(name: AbstractHeapType) -> Option<RefType>
@@ -180,4 +188,24 @@ pub fn reference_constant(name: AbstractHeapType) -> Option<RefType>
         AbstractHeapType::Exn => Some(RefType::EXNREF),
         AbstractHeapType::NoExn => None,
     }
+}
+
+// Its ids are places of the arena, so below 2^64.
+fn has_places(v: &ValType)
+    ensures { HasPlaces v.now }
+{
+    let Val::Ref(reference) = v else {
+        return;
+    };
+    match reference.heap_type {
+        Heap::Abstract(_) => {}
+        Heap::Concrete(id) => place(id),
+        Heap::Exact(id) => place(id),
+    }
+}
+
+fn place(id: TypeId)
+    ensures { id < 2 ^ 64 }
+{
+    id.index();
 }

@@ -34,14 +34,21 @@ impl Type {
         ensures refused { OnErr result (take (length list.old.items) list.new.items ≡ list.old.items) }
     {
         push_name(list, self.supertype)?;
-        match self.kind() {
-            CompositeType::Function(f) => {
-                push_values(list, f.params())?;
-                push_values(list, f.results())
-            }
-            CompositeType::Struct(s) => push_fields(list, s.fields.as_slice()),
-            CompositeType::Array(a) => push_name(list, a.field.named()),
+        push_kind(list, self.kind())
+    }
+}
+
+fn push_kind(list: &mut Vec<TypeId>, kind: &CompositeType) -> Result<(), AllocError>
+    ensures appended { OnOk result (list.new.items ≡ list.old.items ++ composite_names (kind_composite kind.now)) }
+    ensures refused { OnErr result (take (length list.old.items) list.new.items ≡ list.old.items) }
+{
+    match kind {
+        CompositeType::Function(f) => {
+            push_values(list, f.params())?;
+            push_values(list, f.results())
         }
+        CompositeType::Struct(s) => push_fields(list, s.fields.as_slice()),
+        CompositeType::Array(a) => push_name(list, a.field.named()),
     }
 }
 
