@@ -157,12 +157,12 @@ pub fn worked_sections()
     ensures both_kept { IsNormalForm two_loops two_loops (0 ∷ 1 ∷ []) }
 {}
 
-/// Two value types with the same text are equal.
+/// Two value types with the same text are equal, where what they name are places. The ids of a `ValType` are, so [`same_text`] says it of any two of them.
 pub fn text_tells_value_types()
     ensures { (v w : value.Val ℕ) → HasPlaces v → HasPlaces w → val_text v ≡ val_text w → v ≡ w }
 {}
 
-/// Two value types at hand with the same text are equal.
+/// Two value types with the same text are equal: the law above, of two that are at hand.
 pub fn same_text(v: &ValType, w: &ValType)
     ensures { val_text v.now ≡ val_text w.now → v.now ≡ w.now }
 {
@@ -190,7 +190,7 @@ pub fn reference_constant(name: AbstractHeapType) -> Option<RefType>
     }
 }
 
-// Its ids are places of the arena, so below 2^64.
+// Its ids are places in an arena, which are `usize`.
 fn has_places(v: &ValType)
     ensures { HasPlaces v.now }
 {

@@ -1,21 +1,7 @@
 //! Types as text, in the words of the WebAssembly text format. A type of the module is written as the number of its id.
 ghost use Rattle.std.specs.Prelude.{◌≡◌, Some};
 ghost use Rattle.std.specs.Fmt.{WritesOnOk};
-ghost use Rattle.walrus_types.specs.Text.{
-  abstract_text,
-  heap_text,
-  nullable_text,
-  reference_text,
-  val_text,
-  storage_text,
-  field_text,
-  part_text,
-  fields_text,
-  function_text,
-  struct_text,
-  array_text,
-  composite_text,
-};
+ghost use Rattle.walrus_types.specs.Text.{abstract_text, heap_text, nullable_text, reference_text, val_text, storage_text, field_text, part_text, fields_text, function_text, struct_text, array_text, composite_text};
 ghost use Rattle.walrus_types.specs.Types.{kind_composite};
 ghost use Rattle.walrus_types.specs.declared.ty.value.Heap.TheVariants as heap;
 
