@@ -110,10 +110,13 @@ fn a_type_of_a_module_is_seen_by_its_kind(rt: HostRuntime) -> Result<(), Fail> {
 #[test]
 fn a_kind_that_is_known_is_unwrapped(rt: HostRuntime) -> Result<(), Fail> {
     let made = function(rt.alloc(), ValType::I64)?;
+    assert!(rt; made.is_function());
     assert_eq!(rt; made.unwrap_function().params().len(), 1);
     let made = structure(rt.alloc())?;
+    assert!(rt; made.is_struct());
     assert_eq!(rt; made.unwrap_struct().fields.as_slice().len(), 0);
     let made = array();
+    assert!(rt; made.is_array());
     assert_eq!(rt; made.unwrap_array().field.element_type, Storage::I16);
     Ok(())
 }
