@@ -2,7 +2,20 @@
 use super::*;
 use crate::{Field, Id, Listed, Reference};
 use std::alloc::{AllocError, Global};
+use std::fmt::Display;
+use std::process::Abort;
 use std::test::Fail;
+
+fn prints<T: Display + Drop>(
+    rt: &impl Abort,
+    alloc: Global,
+    value: T,
+    wanted: &str,
+) -> Result<(), Fail> {
+    let text = format!(in alloc; "{value}")?;
+    assert_eq!(rt; text.as_str(), wanted);
+    Ok(())
+}
 
 fn reference(nullable: bool, heap_type: HeapType) -> RefType {
     Reference {
@@ -11,199 +24,200 @@ fn reference(nullable: bool, heap_type: HeapType) -> RefType {
     }
 }
 
-fn field(element: ValType, mutable: bool) -> FieldType {
+fn mutable(element: ValType) -> FieldType {
     Field {
         element_type: Storage::Val(element),
-        mutable,
+        mutable: true,
     }
 }
 
-// A nullable reference to it, one that is not, the heap type alone, and a field that holds the first and can be written.
-fn four_forms(alloc: Global, name: AbstractHeapType) -> Result<String, AllocError> {
-    let heap_type: HeapType = Heap::Abstract(name);
-    let nullable = reference(true, heap_type);
-    let other = reference(false, heap_type);
-    let held = field(Val::Ref(nullable), true);
-    format!(in alloc; "{nullable} {other} {heap_type} {held}")
+fn fixed(element_type: StorageType) -> FieldType {
+    Field {
+        element_type,
+        mutable: false,
+    }
 }
 
-fn values(alloc: Global, first: ValType, second: ValType) -> Result<Vec<ValType>, AllocError> {
-    Ok(vec![in alloc; first, second]?)
+fn byte() -> FieldType {
+    Field {
+        element_type: Storage::I8,
+        mutable: true,
+    }
+}
+
+fn function(
+    alloc: Global,
+    params: &[ValType],
+    results: &[ValType],
+) -> Result<FunctionType, AllocError> {
+    Ok(FunctionType::new(params.to_vec(alloc)?, results.to_vec(alloc)?))
+}
+
+fn structure(alloc: Global, fields: &[FieldType]) -> Result<StructType, AllocError> {
+    Ok(StructType {
+        fields: Listed::from_vec(fields.to_vec(alloc)?),
+    })
+}
+
+// A nullable reference to it prints the first, one that is not the second, the heap type alone the third, and a field
+// that holds the first and can be written the last.
+fn four_forms(
+    rt: &impl Abort,
+    alloc: Global,
+    name: AbstractHeapType,
+    wanted: [&str; 4],
+) -> Result<(), Fail> {
+    let nullable = reference(true, Heap::Abstract(name));
+    prints(rt, alloc, nullable, wanted[0])?;
+    prints(rt, alloc, reference(false, Heap::Abstract(name)), wanted[1])?;
+    prints::<HeapType>(rt, alloc, Heap::Abstract(name), wanted[2])?;
+    prints(rt, alloc, mutable(Val::Ref(nullable)), wanted[3])
 }
 
 #[test]
-fn references_to_functions_and_to_what_the_host_gives(rt: HostRuntime) -> Result<(), Fail> {
+fn references_to_functions_and_what_the_host_gives(rt: HostRuntime) -> Result<(), Fail> {
     let alloc = rt.alloc();
-    let text = four_forms(alloc, AbstractHeapType::Func)?;
-    assert_eq!(rt; text.as_str(), "funcref (ref func) func (mut funcref)");
-    let text = four_forms(alloc, AbstractHeapType::NoFunc)?;
-    assert_eq!(rt;
-        text.as_str(),
-        "nullfuncref (ref nofunc) nofunc (mut nullfuncref)"
-    );
-    let text = four_forms(alloc, AbstractHeapType::Extern)?;
-    assert_eq!(rt;
-        text.as_str(),
-        "externref (ref extern) extern (mut externref)"
-    );
-    let text = four_forms(alloc, AbstractHeapType::NoExtern)?;
-    assert_eq!(rt;
-        text.as_str(),
-        "nullexternref (ref noextern) noextern (mut nullexternref)"
-    );
-    Ok(())
+    let texts = ["funcref", "(ref func)", "func", "(mut funcref)"];
+    four_forms(&rt, alloc, AbstractHeapType::Func, texts)?;
+    let texts = ["nullfuncref", "(ref nofunc)", "nofunc", "(mut nullfuncref)"];
+    four_forms(&rt, alloc, AbstractHeapType::NoFunc, texts)?;
+    let texts = ["externref", "(ref extern)", "extern", "(mut externref)"];
+    four_forms(&rt, alloc, AbstractHeapType::Extern, texts)?;
+    let texts = [
+        "nullexternref",
+        "(ref noextern)",
+        "noextern",
+        "(mut nullexternref)",
+    ];
+    four_forms(&rt, alloc, AbstractHeapType::NoExtern, texts)
 }
 
 #[test]
 fn references_to_what_can_be_looked_into(rt: HostRuntime) -> Result<(), Fail> {
     let alloc = rt.alloc();
-    let text = four_forms(alloc, AbstractHeapType::Any)?;
-    assert_eq!(rt; text.as_str(), "anyref (ref any) any (mut anyref)");
-    let text = four_forms(alloc, AbstractHeapType::None)?;
-    assert_eq!(rt; text.as_str(), "nullref (ref none) none (mut nullref)");
-    let text = four_forms(alloc, AbstractHeapType::Eq)?;
-    assert_eq!(rt; text.as_str(), "eqref (ref eq) eq (mut eqref)");
-    let text = four_forms(alloc, AbstractHeapType::Struct)?;
-    assert_eq!(rt;
-        text.as_str(),
-        "structref (ref struct) struct (mut structref)"
-    );
-    Ok(())
+    let texts = ["anyref", "(ref any)", "any", "(mut anyref)"];
+    four_forms(&rt, alloc, AbstractHeapType::Any, texts)?;
+    let texts = ["nullref", "(ref none)", "none", "(mut nullref)"];
+    four_forms(&rt, alloc, AbstractHeapType::None, texts)?;
+    let texts = ["eqref", "(ref eq)", "eq", "(mut eqref)"];
+    four_forms(&rt, alloc, AbstractHeapType::Eq, texts)?;
+    let texts = ["structref", "(ref struct)", "struct", "(mut structref)"];
+    four_forms(&rt, alloc, AbstractHeapType::Struct, texts)
 }
 
 #[test]
 fn references_to_arrays_small_integers_and_exceptions(rt: HostRuntime) -> Result<(), Fail> {
     let alloc = rt.alloc();
-    let text = four_forms(alloc, AbstractHeapType::Array)?;
-    assert_eq!(rt; text.as_str(), "arrayref (ref array) array (mut arrayref)");
-    let text = four_forms(alloc, AbstractHeapType::I31)?;
-    assert_eq!(rt; text.as_str(), "i31ref (ref i31) i31 (mut i31ref)");
-    let text = four_forms(alloc, AbstractHeapType::Exn)?;
-    assert_eq!(rt; text.as_str(), "exnref (ref exn) exn (mut exnref)");
-    let text = four_forms(alloc, AbstractHeapType::NoExn)?;
-    assert_eq!(rt;
-        text.as_str(),
-        "nullexnref (ref noexn) noexn (mut nullexnref)"
-    );
-    Ok(())
+    let texts = ["arrayref", "(ref array)", "array", "(mut arrayref)"];
+    four_forms(&rt, alloc, AbstractHeapType::Array, texts)?;
+    let texts = ["i31ref", "(ref i31)", "i31", "(mut i31ref)"];
+    four_forms(&rt, alloc, AbstractHeapType::I31, texts)?;
+    let texts = ["exnref", "(ref exn)", "exn", "(mut exnref)"];
+    four_forms(&rt, alloc, AbstractHeapType::Exn, texts)?;
+    let texts = ["nullexnref", "(ref noexn)", "noexn", "(mut nullexnref)"];
+    four_forms(&rt, alloc, AbstractHeapType::NoExn, texts)
 }
 
 #[test]
 fn types_of_the_module_print_their_number(rt: HostRuntime) -> Result<(), Fail> {
+    let alloc = rt.alloc();
     let concrete: HeapType = Heap::Concrete(Id::from_index(3));
-    let exact: HeapType = Heap::Exact(Id::from_index(3));
-    let text = format!(in rt.alloc(); "{concrete}, {exact}")?;
-    assert_eq!(rt; text.as_str(), "3, exact 3");
-    let (one, other) = (reference(true, concrete), reference(true, exact));
-    let text = format!(in rt.alloc(); "{one}, {other}")?;
-    assert_eq!(rt; text.as_str(), "(ref null 3), (ref null exact 3)");
-    let (one, other) = (reference(false, concrete), reference(false, exact));
-    let text = format!(in rt.alloc(); "{one}, {other}")?;
-    assert_eq!(rt; text.as_str(), "(ref 3), (ref exact 3)");
-    Ok(())
+    prints(&rt, alloc, concrete, "3")?;
+    prints(&rt, alloc, reference(true, concrete), "(ref null 3)")?;
+    prints(&rt, alloc, reference(false, concrete), "(ref 3)")
 }
 
 #[test]
-fn numbers_and_packed_fields_print_their_names(rt: HostRuntime) -> Result<(), Fail> {
+fn exact_types_of_the_module_say_so(rt: HostRuntime) -> Result<(), Fail> {
     let alloc = rt.alloc();
-    let (a, b, c, d): (ValType, ValType, ValType, ValType) = (
-        Val::I32,
-        Val::I64,
-        Val::F32,
-        Val::F64,
-    );
-    let text = format!(in alloc; "{a} {b} {c} {d}")?;
-    assert_eq!(rt; text.as_str(), "i32 i64 f32 f64");
-    let (a, b, c): (StorageType, StorageType, StorageType) = (
-        Storage::Val(Val::V128),
-        Storage::I8,
-        Storage::I16,
-    );
-    let text = format!(in alloc; "{a} {b} {c}")?;
-    assert_eq!(rt; text.as_str(), "v128 i8 i16");
-    Ok(())
+    let exact: HeapType = Heap::Exact(Id::from_index(3));
+    prints(&rt, alloc, exact, "exact 3")?;
+    prints(&rt, alloc, reference(true, exact), "(ref null exact 3)")?;
+    prints(&rt, alloc, reference(false, exact), "(ref exact 3)")
+}
+
+#[test]
+fn numbers_print_their_names(rt: HostRuntime) -> Result<(), Fail> {
+    let alloc = rt.alloc();
+    prints::<ValType>(&rt, alloc, Val::I32, "i32")?;
+    prints::<ValType>(&rt, alloc, Val::I64, "i64")?;
+    prints::<ValType>(&rt, alloc, Val::F32, "f32")?;
+    prints::<ValType>(&rt, alloc, Val::F64, "f64")?;
+    prints::<ValType>(&rt, alloc, Val::V128, "v128")
+}
+
+#[test]
+fn packed_fields_print_their_names(rt: HostRuntime) -> Result<(), Fail> {
+    let alloc = rt.alloc();
+    prints::<StorageType>(&rt, alloc, Storage::Val(Val::V128), "v128")?;
+    prints::<StorageType>(&rt, alloc, Storage::I8, "i8")?;
+    prints::<StorageType>(&rt, alloc, Storage::I16, "i16")?;
+    prints(&rt, alloc, byte(), "(mut i8)")
 }
 
 #[test]
 fn function_types_leave_empty_parts_out(rt: HostRuntime) -> Result<(), Fail> {
     let alloc = rt.alloc();
-    let nothing = FunctionType::new(vec![in alloc]?, vec![in alloc]?);
-    let text = format!(in alloc; "{nothing}")?;
-    assert_eq!(rt; text.as_str(), "(func)");
-    let answers = FunctionType::new(vec![in alloc]?, vec![in alloc; Val::V128]?);
-    let text = format!(in alloc; "{answers}")?;
-    assert_eq!(rt; text.as_str(), "(func (result v128))");
-    let takes = FunctionType::new(values(alloc, Val::I32, Val::I64)?, vec![in alloc]?);
-    let text = format!(in alloc; "{takes}")?;
-    assert_eq!(rt; text.as_str(), "(func (param i32 i64))");
-    Ok(())
+    prints(&rt, alloc, function(alloc, &[], &[])?, "(func)")?;
+    let answers = function(alloc, &[], &[Val::V128])?;
+    prints(&rt, alloc, answers, "(func (result v128))")?;
+    let takes = function(alloc, &[Val::I32, Val::I64], &[])?;
+    prints(&rt, alloc, takes, "(func (param i32 i64))")
 }
 
 #[test]
 fn function_types_print_parameters_before_results(rt: HostRuntime) -> Result<(), Fail> {
     let alloc = rt.alloc();
-    let params = values(alloc, Val::I32, Val::I64)?;
-    let with_float = FunctionType::new(params, vec![in alloc; Val::F32]?);
-    let text = format!(in alloc; "{with_float}")?;
-    assert_eq!(rt; text.as_str(), "(func (param i32 i64) (result f32))");
-    let params = values(alloc, Val::I32, Val::I64)?;
-    let with_reference = FunctionType::new(params, vec![in alloc; Val::Ref(RefType::FUNCREF)]?);
-    let text = format!(in alloc; "{with_reference}")?;
-    assert_eq!(rt; text.as_str(), "(func (param i32 i64) (result funcref))");
-    Ok(())
+    let floats = function(alloc, &[Val::I32, Val::I64], &[Val::F32])?;
+    prints(&rt, alloc, floats, "(func (param i32 i64) (result f32))")?;
+    let references = function(alloc, &[Val::I32, Val::I64], &[Val::Ref(RefType::FUNCREF)])?;
+    prints(
+        &rt,
+        alloc,
+        references,
+        "(func (param i32 i64) (result funcref))",
+    )
 }
 
 #[test]
 fn struct_types_print_their_fields(rt: HostRuntime) -> Result<(), Fail> {
     let alloc = rt.alloc();
-    let empty = StructType {
-        fields: Listed::from_vec(vec![in alloc]?),
-    };
-    let text = format!(in alloc; "{empty}")?;
-    assert_eq!(rt; text.as_str(), "(struct)");
-    let byte: FieldType = Field {
-        element_type: Storage::I8,
-        mutable: true,
-    };
-    let both = StructType {
-        fields: Listed::from_vec(vec![in alloc; field(Val::I32, false), byte]?),
-    };
-    let text = format!(in alloc; "{both}")?;
-    assert_eq!(rt; text.as_str(), "(struct (field i32) (field (mut i8)))");
-    Ok(())
+    prints(&rt, alloc, structure(alloc, &[])?, "(struct)")?;
+    let both = structure(alloc, &[fixed(Storage::Val(Val::I32)), byte()])?;
+    prints(&rt, alloc, both, "(struct (field i32) (field (mut i8)))")
 }
 
 #[test]
 fn array_types_print_their_field(rt: HostRuntime) -> Result<(), Fail> {
     let alloc = rt.alloc();
     let exact = reference(true, Heap::Exact(Id::from_index(3)));
-    let array = ArrayType {
-        field: field(Val::Ref(exact), true),
+    let references = ArrayType {
+        field: mutable(Val::Ref(exact)),
     };
-    let text = format!(in alloc; "{array}")?;
-    assert_eq!(rt; text.as_str(), "(array (mut (ref null exact 3)))");
+    prints(&rt, alloc, references, "(array (mut (ref null exact 3)))")?;
     let bytes = ArrayType {
-        field: Field {
-            element_type: Storage::I8,
-            mutable: false,
-        },
+        field: fixed(Storage::I8),
     };
-    let text = format!(in alloc; "{bytes}")?;
-    assert_eq!(rt; text.as_str(), "(array i8)");
-    Ok(())
+    prints(&rt, alloc, bytes, "(array i8)")
 }
 
 #[test]
 fn composite_types_print_what_they_are(rt: HostRuntime) -> Result<(), Fail> {
     let alloc = rt.alloc();
-    let function = CompositeType::Function(FunctionType::new(vec![in alloc]?, vec![in alloc]?));
-    let empty = CompositeType::Struct(StructType {
-        fields: Listed::from_vec(vec![in alloc]?),
-    });
-    let array = CompositeType::Array(ArrayType {
-        field: field(Val::F64, false),
-    });
-    let text = format!(in alloc; "{function}, {empty}, {array}")?;
-    assert_eq!(rt; text.as_str(), "(func), (struct), (array f64)");
-    Ok(())
+    prints(
+        &rt,
+        alloc,
+        CompositeType::Function(function(alloc, &[], &[])?),
+        "(func)",
+    )?;
+    prints(
+        &rt,
+        alloc,
+        CompositeType::Struct(structure(alloc, &[])?),
+        "(struct)",
+    )?;
+    let array = ArrayType {
+        field: fixed(Storage::Val(Val::F64)),
+    };
+    prints(&rt, alloc, CompositeType::Array(array), "(array f64)")
 }
