@@ -15,6 +15,7 @@ use Rattle.walrus_types.specs.Records.{entry_definition}
 use Rattle.typenorm.specs.declared.section.Gathered.{Gathered}
 use Rattle.typenorm.specs.declared.parse.line.Line.{Line}
 use Rattle.typenorm.specs.declared.parse.line.Line.TheVariants as line
+use Rattle.typenorm.proofs.EntryLemmas.{all_both}
 use Rattle.typenorm.specs.Words.{has_items}
 use Rattle.typenorm.specs.Lines.{IsLine, line_words}
 use Rattle.typenorm.specs.Sections.{gathered_lines, open_lines, worded}
@@ -170,3 +171,11 @@ worded_is (line.Entry e) = sym (worded_words (entry_words e) (not_empty e))
 -- what went astray stays so
 pub astray_more : (lines more : Lines) → IsAstray lines → IsAstray (lines ++ more)
 astray_more lines more h others k = h (more ++ others) (subst IsSectionText (append_assoc lines more others) k)
+
+-- one more group
+pub groups_more : (gs : List GroupAt) (g : GroupAt) → AllByRecursion HasGroupIndices gs → HasGroupIndices g → AllByRecursion HasGroupIndices (gs ++ g ∷ [])
+groups_more gs g h k = all_both HasGroupIndices gs (g ∷ []) h (k, tt)
+
+-- one more entry
+pub entries_more : (es : List EntryAt) (e : EntryAt) → AllByRecursion Fits es → Fits e → AllByRecursion Fits (es ++ e ∷ [])
+entries_more es e h k = all_both Fits es (e ∷ []) h (k, tt)

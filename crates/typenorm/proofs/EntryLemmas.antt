@@ -51,6 +51,25 @@ all_right : {X : Type 0} (P : X → Type 0) (xs ys : List X) → AllByRecursion 
 all_right P [] ys h = h
 all_right P (x ∷ xs) ys h = all_right P xs ys h.1
 
+pub all_both : {X : Type 0} (P : X → Type 0) (xs ys : List X) → AllByRecursion P xs → AllByRecursion P ys → AllByRecursion P (xs ++ ys)
+all_both P [] ys h k = k
+all_both P (x ∷ xs) ys h k = (h.0, all_both P xs ys h.1 k)
+
+-- what f makes of one more
+pub all_more : {X Y : Type 0} (P : Y → Type 0) (f : X → List Y) (xs : List X) (x : X) → AllByRecursion P (flat_map f xs) → AllByRecursion P (f x) → AllByRecursion P (flat_map f (xs ++ x ∷ []))
+all_more P f [] x h k = all_both P (f x) [] k tt
+all_more P f (y ∷ ys) x h k = all_both P (f y) (flat_map f (ys ++ x ∷ [])) (all_left P (f y) (flat_map f ys) h) (all_more P f ys x (all_right P (f y) (flat_map f ys) h) k)
+
+-- the numbers in some value types and one more
+pub fits_more_values : (vs : List (Val ℕ)) (v : Val ℕ) → AreIndices (flat_map val_names vs) → AreIndices (val_names v) → AreIndices (flat_map val_names (vs ++ v ∷ []))
+fits_more_values vs v h k = all_more (λ i. i < 2 ^ 32) val_names vs v h k
+
+pub fits_more_fields : (fs : List (Field ℕ)) (f : Field ℕ) → AreIndices (flat_map field_names fs) → AreIndices (field_names f) → AreIndices (flat_map field_names (fs ++ f ∷ []))
+fits_more_fields fs f h k = all_more (λ i. i < 2 ^ 32) field_names fs f h k
+
+pub fits_both : (xs ys : List ℕ) → AreIndices xs → AreIndices ys → AreIndices (xs ++ ys)
+fits_both xs ys h k = all_both (λ i. i < 2 ^ 32) xs ys h k
+
 -- each x has what all that f makes of xs has
 all_each : {X Y : Type 0} (P : Y → Type 0) (f : X → List Y) (xs : List X) → AllByRecursion P (flat_map f xs) → AllByRecursion (λ x. AllByRecursion P (f x)) xs
 all_each P f [] h = tt

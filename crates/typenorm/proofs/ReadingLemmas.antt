@@ -20,8 +20,8 @@ use Rattle.std.proofs.lemmas.List.Splits.{slice_split_none, slice_split_at}
 use Rattle.typenorm.specs.declared.reading.Text.{Text}
 use Rattle.typenorm.specs.declared.section.Gathered.{Gathered}
 use Rattle.typenorm.specs.Words.{has_items, words_of, worded_line, lines_of}
-use Rattle.typenorm.specs.Text.{IsSectionText, IsAstray, section_lines}
-use Rattle.typenorm.specs.Sections.{gathered_lines}
+use Rattle.typenorm.specs.Text.{HasSectionIndices, IsSectionText, IsAstray, section_lines}
+use Rattle.typenorm.specs.Sections.{HasGatheredIndices, gathered_lines}
 use Rattle.typenorm.specs.Reading.{IsJudged, HasRead}
 use Rattle.typenorm.proofs.Astray.{astray_more}
 
@@ -45,8 +45,9 @@ lines_of_one : (line : List ℕ) → IsOneLine line → lines_of line ≡ worded
 lines_of_one line one = ap (λ parts. filter has_items (map words_of parts)) (slice_split_none is_feed line one)
 
 -- before the first byte
-pub nothing_read : (text : Text) → text.line.items ≡ [] → text.bad ≡ None → gathered_lines text.section ≡ [] → HasRead text []
-nothing_read text none good no_lines = record {
+pub nothing_read : (text : Text) → text.line.items ≡ [] → text.bad ≡ None → gathered_lines text.section ≡ [] → HasGatheredIndices text.section → HasRead text []
+nothing_read text none good no_lines fits = record {
+  fits = fits;
   lines = [];
   split = λ rest. ap (λ l. lines_of (l ++ rest)) (sym none);
   one_line = subst IsOneLine (sym none) (All-nil (λ (b : ℕ). (b == 10) ≡ false));
@@ -56,6 +57,7 @@ nothing_read text none good no_lines = record {
 -- one more byte of the line
 pub byte_read : (old new : Text) (byte : ℕ) (bytes : List ℕ) → (byte == 10) ≡ false → new.line.items ≡ old.line.items ++ byte ∷ [] → new.section ≡ old.section → new.bad ≡ old.bad → HasRead old bytes → HasRead new (bytes ++ byte ∷ [])
 byte_read old new byte bytes other pushed section bad h = record {
+  fits = subst HasGatheredIndices (sym section) h.fits;
   lines = h.lines;
   split = λ rest.
       ap lines_of (append_assoc bytes (byte ∷ []) rest) ∙ (h.split (byte ∷ rest) ∙ ap (λ l. h.lines ++ lines_of l) (sym (append_assoc old.line.items (byte ∷ []) rest) ∙ ap (λ l. l ++ rest) (sym pushed)));
@@ -64,8 +66,9 @@ byte_read old new byte bytes other pushed section bad h = record {
 }
 
 -- the end of the line
-pub line_read : (old new : Text) (bytes : List ℕ) → new.line.items ≡ [] → ((ls : Lines) → IsJudged old.section old.bad ls → IsJudged new.section new.bad (ls ++ worded_line old.line.items)) → HasRead old bytes → HasRead new (bytes ++ 10 ∷ [])
-line_read old new bytes none judge h = record {
+pub line_read : (old new : Text) (bytes : List ℕ) → new.line.items ≡ [] → ((ls : Lines) → IsJudged old.section old.bad ls → IsJudged new.section new.bad (ls ++ worded_line old.line.items)) → (HasGatheredIndices old.section → HasGatheredIndices new.section) → HasRead old bytes → HasRead new (bytes ++ 10 ∷ [])
+line_read old new bytes none judge fits h = record {
+  fits = fits h.fits;
   lines = h.lines ++ worded_line old.line.items;
   split = λ rest.
       ap lines_of (append_assoc bytes (10 ∷ []) rest) ∙ (h.split (10 ∷ rest) ∙ (ap (λ l. h.lines ++ l) (lines_at_feed old.line.items rest h.one_line) ∙ (sym (append_assoc h.lines (worded_line old.line.items) (lines_of rest)) ∙ ap (λ l. (h.lines ++ worded_line old.line.items) ++ lines_of (l ++ rest)) (sym none))));
@@ -128,13 +131,13 @@ if_err_and (Ok x) P Q f h = tt
 if_err_and (Err e) P Q f h = f e h
 
 -- what the refusal of a section says
-refusal_tells : (groups : List GroupAt) (lines : Lines) → lines ≡ section_lines groups → (r : ReadError) → (r ≡ read.Memory) ⊎ IsFirstFault (section_of groups) r → TellsRefusal r lines
-refusal_tells groups lines e read.Memory h = tt
-refusal_tells groups lines e read.TooMany (inl k) = absurd cc
-refusal_tells groups lines e read.TooMany (inr fault) = (groups, e, not_both (section_of groups) read.TooMany fault)
-refusal_tells groups lines e (read.BadIndex i k n) (inl m) = absurd cc
-refusal_tells groups lines e (read.BadIndex i k n) (inr fault) = (groups, e, not_both (section_of groups) (read.BadIndex i k n) fault)
+refusal_tells : (groups : List GroupAt) (lines : Lines) → HasSectionIndices groups → lines ≡ section_lines groups → (r : ReadError) → (r ≡ read.Memory) ⊎ IsFirstFault (section_of groups) r → TellsRefusal r lines
+refusal_tells groups lines f e read.Memory h = tt
+refusal_tells groups lines f e read.TooMany (inl k) = absurd cc
+refusal_tells groups lines f e read.TooMany (inr fault) = (groups, f, e, not_both (section_of groups) read.TooMany fault)
+refusal_tells groups lines f e (read.BadIndex i k n) (inl m) = absurd cc
+refusal_tells groups lines f e (read.BadIndex i k n) (inr fault) = (groups, f, e, not_both (section_of groups) (read.BadIndex i k n) fault)
 
-pub tells_refused : (known : Option (List ℕ)) (groups : List GroupAt) (r : ReadError) → IfSome known (λ text. lines_of text ≡ section_lines groups) → (r ≡ read.Memory) ⊎ IsFirstFault (section_of groups) r → (s : Stop) → s ≡ stop.Refused r → IfSome known (λ text. Tells s (lines_of text))
-tells_refused None groups r e why s is = tt
-tells_refused (Some text) groups r e why s is = subst (λ x. Tells x (lines_of text)) (sym is) (refusal_tells groups (lines_of text) e r why)
+pub tells_refused : (known : Option (List ℕ)) (groups : List GroupAt) (r : ReadError) → HasSectionIndices groups → IfSome known (λ text. lines_of text ≡ section_lines groups) → (r ≡ read.Memory) ⊎ IsFirstFault (section_of groups) r → (s : Stop) → s ≡ stop.Refused r → IfSome known (λ text. Tells s (lines_of text))
+tells_refused None groups r f e why s is = tt
+tells_refused (Some text) groups r f e why s is = subst (λ x. Tells x (lines_of text)) (sym is) (refusal_tells groups (lines_of text) f e r why)

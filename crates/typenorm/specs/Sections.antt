@@ -7,7 +7,10 @@ use Rattle.walrus_types.specs.declared.records.GroupAt.{GroupAt}
 use Rattle.typenorm.specs.declared.parse.line.Line.{Line}
 use Rattle.typenorm.specs.declared.parse.line.Line.TheVariants as line
 use Rattle.typenorm.specs.declared.section.Gathered.{Gathered}
-use Rattle.typenorm.specs.Text.{entry_words, section_lines}
+use Rattle.std.specs.List.{AllByRecursion}
+use Rattle.walrus_types.specs.Definition.{names_of}
+use Rattle.walrus_types.specs.Records.{entry_definition}
+use Rattle.typenorm.specs.Text.{AreIndices, HasGroupIndices, entry_words, section_lines}
 
 -- the lines of a recursion group that is open
 abbrev pub open_lines : Option (Vec EntryAt Global) → List (List (List ℕ))
@@ -24,3 +27,12 @@ worded line.Blank = []
 worded line.Begin = (codes "rec" ∷ []) ∷ []
 worded line.End = (codes "end" ∷ []) ∷ []
 worded (line.Entry e) = entry_words e ∷ []
+
+-- the numbers in a recursion group that is open can stand for types
+abbrev pub HasOpenIndices : Option (Vec EntryAt Global) → Type 0
+HasOpenIndices None = Unit {0}
+HasOpenIndices (Some entries) = AllByRecursion (λ e. AreIndices (names_of (entry_definition e))) entries.items
+
+-- the numbers in the groups so far and the open one can
+abbrev pub HasGatheredIndices : Gathered → Type 0
+HasGatheredIndices gathered = AllByRecursion HasGroupIndices gathered.groups.items × HasOpenIndices gathered.open

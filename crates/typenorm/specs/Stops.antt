@@ -9,11 +9,11 @@ use Rattle.walrus_types.specs.Records.{section_of}
 use Rattle.walrus_types.specs.Section.{IsWellNamed}
 use Rattle.typenorm.specs.declared.stop.Stop.{Stop}
 use Rattle.typenorm.specs.declared.stop.Stop.TheVariants as stop
-use Rattle.typenorm.specs.Text.{IsSectionText, section_lines, output_text}
+use Rattle.typenorm.specs.Text.{HasSectionIndices, IsSectionText, section_lines, output_text}
 
--- the lines are those of a section that names what it may not, or has too many entries
+-- the lines are those of a section whose numbers can stand for types, but that names what it may not, or has too many entries
 abbrev pub IsIllNamedText : List (List (List ℕ)) → Type 0
-IsIllNamedText lines = (groups : List GroupAt) × (lines ≡ section_lines groups) × ¬ IsWellNamed (section_of groups)
+IsIllNamedText lines = (groups : List GroupAt) × HasSectionIndices groups × (lines ≡ section_lines groups) × ¬ IsWellNamed (section_of groups)
 
 abbrev pub TellsRefusal : ReadError → List (List (List ℕ)) → Type 0
 TellsRefusal (read.BadIndex entry index end) lines = IsIllNamedText lines

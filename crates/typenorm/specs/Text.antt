@@ -157,9 +157,13 @@ abbrev pub HasGroupIndices : GroupAt → Type 0
 HasGroupIndices (group.Single e) = AreIndices (names_of (entry_definition e))
 HasGroupIndices (group.Rec es) = AllByRecursion (λ e. AreIndices (names_of (entry_definition e))) es
 
+-- the numbers in a section can
+abbrev pub HasSectionIndices : List GroupAt → Type 0
+HasSectionIndices groups = AllByRecursion HasGroupIndices groups
+
 -- the lines are those of a section whose numbers can stand for types
 abbrev pub IsSectionText : List (List (List ℕ)) → Type 0
-IsSectionText lines = IsText section_lines (λ groups. AllByRecursion HasGroupIndices groups) lines
+IsSectionText lines = IsText section_lines HasSectionIndices lines
 
 -- however these lines go on, they are those of no section
 abbrev pub IsAstray : List (List (List ℕ)) → Type 0

@@ -1,8 +1,8 @@
 //! A section from a reader, one line of text at a time.
 ghost use Rattle.std.specs.Prelude.{◌≡◌, ◌++◌, ◌∷◌, [], ℕ, List, false, IsTrue, IfOk, IfErr, OnOk, IfSome};
 ghost use Rattle.typenorm.specs.Words.{lines_of, worded_line};
-ghost use Rattle.typenorm.specs.Text.{IsAstray, section_lines};
-ghost use Rattle.typenorm.specs.Sections.{gathered_lines};
+ghost use Rattle.typenorm.specs.Text.{HasSectionIndices, IsAstray, section_lines};
+ghost use Rattle.typenorm.specs.Sections.{HasGatheredIndices, gathered_lines};
 ghost use Rattle.typenorm.specs.Reading.{HasRead, IsJudged};
 ghost use Rattle.typenorm.specs.Stops.{Tells};
 
@@ -22,6 +22,7 @@ const BLOCK: usize = 8192;
 /// The groups of a text, whose first bad line ends it.
 pub fn read_section<R: Read>(alloc: Global, reader: &mut R) -> Result<Vec<GroupAt>, Stop>
     ensures read { IfOk result (λ groups. IfSome (R.remaining reader.old) (λ text. lines_of text ≡ section_lines groups.items)) }
+    ensures fits { IfOk result (λ groups. HasSectionIndices groups.items) }
     ensures stopped { IfErr result (λ stop. IfSome (R.remaining reader.old) (λ text. Tells stop (lines_of text))) }
 {
     let mut text = Text::new(alloc);
@@ -100,6 +101,7 @@ impl Text {
     fn judge_line(&mut self) -> Result<(), AllocError>
         ensures line { OnOk result (self.new.line.items ≡ self.old.line.items) }
         ensures judged { OnOk result ((lines : List (List (List ℕ))) → IsJudged self.old.section self.old.bad lines → IsJudged self.new.section self.new.bad (lines ++ worded_line self.old.line.items)) }
+        ensures fits { OnOk result (HasGatheredIndices self.old.section → HasGatheredIndices self.new.section) }
     {
         if self.bad.is_some() {
             return Ok(());
@@ -116,6 +118,7 @@ impl Text {
         ensures bad { self.new.bad ≡ self.old.bad }
         ensures taken { IfOk result (λ taken. IsTrue taken → gathered_lines self.new.section ≡ gathered_lines self.old.section ++ worded_line self.old.line.items) }
         ensures refused { IfOk result (λ taken. taken ≡ false → IsAstray (gathered_lines self.old.section ++ worded_line self.old.line.items)) }
+        ensures fits { OnOk result (HasGatheredIndices self.old.section → HasGatheredIndices self.new.section) }
     {
         match read_line(self.alloc, self.line.as_slice())? {
             Some(line) => self.section.add(line),
@@ -125,7 +128,8 @@ impl Text {
 
     /// Ends the last line, whose line feed may be missing.
     fn end_last_line(&mut self) -> Result<(), AllocError>
-        ensures { OnOk result ((bytes : List ℕ) → HasRead self.old bytes → IsJudged self.new.section self.new.bad (lines_of bytes)) }
+        ensures judged { OnOk result ((bytes : List ℕ) → HasRead self.old bytes → IsJudged self.new.section self.new.bad (lines_of bytes)) }
+        ensures fits { OnOk result ((bytes : List ℕ) → HasRead self.old bytes → HasGatheredIndices self.new.section) }
     {
         if self.line.as_slice().is_empty() {
             return Ok(());
@@ -136,6 +140,7 @@ impl Text {
 
     fn finish(mut self) -> Result<Vec<GroupAt>, Stop>
         ensures read { IfOk result (λ groups. (bytes : List ℕ) → HasRead self bytes → lines_of bytes ≡ section_lines groups.items) }
+        ensures fits { IfOk result (λ groups. (bytes : List ℕ) → HasRead self bytes → HasSectionIndices groups.items) }
         ensures stopped { IfErr result (λ stop. (bytes : List ℕ) → HasRead self bytes → Tells stop (lines_of bytes)) }
     {
         self.end_last_line()?;

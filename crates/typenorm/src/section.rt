@@ -1,7 +1,10 @@
 //! The groups of a section, gathered line by line.
 ghost use Rattle.std.specs.Prelude.{◌≡◌, ◌++◌, ◌∷◌, [], codes, false, IsTrue, IfOk, OnOk, IfSome, IfNone};
-ghost use Rattle.typenorm.specs.Text.{IsAstray, IsSectionText, entry_words, section_lines};
-ghost use Rattle.typenorm.specs.Sections.{gathered_lines, worded};
+ghost use Rattle.walrus_types.specs.Definition.{names_of};
+ghost use Rattle.walrus_types.specs.Records.{entry_definition};
+ghost use Rattle.typenorm.specs.Lines.{HasIndices};
+ghost use Rattle.typenorm.specs.Text.{AreIndices, HasSectionIndices, IsAstray, IsSectionText, entry_words, section_lines};
+ghost use Rattle.typenorm.specs.Sections.{HasGatheredIndices, gathered_lines, worded};
 
 use crate::parse::Line;
 use std::alloc::{AllocError, Global};
@@ -18,7 +21,8 @@ pub struct Gathered {
 impl Gathered {
     /// No lines so far.
     pub fn new(alloc: Global) -> Gathered
-        ensures { gathered_lines result ≡ [] }
+        ensures lines { gathered_lines result ≡ [] }
+        ensures fits { HasGatheredIndices result }
     {
         Gathered {
             groups: Vec::new(alloc),
@@ -31,6 +35,7 @@ impl Gathered {
     pub fn add(&mut self, line: Line) -> Result<bool, AllocError>
         ensures taken { IfOk result (λ taken. IsTrue taken → gathered_lines self.new ≡ gathered_lines self.old ++ worded line) }
         ensures refused { IfOk result (λ taken. taken ≡ false → IsAstray (gathered_lines self.old ++ worded line)) }
+        ensures fits { OnOk result (HasIndices line → HasGatheredIndices self.old → HasGatheredIndices self.new) }
     {
         match line {
             Line::Blank => Ok(true),
@@ -46,6 +51,7 @@ impl Gathered {
     fn begin(&mut self) -> bool
         ensures taken { IsTrue result → gathered_lines self.new ≡ gathered_lines self.old ++ (codes "rec" ∷ []) ∷ [] }
         ensures refused { result ≡ false → IsAstray (gathered_lines self.old ++ (codes "rec" ∷ []) ∷ []) }
+        ensures fits { HasGatheredIndices self.old → HasGatheredIndices self.new }
     {
         if self.open.is_some() {
             return false;
@@ -54,9 +60,11 @@ impl Gathered {
         true
     }
 
+    #[tactic(auto, using(crate::proofs::Astray::groups_more))]
     fn end(&mut self) -> Result<bool, AllocError>
         ensures taken { IfOk result (λ taken. IsTrue taken → gathered_lines self.new ≡ gathered_lines self.old ++ (codes "end" ∷ []) ∷ []) }
         ensures refused { IfOk result (λ taken. taken ≡ false → IsAstray (gathered_lines self.old ++ (codes "end" ∷ []) ∷ [])) }
+        ensures fits { OnOk result (HasGatheredIndices self.old → HasGatheredIndices self.new) }
     {
         let Some(entries) = self.open.take() else {
             return Ok(false);
@@ -65,8 +73,10 @@ impl Gathered {
         Ok(true)
     }
 
+    #[tactic(auto, using(crate::proofs::Astray::groups_more, crate::proofs::Astray::entries_more))]
     fn push(&mut self, entry: EntryAt) -> Result<(), AllocError>
-        ensures { OnOk result (gathered_lines self.new ≡ gathered_lines self.old ++ entry_words entry ∷ []) }
+        ensures lines { OnOk result (gathered_lines self.new ≡ gathered_lines self.old ++ entry_words entry ∷ []) }
+        ensures fits { OnOk result (AreIndices (names_of (entry_definition entry)) → HasGatheredIndices self.old → HasGatheredIndices self.new) }
     {
         match &mut self.open {
             Some(entries) => entries.push(entry)?,
@@ -79,6 +89,7 @@ impl Gathered {
     #[tactic(auto, using(crate::proofs::Astray::still_open))]
     pub fn finish(self) -> Option<Vec<GroupAt>>
         ensures found { IfSome result (λ groups. section_lines groups.items ≡ gathered_lines self) }
+        ensures fits { IfSome result (λ groups. HasGatheredIndices self → HasSectionIndices groups.items) }
         ensures none { IfNone result (¬ IsSectionText (gathered_lines self)) }
     {
         if self.open.is_some() {

@@ -1,6 +1,9 @@
 //! Definitions, each a line of words.
-ghost use Rattle.std.specs.Prelude.{◌≡◌, ◌≢◌, ◌<◌, ◌++◌, ◌∷◌, [], ℕ, List, length, map, codes, decimal, IfOk, IfSome, IfNone};
-ghost use Rattle.walrus_types.specs.Value.{field_names};
+ghost use Rattle.std.specs.Prelude.{◌≡◌, ◌≢◌, ◌<◌, ◌^◌, ◌++◌, ◌∷◌, [], ℕ, List, length, map, codes, decimal, IfOk, IfSome, IfNone};
+ghost use Rattle.std.specs.List.{flat_map};
+ghost use Rattle.walrus_types.specs.Value.{val_names, field_names};
+ghost use Rattle.walrus_types.specs.Definition.{names_of, composite_names, supertype_names};
+ghost use Rattle.walrus_types.specs.Records.{comp_composite, entry_definition};
 ghost use Rattle.typenorm.specs.Words.{words_of};
 ghost use Rattle.typenorm.specs.Text.{AreIndices, IsText, BeginsWith, IsSupertypeWord, IsArrayLine, IsValWord, IsFieldWord, IsCompositeLine, IsSubtypeLine, IsEntryLine, val_word, field_word, composite_words, supertype_words, open_words, entry_words};
 
@@ -10,8 +13,10 @@ use std::alloc::{AllocError, Global};
 use walrus_types::{CompAt, EntryAt, FieldAt, Listed, ValAt};
 
 /// A definition: `open` where it is not final, `sub:` and its supertype where it has one, then what it is made of.
+#[tactic(auto, using(crate::proofs::EntryLemmas::fits_both))]
 pub fn entry(alloc: Global, line: &[u8]) -> Result<Option<EntryAt>, AllocError>
     ensures found { IfOk result (λ found. IfSome found (λ e. words_of line.now ≡ entry_words e)) }
+    ensures fits { IfOk result (λ found. IfSome found (λ e. AreIndices (names_of (entry_definition e)))) }
     ensures none { IfOk result (λ found. IfNone found (¬ IsEntryLine (words_of line.now))) }
 {
     let (is_final, rest) = finality(line);
@@ -42,6 +47,7 @@ fn finality(line: &[u8]) -> (bool, &[u8])
 #[tactic(auto, using(crate::proofs::EntryLemmas::after_supertype, crate::proofs::EntryLemmas::without_supertype))]
 fn supertype(line: &[u8]) -> (Option<u32>, &[u8])
     ensures value { words_of line.now ≡ supertype_words result.0 ++ words_of result.1.now }
+    ensures fits { AreIndices (supertype_names result.0) }
     ensures only { IsSubtypeLine (words_of line.now) → IsCompositeLine (words_of result.1.now) }
 {
     match first_supertype(line) {
@@ -52,6 +58,7 @@ fn supertype(line: &[u8]) -> (Option<u32>, &[u8])
 
 fn first_supertype(line: &[u8]) -> Option<(u32, &[u8])>
     ensures found { IfSome result (λ found. words_of line.now ≡ (codes "sub:" ++ decimal found.0) ∷ words_of found.1.now) }
+    ensures fits { IfSome result (λ found. found.0 < 2 ^ 32) }
     ensures none { IfNone result (¬ BeginsWith IsSupertypeWord (words_of line.now)) }
 {
     let (word, rest) = next_word(line)?;
@@ -61,6 +68,7 @@ fn first_supertype(line: &[u8]) -> Option<(u32, &[u8])>
 
 fn supertype_index(word: &[u8]) -> Option<u32>
     ensures found { IfSome result (λ k. word.now ≡ codes "sub:" ++ decimal k) }
+    ensures fits { IfSome result (λ k. k < 2 ^ 32) }
     ensures none { IfNone result (¬ IsSupertypeWord word.now) }
 {
     index(after(word, b"sub:")?)
@@ -78,6 +86,7 @@ pub fn after_word<'a>(line: &'a [u8], wanted: &[u8]) -> Option<&'a [u8]>
 #[tactic(auto, using(crate::proofs::EntryLemmas::no_composite))]
 fn composite(alloc: Global, line: &[u8]) -> Result<Option<CompAt>, AllocError>
     ensures found { IfOk result (λ found. IfSome found (λ c. words_of line.now ≡ composite_words c)) }
+    ensures fits { IfOk result (λ found. IfSome found (λ c. AreIndices (composite_names (comp_composite c)))) }
     ensures none { IfOk result (λ found. IfNone found (¬ IsCompositeLine (words_of line.now))) }
 {
     if let Some(rest) = after_word(line, b"func") {
@@ -90,9 +99,10 @@ fn composite(alloc: Global, line: &[u8]) -> Result<Option<CompAt>, AllocError>
 }
 
 /// A function type, from the word after `func` on.
-#[tactic(auto, using(crate::proofs::EntryLemmas::no_arrow, crate::proofs::EntryLemmas::more_after_results))]
+#[tactic(auto, using(crate::proofs::EntryLemmas::no_arrow, crate::proofs::EntryLemmas::more_after_results, crate::proofs::EntryLemmas::fits_both))]
 fn function(alloc: Global, line: &[u8]) -> Result<Option<CompAt>, AllocError>
     ensures found { IfOk result (λ found. IfSome found (λ c. codes "func" ∷ words_of line.now ≡ composite_words c)) }
+    ensures fits { IfOk result (λ found. IfSome found (λ c. AreIndices (composite_names (comp_composite c)))) }
     ensures none { IfOk result (λ found. IfNone found (¬ IsCompositeLine (codes "func" ∷ words_of line.now))) }
 {
     let (params, rest) = values(alloc, line)?;
@@ -113,6 +123,7 @@ fn function(alloc: Global, line: &[u8]) -> Result<Option<CompAt>, AllocError>
 #[tactic(auto, using(crate::proofs::EntryLemmas::more_after_fields))]
 fn structure(alloc: Global, line: &[u8]) -> Result<Option<CompAt>, AllocError>
     ensures found { IfOk result (λ found. IfSome found (λ c. codes "struct" ∷ words_of line.now ≡ composite_words c)) }
+    ensures fits { IfOk result (λ found. IfSome found (λ c. AreIndices (composite_names (comp_composite c)))) }
     ensures none { IfOk result (λ found. IfNone found (¬ IsCompositeLine (codes "struct" ∷ words_of line.now))) }
 {
     let (fields, rest) = fields(alloc, line)?;
@@ -127,6 +138,7 @@ fn structure(alloc: Global, line: &[u8]) -> Result<Option<CompAt>, AllocError>
 /// An array type.
 fn array(line: &[u8]) -> Option<CompAt>
     ensures found { IfSome result (λ c. words_of line.now ≡ composite_words c) }
+    ensures fits { IfSome result (λ c. AreIndices (composite_names (comp_composite c))) }
     ensures none { IfNone result (¬ IsArrayLine (words_of line.now)) }
 {
     let field = only_field(after_word(line, b"array")?)?;
@@ -136,6 +148,7 @@ fn array(line: &[u8]) -> Option<CompAt>
 /// A line that is one field.
 fn only_field(line: &[u8]) -> Option<FieldAt>
     ensures found { IfSome result (λ f. words_of line.now ≡ field_word f ∷ []) }
+    ensures fits { IfSome result (λ f. AreIndices (field_names f)) }
     ensures none { IfNone result (¬ IsText (λ f. field_word f ∷ []) (λ f. AreIndices (field_names f)) (words_of line.now)) }
 {
     let (field, rest) = next_field(line)?;
@@ -143,8 +156,10 @@ fn only_field(line: &[u8]) -> Option<FieldAt>
 }
 
 /// The value types that a line begins with, and what stands after them.
+#[tactic(auto, using(crate::proofs::EntryLemmas::fits_more_values))]
 fn values(alloc: Global, line: &[u8]) -> Result<(Vec<ValAt>, &[u8]), AllocError>
     ensures read { IfOk result (λ read. words_of line.now ≡ map val_word read.0.items ++ words_of read.1.now) }
+    ensures fits { IfOk result (λ read. AreIndices (flat_map val_names read.0.items)) }
     ensures stops { IfOk result (λ read. ¬ BeginsWith IsValWord (words_of read.1.now)) }
 {
     let mut values = Vec::new(alloc);
@@ -159,6 +174,7 @@ fn values(alloc: Global, line: &[u8]) -> Result<(Vec<ValAt>, &[u8]), AllocError>
 fn next_value(line: &[u8]) -> Option<(ValAt, &[u8])>
     ensures found { IfSome result (λ found. words_of line.now ≡ val_word found.0 ∷ words_of found.1.now) }
     ensures shorter { IfSome result (λ found. length found.1.now < length line.now) }
+    ensures fits { IfSome result (λ found. AreIndices (val_names found.0)) }
     ensures none { IfNone result (¬ BeginsWith IsValWord (words_of line.now)) }
 {
     let (word, rest) = next_word(line)?;
@@ -167,8 +183,10 @@ fn next_value(line: &[u8]) -> Option<(ValAt, &[u8])>
 }
 
 /// The fields that a line begins with, and what stands after them.
+#[tactic(auto, using(crate::proofs::EntryLemmas::fits_more_fields))]
 fn fields(alloc: Global, line: &[u8]) -> Result<(Vec<FieldAt>, &[u8]), AllocError>
     ensures read { IfOk result (λ read. words_of line.now ≡ map field_word read.0.items ++ words_of read.1.now) }
+    ensures fits { IfOk result (λ read. AreIndices (flat_map field_names read.0.items)) }
     ensures stops { IfOk result (λ read. ¬ BeginsWith IsFieldWord (words_of read.1.now)) }
 {
     let mut fields = Vec::new(alloc);
@@ -183,6 +201,7 @@ fn fields(alloc: Global, line: &[u8]) -> Result<(Vec<FieldAt>, &[u8]), AllocErro
 fn next_field(line: &[u8]) -> Option<(FieldAt, &[u8])>
     ensures found { IfSome result (λ found. words_of line.now ≡ field_word found.0 ∷ words_of found.1.now) }
     ensures shorter { IfSome result (λ found. length found.1.now < length line.now) }
+    ensures fits { IfSome result (λ found. AreIndices (field_names found.0)) }
     ensures none { IfNone result (¬ BeginsWith IsFieldWord (words_of line.now)) }
 {
     let (word, rest) = next_word(line)?;

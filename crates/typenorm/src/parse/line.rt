@@ -1,7 +1,7 @@
 //! Lines of a section.
 ghost use Rattle.std.specs.Prelude.{◌≡◌, ◌≢◌, ◌∷◌, [], false, IsTrue, IfOk, IfSome, IfNone};
 ghost use Rattle.typenorm.specs.Words.{words_of};
-ghost use Rattle.typenorm.specs.Lines.{line_words, IsLine};
+ghost use Rattle.typenorm.specs.Lines.{HasIndices, line_words, IsLine};
 
 use crate::parse::entry::{after_word, entry};
 use crate::words::is_blank;
@@ -25,6 +25,7 @@ pub enum Line {
 #[tactic(auto, using(crate::proofs::EntryLemmas::blank_is))]
 pub fn read_line(alloc: Global, line: &[u8]) -> Result<Option<Line>, AllocError>
     ensures found { IfOk result (λ found. IfSome found (λ l. words_of line.now ≡ line_words l)) }
+    ensures fits { IfOk result (λ found. IfSome found HasIndices) }
     ensures none { IfOk result (λ found. IfNone found (¬ IsLine (words_of line.now))) }
 {
     if is_blank(line) {

@@ -1,6 +1,6 @@
 //! Heap types, value types and fields, each one word.
 ghost use Rattle.std.specs.Prelude.{◌≡◌, ◌≢◌, ◌<◌, ◌^◌, ◌++◌, ℕ, List, codes, decimal, IfSome, IfNone};
-ghost use Rattle.walrus_types.specs.Value.{heap_names, storage_names};
+ghost use Rattle.walrus_types.specs.Value.{heap_names, val_names, storage_names, field_names};
 ghost use Rattle.typenorm.specs.Text.{AreIndices, IsText, IsIndexWord, IsNameWord, IsPlainWord, IsPackedWord, other_form, IsHeapWord, IsValWord, IsStorageWord, IsFieldWord, name_word, heap_word, val_word, storage_word, field_word};
 
 use walrus_types::{AbstractHeapType, FieldAt, HeapAt, RefAt, StorageAt, ValAt};
@@ -8,6 +8,7 @@ use walrus_types::{AbstractHeapType, FieldAt, HeapAt, RefAt, StorageAt, ValAt};
 /// The number of a type: decimal, below 2^32, without a sign and without leading zeros.
 pub fn index(word: &[u8]) -> Option<u32>
     ensures found { IfSome result (λ k. word.now ≡ decimal k) }
+    ensures fits { IfSome result (λ k. k < 2 ^ 32) }
     ensures none { IfNone result (¬ IsIndexWord word.now) }
 {
     number(str::from_utf8(word).ok()?)
@@ -15,6 +16,7 @@ pub fn index(word: &[u8]) -> Option<u32>
 
 fn number(text: &str) -> Option<u32>
     ensures found { IfSome result (λ k. text.now ≡ decimal k) }
+    ensures fits { IfSome result (λ k. k < 2 ^ 32) }
     ensures none { IfNone result (¬ IsIndexWord text.now) }
 {
     if has_other_form(text.as_bytes()) {
@@ -56,6 +58,7 @@ pub fn abstract_heap_type(word: &[u8]) -> Option<AbstractHeapType>
 /// A heap type: the name of an abstract one, or the number of a type, after `exact:` where no subtype is meant.
 pub fn heap_type(word: &[u8]) -> Option<HeapAt>
     ensures found { IfSome result (λ h. word.now ≡ heap_word h) }
+    ensures fits { IfSome result (λ h. AreIndices (heap_names h)) }
     ensures none { IfNone result (¬ IsHeapWord word.now) }
 {
     if let Some(name) = abstract_heap_type(word) {
@@ -70,6 +73,7 @@ pub fn heap_type(word: &[u8]) -> Option<HeapAt>
 
 fn exact_index(word: &[u8]) -> Option<u32>
     ensures found { IfSome result (λ k. word.now ≡ codes "exact:" ++ decimal k) }
+    ensures fits { IfSome result (λ k. k < 2 ^ 32) }
     ensures none { IfNone result (¬ IsText (λ k. codes "exact:" ++ decimal k) (λ k. k < 2 ^ 32) word.now) }
 {
     index(after(word, b"exact:")?)
@@ -87,6 +91,7 @@ pub fn after<'a>(word: &'a [u8], prefix: &[u8]) -> Option<&'a [u8]>
 /// after `ref:` where it may not.
 pub fn value_type(word: &[u8]) -> Option<ValAt>
     ensures found { IfSome result (λ v. word.now ≡ val_word v) }
+    ensures fits { IfSome result (λ v. AreIndices (val_names v)) }
     ensures none { IfNone result (¬ IsValWord word.now) }
 {
     if let Some(plain) = plain_value_type(word) {
@@ -107,6 +112,7 @@ pub fn value_type(word: &[u8]) -> Option<ValAt>
 
 fn plain_value_type(word: &[u8]) -> Option<ValAt>
     ensures found { IfSome result (λ v. word.now ≡ val_word v) }
+    ensures fits { IfSome result (λ v. AreIndices (val_names v)) }
     ensures none { IfNone result (¬ IsPlainWord word.now) }
 {
     match word {
@@ -121,6 +127,7 @@ fn plain_value_type(word: &[u8]) -> Option<ValAt>
 
 fn after_null(word: &[u8]) -> Option<HeapAt>
     ensures found { IfSome result (λ h. word.now ≡ codes "null:" ++ heap_word h) }
+    ensures fits { IfSome result (λ h. AreIndices (heap_names h)) }
     ensures none { IfNone result (¬ IsText (λ h. codes "null:" ++ heap_word h) (λ h. AreIndices (heap_names h)) word.now) }
 {
     heap_type(after(word, b"null:")?)
@@ -128,6 +135,7 @@ fn after_null(word: &[u8]) -> Option<HeapAt>
 
 fn after_ref(word: &[u8]) -> Option<HeapAt>
     ensures found { IfSome result (λ h. word.now ≡ codes "ref:" ++ heap_word h) }
+    ensures fits { IfSome result (λ h. AreIndices (heap_names h)) }
     ensures none { IfNone result (¬ IsText (λ h. codes "ref:" ++ heap_word h) (λ h. AreIndices (heap_names h)) word.now) }
 {
     heap_type(after(word, b"ref:")?)
@@ -136,6 +144,7 @@ fn after_ref(word: &[u8]) -> Option<HeapAt>
 /// A field: what it holds, after `mut:` where it can be written.
 pub fn field_type(word: &[u8]) -> Option<FieldAt>
     ensures found { IfSome result (λ f. word.now ≡ field_word f) }
+    ensures fits { IfSome result (λ f. AreIndices (field_names f)) }
     ensures none { IfNone result (¬ IsFieldWord word.now) }
 {
     if let Some(element_type) = storage_type(word) {
@@ -153,6 +162,7 @@ pub fn field_type(word: &[u8]) -> Option<FieldAt>
 
 fn after_mut(word: &[u8]) -> Option<StorageAt>
     ensures found { IfSome result (λ s. word.now ≡ codes "mut:" ++ storage_word s) }
+    ensures fits { IfSome result (λ s. AreIndices (storage_names s)) }
     ensures none { IfNone result (¬ IsText (λ s. codes "mut:" ++ storage_word s) (λ s. AreIndices (storage_names s)) word.now) }
 {
     storage_type(after(word, b"mut:")?)
@@ -160,6 +170,7 @@ fn after_mut(word: &[u8]) -> Option<StorageAt>
 
 fn storage_type(word: &[u8]) -> Option<StorageAt>
     ensures found { IfSome result (λ s. word.now ≡ storage_word s) }
+    ensures fits { IfSome result (λ s. AreIndices (storage_names s)) }
     ensures none { IfNone result (¬ IsStorageWord word.now) }
 {
     if let Some(packed) = packed_type(word) {
@@ -171,6 +182,7 @@ fn storage_type(word: &[u8]) -> Option<StorageAt>
 
 fn packed_type(word: &[u8]) -> Option<StorageAt>
     ensures found { IfSome result (λ s. word.now ≡ storage_word s) }
+    ensures fits { IfSome result (λ s. AreIndices (storage_names s)) }
     ensures none { IfNone result (¬ IsPackedWord word.now) }
 {
     match word {

@@ -52,22 +52,40 @@ impl Write for Sink {
     }
 }
 
-const TEXTS: [&str; 4] = [
-    "func ->\nrec\nend\n",
-    "struct i32\n\n func   ->",
-    "func ->\nstruct i33\n",
-    "rec\nfunc ->\n",
+const TEXTS: [&[u8]; 22] = [
+    b"",
+    b"struct i32\nfunc ->\n",
+    b"struct i32\nopen struct i32\n",
+    b"array mut:i8\nstruct\nfunc i32 -> null:func\n",
+    b"func ->\nfunc ->\n",
+    b"rec\nend\n",
+    b"rec\nfunc ->\nend\nfunc ->\n",
+    b"rec\nstruct null:1\nstruct null:0\nend\nfunc ->\nfunc ->\n",
+    b"open struct i32\nsub:0 struct i32 f64\n",
+    b"struct null:1\n",
+    b"rec\nfunc ->\n",
+    b"func ->\nstruct i33\n",
+    b"func ->\narray\n",
+    b"func ->\nfunc\n",
+    b"func ->\nstruct null:01\n",
+    b"func ->\nstruct null:4294967296\n",
+    b"func ->\nend\n",
+    b"func ->\nrec x\n",
+    b"func ->\n\xff\n",
+    b"func ->\nfunc ->\r\n",
+    b"rec\nrec\n",
+    b"\n func   ->",
 ];
 
 #[test]
 fn failed_read(rt: HostRuntime) -> Result<(), Fail> {
     let alloc = rt.alloc();
     for text in TEXTS {
-        let whole = answer(alloc, text.as_bytes());
+        let whole = answer(alloc, text);
         let reads = text.len() as u64;
         for reads_left in 0..reads + 3 {
             let mut reader = Drip {
-                rest: text.as_bytes(),
+                rest: text,
                 reads_left,
             };
             let mut out: Vec<u8> = Vec::new(alloc);
@@ -90,9 +108,12 @@ fn failed_read(rt: HostRuntime) -> Result<(), Fail> {
 fn failed_write(rt: HostRuntime) -> Result<(), Fail> {
     let alloc = rt.alloc();
     for text in TEXTS {
-        let whole = answer(alloc, text.as_bytes());
+        let whole = answer(alloc, text);
         for writes_left in 0..8 {
-            let mut reader = text.as_bytes();
+            let mut reader = Drip {
+                rest: text,
+                reads_left: 1000,
+            };
             let mut out = Sink {
                 bytes: Vec::new(alloc),
                 writes_left,
@@ -114,9 +135,12 @@ fn failed_write(rt: HostRuntime) -> Result<(), Fail> {
 fn failed_write_of_a_line_on_error(rt: HostRuntime) -> Result<(), Fail> {
     let alloc = rt.alloc();
     for text in TEXTS {
-        let whole = answer(alloc, text.as_bytes());
+        let whole = answer(alloc, text);
         for writes_left in 0..8 {
-            let mut reader = text.as_bytes();
+            let mut reader = Drip {
+                rest: text,
+                reads_left: 1000,
+            };
             let mut out: Vec<u8> = Vec::new(alloc);
             let mut err = Sink {
                 bytes: Vec::new(alloc),

@@ -32,3 +32,8 @@ loop-preserved g c =
       c.in_ok-take.ensures bytes has,
       Consumes-trans (left c.args.reader.now) (left c.loop.reader) (left c.read.new.self) bytes (take c.in-Ok.count c.read.new.buf) before c.in-Ok.ensures.bytes.0,
     )
+
+pub returns-then-count-eq0-clause-fits : goal.returns-then-count-eq0-clause-fits
+returns-then-count-eq0-clause-fits g c =
+    let (bytes, has, before) = c.loop.invariant in
+    if_ok c.finish.result _ _ (λ groups told. told bytes has) c.finish.ensures.fits
