@@ -19,7 +19,7 @@ mod words;
 use print::write_output;
 use reading::read_section;
 use std::alloc::Global;
-use std::io::{Read, Write};
+use std::io::{BufWriter, Read, Write};
 use std::process::ExitCode;
 use stop::{Stop, report};
 use walrus_types::{GroupAt, ReadError, normalise};
@@ -55,24 +55,15 @@ fn normalise_text<R: Read, W: Write>(alloc: Global, reader: &mut R, out: &mut W)
 {
     let section = read_section(alloc, reader)?;
     let (groups, map) = normalise(alloc, section.as_slice())?;
-    write_whole(alloc, out, groups.as_slice(), map.as_slice())
+    write_whole(out, groups.as_slice(), map.as_slice())
 }
 
-/// Writes the output, once all of its text is there.
-fn write_whole<W: Write>(
-    alloc: Global,
-    out: &mut W,
-    groups: &[GroupAt],
-    map: &[u32],
-) -> Result<(), Stop>
+/// Writes the whole output, and sends on what the writer still holds.
+fn write_whole<W: Write>(out: &mut W, groups: &[GroupAt], map: &[u32]) -> Result<(), Stop>
     ensures written { OnOk result (Appends (W.contents out.old) (W.contents out.new) (output_text groups.now map.now)) }
     ensures stopped { IfErr result (λ stop. 2 < status_of stop) }
 {
-    let mut text = Vec::new(alloc);
-    let Ok(()) = write_output(&mut text, groups, map) else {
-        return Err(Stop::Memory);
-    };
-    let Ok(()) = out.write_all(text.as_slice()) else {
+    let Ok(()) = write_output(out, groups, map) else {
         return Err(Stop::Stream);
     };
     let Ok(()) = out.flush() else {
@@ -83,7 +74,10 @@ fn write_whole<W: Write>(
 
 fn main(rt: HostRuntime) -> ExitCode {
     let mut reader = rt.stdin();
-    let mut out = rt.stdout();
     let mut err = rt.stderr();
-    ExitCode::from(run(rt.alloc(), &mut reader, &mut out, &mut err))
+    let status = match BufWriter::new(rt.alloc(), rt.stdout()) {
+        Ok(mut out) => run(rt.alloc(), &mut reader, &mut out, &mut err),
+        Err(_) => report(&Stop::Memory, &mut err),
+    };
+    ExitCode::from(status)
 }

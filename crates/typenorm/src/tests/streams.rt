@@ -109,7 +109,7 @@ fn failed_write(rt: HostRuntime) -> Result<(), Fail> {
     let alloc = rt.alloc();
     for text in TEXTS {
         let whole = answer(alloc, text);
-        for writes_left in 0..8 {
+        for writes_left in 0..200 {
             let mut reader = Drip {
                 rest: text,
                 reads_left: 1000,
@@ -120,7 +120,7 @@ fn failed_write(rt: HostRuntime) -> Result<(), Fail> {
             };
             let mut err: Vec<u8> = Vec::new(alloc);
             let status = run(alloc, &mut reader, &mut out, &mut err);
-            if writes_left == 0 && !whole.out.is_empty() {
+            if out.bytes.len() < whole.out.len() {
                 assert_eq!(rt; status, 4);
             } else {
                 assert_eq!(rt; status, whole.status);
