@@ -30,6 +30,7 @@ pub mod Orders
 pub mod Contents
 pub mod WrittenFew
 pub mod Worked
+pub mod Weights
 pub mod Renaming
 pub mod UsedUpLemmas
 pub mod ReaderLemmas

@@ -1,23 +1,18 @@
-use Rattle.std.proofs.Common.{◌≡◌, ◌≢◌, ℕ, ◌+◌, ◌<◌, ◌≤◌, List, [], ◌∷◌, ◌++◌, map, length, refl, sym, ap, subst, ◌∙◌, arith, rules, zero-add, take, get_or, zero, suc, Some, None, Option, option_map, true, false, Bool, eqb, ◌⊎◌, inl, inr}
-use Rattle.std.proofs.lemmas.List.{take_more, map-append, length-map, get_or-map}
-use Rattle.std.proofs.lemmas.Option.{slice_get_within, slice_get_cases, slice_get-get_or, slice_get-map, get_or_from_slice_get}
+use Rattle.std.proofs.Common.{◌≡◌, ◌≢◌, ℕ, ◌+◌, ◌<◌, ◌≤◌, List, [], ◌∷◌, map, length, refl, sym, ap, subst, ◌∙◌, arith, zero-add, get_or, zero, suc, Some, false, eqb, ◌⊎◌, inl, inr}
+use Rattle.std.proofs.lemmas.List.{length-map, get_or-map}
+use Rattle.std.proofs.lemmas.Option.{slice_get_within, slice_get_cases, slice_get-get_or, get_or_from_slice_get}
 use Rattle.std.proofs.lemmas.Bool.Decides.{nat_tests}
 use Rattle.std.proofs.lemmas.Bool.{eqb-false}
-use Rattle.std.proofs.lemmas.List.Sorted.{IsPermutation-map, All-permutation, Contains-permutation, length_permutation, sorted_far, ranks_by, IsPermutation-sym}
+use Rattle.std.proofs.lemmas.List.Sorted.{IsPermutation-map, All-permutation, Contains-permutation, length_permutation, sorted_far, ranks_by}
 use Rattle.std.proofs.lemmas.Map.Keys.{IsDistinct-IsPermutation, IsDistinct-from_apart, ge_from_not_lt, apart_from_distinct}
-use Rattle.std.proofs.lemmas.Cmp.{nat_eq_equiv, nat_cmp_total, on_total, then_total, ranked}
-use Rattle.std.specs.List.{slice_get, slice_index, All, Contains, range_with_len}
+use Rattle.std.proofs.lemmas.Cmp.{nat_eq_equiv, nat_cmp_total, on_total, then_total}
+use Rattle.std.specs.List.{slice_get, slice_index, All, Contains, range_with_len, enumerate_from}
 use Rattle.std.specs.List.Sorted.{IsPermutation, IsSorted}
 use Rattle.std.specs.Cmp.{IsTotalOrder}
 use Rattle.std.specs.Ordering.{nat_cmp, ordering_then, is_lt, ordering_reverse}
 use Rattle.std.specs.declared.cmp.Ordering.{Ordering}
 use Rattle.std.specs.declared.cmp.Ordering.TheVariants.{Less, Equal, Greater}
-use Rattle.std.proofs.lemmas.Grind.{common_steps}
-use Rattle.walrus_types.specs.Steps.StableOrder.{numbered, IsOrder, Before}
-
-pub numbered-push : {T : Type 0} (i : ℕ) (xs : List T) (x : T) → numbered i (xs ++ x ∷ []) ≡ numbered i xs ++ (x, i + length xs) ∷ []
-numbered-push i [] x = grind arith
-numbered-push i (y ∷ xs) x = let rest : numbered (i + 1) (xs ++ x ∷ []) ≡ numbered (i + 1) xs ++ (x, i + 1 + length xs) ∷ [] = numbered-push (i + 1) xs x in let e : i + 1 + length xs ≡ i + suc (length xs) = omega arith in ap (λ t. (y, i) ∷ t) (rest ∙ ap (λ (n : ℕ). numbered (i + 1) xs ++ (x, n) ∷ []) e)
+use Rattle.walrus_types.specs.Steps.StableOrder.{numbered, IsOrder}
 
 length-numbered : {T : Type 0} (i : ℕ) (xs : List T) → length (numbered i xs) ≡ length xs
 length-numbered i [] = refl
@@ -32,12 +27,10 @@ numbered-at i (x ∷ xs) (suc k) p h = let r : (p.1 ≡ i + 1 + k) × (slice_get
 numbered-own : {T : Type 0} (xs : List T) → All (λ (p : T × ℕ). slice_get xs p.1 ≡ Some p.0) (numbered 0 xs)
 numbered-own xs k d h = let at_k : slice_get (numbered 0 xs) k ≡ Some (get_or (numbered 0 xs) k d) = slice_get-get_or (numbered 0 xs) k d h in let two : _ = numbered-at 0 xs k (get_or (numbered 0 xs) k d) at_k in let e : (get_or (numbered 0 xs) k d).1 ≡ k = omega (arith, two.0) in rw e two.1
 
--- one pair more
-pub numbered-more : {T : Type 0} (xs : List T) (ps : List (T × ℕ)) (i : ℕ) (x : T) → i < length xs → x ≡ get_or xs i x → ps ≡ numbered 0 (take i xs) → ps ++ (x, i) ∷ [] ≡ numbered 0 (take (i + 1) xs)
-numbered-more xs ps i x below is so_far =
-    let grown : take (i + 1) xs ≡ take i xs ++ x ∷ [] = take_more xs i x below ∙ ap (λ y. take i xs ++ y ∷ []) (sym is) in
-    let len : 0 + length (take i xs) ≡ i = grind (arith, common_steps) in
-    ap (λ t. t ++ (x, i) ∷ []) so_far ∙ ap (λ (n : ℕ). numbered 0 (take i xs) ++ (x, n) ∷ []) (sym len) ∙ sym (ap (numbered 0) grown ∙ numbered-push 0 (take i xs) x)
+-- what `enumerate` gives, turned round
+pub numbered-enumerated : {T : Type 0} (i : ℕ) (xs : List T) → map (λ (p : ℕ × T). (p.1, p.0)) (enumerate_from i xs) ≡ numbered i xs
+numbered-enumerated i [] = refl
+numbered-enumerated i (x ∷ xs) = ap (λ ps. (x, i) ∷ ps) (numbered-enumerated (i + 1) xs)
 
 -- no two pairs have the same place
 numbered-apart : {T : Type 0} (xs : List T) (i j : ℕ) (d : T × ℕ) → i < j → j < length (numbered 0 xs) → eqb (get_or (numbered 0 xs) i d).1 (get_or (numbered 0 xs) j d).1 ≡ false

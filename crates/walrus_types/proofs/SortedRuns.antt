@@ -1,20 +1,18 @@
 -- The order of the groups from the order of their keys.
-use Rattle.std.proofs.Common.{◌≡◌, ℕ, zero, suc, ◌<◌, List, [], ◌∷◌, length, refl, sym, ap, subst, ◌∙◌, arith, Some, None, Option, option_copied, ◌⊎◌, inl, inr, Bool}
+use Rattle.std.proofs.Common.{◌≡◌, ℕ, ◌<◌, List, length, refl, sym, ap, subst, ◌∙◌, arith, Some, Option, ◌⊎◌, inl, inr, Bool}
 use Rattle.std.specs.List.{slice_get, slice_index, range_with_len}
 use Rattle.std.specs.List.Sorted.{IsPermutation}
 use Rattle.std.specs.Cmp.{IsTotalOrder}
 use Rattle.std.specs.Ordering.{nat_cmp, ordering_then, ordering_reverse}
 use Rattle.std.specs.declared.cmp.Ordering.{Ordering}
 use Rattle.std.specs.declared.cmp.Ordering.TheVariants.{Less, Equal, Greater}
-use Rattle.std.proofs.lemmas.List.{length-map}
 use Rattle.std.proofs.lemmas.Option.{slice_get_within}
 use Rattle.std.proofs.lemmas.Bool.{cases_lt}
 use Rattle.std.proofs.lemmas.Bool.Decides.{nat_tests}
-use denote.Ref.{Bor}
 use Rattle.walrus_types.specs.Steps.StableOrder.{IsOrder}
 use Rattle.walrus_types.specs.Steps.Runs.{AreStarts}
-use Rattle.walrus_types.specs.Steps.Runs.{heads_of, StandsBefore, SortsRuns}
-use Rattle.walrus_types.specs.Steps.Runs.{keys_of, AreKeys}
+use Rattle.walrus_types.specs.Steps.Runs.{StandsBefore, SortsRuns}
+use Rattle.walrus_types.specs.Steps.Runs.{AreKeys}
 
 some_inj : {A : Type 0} {x y : A} → Some x ≡ Some y → x ≡ y
 some_inj h = cc
@@ -71,20 +69,11 @@ stands cmp o free starts are p q x y in_p in_q first same = elim (cases_lt p q) 
   ]
 ]
 
--- a key that is read as s and x
-at_key : {T : Type 0} (keys : List (ℕ × Option (Bor T))) (g s : ℕ) (x : T) → slice_get (keys_of keys) g ≡ Some (s, Some x) → (b : Bor T) × ((slice_get keys g ≡ Some (s, Some b)) × (b.now ≡ x))
-at_key [] g s x h = cc
-at_key ((t, None) ∷ keys) zero s x h = let e : None ≡ Some x = ap (λ (k : ℕ × Option _). k.1) (some_inj h) in let k : ⊥ = cc in absurd k
-at_key {T} ((t, Some b) ∷ keys) zero s x h = let e : t ≡ s = ap (λ (k : ℕ × Option T). k.0) (some_inj h) in let f : b.now ≡ x = some_inj (ap (λ (k : ℕ × Option T). k.1) (some_inj h)) in (b, (ap (λ (n : ℕ). Some (n, Some b)) e, f))
-at_key (k ∷ keys) (suc g) s x h = at_key keys g s x h
-
-pub group_order_from : {T : Type 0} (cmp : T → T → Ordering) → IsTotalOrder cmp → (o : Option (Bor T) → Option (Bor T) → Ordering) → ((a b : Bor T) → o (Some a) (Some b) ≡ cmp a.now b.now)
-    → (free : List Bool) (starts : List ℕ) (heads : List (Option (Bor T))) (keys : List (ℕ × Option (Bor T))) (order : List ℕ) → length free ≡ length heads → AreStarts free starts → AreKeys starts (heads_of heads) (keys_of keys)
-    → IsOrder (λ (x y : ℕ × Option (Bor T)). ordering_then (nat_cmp x.0 y.0) (o x.1 y.1)) keys order → SortsRuns cmp free (heads_of heads) order
+pub group_order_from : {T : Type 0} (cmp : T → T → Ordering) → IsTotalOrder cmp → (o : Option T → Option T → Ordering) → ((a b : T) → o (Some a) (Some b) ≡ cmp a b)
+    → (free : List Bool) (starts : List ℕ) (heads : List (Option T)) (keys : List (ℕ × Option T)) (order : List ℕ) → length free ≡ length heads → AreStarts free starts → AreKeys starts heads keys
+    → IsOrder (λ (x y : ℕ × Option T). ordering_then (nat_cmp x.0 y.0) (o x.1 y.1)) keys order → SortsRuns cmp free heads order
 group_order_from {T} cmp total o agree free starts heads keys order as_long are are_keys is =
-    let v : ℕ × Option (Bor T) → ℕ × Option T = λ k. (k.0, option_copied k.1) in
-    let all : length keys ≡ length (heads_of heads) = sym (length-map keys v) ∙ are_keys.as_many in
-    let all' : length (heads_of heads) ≡ length heads = length-map heads option_copied in
+    let all : length keys ≡ length heads = are_keys.as_many in
     record {
       as_many = is.as_many ∙ all;
       permutation = subst (λ (n : ℕ). IsPermutation (range_with_len 0 n) order) all is.permutation;
@@ -93,10 +82,8 @@ group_order_from {T} cmp total o agree free starts heads keys order as_long are 
       stands = λ i j less below x y at_i at_j.
           let p : ℕ = slice_index order i in
           let q : ℕ = slice_index order j in
-          let a : _ = at_key keys p (slice_index starts p) x (are_keys.each p (Some x) at_i) in
-          let b : _ = at_key keys q (slice_index starts q) y (are_keys.each q (Some y) at_j) in
-          let first : First (slice_index starts p) (slice_index starts q) (o (Some a.0) (Some b.0)) p q = is.ascending i j less below _ _ a.1.0 b.1.0 in
-          let first' : First (slice_index starts p) (slice_index starts q) (cmp x y) p q = rw (agree a.0 b.0, a.1.1, b.1.1) at first in
-          stands cmp total free starts are p q x y (omega (arith, slice_get_within (heads_of heads) p (Some x) at_i, all', as_long)) (omega (arith, slice_get_within (heads_of heads) q (Some y) at_j, all', as_long)) first'
-          (λ e. some_inj (some_inj (sym at_i ∙ ap (slice_get (heads_of heads)) e ∙ at_j)));
+          let first : First (slice_index starts p) (slice_index starts q) (o (Some x) (Some y)) p q = is.ascending i j less below _ _ (are_keys.each p (Some x) at_i) (are_keys.each q (Some y) at_j) in
+          let first' : First (slice_index starts p) (slice_index starts q) (cmp x y) p q = rw (agree x y) at first in
+          stands cmp total free starts are p q x y (omega (arith, slice_get_within heads p (Some x) at_i, as_long)) (omega (arith, slice_get_within heads q (Some y) at_j, as_long)) first'
+          (λ e. some_inj (some_inj (sym at_i ∙ ap (slice_get heads) e ∙ at_j)));
     }

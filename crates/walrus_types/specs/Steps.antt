@@ -6,3 +6,4 @@ pub mod FreeGroups
 pub mod StableOrder
 pub mod Runs
 pub mod WrittenGroups
+pub mod Weights

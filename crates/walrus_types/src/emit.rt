@@ -14,6 +14,7 @@ mod free;
 mod order;
 #[cfg(test)]
 mod tests;
+mod weighed;
 mod write;
 
 use crate::{EmitError, GroupAt, IdsToIndices, ModuleTypes, RecGroup};
@@ -70,7 +71,7 @@ fn writing_order(alloc: Global, table: &ModuleTypes) -> Result<Vec<usize>, Alloc
     let groups = table.rec_groups();
     let free = free_groups(alloc, table, groups)?;
     let heads = heads(alloc, table, groups)?;
-    let order = group_order(alloc, free.as_slice(), heads.as_slice())?;
+    let order = group_order(alloc, free.as_slice(), heads)?;
     written_places(alloc, table, groups, order.as_slice())
 }
 

@@ -1,7 +1,6 @@
 -- Runs of free things in a list, and the order that sorts each run by itself.
-use Rattle.std.specs.Prelude.{◌≡◌, ℕ, ◌<◌, ◌≤◌, List, length, map, slice_get, slice_index, Some, Option, option_copied, Bool, true, ◌⊎◌, IsPermutation}
+use Rattle.std.specs.Prelude.{◌≡◌, ℕ, ◌<◌, ◌≤◌, List, length, slice_get, slice_index, Some, Option, Bool, true, ◌⊎◌, IsPermutation}
 use Rattle.std.specs.List.{range_with_len}
-use denote.Ref.{Bor}
 use Rattle.std.specs.declared.cmp.Ordering.{Ordering}
 use Rattle.std.specs.declared.cmp.Ordering.TheVariants.{Less}
 
@@ -14,14 +13,6 @@ pub record AreStarts (free : List Bool) (starts : List ℕ) : Type 0 where
   pub as_many : length starts ≡ length free
   pub together : (g h : ℕ) → g < h → h < length free → AllFree free g h → slice_index starts g ≡ slice_index starts h
   pub apart : (g h : ℕ) → g < h → h < length free → AllFree free g h ⊎ (slice_index starts g < slice_index starts h)
-
--- the heads that these references are of
-abbrev pub heads_of : {T : Type 0} → List (Option (Bor T)) → List (Option T)
-heads_of hs = map option_copied hs
-
--- the start and the head that each of these pairs holds
-abbrev pub keys_of : {T : Type 0} → List (ℕ × Option (Bor T)) → List (ℕ × Option T)
-keys_of ks = map (λ k. (k.0, option_copied k.1)) ks
 
 -- each one's start and head
 pub record AreKeys {T : Type 0} (starts : List ℕ) (heads : List (Option T)) (keys : List (ℕ × Option T)) : Type 0 where

@@ -1,15 +1,15 @@
 // Which groups stop no run, and which are written.
-ghost use Rattle.std.specs.Prelude.{◌≡◌, IfOk, map, All, not, option_copied};
+ghost use Rattle.std.specs.Prelude.{◌≡◌, IfOk, map, All, not};
 ghost use Rattle.std.specs.List.{list_all, list_any};
 ghost use Rattle.walrus_arena.specs.Arena.{IsLive};
 ghost use Rattle.walrus_types.specs.declared.table.RecGroup.{RecGroup};
 ghost use Rattle.walrus_types.specs.Definition.{composite_names, supertype_names, names_of};
 ghost use Rattle.walrus_types.specs.Emitted.{is_entry_at};
 ghost use Rattle.walrus_types.specs.Steps.FreeGroups.{is_own_or_dead, names_none_other, is_free, head};
-ghost use Rattle.walrus_types.specs.Steps.Runs.{heads_of};
 ghost use Rattle.walrus_types.specs.Types.{kind_composite, type_definition};
 ghost use Rattle.walrus_types.specs.Value.{heap_names, val_names, storage_names, field_names};
 
+use super::weighed::Weighed;
 use crate::{
     CompositeType, FieldType, Heap, HeapType, ModuleTypes, RecGroup, Storage, StorageType, Type,
     TypeId, Val, ValType,
@@ -127,13 +127,13 @@ pub(super) fn free_groups(
     Ok(free)
 }
 
-fn head_of<'a>(table: &'a ModuleTypes, group: &RecGroup) -> Option<&'a Type>
+fn head_of<'a>(table: &'a ModuleTypes, group: &RecGroup) -> Option<Weighed<'a>>
     requires { All (IsLive table.now.types.slots) group.now.types }
-    ensures { option_copied result ≡ head table.now.types.slots group.now }
+    ensures { result ≡ head table.now.types.slots group.now }
 {
     match group.types.as_slice() {
         [] => None,
-        [id, ..] => Some(table.get(*id)),
+        [id, ..] => Some(Weighed::new(table.get(*id))),
     }
 }
 
@@ -142,9 +142,9 @@ pub(super) fn heads<'a>(
     alloc: Global,
     table: &'a ModuleTypes,
     groups: &[RecGroup],
-) -> Result<Vec<Option<&'a Type>>, AllocError>
+) -> Result<Vec<Option<Weighed<'a>>>, AllocError>
     requires { All (λ (g : RecGroup). All (IsLive table.now.types.slots) g.types) groups.now }
-    ensures { IfOk result (λ v. heads_of v.items ≡ map (head table.now.types.slots) groups.now) }
+    ensures { IfOk result (λ v. v.items ≡ map (head table.now.types.slots) groups.now) }
 {
     let mut heads = Vec::with_capacity(alloc, groups.len())?;
     for group in groups {

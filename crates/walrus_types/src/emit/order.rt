@@ -1,7 +1,7 @@
 // The order in which groups are written.
 ghost use Rattle.std.specs.Prelude.{◌≡◌, IfOk, map, length};
 ghost use Rattle.walrus_types.specs.Steps.StableOrder.{IsOrder, numbered};
-ghost use Rattle.walrus_types.specs.Steps.Runs.{AreStarts, AreKeys, SortsRuns, heads_of, keys_of};
+ghost use Rattle.walrus_types.specs.Steps.Runs.{AreStarts, AreKeys, SortsRuns};
 
 use std::alloc::{AllocError, Global};
 
@@ -22,29 +22,25 @@ fn run_starts(alloc: Global, free: &[bool]) -> Result<Vec<usize>, AllocError>
     Ok(starts)
 }
 
-fn keyed<'a, T>(
+fn keyed<K: Drop>(
     alloc: Global,
     starts: &[usize],
-    heads: &[Option<&'a T>],
-) -> Result<Vec<(usize, Option<&'a T>)>, AllocError>
-    requires { length starts.now ≡ length heads.now }
-    ensures { IfOk result (λ v. AreKeys starts.now (heads_of heads.now) (keys_of v.items)) }
+    heads: Vec<Option<K>>,
+) -> Result<Vec<(usize, Option<K>)>, AllocError>
+    requires { length starts.now ≡ length heads.items }
+    ensures { IfOk result (λ v. AreKeys starts.now heads.items v.items) }
 {
-    let mut keys = Vec::with_capacity(alloc, heads.len())?;
-    for (group, head) in heads.iter().enumerate() {
-        keys.push((starts[group], *head))?;
-    }
-    Ok(keys)
+    starts.iter().copied().zip(heads).collect(alloc)
 }
 
-fn paired<T: Copy>(alloc: Global, items: &[T]) -> Result<Vec<(T, usize)>, AllocError>
-    ensures { IfOk result (λ v. v.items ≡ numbered 0 items.now) }
+fn paired<T: Drop>(alloc: Global, items: Vec<T>) -> Result<Vec<(T, usize)>, AllocError>
+    ensures { IfOk result (λ v. v.items ≡ numbered 0 items.items) }
 {
-    let mut pairs = Vec::with_capacity(alloc, items.len())?;
-    for (place, item) in items.iter().enumerate() {
-        pairs.push((*item, place))?;
-    }
-    Ok(pairs)
+    items
+        .into_iter()
+        .enumerate()
+        .map(|(place, item)| (item, place))
+        .collect(alloc)
 }
 
 fn second_of<T>(alloc: Global, pairs: &[(T, usize)]) -> Result<Vec<usize>, AllocError>
@@ -53,8 +49,8 @@ fn second_of<T>(alloc: Global, pairs: &[(T, usize)]) -> Result<Vec<usize>, Alloc
     pairs.iter().map(|pair| pair.1).collect(alloc)
 }
 
-fn places_in_order<T: Ord + Copy>(alloc: Global, items: &[T]) -> Result<Vec<usize>, AllocError>
-    ensures { IfOk result (λ v. IsOrder T.cmp items.now v.items) }
+fn places_in_order<T: Ord + Drop>(alloc: Global, items: Vec<T>) -> Result<Vec<usize>, AllocError>
+    ensures { IfOk result (λ v. IsOrder T.cmp items.items v.items) }
 {
     let mut pairs = paired(alloc, items)?;
     pairs.sort()?;
@@ -62,15 +58,15 @@ fn places_in_order<T: Ord + Copy>(alloc: Global, items: &[T]) -> Result<Vec<usiz
 }
 
 // The groups with each run of free ones sorted by their heads. Groups with equal heads keep their order.
-pub(super) fn group_order<T: Ord>(
+pub(super) fn group_order<K: Ord + Drop>(
     alloc: Global,
     free: &[bool],
-    heads: &[Option<&T>],
+    heads: Vec<Option<K>>,
 ) -> Result<Vec<usize>, AllocError>
-    requires { length free.now ≡ length heads.now }
-    ensures { IfOk result (λ v. SortsRuns T.cmp free.now (heads_of heads.now) v.items) }
+    requires { length free.now ≡ length heads.items }
+    ensures { IfOk result (λ v. SortsRuns K.cmp free.now heads.items v.items) }
 {
     let starts = run_starts(alloc, free)?;
     let keys = keyed(alloc, starts.as_slice(), heads)?;
-    places_in_order(alloc, keys.as_slice())
+    places_in_order(alloc, keys)
 }

@@ -1,23 +1,13 @@
-use Rattle.std.proofs.Common.{◌≡◌, ◌+◌, length, arith, ◌∙◌, refl, sym, ap}
-use Rattle.std.proofs.lemmas.List.{length-map, length_push}
-use Rattle.std.proofs.lemmas.Option.{slice_get_within}
-use Rattle.walrus_types.specs.Steps.Runs.{heads_of}
-use Rattle.walrus_types.proofs.GroupKeys.{keys_more}
+use Rattle.std.proofs.Common.{rules}
+use Rattle.std.proofs.lemmas.Result.{IfOk-weaker}
+use Rattle.std.proofs.lemmas.Iterator.{YieldsList-from_slice, YieldsList-from_zip, items_from_collect}
+use Rattle.std.proofs.lemmas.Iterator.Consumers.{YieldsList-at, YieldsList-from_copied}
+use Rattle.std.proofs.lemmas.Iterator.Adapters.{YieldsList-from_vec}
+use Rattle.walrus_types.proofs.GroupKeys.{keys_from_zip}
 use Rattle.walrus_types.proofs.emit.order.keyed.Goals as goal
-
-pub loop-group-preserved : goal.loop-group-preserved
-loop-group-preserved g c =
-    let kept = c.loop-group.invariant in
-    rw c.in_ok-push.ensures.items (record {
-      as_many = length_push _ _ ∙ ap (λ n. n + 1) kept.as_many;
-      each = keys_more c.args.starts.now c.args.heads.now c.loop-group.keys.items c.loop-group.group _ _ kept.as_many c.loop-group-test.true c.index-heads-group.is refl kept.each;
-    })
 
 pub returns : goal.returns
 returns g c =
-    let kept = c.loop-group.invariant in
-    let all : c.loop-group.group ≡ length c.args.heads.now = omega arith in
-    record {
-      as_many = length-map c.loop-group.keys.items _ ∙ (kept.as_many ∙ (all ∙ sym (length-map c.args.heads.now _)));
-      each = λ k h at_k. kept.each k h (rw all (rw (length-map c.args.heads.now) at (slice_get_within (heads_of c.args.heads.now) k h at_k))) at_k;
-    }
+    let left = YieldsList-at c.zip.ensures.first (YieldsList-from_copied (YieldsList-at c.copied.ensures.source (YieldsList-from_slice c.args.starts.now c.iter.ensures.rest))) in
+    let right = YieldsList-from_vec {s = c.zip.result.b} c.args.heads.items (search rules) (search rules) in
+    IfOk-weaker c.collect.result _ _ (λ v h. keys_from_zip c.args.starts.now c.args.heads.items v.items c.requires h) (items_from_collect c.collect.result c.collect.ensures.ran (YieldsList-from_zip left right))

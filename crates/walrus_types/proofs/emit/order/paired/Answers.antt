@@ -1,8 +1,14 @@
-use Rattle.std.proofs.Common.{rules, ◌≡◌, ◌∙◌, ap, refl, take, length, arith, ◌<◌}
-use Rattle.std.proofs.lemmas.List.{take_more, map-append}
-use Rattle.walrus_types.specs.Steps.StableOrder.{numbered}
-use Rattle.walrus_types.proofs.SortedPlaces.{numbered-more}
+use Rattle.std.proofs.Common.{rules, ◌∙◌, ℕ}
+use Rattle.std.proofs.lemmas.Result.{IfOk-weaker}
+use Rattle.std.proofs.lemmas.Iterator.{YieldsList-from_map, items_from_collect}
+use Rattle.std.proofs.lemmas.Iterator.Consumers.{YieldsList-at, YieldsList-from_enumerate}
+use Rattle.std.proofs.lemmas.Iterator.Adapters.{YieldsList-from_vec}
+use Rattle.walrus_types.proofs.SortedPlaces.{numbered-enumerated}
 use Rattle.walrus_types.proofs.emit.order.paired.Goals as goal
 
-pub loop-place-preserved : goal.loop-place-preserved
-loop-place-preserved g c = rw c.in_ok-push.ensures.items (numbered-more _ _ _ _ c.loop-place-test.true c.index-items-place.is c.loop-place.invariant)
+pub returns : goal.returns
+returns g c =
+    let items = YieldsList-from_vec {s = c.into_iter.result} c.args.items.items c.into_iter.ensures.rest (search rules) in
+    let counted = YieldsList-from_enumerate (YieldsList-at c.enumerate.ensures.source items) c.enumerate.ensures.count in
+    let turned = YieldsList-from_map _ (λ (p : ℕ × g.row.T.Denot). (p.1, p.0)) (YieldsList-at c.map.ensures.source counted) c.map.ensures.closure (λ x r q k. search rules) in
+    IfOk-weaker c.collect.result _ _ (λ v h. h ∙ numbered-enumerated 0 c.args.items.items) (items_from_collect c.collect.result c.collect.ensures.ran turned)

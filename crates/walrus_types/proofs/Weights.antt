@@ -1,0 +1,316 @@
+-- Of two types the lighter is less.
+use Rattle.std.proofs.Common.{◌≡◌, ℕ, zero, suc, ◌+◌, ◌*◌, ◌<◌, ◌≤◌, inl, inr, Bool, true, false, ◌==◌, cond, List, [], ◌∷◌, refl, ap, sym, ◌∙◌, arith}
+use Rattle.std.specs.declared.cmp.Ordering.{Ordering}
+use Rattle.std.specs.declared.cmp.Ordering.TheVariants.{Less, Equal, Greater}
+use Rattle.std.specs.Ordering.{nat_cmp, ordering_then, ordering_reverse}
+use Rattle.std.specs.Cmp.{IsTotalOrder}
+use Rattle.std.specs.Cmp.Lexicographic.{slice_cmp}
+use Rattle.std.proofs.lemmas.Bool.{cases_lt}
+use Rattle.std.proofs.lemmas.Bool.Decides.{nat_tests}
+use Rattle.std.proofs.lemmas.Cmp.{nat_cmp_total, on_total, then_total}
+use Rattle.walrus_types.specs.declared.ty.composite.CompositeType.{CompositeType}
+use Rattle.walrus_types.specs.declared.ty.composite.CompositeType.TheVariants as kind
+use Rattle.walrus_types.specs.declared.ty.value.Val.{Val}
+use Rattle.walrus_types.specs.declared.ty.value.Val.TheVariants as val
+use Rattle.walrus_types.specs.declared.ty.value.Storage.{Storage}
+use Rattle.walrus_types.specs.declared.ty.value.Storage.TheVariants as storage
+use Rattle.walrus_types.specs.declared.ty.value.Field.{Field}
+use Rattle.walrus_types.specs.Definition.{composite_cmp}
+use Rattle.walrus_types.specs.Steps.Weights.{Weight, weight_cmp, storage_index, rank, val_rank, field_rank, first_rank, after_first, ranks, kind_weight, type_weight}
+use Rattle.walrus_types.specs.Types.{ModuleType, kind_composite}
+use Rattle.walrus_types.specs.Value.{val_index, val_cmp, storage_cmp, field_cmp, bool_index, bool_cmp}
+use Rattle.walrus_types.specs.contracts.ty.TypeOrd.TheImpl.Laws as type_laws
+use Rattle.walrus_types.proofs.Orders.Types.{type_cmp, type_is}
+
+val_small : (v : Val ℕ) → val_index v ≤ 5
+val_small val.I32 = omega arith
+val_small val.I64 = omega arith
+val_small val.F32 = omega arith
+val_small val.F64 = omega arith
+val_small val.V128 = omega arith
+val_small (val.Ref r) = omega arith
+
+val_less : (v w : Val ℕ) → val_index v < val_index w → val_cmp v w ≡ Less
+val_less val.I32 val.I32 h = absurd (omega (arith, h))
+val_less val.I32 val.I64 h = refl
+val_less val.I32 val.F32 h = refl
+val_less val.I32 val.F64 h = refl
+val_less val.I32 val.V128 h = refl
+val_less val.I32 (val.Ref q) h = refl
+val_less val.I64 val.I32 h = absurd (omega (arith, h))
+val_less val.I64 val.I64 h = absurd (omega (arith, h))
+val_less val.I64 val.F32 h = refl
+val_less val.I64 val.F64 h = refl
+val_less val.I64 val.V128 h = refl
+val_less val.I64 (val.Ref q) h = refl
+val_less val.F32 val.I32 h = absurd (omega (arith, h))
+val_less val.F32 val.I64 h = absurd (omega (arith, h))
+val_less val.F32 val.F32 h = absurd (omega (arith, h))
+val_less val.F32 val.F64 h = refl
+val_less val.F32 val.V128 h = refl
+val_less val.F32 (val.Ref q) h = refl
+val_less val.F64 val.I32 h = absurd (omega (arith, h))
+val_less val.F64 val.I64 h = absurd (omega (arith, h))
+val_less val.F64 val.F32 h = absurd (omega (arith, h))
+val_less val.F64 val.F64 h = absurd (omega (arith, h))
+val_less val.F64 val.V128 h = refl
+val_less val.F64 (val.Ref q) h = refl
+val_less val.V128 val.I32 h = absurd (omega (arith, h))
+val_less val.V128 val.I64 h = absurd (omega (arith, h))
+val_less val.V128 val.F32 h = absurd (omega (arith, h))
+val_less val.V128 val.F64 h = absurd (omega (arith, h))
+val_less val.V128 val.V128 h = absurd (omega (arith, h))
+val_less val.V128 (val.Ref q) h = refl
+val_less (val.Ref r) val.I32 h = absurd (omega (arith, h))
+val_less (val.Ref r) val.I64 h = absurd (omega (arith, h))
+val_less (val.Ref r) val.F32 h = absurd (omega (arith, h))
+val_less (val.Ref r) val.F64 h = absurd (omega (arith, h))
+val_less (val.Ref r) val.V128 h = absurd (omega (arith, h))
+val_less (val.Ref r) (val.Ref q) h = absurd (omega (arith, h))
+
+val_of : ℕ → Val ℕ
+val_of zero = val.I32
+val_of (suc zero) = val.I64
+val_of (suc (suc zero)) = val.F32
+val_of (suc (suc (suc zero))) = val.F64
+val_of (suc (suc (suc (suc k)))) = val.V128
+
+val_back : (v : Val ℕ) → (val_index v == 5) ≡ false → val_of (val_index v) ≡ v
+unfolding val_of
+val_back val.I32 h = refl
+val_back val.I64 h = refl
+val_back val.F32 h = refl
+val_back val.F64 h = refl
+val_back val.V128 h = refl
+val_back (val.Ref r) h = cc
+
+val_same : (v w : Val ℕ) → val_index v ≡ val_index w → (val_index v == 5) ≡ false → v ≡ w
+val_same v w e h = sym (val_back v h) ∙ ap val_of e ∙ val_back w (ap (λ (n : ℕ). n == 5) (sym e) ∙ h)
+
+storage_less : (s t : Storage ℕ) → storage_index s < storage_index t → storage_cmp s t ≡ Less
+storage_less (storage.Val v) (storage.Val w) h = val_less v w h
+storage_less (storage.Val v) storage.I8 h = refl
+storage_less (storage.Val v) storage.I16 h = refl
+storage_less storage.I8 (storage.Val w) h = absurd (omega (arith, val_small w, h))
+storage_less storage.I8 storage.I8 h = absurd (omega (arith, h))
+storage_less storage.I8 storage.I16 h = refl
+storage_less storage.I16 (storage.Val w) h = absurd (omega (arith, val_small w, h))
+storage_less storage.I16 storage.I8 h = absurd (omega (arith, h))
+storage_less storage.I16 storage.I16 h = absurd (omega (arith, h))
+
+storage_same : (s t : Storage ℕ) → storage_index s ≡ storage_index t → (storage_index s == 5) ≡ false → s ≡ t
+storage_same (storage.Val v) (storage.Val w) e h = ap storage.Val (val_same v w e h)
+storage_same (storage.Val v) storage.I8 e h = absurd (omega (arith, val_small v, e))
+storage_same (storage.Val v) storage.I16 e h = absurd (omega (arith, val_small v, e))
+storage_same storage.I8 (storage.Val w) e h = absurd (omega (arith, val_small w, e))
+storage_same storage.I8 storage.I8 e h = refl
+storage_same storage.I8 storage.I16 e h = absurd (omega (arith, e))
+storage_same storage.I16 (storage.Val w) e h = absurd (omega (arith, val_small w, e))
+storage_same storage.I16 storage.I8 e h = absurd (omega (arith, e))
+storage_same storage.I16 storage.I16 e h = refl
+
+-- ranks are told apart by the place, and then by mutability
+data Told (i j : ℕ) (m n : Bool) : Type 0 where
+  by_place : i < j → Told i j m n
+  by_mutability : i ≡ j → (i == 5) ≡ false → nat_cmp (bool_index m) (bool_index n) ≡ Less → Told i j m n
+
+below : (a b : ℕ) → nat_cmp a b ≡ Less → a < b
+below a b h = grind (arith, nat_tests, h)
+
+tied : (a b : ℕ) → nat_cmp a b ≡ Equal → a ≡ b
+tied a b h = grind (arith, nat_tests, h)
+
+itself : (a : ℕ) → nat_cmp a a ≡ Equal
+itself a = grind (arith, nat_tests)
+
+same_place : (i j : ℕ) (b c m n : Bool) → (i == 5) ≡ b → (j == 5) ≡ c → j ≤ i → 2 * (i + 1) + cond b 0 (bool_index m) < 2 * (j + 1) + cond c 0 (bool_index n) → Told i j m n
+same_place i j true true m n e f w h = absurd (omega (arith, w, h))
+same_place i j true false m false e f w h = absurd (omega (arith, w, h))
+same_place i j true false m true e f w h = let s : i ≡ j = omega (arith, w, h) in let k : true ≡ false = sym e ∙ (ap (λ (x : ℕ). x == 5) s ∙ f) in cc
+same_place i j false true true n e f w h = absurd (omega (arith, w, h))
+same_place i j false true false n e f w h = absurd (omega (arith, w, h))
+same_place i j false false true true e f w h = absurd (omega (arith, w, h))
+same_place i j false false true false e f w h = absurd (omega (arith, w, h))
+same_place i j false false false false e f w h = absurd (omega (arith, w, h))
+same_place i j false false false true e f w h = by_mutability (omega (arith, w, h)) e refl
+
+rank_less : (i j : ℕ) (m n : Bool) → nat_cmp (rank i m) (rank j n) ≡ Less → Told i j m n
+rank_less i j m n h = elim (cases_lt i j) [
+  | inl w ↦ by_place w
+  | inr w ↦ same_place i j (i == 5) (j == 5) m n refl refl (omega (arith, w)) (below (rank i m) (rank j n) h)
+]
+
+-- equal ranks that tell all are of one place and one mutability
+rank_same_at : (i j : ℕ) (b c m n : Bool) → (i == 5) ≡ b → (j == 5) ≡ c → 2 * (i + 1) + cond b 0 (bool_index m) ≡ 2 * (j + 1) + cond c 0 (bool_index n) → ((2 * (i + 1) + cond b 0 (bool_index m)) == 12) ≡ false → (i ≡ j) × ((i == 5) ≡ false) × (bool_cmp m n ≡ Equal)
+rank_same_at i j true c m n e f s h = let five : i ≡ 5 = grind (arith, nat_tests, e) in let k : ⊥ = grind (arith, nat_tests, five, h) in absurd k
+rank_same_at i j false true true n e f s h = absurd (omega (arith, s))
+rank_same_at i j false true false n e f s h = let same : i ≡ j = omega (arith, s) in let k : true ≡ false = sym f ∙ (ap (λ (x : ℕ). x == 5) (sym same) ∙ e) in cc
+rank_same_at i j false false true true e f s h = (omega (arith, s), e, refl)
+rank_same_at i j false false true false e f s h = absurd (omega (arith, s))
+rank_same_at i j false false false true e f s h = absurd (omega (arith, s))
+rank_same_at i j false false false false e f s h = (omega (arith, s), e, refl)
+
+rank_same : (i j : ℕ) (m n : Bool) → rank i m ≡ rank j n → (rank i m == 12) ≡ false → (i ≡ j) × ((i == 5) ≡ false) × (bool_cmp m n ≡ Equal)
+rank_same i j m n s h = rank_same_at i j (i == 5) (j == 5) m n refl refl s h
+
+rank_some : (i : ℕ) (m : Bool) → nat_cmp (rank i m) 0 ≡ Greater
+rank_some i m = let some : 0 < rank i m = omega arith in grind (arith, nat_tests, some)
+
+-- what is asked of a rank, so that lists can be told by the ranks of their first items
+record Tells {A : Type 0} (r : A → ℕ) (cmp : A → A → Ordering) : Type 0 where
+  some : (x : A) → nat_cmp (r x) 0 ≡ Greater
+  less : (x y : A) → nat_cmp (r x) (r y) ≡ Less → cmp x y ≡ Less
+  same : (x y : A) → r x ≡ r y → (r x == 12) ≡ false → cmp x y ≡ Equal
+
+module _ {A : Type 0} (r : A → ℕ) (cmp : A → A → Ordering) (tells : Tells r cmp) where
+  first_less : (xs ys : List A) → nat_cmp (first_rank r xs) (first_rank r ys) ≡ Less → slice_cmp cmp xs ys ≡ Less
+  first_less [] [] h = cc
+  first_less [] (y ∷ ys) h = refl
+  first_less (x ∷ xs) [] h = let k : Greater ≡ Less = sym (tells.some x) ∙ h in cc
+  first_less (x ∷ xs) (y ∷ ys) h = ap (λ o. ordering_then o (slice_cmp cmp xs ys)) (tells.less x y h)
+
+  told : (b c : Bool) (x y : A) (xs ys : List A) → r x ≡ r y → (r x == 12) ≡ b → (r y == 12) ≡ c → slice_cmp cmp (cond b [] xs) (cond c [] ys) ≡ Less → slice_cmp cmp (x ∷ xs) (y ∷ ys) ≡ Less
+  told true true x y xs ys e f g h = cc
+  told false false x y xs ys e f g h = ap (λ o. ordering_then o (slice_cmp cmp xs ys)) (tells.same x y e f) ∙ h
+  told true false x y xs ys e f g h = let k : true ≡ false = sym f ∙ (ap (λ (n : ℕ). n == 12) e ∙ g) in cc
+  told false true x y xs ys e f g h = let k : false ≡ true = sym f ∙ (ap (λ (n : ℕ). n == 12) e ∙ g) in cc
+
+  rest_less : (xs ys : List A) → first_rank r xs ≡ first_rank r ys → slice_cmp cmp (after_first r xs) (after_first r ys) ≡ Less → slice_cmp cmp xs ys ≡ Less
+  rest_less [] [] e h = cc
+  rest_less [] (y ∷ ys) e h = refl
+  rest_less (x ∷ xs) [] e h = let k : Greater ≡ Equal = sym (tells.some x) ∙ ap (λ (n : ℕ). nat_cmp n 0) e in cc
+  rest_less (x ∷ xs) (y ∷ ys) e h = told (r x == 12) (r y == 12) x y xs ys e refl refl h
+
+  step : (o more : Ordering) (xs ys : List A) → nat_cmp (first_rank r xs) (first_rank r ys) ≡ o → (more ≡ Less → slice_cmp cmp (after_first r xs) (after_first r ys) ≡ Less) → ordering_then o more ≡ Less → slice_cmp cmp xs ys ≡ Less
+  step Less more xs ys e f h = first_less xs ys e
+  step Equal more xs ys e f h = rest_less xs ys (tied (first_rank r xs) (first_rank r ys) e) (f h)
+  step Greater more xs ys e f h = cc
+
+  ranks_less : (k : ℕ) (xs ys : List A) → weight_cmp (ranks k r xs) (ranks k r ys) ≡ Less → slice_cmp cmp xs ys ≡ Less
+  ranks_less k xs ys h =
+      let xs1 = after_first r xs in
+      let ys1 = after_first r ys in
+      let xs2 = after_first r xs1 in
+      let ys2 = after_first r ys1 in
+      let xs3 = after_first r xs2 in
+      let ys3 = after_first r ys2 in
+      let xs4 = after_first r xs3 in
+      let ys4 = after_first r ys3 in
+      let o1 = nat_cmp (first_rank r xs) (first_rank r ys) in
+      let o2 = nat_cmp (first_rank r xs1) (first_rank r ys1) in
+      let o3 = nat_cmp (first_rank r xs2) (first_rank r ys2) in
+      let o4 = nat_cmp (first_rank r xs3) (first_rank r ys3) in
+      let o5 = nat_cmp (first_rank r xs4) (first_rank r ys4) in
+      let fourth = step o4 o5 xs3 ys3 refl (first_less xs4 ys4) in
+      let third = step o3 (ordering_then o4 o5) xs2 ys2 refl fourth in
+      let second = step o2 (ordering_then o3 (ordering_then o4 o5)) xs1 ys1 refl third in
+      let all = ordering_then o1 (ordering_then o2 (ordering_then o3 (ordering_then o4 o5))) in
+      step o1 (ordering_then o2 (ordering_then o3 (ordering_then o4 o5))) xs ys refl second (sym (ap (λ o. ordering_then o all) (itself k)) ∙ h)
+
+val_itself : (v w : Val ℕ) → v ≡ w → (val_index v == 5) ≡ false → val_cmp v w ≡ Equal
+val_itself v w e h = ap (val_cmp v) (sym e) ∙ own v h
+  where
+    own : (v : Val ℕ) → (val_index v == 5) ≡ false → val_cmp v v ≡ Equal
+    own val.I32 h = refl
+    own val.I64 h = refl
+    own val.F32 h = refl
+    own val.F64 h = refl
+    own val.V128 h = refl
+    own (val.Ref r) h = cc
+
+storage_itself : (s t : Storage ℕ) → s ≡ t → (storage_index s == 5) ≡ false → storage_cmp s t ≡ Equal
+storage_itself s t e h = ap (storage_cmp s) (sym e) ∙ own s h
+  where
+    own : (s : Storage ℕ) → (storage_index s == 5) ≡ false → storage_cmp s s ≡ Equal
+    own (storage.Val v) h = val_itself v v refl h
+    own storage.I8 h = refl
+    own storage.I16 h = refl
+
+val_tells : Tells val_rank val_cmp
+val_tells = record {
+  some = λ v. rank_some (val_index v) false;
+  less = λ v w h. by_val v w (rank_less (val_index v) (val_index w) false false h);
+  same = λ v w e h. let s = rank_same (val_index v) (val_index w) false false e h in val_itself v w (val_same v w s.0 s.1) s.1;
+}
+  where
+    by_val : (v w : Val ℕ) → Told (val_index v) (val_index w) false false → val_cmp v w ≡ Less
+    by_val v w (by_place h) = val_less v w h
+    by_val v w (by_mutability e f h) = cc
+
+field_tells : Tells field_rank field_cmp
+field_tells = record {
+  some = λ f. rank_some (storage_index f.element_type) f.mutable;
+  less = λ f g h. by_field f g (rank_less (storage_index f.element_type) (storage_index g.element_type) f.mutable g.mutable h);
+  same = λ f g e h. let s = rank_same (storage_index f.element_type) (storage_index g.element_type) f.mutable g.mutable e h in ap (λ o. ordering_then o (bool_cmp f.mutable g.mutable)) (storage_itself f.element_type g.element_type (storage_same f.element_type g.element_type s.0 s.1) s.1) ∙ s.2;
+}
+  where
+    by_field : (f g : Field ℕ) → Told (storage_index f.element_type) (storage_index g.element_type) f.mutable g.mutable → field_cmp f g ≡ Less
+    by_field f g (by_place h) = ap (λ o. ordering_then o (bool_cmp f.mutable g.mutable)) (storage_less f.element_type g.element_type h)
+    by_field f g (by_mutability e t h) = ap (λ o. ordering_then o (bool_cmp f.mutable g.mutable)) (storage_itself f.element_type g.element_type (storage_same f.element_type g.element_type e t) t) ∙ h
+
+then_less : (o p : Ordering) → o ≡ Less → ordering_then o p ≡ Less
+then_less o p h = ap (λ q. ordering_then q p) h
+
+-- the array's one field
+array_less : (f g : Field ℕ) → slice_cmp field_cmp (f ∷ []) (g ∷ []) ≡ Less → field_cmp f g ≡ Less
+array_less f g h = alone (field_cmp f g) h
+  where
+    alone : (o : Ordering) → ordering_then o Equal ≡ Less → o ≡ Less
+    alone Less h = refl
+    alone Equal h = cc
+    alone Greater h = cc
+
+kind_less : (c d : CompositeType) → weight_cmp (kind_weight c) (kind_weight d) ≡ Less → composite_cmp (kind_composite c) (kind_composite d) ≡ Less
+kind_less (kind.Function f) (kind.Function g) h = then_less _ _ (ranks_less val_rank val_cmp val_tells 0 f.params g.params h)
+kind_less (kind.Function f) (kind.Struct t) h = refl
+kind_less (kind.Function f) (kind.Array b) h = refl
+kind_less (kind.Struct s) (kind.Function g) h = cc
+kind_less (kind.Struct s) (kind.Struct t) h = ranks_less field_rank field_cmp field_tells 1 s.fields t.fields h
+kind_less (kind.Struct s) (kind.Array b) h = refl
+kind_less (kind.Array a) (kind.Function g) h = cc
+kind_less (kind.Array a) (kind.Struct t) h = cc
+kind_less (kind.Array a) (kind.Array b) h = array_less a.field b.field (ranks_less field_rank field_cmp field_tells 2 (a.field ∷ []) (b.field ∷ []) h)
+
+type_less : (t u : ModuleType) → weight_cmp (type_weight t) (type_weight u) ≡ Less → type_cmp t u ≡ Less
+type_less t u h = type_is t u ∙ then_less _ _ (then_less _ _ (kind_less t.kind u.kind h))
+
+-- the number at the place p decides first, then q
+by_both : {A : Type 0} {p q : A → A → Ordering} → IsTotalOrder p → IsTotalOrder q → IsTotalOrder (λ x y. ordering_then (p x y) (q x y))
+by_both a b = then_total a b
+
+weights_total : IsTotalOrder weight_cmp
+weights_total = by_both (on_total (λ (w : Weight). w.0) nat_cmp_total) (by_both (on_total (λ (w : Weight). w.1) nat_cmp_total) (by_both (on_total (λ (w : Weight). w.2) nat_cmp_total) (by_both (on_total (λ (w : Weight). w.3) nat_cmp_total) (by_both (on_total (λ (w : Weight). w.4) nat_cmp_total) (on_total (λ (w : Weight). w.5) nat_cmp_total)))))
+
+type_greater : (t u : ModuleType) → weight_cmp (type_weight t) (type_weight u) ≡ Greater → type_cmp t u ≡ Greater
+type_greater t u h = type_laws.total-law.antisymm t u ∙ ap ordering_reverse (type_less u t (weights_total.antisymm (type_weight u) (type_weight t) ∙ ap ordering_reverse h))
+
+regrouped : (a b c d e f : Ordering) → ordering_then (ordering_then (ordering_then (ordering_then (ordering_then a b) c) d) e) f ≡ ordering_then a (ordering_then b (ordering_then c (ordering_then d (ordering_then e f))))
+regrouped Less b c d e f = refl
+regrouped Greater b c d e f = refl
+regrouped Equal Less c d e f = refl
+regrouped Equal Greater c d e f = refl
+regrouped Equal Equal Less d e f = refl
+regrouped Equal Equal Greater d e f = refl
+regrouped Equal Equal Equal Less e f = refl
+regrouped Equal Equal Equal Greater e f = refl
+regrouped Equal Equal Equal Equal Less f = refl
+regrouped Equal Equal Equal Equal Greater f = refl
+regrouped Equal Equal Equal Equal Equal f = refl
+
+-- the order of tuples is that of weights
+abbrev tuple_cmp : Weight → Weight → Ordering
+tuple_cmp v w = ordering_then (ordering_then (ordering_then (ordering_then (ordering_then (nat_cmp v.0 w.0) (nat_cmp v.1 w.1)) (nat_cmp v.2 w.2)) (nat_cmp v.3 w.3)) (nat_cmp v.4 w.4)) (nat_cmp v.5 w.5)
+
+tuples_are : (v w : Weight) → tuple_cmp v w ≡ weight_cmp v w
+tuples_are v w = regrouped (nat_cmp v.0 w.0) (nat_cmp v.1 w.1) (nat_cmp v.2 w.2) (nat_cmp v.3 w.3) (nat_cmp v.4 w.4) (nat_cmp v.5 w.5)
+
+compared : (v w : Weight) (t u : ModuleType) (o p : Ordering) → v ≡ type_weight t → w ≡ type_weight u → o ≡ tuple_cmp v w → o ≡ p → weight_cmp (type_weight t) (type_weight u) ≡ p
+compared v w t u o p a b of is = ap (weight_cmp (type_weight t)) (sym b) ∙ (ap (λ x. weight_cmp x w) (sym a) ∙ (sym (tuples_are v w) ∙ (sym of ∙ is)))
+
+-- what the comparison of two weights tells of their types
+
+pub lighter : (v w : Weight) (t u : ModuleType) (o : Ordering) → v ≡ type_weight t → w ≡ type_weight u → o ≡ tuple_cmp v w → o ≡ Less → Less ≡ type_cmp t u
+lighter v w t u o a b of is = sym (type_less t u (compared v w t u o Less a b of is))
+
+pub heavier : (v w : Weight) (t u : ModuleType) (o : Ordering) → v ≡ type_weight t → w ≡ type_weight u → o ≡ tuple_cmp v w → o ≡ Greater → Greater ≡ type_cmp t u
+heavier v w t u o a b of is = sym (type_greater t u (compared v w t u o Greater a b of is))
