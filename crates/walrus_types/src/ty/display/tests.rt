@@ -6,12 +6,7 @@ use std::fmt::Display;
 use std::process::Abort;
 use std::test::Fail;
 
-fn prints<T: Display + Drop>(
-    rt: &impl Abort,
-    alloc: Global,
-    value: T,
-    wanted: &str,
-) -> Result<(), Fail> {
+fn prints<T: Display>(rt: &impl Abort, alloc: Global, value: &T, wanted: &str) -> Result<(), Fail> {
     let text = format!(in alloc; "{value}")?;
     assert_eq!(rt; text.as_str(), wanted);
     Ok(())
@@ -67,11 +62,26 @@ fn four_forms(
     name: AbstractHeapType,
     wanted: [&str; 4],
 ) -> Result<(), Fail> {
-    let nullable = reference(true, Heap::Abstract(name));
-    prints(rt, alloc, nullable, wanted[0])?;
-    prints(rt, alloc, reference(false, Heap::Abstract(name)), wanted[1])?;
-    prints::<HeapType>(rt, alloc, Heap::Abstract(name), wanted[2])?;
-    prints(rt, alloc, mutable(Val::Ref(nullable)), wanted[3])
+    let heap_type: HeapType = Heap::Abstract(name);
+    prints(rt, alloc, &reference(true, Heap::Abstract(name)), wanted[0])?;
+    prints(
+        rt,
+        alloc,
+        &reference(false, Heap::Abstract(name)),
+        wanted[1],
+    )?;
+    prints(rt, alloc, &heap_type, wanted[2])?;
+    let held = mutable(Val::Ref(reference(true, Heap::Abstract(name))));
+    prints(rt, alloc, &held, wanted[3])
+}
+
+// The type with the number 3.
+fn third() -> HeapType {
+    Heap::Concrete(Id::from_index(3))
+}
+
+fn exactly_third() -> HeapType {
+    Heap::Exact(Id::from_index(3))
 }
 
 #[test]
@@ -121,60 +131,75 @@ fn references_to_arrays_small_integers_and_exceptions(rt: HostRuntime) -> Result
 #[test]
 fn types_of_the_module_print_their_number(rt: HostRuntime) -> Result<(), Fail> {
     let alloc = rt.alloc();
-    let concrete: HeapType = Heap::Concrete(Id::from_index(3));
-    prints(&rt, alloc, concrete, "3")?;
-    prints(&rt, alloc, reference(true, concrete), "(ref null 3)")?;
-    prints(&rt, alloc, reference(false, concrete), "(ref 3)")
+    prints(&rt, alloc, &third(), "3")?;
+    prints(&rt, alloc, &reference(true, third()), "(ref null 3)")?;
+    prints(&rt, alloc, &reference(false, third()), "(ref 3)")
 }
 
 #[test]
 fn exact_types_of_the_module_say_so(rt: HostRuntime) -> Result<(), Fail> {
     let alloc = rt.alloc();
-    let exact: HeapType = Heap::Exact(Id::from_index(3));
-    prints(&rt, alloc, exact, "exact 3")?;
-    prints(&rt, alloc, reference(true, exact), "(ref null exact 3)")?;
-    prints(&rt, alloc, reference(false, exact), "(ref exact 3)")
+    prints(&rt, alloc, &exactly_third(), "exact 3")?;
+    prints(
+        &rt,
+        alloc,
+        &reference(true, exactly_third()),
+        "(ref null exact 3)",
+    )?;
+    prints(
+        &rt,
+        alloc,
+        &reference(false, exactly_third()),
+        "(ref exact 3)",
+    )
 }
 
 #[test]
-fn numbers_print_their_names(rt: HostRuntime) -> Result<(), Fail> {
+fn integers_print_their_names(rt: HostRuntime) -> Result<(), Fail> {
     let alloc = rt.alloc();
-    prints::<ValType>(&rt, alloc, Val::I32, "i32")?;
-    prints::<ValType>(&rt, alloc, Val::I64, "i64")?;
-    prints::<ValType>(&rt, alloc, Val::F32, "f32")?;
-    prints::<ValType>(&rt, alloc, Val::F64, "f64")?;
-    prints::<ValType>(&rt, alloc, Val::V128, "v128")
+    let (int, long): (ValType, ValType) = (Val::I32, Val::I64);
+    prints(&rt, alloc, &int, "i32")?;
+    prints(&rt, alloc, &long, "i64")
+}
+
+#[test]
+fn floats_and_vectors_print_their_names(rt: HostRuntime) -> Result<(), Fail> {
+    let alloc = rt.alloc();
+    let (float, double, vector): (ValType, ValType, ValType) = (Val::F32, Val::F64, Val::V128);
+    prints(&rt, alloc, &float, "f32")?;
+    prints(&rt, alloc, &double, "f64")?;
+    prints(&rt, alloc, &vector, "v128")
 }
 
 #[test]
 fn packed_fields_print_their_names(rt: HostRuntime) -> Result<(), Fail> {
     let alloc = rt.alloc();
-    prints::<StorageType>(&rt, alloc, Storage::Val(Val::V128), "v128")?;
-    prints::<StorageType>(&rt, alloc, Storage::I8, "i8")?;
-    prints::<StorageType>(&rt, alloc, Storage::I16, "i16")?;
-    prints(&rt, alloc, byte(), "(mut i8)")
+    let (byte_type, short_type): (StorageType, StorageType) = (Storage::I8, Storage::I16);
+    prints(&rt, alloc, &byte_type, "i8")?;
+    prints(&rt, alloc, &short_type, "i16")?;
+    prints(&rt, alloc, &byte(), "(mut i8)")
 }
 
 #[test]
 fn function_types_leave_empty_parts_out(rt: HostRuntime) -> Result<(), Fail> {
     let alloc = rt.alloc();
-    prints(&rt, alloc, function(alloc, &[], &[])?, "(func)")?;
+    prints(&rt, alloc, &function(alloc, &[], &[])?, "(func)")?;
     let answers = function(alloc, &[], &[Val::V128])?;
-    prints(&rt, alloc, answers, "(func (result v128))")?;
+    prints(&rt, alloc, &answers, "(func (result v128))")?;
     let takes = function(alloc, &[Val::I32, Val::I64], &[])?;
-    prints(&rt, alloc, takes, "(func (param i32 i64))")
+    prints(&rt, alloc, &takes, "(func (param i32 i64))")
 }
 
 #[test]
 fn function_types_print_parameters_before_results(rt: HostRuntime) -> Result<(), Fail> {
     let alloc = rt.alloc();
     let floats = function(alloc, &[Val::I32, Val::I64], &[Val::F32])?;
-    prints(&rt, alloc, floats, "(func (param i32 i64) (result f32))")?;
+    prints(&rt, alloc, &floats, "(func (param i32 i64) (result f32))")?;
     let references = function(alloc, &[Val::I32, Val::I64], &[Val::Ref(RefType::FUNCREF)])?;
     prints(
         &rt,
         alloc,
-        references,
+        &references,
         "(func (param i32 i64) (result funcref))",
     )
 }
@@ -182,42 +207,33 @@ fn function_types_print_parameters_before_results(rt: HostRuntime) -> Result<(),
 #[test]
 fn struct_types_print_their_fields(rt: HostRuntime) -> Result<(), Fail> {
     let alloc = rt.alloc();
-    prints(&rt, alloc, structure(alloc, &[])?, "(struct)")?;
+    prints(&rt, alloc, &structure(alloc, &[])?, "(struct)")?;
     let both = structure(alloc, &[fixed(Storage::Val(Val::I32)), byte()])?;
-    prints(&rt, alloc, both, "(struct (field i32) (field (mut i8)))")
+    prints(&rt, alloc, &both, "(struct (field i32) (field (mut i8)))")
 }
 
 #[test]
 fn array_types_print_their_field(rt: HostRuntime) -> Result<(), Fail> {
     let alloc = rt.alloc();
-    let exact = reference(true, Heap::Exact(Id::from_index(3)));
     let references = ArrayType {
-        field: mutable(Val::Ref(exact)),
+        field: mutable(Val::Ref(reference(true, exactly_third()))),
     };
-    prints(&rt, alloc, references, "(array (mut (ref null exact 3)))")?;
+    prints(&rt, alloc, &references, "(array (mut (ref null exact 3)))")?;
     let bytes = ArrayType {
         field: fixed(Storage::I8),
     };
-    prints(&rt, alloc, bytes, "(array i8)")
+    prints(&rt, alloc, &bytes, "(array i8)")
 }
 
 #[test]
 fn composite_types_print_what_they_are(rt: HostRuntime) -> Result<(), Fail> {
     let alloc = rt.alloc();
-    prints(
-        &rt,
-        alloc,
-        CompositeType::Function(function(alloc, &[], &[])?),
-        "(func)",
-    )?;
-    prints(
-        &rt,
-        alloc,
-        CompositeType::Struct(structure(alloc, &[])?),
-        "(struct)",
-    )?;
-    let array = ArrayType {
+    let functions = CompositeType::Function(function(alloc, &[], &[])?);
+    prints(&rt, alloc, &functions, "(func)")?;
+    let structs = CompositeType::Struct(structure(alloc, &[])?);
+    prints(&rt, alloc, &structs, "(struct)")?;
+    let doubles = CompositeType::Array(ArrayType {
         field: fixed(Storage::Val(Val::F64)),
-    };
-    prints(&rt, alloc, CompositeType::Array(array), "(array f64)")
+    });
+    prints(&rt, alloc, &doubles, "(array f64)")
 }
