@@ -1,7 +1,7 @@
 -- Lemmas on what the groups are sorted by.
 use Rattle.std.proofs.Common.{◌≡◌, ℕ, List, [], ◌∷◌, length, refl, ap, subst, sym, zero, suc, Option, Some}
 use Rattle.std.specs.List.{slice_get, slice_index, zip}
-use Rattle.walrus_types.specs.Steps.Runs.{AreKeys}
+use Rattle.walrus_types.specs.Steps.Neighbours.{AreKeys}
 
 suc_inj : {m n : ℕ} → suc m ≡ suc n → m ≡ n
 suc_inj h = cc

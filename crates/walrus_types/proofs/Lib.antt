@@ -2,7 +2,7 @@ pub mod Deciding
 pub mod Growing
 pub mod RunStarts
 pub mod GroupKeys
-pub mod SortedRuns
+pub mod NeighboursInOrder
 pub mod SortedPlaces
 pub mod WrittenPlaces
 pub mod IndexLemmas

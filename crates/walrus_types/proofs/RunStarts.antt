@@ -2,7 +2,7 @@
 use Rattle.std.proofs.Common.{◌≡◌, ℕ, zero, suc, ◌+◌, ◌<◌, ◌≤◌, List, [], ◌∷◌, ◌++◌, length, refl, sym, subst, ◌∙◌, arith, Some, true, false, Bool, ◌⊎◌, inl, inr}
 use Rattle.std.specs.List.{slice_get, slice_index}
 use Rattle.std.proofs.lemmas.Bool.{cases_lt}
-use Rattle.walrus_types.specs.Steps.Runs.{AllFree, AreStarts}
+use Rattle.walrus_types.specs.Steps.Neighbours.{AllFree, AreStarts}
 use Rattle.walrus_types.proofs.Growing.{each_more}
 
 -- s is one past the last that is not free before it, if there is one

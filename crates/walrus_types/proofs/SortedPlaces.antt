@@ -12,7 +12,7 @@ use Rattle.std.specs.Cmp.{IsTotalOrder}
 use Rattle.std.specs.Ordering.{nat_cmp, ordering_then, is_lt, ordering_reverse}
 use Rattle.std.specs.declared.cmp.Ordering.{Ordering}
 use Rattle.std.specs.declared.cmp.Ordering.TheVariants.{Less, Equal, Greater}
-use Rattle.walrus_types.specs.Steps.StableOrder.{numbered, IsOrder}
+use Rattle.walrus_types.specs.Steps.PlacesInOrder.{numbered, IsOrder}
 
 length-numbered : {T : Type 0} (i : ℕ) (xs : List T) → length (numbered i xs) ≡ length xs
 length-numbered i [] = refl

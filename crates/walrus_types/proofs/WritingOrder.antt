@@ -18,7 +18,7 @@ use Rattle.walrus_types.specs.ReadTable.{TypeGroup}
 use Rattle.walrus_types.specs.Emission as emission
 use Rattle.walrus_types.specs.Emission.{IsMember, IsGrouped, IsWritten, IsFreeGroup, IsTurned}
 use Rattle.walrus_types.specs.Emission.{Stands}
-use Rattle.walrus_types.specs.Steps.Runs.{AllFree, IsTurnedRound, StandsBefore, SortsRuns}
+use Rattle.walrus_types.specs.Steps.Neighbours.{AllFree, IsTurnedRound, StandsBefore, OrdersNeighbours}
 use Rattle.walrus_types.specs.Types.{ModuleType, type_definition}
 use Rattle.walrus_types.specs.Table as table
 use Rattle.walrus_types.specs.Table.{Table, IsTable}
@@ -321,20 +321,20 @@ module _ (t : Table) (is : IsTable t) where
 
   turned_round : (g h : ℕ) (a : Headed g) (b : Headed h) → IsTurned gs def g h → IsTurnedRound type_cmp free g a.type h b.type
   turned_round g h a b tr = record {
-    run = λ c low high. from_free_group c (omega (arith, high, in_groups h 0 b.id b.member)) (λ u i m. tr.free c low high u i m);
+    all_free = λ c low high. from_free_group c (omega (arith, high, in_groups h 0 b.id b.member)) (λ u i m. tr.free c low high u i m);
     less = type_is b.type a.type ∙ then_left _ _ (sym (less_is a.id b.id a.type b.type a.at b.at) ∙ tr.less 0 a.id 0 b.id a.member b.member);
   }
 
   from_turned_round : (g h : ℕ) (w : IsWritten gs entry g) (w' : IsWritten gs entry h) (a : Headed g) (b : Headed h) → g < h → IsTurnedRound type_cmp free g a.type h b.type → IsTurned gs def g h
   from_turned_round g h w w' a b lt tr =
-      let free_g : slice_get free g ≡ Some true = tr.run g (omega arith) (omega (arith, lt)) in
-      let free_h : slice_get free h ≡ Some true = tr.run h (omega (arith, lt)) (omega arith) in
+      let free_g : slice_get free g ≡ Some true = tr.all_free g (omega arith) (omega (arith, lt)) in
+      let free_h : slice_get free h ≡ Some true = tr.all_free h (omega (arith, lt)) (omega arith) in
       let ea : a.type.is_for_function_entry ≡ false = unmarked g w a free_g in
       let eb : b.type.is_for_function_entry ≡ false = unmarked h w' b free_h in
       let both : ordering_then (definition_cmp (type_definition b.type) (type_definition a.type)) Equal ≡ Less = ap (λ (p : Bool). ordering_then (definition_cmp (type_definition b.type) (type_definition a.type)) (bool_cmp false p)) (sym ea) ∙ (ap (λ (p : Bool). ordering_then (definition_cmp (type_definition b.type) (type_definition a.type)) (bool_cmp p a.type.is_for_function_entry)) (sym eb) ∙ (sym (type_is b.type a.type) ∙ tr.less)) in
       let less : definition_cmp (def b.id) (def a.id) ≡ Less = less_is a.id b.id a.type b.type a.at b.at ∙ then_equal _ both in
       record {
-        free = λ c low high u i m. free_group c u i (tr.run c low high) m;
+        free = λ c low high u i m. free_group c u i (tr.all_free c low high) m;
         less = λ u i v j m m'.
             (let e : i ≡ a.id = only_member g 0 a.id u i free_g a.member m in
             let f : j ≡ b.id = only_member h 0 b.id v j free_h b.member m' in
@@ -362,7 +362,7 @@ module _ (t : Table) (is : IsTable t) where
   is_written_to : (g : ℕ) → IsWritten gs entry g → written g ≡ true
   is_written_to g w = any_from (λ i. not (entry i)) (table.group_at groups g).types w.0 w.1 (in_table g w.0 w.1 w.2) (ap not w.3)
 
-  module _ (order : List ℕ) (sorts : SortsRuns type_cmp free (map (head slots) groups) order) where
+  module _ (order : List ℕ) (sorts : OrdersNeighbours type_cmp free (map (head slots) groups) order) where
     abbrev kept : List ℕ
     kept = filter written order
 
@@ -414,11 +414,11 @@ module _ (t : Table) (is : IsTable t) where
   group_count = many
 
 -- the same of lists that are equal to those of the table
-module _ (t : Table) (known : IsTable t) (groups : List RecGroup) (same : groups ≡ t.groups) (free : List Bool) (free_is : free ≡ map (is_free t.types.slots) groups) (heads : List (Option ModuleType)) (heads_are : heads ≡ map (head t.types.slots) groups) (order : List ℕ) (sorts : SortsRuns type_cmp free heads order) (kept : List ℕ) (kept_is : kept ≡ filter (is_written_at t.types.slots groups) order) where
-  sorts_table : SortsRuns type_cmp (map (is_free t.types.slots) t.groups) (map (head t.types.slots) t.groups) order
+module _ (t : Table) (known : IsTable t) (groups : List RecGroup) (same : groups ≡ t.groups) (free : List Bool) (free_is : free ≡ map (is_free t.types.slots) groups) (heads : List (Option ModuleType)) (heads_are : heads ≡ map (head t.types.slots) groups) (order : List ℕ) (sorts : OrdersNeighbours type_cmp free heads order) (kept : List ℕ) (kept_is : kept ≡ filter (is_written_at t.types.slots groups) order) where
+  sorts_table : OrdersNeighbours type_cmp (map (is_free t.types.slots) t.groups) (map (head t.types.slots) t.groups) order
   sorts_table =
-      subst (λ (fs : List Bool). SortsRuns type_cmp fs (map (head t.types.slots) t.groups) order) (free_is ∙ ap (map (is_free t.types.slots)) same)
-      (subst (λ (hs : List (Option ModuleType)). SortsRuns type_cmp free hs order) (heads_are ∙ ap (map (head t.types.slots)) same) sorts)
+      subst (λ (fs : List Bool). OrdersNeighbours type_cmp fs (map (head t.types.slots) t.groups) order) (free_is ∙ ap (map (is_free t.types.slots)) same)
+      (subst (λ (hs : List (Option ModuleType)). OrdersNeighbours type_cmp free hs order) (heads_are ∙ ap (map (head t.types.slots)) same) sorts)
 
   kept_table : kept ≡ filter (is_written_at t.types.slots t.groups) order
   kept_table = kept_is ∙ ap (λ (gs : List RecGroup). filter (is_written_at t.types.slots gs) order) same

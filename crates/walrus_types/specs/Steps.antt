@@ -3,7 +3,7 @@
 pub mod TableIndex
 pub mod TableReads
 pub mod FreeGroups
-pub mod StableOrder
-pub mod Runs
+pub mod PlacesInOrder
+pub mod Neighbours
 pub mod WrittenGroups
 pub mod Weights

@@ -41,7 +41,7 @@ pub fn one_normal_form()
 {}
 
 /// Each well-named section has a normal form, and moves lead down to it: each leaves fewer groups, or as many groups and fewer
-/// pairs of free `Single`s of one run that are out of order.
+/// pairs of free `Single`s, with no anchor between, that are out of order.
 pub fn output_exists()
     ensures { (s : Section) → IsWellNamed s → (n : Section) × IsOutput s n × DescentTo n s }
 {}

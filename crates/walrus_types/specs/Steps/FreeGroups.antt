@@ -1,4 +1,4 @@
--- Which groups of a table stop no run, and which are written, as tests.
+-- Which groups of a table are free, and which are written, as tests.
 use Rattle.std.specs.Prelude.{ℕ, ◌==◌, ◌||◌, ◌&&◌, List, [], ◌∷◌, Bool, true, false, not, is_none, Option, Some, None, option_and_then}
 use Rattle.std.specs.List.{list_all, list_any}
 use Rattle.walrus_arena.specs.Arena.{Slots, get}

@@ -1,4 +1,4 @@
-// Which groups stop no run, and which are written.
+// Which groups are free, and which are written.
 ghost use Rattle.std.specs.Prelude.{◌≡◌, IfOk, map, All, not};
 ghost use Rattle.std.specs.List.{list_all, list_any};
 ghost use Rattle.walrus_arena.specs.Arena.{IsLive};
@@ -100,7 +100,7 @@ fn type_names_none_other(table: &ModuleTypes, own: TypeId, ty: &Type) -> bool
         && supertype_names_none_other(table, own, ty.supertype)
 }
 
-// Whether the group stops no run: it has no types, or it isn't explicit and its one type names no live type but itself.
+// Whether the group is free: it has no types, or it isn't explicit and its one type names no live type but itself.
 fn is_free_group(table: &ModuleTypes, group: &RecGroup) -> bool
     requires { All (IsLive table.now.types.slots) group.now.types }
     ensures { result ≡ is_free table.now.types.slots group.now }

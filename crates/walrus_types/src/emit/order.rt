@@ -1,7 +1,7 @@
 // The order in which groups are written.
 ghost use Rattle.std.specs.Prelude.{◌≡◌, IfOk, map, length};
-ghost use Rattle.walrus_types.specs.Steps.StableOrder.{IsOrder, numbered};
-ghost use Rattle.walrus_types.specs.Steps.Runs.{AreStarts, AreKeys, SortsRuns};
+ghost use Rattle.walrus_types.specs.Steps.PlacesInOrder.{IsOrder, numbered};
+ghost use Rattle.walrus_types.specs.Steps.Neighbours.{AreStarts, AreKeys, OrdersNeighbours};
 
 use std::alloc::{AllocError, Global};
 
@@ -64,7 +64,7 @@ pub(super) fn group_order<K: Ord + Drop>(
     heads: Vec<Option<K>>,
 ) -> Result<Vec<usize>, AllocError>
     requires { length free.now ≡ length heads.items }
-    ensures { IfOk result (λ v. SortsRuns K.cmp free.now heads.items v.items) }
+    ensures { IfOk result (λ v. OrdersNeighbours K.cmp free.now heads.items v.items) }
 {
     let starts = run_starts(alloc, free)?;
     let keys = keyed(alloc, starts.as_slice(), heads)?;

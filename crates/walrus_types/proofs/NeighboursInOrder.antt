@@ -9,10 +9,10 @@ use Rattle.std.specs.declared.cmp.Ordering.TheVariants.{Less, Equal, Greater}
 use Rattle.std.proofs.lemmas.Option.{slice_get_within}
 use Rattle.std.proofs.lemmas.Bool.{cases_lt}
 use Rattle.std.proofs.lemmas.Bool.Decides.{nat_tests}
-use Rattle.walrus_types.specs.Steps.StableOrder.{IsOrder}
-use Rattle.walrus_types.specs.Steps.Runs.{AreStarts}
-use Rattle.walrus_types.specs.Steps.Runs.{StandsBefore, SortsRuns}
-use Rattle.walrus_types.specs.Steps.Runs.{AreKeys}
+use Rattle.walrus_types.specs.Steps.PlacesInOrder.{IsOrder}
+use Rattle.walrus_types.specs.Steps.Neighbours.{AreStarts}
+use Rattle.walrus_types.specs.Steps.Neighbours.{StandsBefore, OrdersNeighbours}
+use Rattle.walrus_types.specs.Steps.Neighbours.{AreKeys}
 
 some_inj : {A : Type 0} {x y : A} → Some x ≡ Some y → x ≡ y
 some_inj h = cc
@@ -50,7 +50,7 @@ stands cmp o free starts are p q x y in_p in_q first same = elim (cases_lt p q) 
   | inl w ↦ inl (
     w,
     λ turned.
-        let e : slice_index starts p ≡ slice_index starts q = are.together p q w in_q turned.run in
+        let e : slice_index starts p ≡ slice_index starts q = are.together p q w in_q turned.all_free in
         let flipped : cmp x y ≡ Greater = o.antisymm x y ∙ ap ordering_reverse turned.less in
         elim (tied (slice_index starts q) (cmp x y) p q (rw e at first)) [ inl h ↦ (let k : Less ≡ Greater = sym h ∙ flipped in cc) | inr h ↦ (let k : Equal ≡ Greater = sym h.0 ∙ flipped in cc) ],
   )
@@ -59,7 +59,7 @@ stands cmp o free starts are p q x y in_p in_q first same = elim (cases_lt p q) 
       | inr below ↦ absurd (not_above (slice_index starts p) (slice_index starts q) (cmp x y) p q first below)
       | inl all ↦
           let e : slice_index starts q ≡ slice_index starts p = are.together q p v in_p all in
-          elim (tied (slice_index starts p) (cmp x y) p q (rw e at first)) [ inl h ↦ inr (v, record { run = all; less = h }) | inr h ↦ absurd (omega (arith, h.1, w)) ]
+          elim (tied (slice_index starts p) (cmp x y) p q (rw e at first)) [ inl h ↦ inr (v, record { all_free = all; less = h }) | inr h ↦ absurd (omega (arith, h.1, w)) ]
     ]
     | inr v ↦
         let e : p ≡ q = omega (arith, w, v) in
@@ -71,7 +71,7 @@ stands cmp o free starts are p q x y in_p in_q first same = elim (cases_lt p q) 
 
 pub group_order_from : {T : Type 0} (cmp : T → T → Ordering) → IsTotalOrder cmp → (o : Option T → Option T → Ordering) → ((a b : T) → o (Some a) (Some b) ≡ cmp a b)
     → (free : List Bool) (starts : List ℕ) (heads : List (Option T)) (keys : List (ℕ × Option T)) (order : List ℕ) → length free ≡ length heads → AreStarts free starts → AreKeys starts heads keys
-    → IsOrder (λ (x y : ℕ × Option T). ordering_then (nat_cmp x.0 y.0) (o x.1 y.1)) keys order → SortsRuns cmp free heads order
+    → IsOrder (λ (x y : ℕ × Option T). ordering_then (nat_cmp x.0 y.0) (o x.1 y.1)) keys order → OrdersNeighbours cmp free heads order
 group_order_from {T} cmp total o agree free starts heads keys order as_long are are_keys is =
     let all : length keys ≡ length heads = are_keys.as_many in
     record {
