@@ -66,9 +66,10 @@ impl Gathered {
         ensures refused { IfOk result (λ taken. taken ≡ false → IsAstray (gathered_lines self.old ++ (codes "end" ∷ []) ∷ [])) }
         ensures fits { OnOk result (HasGatheredIndices self.old → HasGatheredIndices self.new) }
     {
-        let Some(entries) = self.open.take() else {
+        let Some(mut entries) = self.open.take() else {
             return Ok(false);
         };
+        entries.shrink_to_fit();
         self.groups.push(GroupAt::Rec(Listed::from_vec(entries)))?;
         Ok(true)
     }

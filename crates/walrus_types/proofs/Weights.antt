@@ -1,5 +1,5 @@
 -- Of two types the lighter is less.
-use Rattle.std.proofs.Common.{◌≡◌, ℕ, zero, suc, ◌+◌, ◌*◌, ◌<◌, ◌≤◌, inl, inr, Bool, true, false, ◌==◌, cond, List, [], ◌∷◌, refl, ap, sym, ◌∙◌, arith}
+use Rattle.std.proofs.Common.{◌≡◌, ℕ, zero, suc, ◌+◌, ◌*◌, ◌<◌, ◌≤◌, inl, inr, ◌⊎◌, Bool, true, false, ◌==◌, cond, List, [], ◌∷◌, refl, ap, sym, ◌∙◌, arith}
 use Rattle.std.specs.declared.cmp.Ordering.{Ordering}
 use Rattle.std.specs.declared.cmp.Ordering.TheVariants.{Less, Equal, Greater}
 use Rattle.std.specs.Ordering.{nat_cmp, ordering_then, ordering_reverse}
@@ -10,27 +10,105 @@ use Rattle.std.proofs.lemmas.Bool.Decides.{nat_tests}
 use Rattle.std.proofs.lemmas.Cmp.{nat_cmp_total, on_total, then_total}
 use Rattle.walrus_types.specs.declared.ty.composite.CompositeType.{CompositeType}
 use Rattle.walrus_types.specs.declared.ty.composite.CompositeType.TheVariants as kind
+use Rattle.walrus_types.specs.declared.ty.value.AbstractHeapType.{AbstractHeapType}
+use Rattle.walrus_types.specs.declared.ty.value.AbstractHeapType.TheVariants as abstract
+use Rattle.walrus_types.specs.declared.ty.value.Heap.{Heap}
+use Rattle.walrus_types.specs.declared.ty.value.Heap.TheVariants as heap
 use Rattle.walrus_types.specs.declared.ty.value.Val.{Val}
 use Rattle.walrus_types.specs.declared.ty.value.Val.TheVariants as val
 use Rattle.walrus_types.specs.declared.ty.value.Storage.{Storage}
 use Rattle.walrus_types.specs.declared.ty.value.Storage.TheVariants as storage
 use Rattle.walrus_types.specs.declared.ty.value.Field.{Field}
 use Rattle.walrus_types.specs.Definition.{composite_cmp}
-use Rattle.walrus_types.specs.Steps.Weights.{Weight, weight_cmp, storage_index, rank, val_rank, field_rank, first_rank, after_first, ranks, kind_weight, type_weight}
+use Rattle.walrus_types.specs.Steps.Weights.{Weight, weight_cmp, heap_place, val_place, storage_place, is_named, rank, is_open, val_rank, field_rank, first_rank, after_first, ranks, kind_weight, type_weight}
 use Rattle.walrus_types.specs.Types.{ModuleType, kind_composite}
-use Rattle.walrus_types.specs.Value.{val_index, val_cmp, storage_cmp, field_cmp, bool_index, bool_cmp}
+use Rattle.walrus_types.specs.Value.{abstract_index, heap_cmp, val_cmp, storage_cmp, field_cmp, bool_index, bool_cmp}
 use Rattle.walrus_types.specs.contracts.ty.TypeOrd.TheImpl.Laws as type_laws
 use Rattle.walrus_types.proofs.Orders.Types.{type_cmp, type_is}
 
-val_small : (v : Val ℕ) → val_index v ≤ 5
+abstract_small : (a : AbstractHeapType) → abstract_index a ≤ 11
+abstract_small abstract.Func = omega arith
+abstract_small abstract.Extern = omega arith
+abstract_small abstract.Any = omega arith
+abstract_small abstract.None = omega arith
+abstract_small abstract.NoExtern = omega arith
+abstract_small abstract.NoFunc = omega arith
+abstract_small abstract.Eq = omega arith
+abstract_small abstract.Struct = omega arith
+abstract_small abstract.Array = omega arith
+abstract_small abstract.I31 = omega arith
+abstract_small abstract.Exn = omega arith
+abstract_small abstract.NoExn = omega arith
+
+heap_small : (h : Heap ℕ) → heap_place h ≤ 12
+heap_small (heap.Abstract a) = omega (arith, abstract_small a)
+heap_small (heap.Concrete k) = omega arith
+heap_small (heap.Exact k) = omega arith
+
+below : (a b : ℕ) → nat_cmp a b ≡ Less → a < b
+below a b h = grind (arith, nat_tests, h)
+
+lesser : (a b : ℕ) → a < b → nat_cmp a b ≡ Less
+lesser a b h = grind (arith, nat_tests, h)
+
+tied : (a b : ℕ) → nat_cmp a b ≡ Equal → a ≡ b
+tied a b h = grind (arith, nat_tests, h)
+
+itself : (a : ℕ) → nat_cmp a a ≡ Equal
+itself a = grind (arith, nat_tests)
+
+alike : (a b : ℕ) → a ≡ b → nat_cmp a b ≡ Equal
+alike a b h = ap (nat_cmp a) (sym h) ∙ itself a
+
+-- what the place of a heap type tells
+
+heap_less : (h g : Heap ℕ) → heap_place h < heap_place g → heap_cmp h g ≡ Less
+heap_less (heap.Abstract a) (heap.Abstract b) w = lesser (abstract_index a) (abstract_index b) w
+heap_less (heap.Abstract a) (heap.Concrete l) w = refl
+heap_less (heap.Abstract a) (heap.Exact l) w = refl
+heap_less (heap.Concrete k) (heap.Abstract b) w = absurd (omega (arith, abstract_small b, w))
+heap_less (heap.Concrete k) (heap.Concrete l) w = absurd (omega (arith, w))
+heap_less (heap.Concrete k) (heap.Exact l) w = absurd (omega (arith, w))
+heap_less (heap.Exact k) (heap.Abstract b) w = absurd (omega (arith, abstract_small b, w))
+heap_less (heap.Exact k) (heap.Concrete l) w = absurd (omega (arith, w))
+heap_less (heap.Exact k) (heap.Exact l) w = absurd (omega (arith, w))
+
+heap_tied : (h g : Heap ℕ) → heap_place h ≡ heap_place g → heap_place h < 12 → heap_cmp h g ≡ Equal
+heap_tied (heap.Abstract a) (heap.Abstract b) e w = alike (abstract_index a) (abstract_index b) e
+heap_tied (heap.Abstract a) (heap.Concrete l) e w = absurd (omega (arith, e, w))
+heap_tied (heap.Abstract a) (heap.Exact l) e w = absurd (omega (arith, e, w))
+heap_tied (heap.Concrete k) g e w = absurd (omega (arith, w))
+heap_tied (heap.Exact k) g e w = absurd (omega (arith, w))
+
+-- what the place of a reference tells
+
+nullable_less : (m n : Bool) (h g : Heap ℕ) → 13 * bool_index m + heap_place h < 13 * bool_index n + heap_place g → ordering_then (bool_cmp m n) (heap_cmp h g) ≡ Less
+nullable_less false false h g w = heap_less h g (omega (arith, w))
+nullable_less false true h g w = refl
+nullable_less true false h g w = absurd (omega (arith, heap_small g, w))
+nullable_less true true h g w = heap_less h g (omega (arith, w))
+
+nullable_tied : (m n : Bool) (h g : Heap ℕ) → 13 * bool_index m + heap_place h ≡ 13 * bool_index n + heap_place g → ¬ (13 * bool_index m + heap_place h ≡ 12) → ¬ (13 * bool_index m + heap_place h ≡ 25) → ordering_then (bool_cmp m n) (heap_cmp h g) ≡ Equal
+nullable_tied false false h g e f w = heap_tied h g (omega (arith, e)) (omega (arith, heap_small h, f))
+nullable_tied false true h g e f w = absurd (omega (arith, heap_small h, heap_small g, e, f))
+nullable_tied true false h g e f w = absurd (omega (arith, heap_small h, heap_small g, e, f))
+nullable_tied true true h g e f w = heap_tied h g (omega (arith, e)) (omega (arith, heap_small h, w))
+
+-- what the place of a value type tells
+
+nullable_small : (m : Bool) (h : Heap ℕ) → 13 * bool_index m + heap_place h ≤ 25
+nullable_small false h = omega (arith, heap_small h)
+nullable_small true h = omega (arith, heap_small h)
+
+pub val_small : (v : Val ℕ) → val_place v ≤ 30
 val_small val.I32 = omega arith
 val_small val.I64 = omega arith
 val_small val.F32 = omega arith
 val_small val.F64 = omega arith
 val_small val.V128 = omega arith
-val_small (val.Ref r) = omega arith
+val_small (val.Ref r) = omega (arith, nullable_small r.nullable r.heap_type)
 
-val_less : (v w : Val ℕ) → val_index v < val_index w → val_cmp v w ≡ Less
+val_less : (v w : Val ℕ) → val_place v < val_place w → val_cmp v w ≡ Less
 val_less val.I32 val.I32 h = absurd (omega (arith, h))
 val_less val.I32 val.I64 h = refl
 val_less val.I32 val.F32 h = refl
@@ -66,28 +144,59 @@ val_less (val.Ref r) val.I64 h = absurd (omega (arith, h))
 val_less (val.Ref r) val.F32 h = absurd (omega (arith, h))
 val_less (val.Ref r) val.F64 h = absurd (omega (arith, h))
 val_less (val.Ref r) val.V128 h = absurd (omega (arith, h))
-val_less (val.Ref r) (val.Ref q) h = absurd (omega (arith, h))
+val_less (val.Ref r) (val.Ref q) h = nullable_less r.nullable q.nullable r.heap_type q.heap_type (omega (arith, h))
 
-val_of : ℕ → Val ℕ
-val_of zero = val.I32
-val_of (suc zero) = val.I64
-val_of (suc (suc zero)) = val.F32
-val_of (suc (suc (suc zero))) = val.F64
-val_of (suc (suc (suc (suc k)))) = val.V128
+-- a place that is not that of a reference to a type
+unnamed : (i : ℕ) → is_named i ≡ false → (¬ (i ≡ 17)) × (¬ (i ≡ 30))
+unnamed i h = (λ e. (let k : true ≡ false = sym (ap is_named e) ∙ h in cc), λ e. (let k : true ≡ false = sym (ap is_named e) ∙ h in cc))
 
-val_back : (v : Val ℕ) → (val_index v == 5) ≡ false → val_of (val_index v) ≡ v
-unfolding val_of
-val_back val.I32 h = refl
-val_back val.I64 h = refl
-val_back val.F32 h = refl
-val_back val.F64 h = refl
-val_back val.V128 h = refl
-val_back (val.Ref r) h = cc
+-- the place of a reference to a type
+named : (b c : Bool) (i : ℕ) → (i == 17) ≡ b → (i == 30) ≡ c → cond b true c ≡ true → (i ≡ 17) ⊎ (i ≡ 30)
+named true c i e f h = inl (grind (arith, nat_tests, e))
+named false true i e f h = inr (grind (arith, nat_tests, f))
+named false false i e f h = cc
 
-val_same : (v w : Val ℕ) → val_index v ≡ val_index w → (val_index v == 5) ≡ false → v ≡ w
-val_same v w e h = sym (val_back v h) ∙ ap val_of e ∙ val_back w (ap (λ (n : ℕ). n == 5) (sym e) ∙ h)
+val_tied : (v w : Val ℕ) → val_place v ≡ val_place w → is_named (val_place v) ≡ false → val_cmp v w ≡ Equal
+val_tied val.I32 val.I32 e h = refl
+val_tied val.I32 val.I64 e h = absurd (omega (arith, e))
+val_tied val.I32 val.F32 e h = absurd (omega (arith, e))
+val_tied val.I32 val.F64 e h = absurd (omega (arith, e))
+val_tied val.I32 val.V128 e h = absurd (omega (arith, e))
+val_tied val.I32 (val.Ref q) e h = absurd (omega (arith, e))
+val_tied val.I64 val.I32 e h = absurd (omega (arith, e))
+val_tied val.I64 val.I64 e h = refl
+val_tied val.I64 val.F32 e h = absurd (omega (arith, e))
+val_tied val.I64 val.F64 e h = absurd (omega (arith, e))
+val_tied val.I64 val.V128 e h = absurd (omega (arith, e))
+val_tied val.I64 (val.Ref q) e h = absurd (omega (arith, e))
+val_tied val.F32 val.I32 e h = absurd (omega (arith, e))
+val_tied val.F32 val.I64 e h = absurd (omega (arith, e))
+val_tied val.F32 val.F32 e h = refl
+val_tied val.F32 val.F64 e h = absurd (omega (arith, e))
+val_tied val.F32 val.V128 e h = absurd (omega (arith, e))
+val_tied val.F32 (val.Ref q) e h = absurd (omega (arith, e))
+val_tied val.F64 val.I32 e h = absurd (omega (arith, e))
+val_tied val.F64 val.I64 e h = absurd (omega (arith, e))
+val_tied val.F64 val.F32 e h = absurd (omega (arith, e))
+val_tied val.F64 val.F64 e h = refl
+val_tied val.F64 val.V128 e h = absurd (omega (arith, e))
+val_tied val.F64 (val.Ref q) e h = absurd (omega (arith, e))
+val_tied val.V128 val.I32 e h = absurd (omega (arith, e))
+val_tied val.V128 val.I64 e h = absurd (omega (arith, e))
+val_tied val.V128 val.F32 e h = absurd (omega (arith, e))
+val_tied val.V128 val.F64 e h = absurd (omega (arith, e))
+val_tied val.V128 val.V128 e h = refl
+val_tied val.V128 (val.Ref q) e h = absurd (omega (arith, e))
+val_tied (val.Ref r) val.I32 e h = absurd (omega (arith, e))
+val_tied (val.Ref r) val.I64 e h = absurd (omega (arith, e))
+val_tied (val.Ref r) val.F32 e h = absurd (omega (arith, e))
+val_tied (val.Ref r) val.F64 e h = absurd (omega (arith, e))
+val_tied (val.Ref r) val.V128 e h = absurd (omega (arith, e))
+val_tied (val.Ref r) (val.Ref q) e h =
+    let apart = unnamed (val_place (val.Ref r)) h in
+    nullable_tied r.nullable q.nullable r.heap_type q.heap_type (omega (arith, e)) (λ k. apart.0 (omega (arith, k))) (λ k. apart.1 (omega (arith, k)))
 
-storage_less : (s t : Storage ℕ) → storage_index s < storage_index t → storage_cmp s t ≡ Less
+storage_less : (s t : Storage ℕ) → storage_place s < storage_place t → storage_cmp s t ≡ Less
 storage_less (storage.Val v) (storage.Val w) h = val_less v w h
 storage_less (storage.Val v) storage.I8 h = refl
 storage_less (storage.Val v) storage.I16 h = refl
@@ -98,35 +207,26 @@ storage_less storage.I16 (storage.Val w) h = absurd (omega (arith, val_small w, 
 storage_less storage.I16 storage.I8 h = absurd (omega (arith, h))
 storage_less storage.I16 storage.I16 h = absurd (omega (arith, h))
 
-storage_same : (s t : Storage ℕ) → storage_index s ≡ storage_index t → (storage_index s == 5) ≡ false → s ≡ t
-storage_same (storage.Val v) (storage.Val w) e h = ap storage.Val (val_same v w e h)
-storage_same (storage.Val v) storage.I8 e h = absurd (omega (arith, val_small v, e))
-storage_same (storage.Val v) storage.I16 e h = absurd (omega (arith, val_small v, e))
-storage_same storage.I8 (storage.Val w) e h = absurd (omega (arith, val_small w, e))
-storage_same storage.I8 storage.I8 e h = refl
-storage_same storage.I8 storage.I16 e h = absurd (omega (arith, e))
-storage_same storage.I16 (storage.Val w) e h = absurd (omega (arith, val_small w, e))
-storage_same storage.I16 storage.I8 e h = absurd (omega (arith, e))
-storage_same storage.I16 storage.I16 e h = refl
+storage_tied : (s t : Storage ℕ) → storage_place s ≡ storage_place t → is_named (storage_place s) ≡ false → storage_cmp s t ≡ Equal
+storage_tied (storage.Val v) (storage.Val w) e h = val_tied v w e h
+storage_tied (storage.Val v) storage.I8 e h = absurd (omega (arith, val_small v, e))
+storage_tied (storage.Val v) storage.I16 e h = absurd (omega (arith, val_small v, e))
+storage_tied storage.I8 (storage.Val w) e h = absurd (omega (arith, val_small w, e))
+storage_tied storage.I8 storage.I8 e h = refl
+storage_tied storage.I8 storage.I16 e h = absurd (omega (arith, e))
+storage_tied storage.I16 (storage.Val w) e h = absurd (omega (arith, val_small w, e))
+storage_tied storage.I16 storage.I8 e h = absurd (omega (arith, e))
+storage_tied storage.I16 storage.I16 e h = refl
 
 -- ranks are told apart by the place, and then by mutability
 data Told (i j : ℕ) (m n : Bool) : Type 0 where
   by_place : i < j → Told i j m n
-  by_mutability : i ≡ j → (i == 5) ≡ false → nat_cmp (bool_index m) (bool_index n) ≡ Less → Told i j m n
+  by_mutability : i ≡ j → is_named i ≡ false → nat_cmp (bool_index m) (bool_index n) ≡ Less → Told i j m n
 
-below : (a b : ℕ) → nat_cmp a b ≡ Less → a < b
-below a b h = grind (arith, nat_tests, h)
-
-tied : (a b : ℕ) → nat_cmp a b ≡ Equal → a ≡ b
-tied a b h = grind (arith, nat_tests, h)
-
-itself : (a : ℕ) → nat_cmp a a ≡ Equal
-itself a = grind (arith, nat_tests)
-
-same_place : (i j : ℕ) (b c m n : Bool) → (i == 5) ≡ b → (j == 5) ≡ c → j ≤ i → 2 * (i + 1) + cond b 0 (bool_index m) < 2 * (j + 1) + cond c 0 (bool_index n) → Told i j m n
+same_place : (i j : ℕ) (b c m n : Bool) → is_named i ≡ b → is_named j ≡ c → j ≤ i → 2 * (i + 1) + cond b 0 (bool_index m) < 2 * (j + 1) + cond c 0 (bool_index n) → Told i j m n
 same_place i j true true m n e f w h = absurd (omega (arith, w, h))
 same_place i j true false m false e f w h = absurd (omega (arith, w, h))
-same_place i j true false m true e f w h = let s : i ≡ j = omega (arith, w, h) in let k : true ≡ false = sym e ∙ (ap (λ (x : ℕ). x == 5) s ∙ f) in cc
+same_place i j true false m true e f w h = let s : i ≡ j = omega (arith, w, h) in let k : true ≡ false = sym e ∙ (ap is_named s ∙ f) in cc
 same_place i j false true true n e f w h = absurd (omega (arith, w, h))
 same_place i j false true false n e f w h = absurd (omega (arith, w, h))
 same_place i j false false true true e f w h = absurd (omega (arith, w, h))
@@ -137,21 +237,28 @@ same_place i j false false false true e f w h = by_mutability (omega (arith, w, 
 rank_less : (i j : ℕ) (m n : Bool) → nat_cmp (rank i m) (rank j n) ≡ Less → Told i j m n
 rank_less i j m n h = elim (cases_lt i j) [
   | inl w ↦ by_place w
-  | inr w ↦ same_place i j (i == 5) (j == 5) m n refl refl (omega (arith, w)) (below (rank i m) (rank j n) h)
+  | inr w ↦ same_place i j (is_named i) (is_named j) m n refl refl (omega (arith, w)) (below (rank i m) (rank j n) h)
+]
+
+-- the rank of what names a type is known by itself
+named_is_open : (i : ℕ) → is_named i ≡ true → is_open (2 * (i + 1) + 0) ≡ true
+named_is_open i h = elim (named (i == 17) (i == 30) i refl refl h) [
+  | inl e ↦ ap (λ (x : ℕ). is_open (2 * (x + 1) + 0)) e
+  | inr e ↦ ap (λ (x : ℕ). is_open (2 * (x + 1) + 0)) e
 ]
 
 -- equal ranks that tell all are of one place and one mutability
-rank_same_at : (i j : ℕ) (b c m n : Bool) → (i == 5) ≡ b → (j == 5) ≡ c → 2 * (i + 1) + cond b 0 (bool_index m) ≡ 2 * (j + 1) + cond c 0 (bool_index n) → ((2 * (i + 1) + cond b 0 (bool_index m)) == 12) ≡ false → (i ≡ j) × ((i == 5) ≡ false) × (bool_cmp m n ≡ Equal)
-rank_same_at i j true c m n e f s h = let five : i ≡ 5 = grind (arith, nat_tests, e) in let k : ⊥ = grind (arith, nat_tests, five, h) in absurd k
+rank_same_at : (i j : ℕ) (b c m n : Bool) → is_named i ≡ b → is_named j ≡ c → 2 * (i + 1) + cond b 0 (bool_index m) ≡ 2 * (j + 1) + cond c 0 (bool_index n) → is_open (2 * (i + 1) + cond b 0 (bool_index m)) ≡ false → (i ≡ j) × (is_named i ≡ false) × (bool_cmp m n ≡ Equal)
+rank_same_at i j true c m n e f s h = let k : true ≡ false = sym (named_is_open i e) ∙ h in cc
 rank_same_at i j false true true n e f s h = absurd (omega (arith, s))
-rank_same_at i j false true false n e f s h = let same : i ≡ j = omega (arith, s) in let k : true ≡ false = sym f ∙ (ap (λ (x : ℕ). x == 5) (sym same) ∙ e) in cc
+rank_same_at i j false true false n e f s h = let same : i ≡ j = omega (arith, s) in let k : true ≡ false = sym f ∙ (ap is_named (sym same) ∙ e) in cc
 rank_same_at i j false false true true e f s h = (omega (arith, s), e, refl)
 rank_same_at i j false false true false e f s h = absurd (omega (arith, s))
 rank_same_at i j false false false true e f s h = absurd (omega (arith, s))
 rank_same_at i j false false false false e f s h = (omega (arith, s), e, refl)
 
-rank_same : (i j : ℕ) (m n : Bool) → rank i m ≡ rank j n → (rank i m == 12) ≡ false → (i ≡ j) × ((i == 5) ≡ false) × (bool_cmp m n ≡ Equal)
-rank_same i j m n s h = rank_same_at i j (i == 5) (j == 5) m n refl refl s h
+rank_same : (i j : ℕ) (m n : Bool) → rank i m ≡ rank j n → is_open (rank i m) ≡ false → (i ≡ j) × (is_named i ≡ false) × (bool_cmp m n ≡ Equal)
+rank_same i j m n s h = rank_same_at i j (is_named i) (is_named j) m n refl refl s h
 
 rank_some : (i : ℕ) (m : Bool) → nat_cmp (rank i m) 0 ≡ Greater
 rank_some i m = let some : 0 < rank i m = omega arith in grind (arith, nat_tests, some)
@@ -160,7 +267,7 @@ rank_some i m = let some : 0 < rank i m = omega arith in grind (arith, nat_tests
 record Tells {A : Type 0} (r : A → ℕ) (cmp : A → A → Ordering) : Type 0 where
   some : (x : A) → nat_cmp (r x) 0 ≡ Greater
   less : (x y : A) → nat_cmp (r x) (r y) ≡ Less → cmp x y ≡ Less
-  same : (x y : A) → r x ≡ r y → (r x == 12) ≡ false → cmp x y ≡ Equal
+  same : (x y : A) → r x ≡ r y → is_open (r x) ≡ false → cmp x y ≡ Equal
 
 module _ {A : Type 0} (r : A → ℕ) (cmp : A → A → Ordering) (tells : Tells r cmp) where
   first_less : (xs ys : List A) → nat_cmp (first_rank r xs) (first_rank r ys) ≡ Less → slice_cmp cmp xs ys ≡ Less
@@ -169,17 +276,17 @@ module _ {A : Type 0} (r : A → ℕ) (cmp : A → A → Ordering) (tells : Tell
   first_less (x ∷ xs) [] h = let k : Greater ≡ Less = sym (tells.some x) ∙ h in cc
   first_less (x ∷ xs) (y ∷ ys) h = ap (λ o. ordering_then o (slice_cmp cmp xs ys)) (tells.less x y h)
 
-  told : (b c : Bool) (x y : A) (xs ys : List A) → r x ≡ r y → (r x == 12) ≡ b → (r y == 12) ≡ c → slice_cmp cmp (cond b [] xs) (cond c [] ys) ≡ Less → slice_cmp cmp (x ∷ xs) (y ∷ ys) ≡ Less
+  told : (b c : Bool) (x y : A) (xs ys : List A) → r x ≡ r y → is_open (r x) ≡ b → is_open (r y) ≡ c → slice_cmp cmp (cond b [] xs) (cond c [] ys) ≡ Less → slice_cmp cmp (x ∷ xs) (y ∷ ys) ≡ Less
   told true true x y xs ys e f g h = cc
   told false false x y xs ys e f g h = ap (λ o. ordering_then o (slice_cmp cmp xs ys)) (tells.same x y e f) ∙ h
-  told true false x y xs ys e f g h = let k : true ≡ false = sym f ∙ (ap (λ (n : ℕ). n == 12) e ∙ g) in cc
-  told false true x y xs ys e f g h = let k : false ≡ true = sym f ∙ (ap (λ (n : ℕ). n == 12) e ∙ g) in cc
+  told true false x y xs ys e f g h = let k : true ≡ false = sym f ∙ (ap is_open e ∙ g) in cc
+  told false true x y xs ys e f g h = let k : false ≡ true = sym f ∙ (ap is_open e ∙ g) in cc
 
   rest_less : (xs ys : List A) → first_rank r xs ≡ first_rank r ys → slice_cmp cmp (after_first r xs) (after_first r ys) ≡ Less → slice_cmp cmp xs ys ≡ Less
   rest_less [] [] e h = cc
   rest_less [] (y ∷ ys) e h = refl
   rest_less (x ∷ xs) [] e h = let k : Greater ≡ Equal = sym (tells.some x) ∙ ap (λ (n : ℕ). nat_cmp n 0) e in cc
-  rest_less (x ∷ xs) (y ∷ ys) e h = told (r x == 12) (r y == 12) x y xs ys e refl refl h
+  rest_less (x ∷ xs) (y ∷ ys) e h = told (is_open (r x)) (is_open (r y)) x y xs ys e refl refl h
 
   step : (o more : Ordering) (xs ys : List A) → nat_cmp (first_rank r xs) (first_rank r ys) ≡ o → (more ≡ Less → slice_cmp cmp (after_first r xs) (after_first r ys) ≡ Less) → ordering_then o more ≡ Less → slice_cmp cmp xs ys ≡ Less
   step Less more xs ys e f h = first_less xs ys e
@@ -207,46 +314,27 @@ module _ {A : Type 0} (r : A → ℕ) (cmp : A → A → Ordering) (tells : Tell
       let all = ordering_then o1 (ordering_then o2 (ordering_then o3 (ordering_then o4 o5))) in
       step o1 (ordering_then o2 (ordering_then o3 (ordering_then o4 o5))) xs ys refl second (sym (ap (λ o. ordering_then o all) (itself k)) ∙ h)
 
-val_itself : (v w : Val ℕ) → v ≡ w → (val_index v == 5) ≡ false → val_cmp v w ≡ Equal
-val_itself v w e h = ap (val_cmp v) (sym e) ∙ own v h
-  where
-    own : (v : Val ℕ) → (val_index v == 5) ≡ false → val_cmp v v ≡ Equal
-    own val.I32 h = refl
-    own val.I64 h = refl
-    own val.F32 h = refl
-    own val.F64 h = refl
-    own val.V128 h = refl
-    own (val.Ref r) h = cc
-
-storage_itself : (s t : Storage ℕ) → s ≡ t → (storage_index s == 5) ≡ false → storage_cmp s t ≡ Equal
-storage_itself s t e h = ap (storage_cmp s) (sym e) ∙ own s h
-  where
-    own : (s : Storage ℕ) → (storage_index s == 5) ≡ false → storage_cmp s s ≡ Equal
-    own (storage.Val v) h = val_itself v v refl h
-    own storage.I8 h = refl
-    own storage.I16 h = refl
-
 val_tells : Tells val_rank val_cmp
 val_tells = record {
-  some = λ v. rank_some (val_index v) false;
-  less = λ v w h. by_val v w (rank_less (val_index v) (val_index w) false false h);
-  same = λ v w e h. let s = rank_same (val_index v) (val_index w) false false e h in val_itself v w (val_same v w s.0 s.1) s.1;
+  some = λ v. rank_some (val_place v) false;
+  less = λ v w h. by_val v w (rank_less (val_place v) (val_place w) false false h);
+  same = λ v w e h. let s = rank_same (val_place v) (val_place w) false false e h in val_tied v w s.0 s.1;
 }
   where
-    by_val : (v w : Val ℕ) → Told (val_index v) (val_index w) false false → val_cmp v w ≡ Less
+    by_val : (v w : Val ℕ) → Told (val_place v) (val_place w) false false → val_cmp v w ≡ Less
     by_val v w (by_place h) = val_less v w h
     by_val v w (by_mutability e f h) = cc
 
 field_tells : Tells field_rank field_cmp
 field_tells = record {
-  some = λ f. rank_some (storage_index f.element_type) f.mutable;
-  less = λ f g h. by_field f g (rank_less (storage_index f.element_type) (storage_index g.element_type) f.mutable g.mutable h);
-  same = λ f g e h. let s = rank_same (storage_index f.element_type) (storage_index g.element_type) f.mutable g.mutable e h in ap (λ o. ordering_then o (bool_cmp f.mutable g.mutable)) (storage_itself f.element_type g.element_type (storage_same f.element_type g.element_type s.0 s.1) s.1) ∙ s.2;
+  some = λ f. rank_some (storage_place f.element_type) f.mutable;
+  less = λ f g h. by_field f g (rank_less (storage_place f.element_type) (storage_place g.element_type) f.mutable g.mutable h);
+  same = λ f g e h. let s = rank_same (storage_place f.element_type) (storage_place g.element_type) f.mutable g.mutable e h in ap (λ o. ordering_then o (bool_cmp f.mutable g.mutable)) (storage_tied f.element_type g.element_type s.0 s.1) ∙ s.2;
 }
   where
-    by_field : (f g : Field ℕ) → Told (storage_index f.element_type) (storage_index g.element_type) f.mutable g.mutable → field_cmp f g ≡ Less
+    by_field : (f g : Field ℕ) → Told (storage_place f.element_type) (storage_place g.element_type) f.mutable g.mutable → field_cmp f g ≡ Less
     by_field f g (by_place h) = ap (λ o. ordering_then o (bool_cmp f.mutable g.mutable)) (storage_less f.element_type g.element_type h)
-    by_field f g (by_mutability e t h) = ap (λ o. ordering_then o (bool_cmp f.mutable g.mutable)) (storage_itself f.element_type g.element_type (storage_same f.element_type g.element_type e t) t) ∙ h
+    by_field f g (by_mutability e t h) = ap (λ o. ordering_then o (bool_cmp f.mutable g.mutable)) (storage_tied f.element_type g.element_type e t) ∙ h
 
 then_less : (o p : Ordering) → o ≡ Less → ordering_then o p ≡ Less
 then_less o p h = ap (λ q. ordering_then q p) h

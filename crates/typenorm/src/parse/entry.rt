@@ -168,6 +168,7 @@ fn values(alloc: Global, line: &[u8]) -> Result<(Vec<ValAt>, &[u8]), AllocError>
         values.push(value)?;
         rest = after;
     }
+    values.shrink_to_fit();
     Ok((values, rest))
 }
 
@@ -195,6 +196,7 @@ fn fields(alloc: Global, line: &[u8]) -> Result<(Vec<FieldAt>, &[u8]), AllocErro
         fields.push(field)?;
         rest = after;
     }
+    fields.shrink_to_fit();
     Ok((fields, rest))
 }
 

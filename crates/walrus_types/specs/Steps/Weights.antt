@@ -1,15 +1,18 @@
 -- A few small numbers for a type, by which most types can be told apart before their lists are looked at.
-use Rattle.std.specs.Prelude.{ℕ, ◌+◌, ◌*◌, ◌==◌, cond, Bool, false, List, [], ◌∷◌}
+use Rattle.std.specs.Prelude.{ℕ, ◌+◌, ◌*◌, ◌==◌, cond, Bool, true, false, List, [], ◌∷◌}
 use Rattle.std.specs.declared.cmp.Ordering.{Ordering}
 use Rattle.std.specs.Ordering.{nat_cmp, ordering_then}
 use Rattle.walrus_types.specs.declared.ty.composite.CompositeType.{CompositeType}
 use Rattle.walrus_types.specs.declared.ty.composite.CompositeType.TheVariants as kind
+use Rattle.walrus_types.specs.declared.ty.value.Heap.{Heap}
+use Rattle.walrus_types.specs.declared.ty.value.Heap.TheVariants as heap
 use Rattle.walrus_types.specs.declared.ty.value.Val.{Val}
+use Rattle.walrus_types.specs.declared.ty.value.Val.TheVariants as val
 use Rattle.walrus_types.specs.declared.ty.value.Storage.{Storage}
 use Rattle.walrus_types.specs.declared.ty.value.Storage.TheVariants as storage
 use Rattle.walrus_types.specs.declared.ty.value.Field.{Field}
 use Rattle.walrus_types.specs.Types.{ModuleType}
-use Rattle.walrus_types.specs.Value.{bool_index, val_index}
+use Rattle.walrus_types.specs.Value.{abstract_index, bool_index}
 
 abbrev pub Weight : Type 0
 Weight = ℕ × ℕ × ℕ × ℕ × ℕ × ℕ
@@ -18,31 +21,53 @@ Weight = ℕ × ℕ × ℕ × ℕ × ℕ × ℕ
 abbrev pub weight_cmp : Weight → Weight → Ordering
 weight_cmp v w = ordering_then (nat_cmp v.0 w.0) (ordering_then (nat_cmp v.1 w.1) (ordering_then (nat_cmp v.2 w.2) (ordering_then (nat_cmp v.3 w.3) (ordering_then (nat_cmp v.4 w.4) (nat_cmp v.5 w.5)))))
 
--- its place in the order of storage types; all references have one place
-abbrev pub storage_index : Storage ℕ → ℕ
-storage_index (storage.Val v) = val_index v
-storage_index storage.I8 = 6
-storage_index storage.I16 = 7
+-- the place of a heap type in the order; all that name a type have one place
+abbrev pub heap_place : Heap ℕ → ℕ
+heap_place (heap.Abstract a) = abstract_index a
+heap_place (heap.Concrete k) = 12
+heap_place (heap.Exact k) = 12
 
--- a lesser one has the lesser rank, or both are references, which have the same
+-- the place of a value type in the order
+abbrev pub val_place : Val ℕ → ℕ
+val_place val.I32 = 0
+val_place val.I64 = 1
+val_place val.F32 = 2
+val_place val.F64 = 3
+val_place val.V128 = 4
+val_place (val.Ref r) = 5 + (13 * bool_index r.nullable + heap_place r.heap_type)
+
+abbrev pub storage_place : Storage ℕ → ℕ
+storage_place (storage.Val v) = val_place v
+storage_place storage.I8 = 31
+storage_place storage.I16 = 32
+
+-- whether this is the place of the references to types, nullable or not
+abbrev pub is_named : ℕ → Bool
+is_named i = cond (i == 17) true (i == 30)
+
+-- a lesser one has the lesser rank, or both name a type and have the same
 abbrev pub rank : ℕ → Bool → ℕ
-rank i m = 2 * (i + 1) + cond (i == 5) 0 (bool_index m)
+rank i m = 2 * (i + 1) + cond (is_named i) 0 (bool_index m)
+
+-- whether this is the rank of something that names a type
+abbrev pub is_open : ℕ → Bool
+is_open n = cond (n == 36) true (n == 62)
 
 abbrev pub val_rank : Val ℕ → ℕ
-val_rank v = rank (val_index v) false
+val_rank v = rank (val_place v) false
 
 abbrev pub field_rank : Field ℕ → ℕ
-field_rank f = rank (storage_index f.element_type) f.mutable
+field_rank f = rank (storage_place f.element_type) f.mutable
 
 -- the rank of the first; 0 where there is none
 abbrev pub first_rank : {A : Type 0} → (A → ℕ) → List A → ℕ
 first_rank r [] = 0
 first_rank r (x ∷ xs) = r x
 
--- what is left after the first; nothing after a reference, whose rank does not tell all of it
+-- what is left after the first; nothing after what names a type, whose rank does not tell all of it
 abbrev pub after_first : {A : Type 0} → (A → ℕ) → List A → List A
 after_first r [] = []
-after_first r (x ∷ xs) = cond (r x == 12) [] xs
+after_first r (x ∷ xs) = cond (is_open (r x)) [] xs
 
 -- k, and the ranks of the first five
 abbrev pub ranks : {A : Type 0} → ℕ → (A → ℕ) → List A → Weight

@@ -1,12 +1,16 @@
 // Types that are compared by a few small numbers first, and by their lists only where these are the same.
-ghost use Rattle.std.specs.Prelude.{◌≡◌};
+ghost use Rattle.std.specs.Prelude.{◌≡◌, ◌≤◌};
 ghost use Rattle.walrus_types.specs.contracts.ty.TypeEq.TheImpl.Laws as type_eq;
 ghost use Rattle.walrus_types.specs.contracts.ty.TypeOrd.TheImpl.Laws as type_ord;
 ghost use Rattle.walrus_types.specs.contracts.ty.TypePartialEq.TheImpl.Laws as type_partial_eq;
 ghost use Rattle.walrus_types.specs.contracts.ty.TypePartialOrd.TheImpl.Laws as type_partial_ord;
-ghost use Rattle.walrus_types.specs.Steps.Weights.{val_rank, field_rank, first_rank, after_first, ranks, type_weight};
+ghost use Rattle.walrus_types.specs.Steps.Weights.{heap_place, val_place, storage_place, is_open, val_rank, field_rank, first_rank, after_first, ranks, type_weight};
+ghost use Rattle.walrus_types.specs.Value.{abstract_index};
 
-use crate::{CompositeType, FieldType, Storage, Type, Val, ValType};
+use crate::{
+    AbstractHeapType, CompositeType, FieldType, Heap, HeapType, Storage, StorageType, Type, Val,
+    ValType,
+};
 use std::cmp::Ordering;
 use std::marker::Model;
 use std::slice;
@@ -14,35 +18,90 @@ use std::slice;
 // The kind of a type, and for the first of its parameters or fields a number that a lesser one has less of.
 type Weight = (u8, u8, u8, u8, u8, u8);
 
-// The rank of a reference, which does not tell all of it.
-const REFERENCE: u8 = 12;
+// The ranks of a reference to a type and of a nullable one, which do not tell all of it.
+const NAMED: u8 = 36;
+
+const NAMED_OR_NULL: u8 = 62;
+
+fn place_of_abstract(heap: AbstractHeapType) -> u8
+    ensures { result ≡ abstract_index heap }
+{
+    match heap {
+        AbstractHeapType::Func => 0,
+        AbstractHeapType::Extern => 1,
+        AbstractHeapType::Any => 2,
+        AbstractHeapType::None => 3,
+        AbstractHeapType::NoExtern => 4,
+        AbstractHeapType::NoFunc => 5,
+        AbstractHeapType::Eq => 6,
+        AbstractHeapType::Struct => 7,
+        AbstractHeapType::Array => 8,
+        AbstractHeapType::I31 => 9,
+        AbstractHeapType::Exn => 10,
+        AbstractHeapType::NoExn => 11,
+    }
+}
+
+fn place_of_heap(heap: &HeapType) -> u8
+    ensures place { result ≡ heap_place heap.now }
+    ensures small { result ≤ 12 }
+{
+    match heap {
+        Heap::Abstract(heap) => place_of_abstract(*heap),
+        Heap::Concrete(_) => 12,
+        Heap::Exact(_) => 12,
+    }
+}
+
+// The place of a value type in the order, where all references to types have one place, and nullable ones another.
+fn place_of_val(val: &ValType) -> u8
+    ensures place { result ≡ val_place val.now }
+    ensures small { result ≤ 30 }
+{
+    match val {
+        Val::I32 => 0,
+        Val::I64 => 1,
+        Val::F32 => 2,
+        Val::F64 => 3,
+        Val::V128 => 4,
+        Val::Ref(reference) => {
+            let first = if reference.nullable { 18 } else { 5 };
+            first + place_of_heap(&reference.heap_type)
+        }
+    }
+}
+
+fn place_of_storage(storage: &StorageType) -> u8
+    ensures place { result ≡ storage_place storage.now }
+    ensures small { result ≤ 32 }
+{
+    match storage {
+        Storage::Val(val) => place_of_val(val),
+        Storage::I8 => 31,
+        Storage::I16 => 32,
+    }
+}
+
+fn is_open(rank: u8) -> bool
+    ensures { result ≡ is_open rank }
+{
+    rank == NAMED || rank == NAMED_OR_NULL
+}
 
 fn rank_of_val(val: &ValType) -> u8
     ensures { result ≡ val_rank val.now }
 {
-    match val {
-        Val::I32 => 2,
-        Val::I64 => 4,
-        Val::F32 => 6,
-        Val::F64 => 8,
-        Val::V128 => 10,
-        Val::Ref(_) => REFERENCE,
-    }
+    2 * (place_of_val(val) + 1)
 }
 
 fn rank_of_field(field: &FieldType) -> u8
     ensures { result ≡ field_rank field.now }
 {
-    let mutable = u8::from(field.mutable);
-    match &field.element_type {
-        Storage::Val(Val::I32) => 2 + mutable,
-        Storage::Val(Val::I64) => 4 + mutable,
-        Storage::Val(Val::F32) => 6 + mutable,
-        Storage::Val(Val::F64) => 8 + mutable,
-        Storage::Val(Val::V128) => 10 + mutable,
-        Storage::Val(Val::Ref(_)) => REFERENCE,
-        Storage::I8 => 14 + mutable,
-        Storage::I16 => 16 + mutable,
+    let rank = 2 * (place_of_storage(&field.element_type) + 1);
+    if is_open(rank) {
+        rank
+    } else {
+        rank + u8::from(field.mutable)
     }
 }
 
@@ -53,8 +112,10 @@ fn first_val(vals: &[ValType]) -> (u8, &[ValType])
 {
     match vals {
         [] => (0, vals),
-        [Val::Ref(_), ..] => (REFERENCE, &[]),
-        [val, rest @ ..] => (rank_of_val(val), rest),
+        [val, rest @ ..] => {
+            let rank = rank_of_val(val);
+            (rank, if is_open(rank) { &[] } else { rest })
+        }
     }
 }
 
@@ -66,7 +127,7 @@ fn first_field(fields: &[FieldType]) -> (u8, &[FieldType])
         [] => (0, fields),
         [field, rest @ ..] => {
             let rank = rank_of_field(field);
-            (rank, if rank == REFERENCE { &[] } else { rest })
+            (rank, if is_open(rank) { &[] } else { rest })
         }
     }
 }
