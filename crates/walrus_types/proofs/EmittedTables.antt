@@ -16,8 +16,8 @@ use Rattle.walrus_types.specs.Indices.{Given}
 use Rattle.walrus_types.specs.Naming.{value_in}
 use Rattle.walrus_types.specs.Table as table
 use Rattle.walrus_types.specs.Table.{Table, IsTable}
-use Rattle.walrus_types.specs.Emitted.{type_groups, definition_at, is_entry_at, IfNameMissing, IsWrittenId, IsEmitted, MissesFirst}
-use Rattle.walrus_types.specs.Steps.WrittenGroups.{AreWritten, FailsBy, IsApart, IsFirstMissingIn, IsWritingOrder, ids_in, picked}
+use Rattle.walrus_types.specs.Emitted.{contents, type_groups, definition_at, is_entry_at, IfNameMissing, IsWrittenId, IsEmitted, MissesFirst}
+use Rattle.walrus_types.specs.Steps.WrittenGroups.{AreWritten, FailsBy, IsApart, IsFirstMissingIn, IsWritingOrder, ids_in, in_order}
 use Rattle.walrus_types.proofs.WrittenPlaces.{Home, home, member_at}
 use Rattle.walrus_types.proofs.WrittenOrder.{at_member, to_member, emission, none_missing, first_missing, placed_member}
 use Rattle.walrus_types.proofs.WritingOrder.{single, same_member}
@@ -49,17 +49,17 @@ module _ (t : Table) (known : IsTable t) (order : List ℕ) (ord : IsWritingOrde
   pub singles : All (λ (g : RecGroup). g.is_explicit ≡ false → length g.types ≤ 1) t.groups
   singles k d lt = subst (λ (g : RecGroup). g.is_explicit ≡ false → length g.types ≤ 1) (get_or_default t.groups k table.no_group d lt) (known.single k)
 
-  pub apart : IsApart (ids_in (picked gs order))
+  pub apart : IsApart (ids_in (in_order gs order))
   apart p q i at_p at_q =
-      let h : Home (picked gs order) p i = home (picked gs order) p i at_p in
-      let k : Home (picked gs order) q i = home (picked gs order) q i at_q in
+      let h : Home (in_order gs order) p i = home (in_order gs order) p i at_p in
+      let k : Home (in_order gs order) q i = home (in_order gs order) q i at_q in
       let m : _ = placed_member gs def (is_entry_at t.types.slots) order ord h.group h.place i h.is in
       let n : _ = placed_member gs def (is_entry_at t.types.slots) order ord k.group k.place i k.is in
       let same : _ = same_member t known (slice_index order h.group) h.place (slice_index order k.group) k.place i m.1 n.1 in
       let groups_same : h.group ≡ k.group = m.2 k.group n.0 same.0 in
-      h.at ∙ (ap (λ (a : ℕ). length (ids_in (take a (picked gs order))) + h.place) groups_same ∙ (ap (λ (u : ℕ). length (ids_in (take k.group (picked gs order))) + u) same.1 ∙ sym k.at))
+      h.at ∙ (ap (λ (a : ℕ). length (ids_in (take a (in_order gs order))) + h.place) groups_same ∙ (ap (λ (u : ℕ). length (ids_in (take k.group (in_order gs order))) + u) same.1 ∙ sym k.at))
 
-  pub emitted : (out : List GroupAt) (x : Given) → AreWritten def (picked gs order) out x → IsEmitted t out x
+  pub emitted : (out : List GroupAt) (x : Given) → AreWritten def (in_order gs order) out x → IsEmitted t out x
   emitted out x w = record {
     section = subst (λ (n : Section). IsEmission gs def (is_entry_at t.types.slots) n (value_in x.index)) (sym w.section) (emission gs def (is_entry_at t.types.slots) order ord (single t known) x w.indexes);
     indexed = λ id. (from id, to id);
@@ -69,7 +69,7 @@ module _ (t : Table) (known : IsTable t) (order : List ℕ) (ord : IsWritingOrde
       from : (id : ℕ) → IsSome (x.index id) → IsWrittenId gs (is_entry_at t.types.slots) id
       from id s =
           let r : (p : ℕ) × (x.index id ≡ Some p) = found (x.index id) s in
-          let h : Home (picked gs order) r.0 id = home (picked gs order) r.0 id ((w.indexes.index id r.0).0 r.1) in
+          let h : Home (in_order gs order) r.0 id = home (in_order gs order) r.0 id ((w.indexes.index id r.0).0 r.1) in
           let m : _ = placed_member gs def (is_entry_at t.types.slots) order ord h.group h.place id h.is in
           (slice_index order h.group, h.place, ord.written h.group m.0, m.1)
         where
@@ -80,11 +80,11 @@ module _ (t : Table) (known : IsTable t) (order : List ℕ) (ord : IsWritingOrde
       to : (id : ℕ) → IsWrittenId gs (is_entry_at t.types.slots) id → IsSome (x.index id)
       to id g =
           let o : _ = ord.onto g.0 g.2 in
-          let at : slice_get (group_at (picked gs order) o.0).ids g.1 ≡ Some id = ap (λ (y : TypeGroup). slice_get y.ids g.1) (get_or-map (group_at gs) order o.0 0 no_group o.1 ∙ ap (group_at gs) o.2) ∙ at_member gs g.0 g.1 id g.3 in
-          let e : x.index id ≡ Some (length (ids_in (take o.0 (picked gs order))) + g.1) = (w.indexes.index id _).1 (member_at (picked gs order) o.0 g.1 id at) in
+          let at : slice_get (group_at (in_order gs order) o.0).ids g.1 ≡ Some id = ap (λ (y : TypeGroup). slice_get y.ids g.1) (get_or-map (group_at gs) order o.0 0 no_group o.1 ∙ ap (group_at gs) o.2) ∙ at_member gs g.0 g.1 id g.3 in
+          let e : x.index id ≡ Some (length (ids_in (take o.0 (in_order gs order))) + g.1) = (w.indexes.index id _).1 (member_at (in_order gs order) o.0 g.1 id at) in
           rw e refl
 
-  pub misses : (e : EmitError) → FailsBy e (IsFirstMissingIn def (picked gs order)) → FailsBy e (MissesFirst t)
+  pub misses : (e : EmitError) → FailsBy e (IsFirstMissingIn def (in_order gs order)) → FailsBy e (MissesFirst t)
   misses (emit.NoIndex i k) h = first_missing gs def (is_entry_at t.types.slots) order ord i k h
   misses emit.TooMany h = h
   misses emit.Memory h = h
@@ -95,6 +95,26 @@ live_groups t known k d lt u e in_u =
     let same : table.group_at t.groups k ≡ get_or t.groups k d = get_or_default t.groups k table.no_group d lt in
     let P : RecGroup → Type 0 = λ g. slice_get g.types u ≡ Some (get_or (get_or t.groups k d).types u e) in
     known.live k u (get_or (get_or t.groups k d).types u e) (subst P (sym same) (slice_get-get_or (get_or t.groups k d).types u e in_u))
+
+-- the groups that are written, one by one
+module _ (t : Table) (known : IsTable t) (order : List ℕ) (ord : IsWritingOrder (type_groups t.groups) (definition_at t.types.slots) (is_entry_at t.types.slots) order) (k : ℕ) (d : TypeGroup) (lt : k < length (in_order (type_groups t.groups) order)) where
+  below : k < length order
+  below = omega (arith, lt, length-map order (group_at (type_groups t.groups)))
+
+  inside : get_or order k 0 < length t.groups
+  inside = within t known order ord k 0 below
+
+  here : get_or (in_order (type_groups t.groups) order) k d ≡ contents (get_or t.groups (get_or order k 0) table.no_group)
+  here = get_or-map (group_at (type_groups t.groups)) order k 0 d below ∙ get_or-map contents t.groups (get_or order k 0) table.no_group no_group inside
+
+  pub live_in_order : All (IsLive t.types.slots) (get_or (in_order (type_groups t.groups) order) k d).ids
+  live_in_order = subst (λ (g : TypeGroup). All (IsLive t.types.slots) g.ids) (sym here) (live_groups t known (get_or order k 0) table.no_group inside)
+
+  pub filled_in_order : 0 < length (get_or (in_order (type_groups t.groups) order) k d).ids
+  filled_in_order = subst (λ (g : TypeGroup). 0 < length g.ids) (sym (get_or-map (group_at (type_groups t.groups)) order k 0 d below)) (filled t known order ord k 0 below)
+
+pub as_ordered : (from to : List RecGroup) (places order : List ℕ) (out ws : List TypeGroup) → from ≡ to → places ≡ order → out ≡ in_order (type_groups from) places → ws ≡ out → ws ≡ in_order (type_groups to) order
+as_ordered from to places order out ws e f is same = same ∙ (is ∙ (ap (λ (gs : List RecGroup). in_order (type_groups gs) places) e ∙ ap (in_order (type_groups to)) f))
 
 pub carried : {A B : Type 0} (P : A → B → Type 0) (a a' : A) (b b' : B) → a ≡ a' → b ≡ b' → P a b → P a' b'
 carried P a a' b b' e f h = subst (λ x. P x b') e (subst (P a) f h)

@@ -3,7 +3,7 @@ use Rattle.std.proofs.Common.{◌≡◌, ℕ, zero, suc, ◌+◌, ◌<◌, ◌�
 use Rattle.std.specs.List.{slice_get, slice_index, find, flat_map, IsDistinct}
 use Rattle.std.specs.Option.{is_none}
 use Rattle.std.proofs.lemmas.Grind.{flat_map-append}
-use Rattle.std.proofs.lemmas.List.{take_more, map-append, append-nil, length-map, get_or-map}
+use Rattle.std.proofs.lemmas.List.{take_more, map-append, append-nil, length-map, get_or-map, get_or_default}
 use Rattle.std.proofs.lemmas.Option.{slice_get_within, slice_get-get_or, get_or_from_slice_get}
 use Rattle.std.proofs.lemmas.Bool.{cases_lt, cases_eq}
 use Rattle.std.proofs.lemmas.Map.Keys.{IsDistinct-from_apart}
@@ -16,10 +16,10 @@ use Rattle.walrus_types.specs.ReadTable.{TypeGroup}
 use Rattle.walrus_types.specs.Emission.{no_group, group_at}
 use Rattle.walrus_types.specs.Indices.{Given, Indexes, IsEmpty, IsSame}
 use Rattle.walrus_types.specs.declared.table.RecGroup.{RecGroup}
-use Rattle.walrus_types.specs.Emitted.{type_groups}
+use Rattle.walrus_types.specs.Emitted.{contents, type_groups}
 use Rattle.walrus_types.specs.Naming.{first_missing}
 use Rattle.walrus_types.specs.Records.{group_of, section_of}
-use Rattle.walrus_types.specs.Steps.WrittenGroups.{AllIndexed, AreWritten, ComesBefore, FailsBy, IsApart, IsFirstMissingIn, IsFirstUnindexed, IsMissingIn, ids_in, indexed, picked, written_group}
+use Rattle.walrus_types.specs.Steps.WrittenGroups.{AllIndexed, AreWritten, ComesBefore, FailsBy, IsApart, IsFirstMissingIn, IsFirstUnindexed, IsMissingIn, ids_in, indexed, in_order, written_group}
 use Rattle.walrus_types.proofs.Definitions.{renamed_agree}
 use Rattle.walrus_types.proofs.WrittenPlaces.{member_at}
 
@@ -284,25 +284,26 @@ module _ (def : ℕ → Definition) (ws : List TypeGroup) (filled : (a : ℕ) �
               let name : slice_get (names_of (def i)) t ≡ Some l = subst (λ (n : ℕ). slice_get (names_of (def n)) t ≡ Some l) same m'.name in
               m'.missing (contains_indexed (ids_in (take (j + 1) ws)) new l indexes' (r.earlier t l x.1 name))
 
--- groups of a table
+-- groups that are to be written
 
-abbrev pub by_ids : RecGroup → TypeGroup
-by_ids g = record { ids = g.types; is_explicit = g.is_explicit }
+pub filled_at : (ws : List TypeGroup) → All (λ (g : TypeGroup). 0 < length g.ids) ws → (a : ℕ) → a < length ws → 0 < length (group_at ws a).ids
+filled_at ws filled a lt = filled a no_group lt
 
-module _ (groups : List RecGroup) (order : List ℕ) where
+pub group_here : (ws : List TypeGroup) (j : ℕ) (g : TypeGroup) → j < length ws → g ≡ get_or ws j g → group_at ws j ≡ g
+group_here ws j g lt is = get_or_default ws j no_group g lt ∙ sym is
+
+-- groups of a table that are picked, one after the other
+
+module _ (groups : List RecGroup) (order : List ℕ) (j : ℕ) where
   abbrev gs : List TypeGroup
   gs = type_groups groups
 
-  pub many : length (picked gs order) ≡ length order
-  many = length-map order (group_at gs)
+  pub table_group : (g : RecGroup) → All (λ k. k < length groups) order → j < length order → g ≡ get_or groups (get_or order j 0) g → group_at gs (slice_index order j) ≡ record { ids = g.types; is_explicit = g.is_explicit }
+  table_group g within below is = get_or-map contents groups (get_or order j 0) g no_group (within j 0 below) ∙ ap contents (sym is)
 
-  pub filled_at : All (λ g. 0 < length (group_at gs g).ids) order → (a : ℕ) → a < length (picked gs order) → 0 < length (group_at (picked gs order) a).ids
-  filled_at filled a lt =
-      let below : a < length order = omega (arith, lt, many) in
-      subst (λ (g : TypeGroup). 0 < length g.ids) (sym (get_or-map (group_at gs) order a 0 no_group below)) (filled a 0 below)
-
-  pub group_here : (j : ℕ) (g : RecGroup) → All (λ k. k < length groups) order → j < length order → g ≡ get_or groups (get_or order j 0) g → group_at (picked gs order) j ≡ by_ids g
-  group_here j g within below is = get_or-map (group_at gs) order j 0 no_group below ∙ (get_or-map by_ids groups (get_or order j 0) g no_group (within j 0 below) ∙ ap by_ids (sym is))
+  pub one_more : (out : List TypeGroup) (w : TypeGroup) → j < length order → group_at gs (slice_index order j) ≡ w → out ≡ map (group_at gs) (take j order) → out ++ w ∷ [] ≡ map (group_at gs) (take (j + 1) order)
+  one_more out w below is so_far =
+      ap (λ (ws : List TypeGroup). ws ++ w ∷ []) so_far ∙ (ap (λ (v : TypeGroup). map (group_at gs) (take j order) ++ v ∷ []) (sym is) ∙ (sym (map-append (group_at gs) (take j order) (slice_index order j ∷ [])) ∙ ap (map (group_at gs)) (sym (take_more order j 0 below))))
 
 pub empty_same : (old new : Given) → IsEmpty old → IsSame old new → IsEmpty new
 empty_same old new e s = record { count = s.count ∙ e.count; index = λ id. s.index id ∙ e.index id }

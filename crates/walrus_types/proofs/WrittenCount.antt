@@ -10,7 +10,7 @@ use Rattle.walrus_types.specs.ReadTable.{TypeGroup}
 use Rattle.walrus_types.specs.Emission.{no_group, group_at}
 use Rattle.walrus_types.specs.Emitted.{type_groups}
 use Rattle.walrus_types.specs.Refusal.{written_count}
-use Rattle.walrus_types.specs.Steps.WrittenGroups.{ids_in, picked, written_in}
+use Rattle.walrus_types.specs.Steps.WrittenGroups.{ids_in, in_order, written_in}
 
 module _ (is_entry : ℕ → Bool) where
   abbrev is_written : List ℕ → Bool
@@ -60,10 +60,10 @@ module _ (is_entry : ℕ → Bool) where
     in_filter [] = refl
     in_filter (g ∷ xs) = by (w g) refl (in_filter xs)
       where
-        by : (b : Bool) → b ≡ w g → written_in gs (filter w xs) ≡ sum_by (λ h. size (group_at gs h).ids) xs → length (ids_in (picked gs (cond b (g ∷ filter w xs) (filter w xs)))) ≡ sum_by (λ h. size (group_at gs h).ids) (g ∷ xs)
+        by : (b : Bool) → b ≡ w g → written_in gs (filter w xs) ≡ sum_by (λ h. size (group_at gs h).ids) xs → length (ids_in (in_order gs (cond b (g ∷ filter w xs) (filter w xs)))) ≡ sum_by (λ h. size (group_at gs h).ids) (g ∷ xs)
         by true e rest =
             let here : size (group_at gs g).ids ≡ length (group_at gs g).ids = ap (λ (b : Bool). cond b (length (group_at gs g).ids) 0) (sym (e ∙ tests g)) in
-            omega (arith, length-append (group_at gs g).ids (ids_in (picked gs (filter w xs))), rest, here, sum_by-cons (λ h. size (group_at gs h).ids) g xs)
+            omega (arith, length-append (group_at gs g).ids (ids_in (in_order gs (filter w xs))), rest, here, sum_by-cons (λ h. size (group_at gs h).ids) g xs)
         by false e rest =
             let here : size (group_at gs g).ids ≡ 0 = ap (λ (b : Bool). cond b (length (group_at gs g).ids) 0) (sym (e ∙ tests g)) in
             omega (arith, rest, here, sum_by-cons (λ h. size (group_at gs h).ids) g xs)

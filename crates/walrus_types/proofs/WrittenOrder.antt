@@ -12,7 +12,7 @@ use Rattle.walrus_types.specs.Emission.{no_group, group_at, IsMember, IsWritten,
 use Rattle.walrus_types.specs.Emission.{Stands}
 use Rattle.walrus_types.specs.Refusal.{HasIndexBy, IsMissing, Precedes, IsFirstMissing}
 use Rattle.walrus_types.specs.Indices.{Given, Indexes}
-use Rattle.walrus_types.specs.Steps.WrittenGroups.{ids_in, picked, written_group, indexed, IsMissingIn, ComesBefore, IsFirstMissingIn, IsWritingOrder}
+use Rattle.walrus_types.specs.Steps.WrittenGroups.{ids_in, in_order, written_group, indexed, IsMissingIn, ComesBefore, IsFirstMissingIn, IsWritingOrder}
 use Rattle.walrus_types.proofs.WrittenPlaces as places
 use Rattle.walrus_types.proofs.WrittenPlaces.{IsTidy, AllTidy, recs, spot_of, home, member_at}
 
@@ -87,7 +87,7 @@ filled_all d (w ∷ ws) tidy = one w.is_explicit w.ids tidy.0.filled (filled_all
 
 module _ (gs : List TypeGroup) (definition : ℕ → Definition) (is_entry : ℕ → Bool) (order : List ℕ) (ord : IsWritingOrder gs definition is_entry order) where
   abbrev ws : List TypeGroup
-  ws = picked gs order
+  ws = in_order gs order
 
   at_place : (a : ℕ) → a < length order → group_at ws a ≡ group_at gs (slice_index order a)
   at_place a below = get_or-map (group_at gs) order a 0 no_group below

@@ -21,7 +21,7 @@ use crate::{EmitError, GroupAt, IdsToIndices, ModuleTypes, RecGroup};
 use free::{free_groups, heads, is_written_group};
 use order::group_order;
 use std::alloc::{AllocError, Global};
-use write::write_groups;
+use write::{picked_groups, write_groups};
 
 // The number of types that can't be written.
 const TOO_MANY: usize = 1 << 32;
@@ -86,7 +86,8 @@ fn write_table(
     ensures missing { IfErr result (λ e. FailsBy e (MissesFirst table.now)) }
 {
     let order = writing_order(alloc, table)?;
-    write_groups(alloc, table, table.rec_groups(), order.as_slice())
+    let groups = picked_groups(alloc, table.rec_groups(), order.as_slice())?;
+    write_groups(alloc, table, groups.as_slice())
 }
 
 impl ModuleTypes {

@@ -1,10 +1,11 @@
 -- Groups that are written one after the other, and the indices that their ids get.
-use Rattle.std.specs.Prelude.{◌≡◌, ℕ, Bool, ◌+◌, ◌<◌, ◌⊎◌, cond, List, length, map, take, slice_get, slice_index, slice_index_or, Contains, Option, Some, None, unwrap_or}
+use Rattle.std.specs.Prelude.{◌≡◌, ℕ, Bool, true, false, [], ◌∷◌, ◌+◌, ◌<◌, ◌⊎◌, cond, List, length, map, take, slice_get, slice_index, slice_index_or, Contains, Option, Some, None, unwrap_or}
 use Rattle.std.specs.List.{flat_map}
 use Rattle.walrus_types.specs.Definition.{Definition, names_of, renamed}
 use Rattle.walrus_types.specs.Section.{Group, Single, Rec}
 use Rattle.walrus_types.specs.ReadTable.{TypeGroup}
 use Rattle.walrus_types.specs.Records.{section_of}
+use Rattle.walrus_types.specs.declared.table.RecGroup.{RecGroup}
 use Rattle.walrus_types.specs.declared.records.GroupAt.{GroupAt}
 use Rattle.walrus_types.specs.declared.error.EmitError.{EmitError}
 use Rattle.walrus_types.specs.declared.error.EmitError.TheVariants as emit
@@ -21,8 +22,13 @@ abbrev pub ids_in : List TypeGroup → List ℕ
 ids_in ws = flat_map (λ w. w.ids) ws
 
 -- the groups at these places
-abbrev pub picked : List TypeGroup → List ℕ → List TypeGroup
-picked gs order = map (group_at gs) order
+abbrev pub in_order : List TypeGroup → List ℕ → List TypeGroup
+in_order gs order = map (group_at gs) order
+
+-- the id of a group that isn't explicit, which has one; none for an explicit group
+abbrev pub IsLone : Option ℕ → RecGroup → Type 0
+IsLone None g = g.is_explicit ≡ true
+IsLone (Some i) g = (g.is_explicit ≡ false) × (g.types ≡ i ∷ [])
 
 -- the group, each of its ids written as this definition
 abbrev pub written_group : (ℕ → Definition) → TypeGroup → Group
@@ -64,7 +70,7 @@ pub record AreWritten (definition : ℕ → Definition) (ws : List TypeGroup) (o
 
 -- how many ids the groups at these places have
 abbrev pub written_in : List TypeGroup → List ℕ → ℕ
-written_in gs order = length (ids_in (picked gs order))
+written_in gs order = length (ids_in (in_order gs order))
 
 -- no id stands in the list twice
 abbrev pub IsApart : List ℕ → Type 0

@@ -8,14 +8,17 @@ ghost use Rattle.walrus_types.specs.Emission.{group_at};
 ghost use Rattle.walrus_types.specs.Emitted.{type_groups, definition_at};
 ghost use Rattle.walrus_types.specs.Indices.{IsEmpty, type_index, type_indices, func_indices, global_indices};
 ghost use Rattle.walrus_types.specs.Naming.{first_missing};
+ghost use Rattle.walrus_types.specs.ReadTable.{TypeGroup};
 ghost use Rattle.walrus_types.specs.Records.{entry_definition, group_of};
-ghost use Rattle.walrus_types.specs.Steps.WrittenGroups.{AllIndexed, AreWritten, FailsBy, IsApart, IsFirstMissingIn, IsFirstUnindexed, RefusesType, ids_in, indexed, picked, refused, written_group};
+ghost use Rattle.walrus_types.specs.Steps.WrittenGroups.{AllIndexed, AreWritten, FailsBy, IsApart, IsFirstMissingIn, IsFirstUnindexed, RefusesType, ids_in, indexed, in_order, refused, written_group};
 
 use crate::{
     EmitError, EntryAt, GroupAt, IdsToIndices, Listed, ModuleTypes, NoIndex, RecGroup,
     ToRecordError, TypeId,
 };
-use std::alloc::Global;
+use std::alloc::{AllocError, Global};
+use std::marker::Model;
+use std::slice;
 
 fn refusal_of(from: TypeId, none: &NoIndex) -> EmitError
     requires { RefusesType (to_record.NoIndex none.now) }
@@ -75,51 +78,107 @@ fn entries_of(
     Ok(entries)
 }
 
-fn record_of(
-    alloc: Global,
-    table: &ModuleTypes,
-    group: &RecGroup,
-    indices: &IdsToIndices,
-) -> Result<GroupAt, EmitError>
-    requires live { All (IsLive table.now.types.slots) group.now.types }
-    requires filled { 0 < length group.now.types }
-    requires single { group.now.is_explicit ≡ false → length group.now.types ≤ 1 }
-    ensures renamed { IfOk result (λ g. group_of g ≡ written_group (indexed (type_index indices.now) (definition_at table.now.types.slots)) (record { ids = group.now.types; is_explicit = group.now.is_explicit })) }
-    ensures complete { OnOk result (AllIndexed (type_index indices.now) (definition_at table.now.types.slots) group.now.types) }
-    ensures missing { IfErr result (λ e. FailsBy e (IsFirstUnindexed (type_index indices.now) (definition_at table.now.types.slots) group.now.types)) }
-{
-    let ids = group.types.as_slice();
-    if group.is_explicit {
-        let entries = entries_of(alloc, table, ids, indices)?;
-        Ok(GroupAt::Rec(Listed::from_vec(entries)))
-    } else {
-        let entry = entry_of(alloc, table, ids[0], indices)?;
-        Ok(GroupAt::Single(entry))
+// A group that is to be written. The type of a group that isn't explicit is at hand.
+#[derive(Drop)]
+pub(super) struct Picked<'a> {
+    lone: Option<TypeId>,
+    group: &'a RecGroup,
+}
+
+impl<'a> Model for Picked<'a> {
+    ghost use Rattle.walrus_types.specs.ReadTable.{TypeGroup};
+    ghost use Rattle.walrus_types.specs.Steps.WrittenGroups.{IsLone};
+
+    ghost Value = { TypeGroup };
+
+    ghost view = { λ s. record { ids = s.group.now.types; is_explicit = s.group.now.is_explicit } };
+
+    ghost invariant = { λ s. IsLone s.lone s.group.now };
+}
+
+impl<'a> Picked<'a> {
+    fn new(group: &'a RecGroup) -> Picked<'a>
+        requires filled { 0 < length group.now.types }
+        requires single { group.now.is_explicit ≡ false → length group.now.types ≤ 1 }
+        ensures { result ≡ record { ids = group.now.types; is_explicit = group.now.is_explicit } }
+    {
+        let lone = if group.is_explicit {
+            None
+        } else {
+            Some(group.types.as_slice()[0])
+        };
+        Picked { lone, group }
+    }
+
+    fn ids(&self) -> &[TypeId]
+        ensures { result.now ≡ self.now.ids }
+    {
+        match &self.lone {
+            Some(id) => slice::from_ref(id),
+            None => self.group.types.as_slice(),
+        }
     }
 }
 
-// The records of the groups at these places in order. Each type of a group has its index before the group is written.
+// The groups at these places in order. Gone over before anything is written, they are cheap to look up.
+pub(super) fn picked_groups<'a>(
+    alloc: Global,
+    groups: &'a [RecGroup],
+    order: &[usize],
+) -> Result<Vec<Picked<'a>>, AllocError>
+    requires within { All (λ g. g < length groups.now) order.now }
+    requires single { All (λ (g : RecGroup). g.is_explicit ≡ false → length g.types ≤ 1) groups.now }
+    requires filled { All (λ g. 0 < length (group_at (type_groups groups.now) g).ids) order.now }
+    ensures { IfOk result (λ v. v.items ≡ in_order (type_groups groups.now) order.now) }
+{
+    let mut all = Vec::with_capacity(alloc, order.len())?;
+    for place in order {
+        all.push(Picked::new(&groups[*place]))?;
+    }
+    Ok(all)
+}
+
+fn record_of(
+    alloc: Global,
+    table: &ModuleTypes,
+    group: &Picked<'_>,
+    indices: &IdsToIndices,
+) -> Result<GroupAt, EmitError>
+    requires live { All (IsLive table.now.types.slots) group.now.ids }
+    ensures renamed { IfOk result (λ g. group_of g ≡ written_group (indexed (type_index indices.now) (definition_at table.now.types.slots)) group.now) }
+    ensures complete { OnOk result (AllIndexed (type_index indices.now) (definition_at table.now.types.slots) group.now.ids) }
+    ensures missing { IfErr result (λ e. FailsBy e (IsFirstUnindexed (type_index indices.now) (definition_at table.now.types.slots) group.now.ids)) }
+{
+    match group.lone {
+        Some(id) => {
+            let entry = entry_of(alloc, table, id, indices)?;
+            Ok(GroupAt::Single(entry))
+        }
+        None => {
+            let entries = entries_of(alloc, table, group.ids(), indices)?;
+            Ok(GroupAt::Rec(Listed::from_vec(entries)))
+        }
+    }
+}
+
+// The records of these groups in order. Each type of a group has its index before the group is written.
 pub(super) fn write_groups(
     alloc: Global,
     table: &ModuleTypes,
-    groups: &[RecGroup],
-    order: &[usize],
+    groups: &[Picked<'_>],
 ) -> Result<(Vec<GroupAt>, IdsToIndices), EmitError>
-    requires within { All (λ g. g < length groups.now) order.now }
-    requires live { All (λ (g : RecGroup). All (IsLive table.now.types.slots) g.types) groups.now }
-    requires single { All (λ (g : RecGroup). g.is_explicit ≡ false → length g.types ≤ 1) groups.now }
-    requires filled { All (λ g. 0 < length (group_at (type_groups groups.now) g).ids) order.now }
-    requires apart { IsApart (ids_in (picked (type_groups groups.now) order.now)) }
-    requires few { length (ids_in (picked (type_groups groups.now) order.now)) < 2 ^ 32 }
-    ensures written { IfOk result (λ r. AreWritten (definition_at table.now.types.slots) (picked (type_groups groups.now) order.now) r.0.items (type_indices r.1)) }
+    requires live { All (λ (g : TypeGroup). All (IsLive table.now.types.slots) g.ids) groups.now }
+    requires filled { All (λ (g : TypeGroup). 0 < length g.ids) groups.now }
+    requires apart { IsApart (ids_in groups.now) }
+    requires few { length (ids_in groups.now) < 2 ^ 32 }
+    ensures written { IfOk result (λ r. AreWritten (definition_at table.now.types.slots) groups.now r.0.items (type_indices r.1)) }
     ensures others { IfOk result (λ r. IsEmpty (func_indices r.1) × IsEmpty (global_indices r.1)) }
-    ensures missing { IfErr result (λ e. FailsBy e (IsFirstMissingIn (definition_at table.now.types.slots) (picked (type_groups groups.now) order.now))) }
+    ensures missing { IfErr result (λ e. FailsBy e (IsFirstMissingIn (definition_at table.now.types.slots) groups.now)) }
 {
-    let mut written = Vec::with_capacity(alloc, order.len())?;
+    let mut written = Vec::with_capacity(alloc, groups.len())?;
     let mut indices = IdsToIndices::new(alloc);
-    for place in order {
-        let group = &groups[*place];
-        indices.push_all_types(group.types.as_slice())?;
+    for group in groups {
+        indices.push_all_types(group.ids())?;
         let record = record_of(alloc, table, group, &indices)?;
         written.push(record)?;
     }
