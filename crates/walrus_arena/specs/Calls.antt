@@ -5,7 +5,8 @@ use Rattle.walrus_arena.specs.Arena.{Slots, with_value, without, without_all, ra
 
 -- a call that answered `Ok`. One that was refused changes no slot and answers no id
 pub data Call (T : Type 0) : Type 0 where
-  -- `alloc`, `alloc_with_id` and `alloc_unique`, and an `insert` that found nothing
+  -- `alloc`, `alloc_with_id`, `alloc_unique` and `alloc_and_register`, and an `insert` that found nothing; `alloc_dead` is
+  -- this, and then `deletes` of the new id
   allocates : T → Call T
   -- `alloc_all`
   allocates_all : List T → Call T

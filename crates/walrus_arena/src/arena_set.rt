@@ -1,5 +1,5 @@
 //! A set of values in an arena: a value is found again by an equal one.
-ghost use Rattle.std.specs.Prelude.{◌≡◌, ◌∷◌, ◌++◌, [], length, IsTrue, ◌↔◌, IfOk, OnOk, OnErr, IsOk, IsSome, Some, MatchOption, ◌<◌, All, map, nat_eq, true};
+ghost use Rattle.std.specs.Prelude.{◌≡◌, ◌∷◌, ◌++◌, [], length, IsTrue, ◌↔◌, IfOk, OnOk, OnErr, IsOk, IsSome, Some, None, MatchOption, ◌<◌, All, map, nat_eq, true};
 ghost use Rattle.walrus_arena.specs.Arena.{get, IsLive, items, range};
 ghost use Rattle.walrus_arena.specs.Set.{found, holds, Adds, Registers, Removes, IsSame, ClonesAreEqual, RemovesAll};
 ghost use Rattle.std.specs.Borrow.{sem};
@@ -88,9 +88,23 @@ impl<T: Clone + Eq + Hash, A: Allocator> ArenaSet<T, A> {
         ensures item { IfOk result (λ id. holds (T.eq value) (get self.new.slots id) ≡ true) }
         ensures err { OnErr result (IsSame T.eq self.old self.new) }
     {
-        if let Some(id) = self.find(&value) {
-            return Ok(id);
+        match self.find(&value) {
+            Some(id) => Ok(id),
+            None => self.alloc_and_register(value),
         }
+    }
+
+    /// Puts the value into a new slot, also where an equal one is there, and maps it to the id of this slot, whatever it was mapped to before. After an `AllocError` slots and map are as they were.
+    ///
+    /// It is `insert` without a look at what is there, for a value that `find` does not find. walrus has no such call.
+    pub fn alloc_and_register(&mut self, value: T) -> Result<Id<T>, AllocError>
+    where
+        A: Clone,
+        requires { ClonesAreEqual T.is_clone T.eq }
+        ensures ok { IfOk result (Adds T.eq self.old self.new value) }
+        ensures item { IfOk result (λ id. holds (T.eq value) (get self.new.slots id) ≡ true) }
+        ensures err { OnErr result (IsSame T.eq self.old self.new) }
+    {
         let key = value.clone()?;
         self.map.reserve(1)?;
         let at = self.arena.alloc(value)?.index();
@@ -105,6 +119,21 @@ impl<T: Clone + Eq + Hash, A: Allocator> ArenaSet<T, A> {
         ensures err { OnErr result (self.new ≡ self.old) }
     {
         self.arena.alloc(value)
+    }
+
+    /// Uses up an id: a new slot that is dead from the start, whose value is deleted at once. The map stays. After an `AllocError` the set is as it was.
+    ///
+    /// walrus has no such call.
+    pub fn alloc_dead(&mut self, value: T) -> Result<Id<T>, AllocError>
+    where
+        T: Tombstone,
+        ensures id { IfOk result (λ id. id ≡ length self.old.slots) }
+        ensures ok { OnOk result (self.new ≡ record self.old { slots = self.old.slots ++ None ∷ [] }) }
+        ensures err { OnErr result (self.new ≡ self.old) }
+    {
+        let dead = self.arena.alloc(value)?.index();
+        self.arena.let_die(dead);
+        Ok(Id::from_index(dead))
     }
 
     /// Puts the values into new slots, in order, and answers their ids. The map stays. All or none: after an `AllocError` the set is as it was.

@@ -59,31 +59,10 @@ module _ (t new : Table) (go : List ℕ) (is : IsIndexed t go) (uses : UsesUpId 
     known = λ q id h. (let b = is.known q id (was_mapped q id h) in omega (arith, b, ap length uses.slots, length_push t.types.slots None));
   }
 
--- a type that was put into a new slot without being found, and then was removed
-module _ (old new : Set ModuleType) (ty : ModuleType) (id : ℕ) (last : id ≡ length old.slots) (known : (q : ModuleType) (j : ℕ) → mapped type_eq old q ≡ Some j → j < length old.slots) (removes : Removes type_eq (record { slots = old.slots ++ Some ty ∷ []; entries = old.entries }) new id) where
-  abbrev with_it : Set ModuleType
-  with_it = record { slots = old.slots ++ Some ty ∷ []; entries = old.entries }
-
-  pub dead_slot : new.slots ≡ old.slots ++ None ∷ []
-  dead_slot = removes.slots ∙ (ap (λ (i : ℕ). set (old.slots ++ Some ty ∷ []) i None) last ∙ set-append_seam old.slots (Some ty) [] None)
-
-  elsewhere : (o : Option ℕ) → ((j : ℕ) → o ≡ Some j → j < length old.slots) → option_eq (λ a b. a == b) o (Some id) ≡ false
-  elsewhere None h = refl
-  elsewhere (Some j) h = let b = h j refl in ne_eqb j id (λ e. omega (arith, e, b, last))
-
-  not_own : (q : ModuleType) → is_own_entry type_eq with_it id q ≡ false
-  not_own q =
-      let at : get with_it.slots id ≡ Some ty = get_or_at old.slots (Some ty) [] None id (sym last) in
-      ap (holds (λ (item : ModuleType). type_eq item q && option_eq (λ a b. a == b) (mapped type_eq with_it item) (Some id))) at
-      ∙ (ap (λ (b : Bool). type_eq ty q && b) (elsewhere (mapped type_eq old ty) (known ty)) ∙ and-false (type_eq ty q))
-
-  pub same_map : SameMap type_eq old new
-  same_map q = removes.map q ∙ ap (λ (b : Bool). cond b None (mapped type_eq with_it q)) (not_own q)
-
-pub ok_at : {X E P : Type 0} (r : Result X E) → IsOk r → OnOk r P → P
-ok_at (Ok x) s h = h
-ok_at (Err e) s h = absurd cc
-
-pub on_ok_holds : {X E P : Type 0} (r : Result X E) → P → OnOk r P
-on_ok_holds (Ok x) h = h
-on_ok_holds (Err e) h = tt
+-- a new slot that is dead from the start
+pub uses_up : (old new : Set ModuleType) (groups : List RecGroup) → new ≡ record { slots = old.slots ++ None ∷ []; entries = old.entries } → UsesUpId (record { types = old; groups = groups }) (record { types = new; groups = groups })
+uses_up old new groups is = record {
+  slots = ap (λ (s : Set ModuleType). s.slots) is;
+  map = λ q. ap (λ (s : Set ModuleType). mapped type_eq s q) is;
+  groups = refl;
+}

@@ -90,6 +90,28 @@ fn many_new_values_leave_the_map(rt: HostRuntime) -> Result<(), Fail> {
 }
 
 #[test]
+fn a_registered_value_takes_the_entry_of_an_equal_one(rt: HostRuntime) -> Result<(), Fail> {
+    let mut set = two_equal(rt.alloc())?;
+    assert_eq!(rt; set.alloc_and_register(make_tagged(1, 40))?.index(), 2);
+    assert_eq!(rt; index_of(&set, 1), Some(2));
+    assert_eq!(rt; note_of(&rt, &set, 0), 10);
+    assert_eq!(rt; set.alloc_and_register(make_tagged(2, 50))?.index(), 3);
+    assert_eq!(rt; index_of(&set, 2), Some(3));
+    Ok(())
+}
+
+#[test]
+fn a_slot_can_be_dead_from_the_start(rt: HostRuntime) -> Result<(), Fail> {
+    let mut set = two_equal(rt.alloc())?;
+    assert_eq!(rt; set.alloc_dead(make_tagged(2, 0))?.index(), 2);
+    assert!(rt; !set.contains(Id::from_index(2)));
+    assert_eq!(rt; index_of(&set, 2), None);
+    assert_eq!(rt; index_of(&set, 1), Some(0));
+    assert_eq!(rt; set.insert(make_tagged(2, 0))?.index(), 3);
+    Ok(())
+}
+
+#[test]
 #[tactic(auto, using(crate::proofs::ArenaLemmas::distinct_pair))]
 fn many_are_removed_at_once(rt: HostRuntime) -> Result<(), Fail> {
     let mut set = two_equal(rt.alloc())?;

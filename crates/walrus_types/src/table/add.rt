@@ -107,7 +107,7 @@ impl ModuleTypes {
         let ids = vec![in *self.groups.allocator(); at]?;
         self.groups.reserve(1)?;
         self.group_of.reserve(1)?;
-        let id = self.types.insert(ty)?;
+        let id = self.types.alloc_and_register(ty)?;
         self.group_of.push_reserved(self.groups.len());
         self.groups.push_reserved(RecGroup {
             types: Listed::from_vec(ids),

@@ -39,8 +39,8 @@ impl ModuleTypes {
         let id = self.types.next_id();
         let ty = Type::new_composite(id, CompositeType::Function(nothing), true, None);
         self.group_of.reserve(1)?;
-        let id = self.types.alloc_unique(ty)?;
+        self.types.alloc_dead(ty)?;
         self.group_of.push_reserved(0);
-        self.types.remove(id)
+        Ok(())
     }
 }
