@@ -29,8 +29,9 @@ pub struct TombstoneArena<T, A: Allocator = Global> {
 // The item of a dead slot is as `on_delete` left it.
 #[derive(Drop)]
 pub(crate) struct Slot<T> {
-    pub(crate) item: T,
+    // It stands first, beside what is read of an item most of the time.
     pub(crate) is_live: bool,
+    pub(crate) item: T,
 }
 
 impl<T, A: Allocator> Model for TombstoneArena<T, A> {
