@@ -10,6 +10,7 @@ use Rattle.std.proofs.lemmas.List.{length-map, take_more, append-nil, get_or_def
 use Rattle.std.proofs.lemmas.List.Elements.{filter-append}
 use Rattle.std.proofs.lemmas.Option.{slice_get-map, slice_get_within, slice_get-get_or, get_or_from_slice_get, slice_get_cases}
 use Rattle.std.proofs.lemmas.Bool.{cases_lt}
+use Rattle.std.proofs.Math.Path.{fun_ext}
 use Rattle.walrus_arena.specs.Arena.{Slots, get, IsLive}
 use Rattle.walrus_types.specs.declared.table.RecGroup.{RecGroup}
 use Rattle.walrus_types.specs.Definition.{Definition, Names, names_of, definition_cmp}
@@ -23,7 +24,7 @@ use Rattle.walrus_types.specs.Types.{ModuleType, type_definition}
 use Rattle.walrus_types.specs.Table as table
 use Rattle.walrus_types.specs.Table.{Table, IsTable}
 use Rattle.walrus_types.specs.Emitted.{type_groups, slot_definition, definition_at, slot_is_entry, is_entry_at}
-use Rattle.walrus_types.specs.Steps.FreeGroups.{is_own_or_dead, names_none_other, slot_names_none_other, is_free_of, is_free, head, is_written_at}
+use Rattle.walrus_types.specs.Steps.FreeGroups.{is_own_or_dead, names_none_other, slot_names_none_other, is_free_of, is_free, head, is_marked, is_written_at, is_written_group}
 use Rattle.walrus_types.specs.Steps.WrittenGroups.{IsWritingOrder, written_in}
 use Rattle.walrus_types.specs.Refusal.{written_count}
 use Rattle.walrus_types.proofs.WrittenCount.{count_of_order}
@@ -443,5 +444,14 @@ kept_more p xs i ys below is test = sym (more_kept p xs i below ∙ (ap (λ (b :
 pub left_out : (p : ℕ → Bool) (xs : List ℕ) (i : ℕ) (ys : List ℕ) → i < length xs → ys ≡ filter p (take i xs) → p (slice_index xs i) ≡ false → ys ≡ filter p (take (i + 1) xs)
 left_out p xs i ys below is test = is ∙ sym (more_kept p xs i below ∙ (ap (λ (b : Bool). filter p (take i xs) ++ cond b (slice_index xs i ∷ []) []) test ∙ append-nil (filter p (take i xs))))
 
-pub test_of_group : (slots : Slots ModuleType) (groups : List RecGroup) (g : RecGroup) (n : ℕ) → n < length groups → g ≡ get_or groups n g → is_written_at slots groups n ≡ list_any (λ i. not (is_entry_at slots i)) g.types
-test_of_group slots groups g n below is = ap (λ (h : RecGroup). list_any (λ i. not (is_entry_at slots i)) h.types) (get_or_default groups n table.no_group g below ∙ sym is)
+pub mark_here : (marks : List Bool) (mark : Bool) (n : ℕ) → n < length marks → mark ≡ get_or marks n mark → is_marked marks n ≡ mark
+mark_here marks mark n below is = get_or_default marks n false mark below ∙ sym is
+
+-- the marks of the groups that are written
+pub marks_are : (slots : Slots ModuleType) (groups : List RecGroup) (n : ℕ) → is_marked (map (is_written_group slots) groups) n ≡ is_written_at slots groups n
+marks_are s [] n = refl
+marks_are s (g ∷ rest) zero = refl
+marks_are s (g ∷ rest) (suc n) = marks_are s rest n
+
+pub marked_are_written : (slots : Slots ModuleType) (groups : List RecGroup) (marks : List Bool) (order : List ℕ) → marks ≡ map (is_written_group slots) groups → filter (is_marked marks) order ≡ filter (is_written_at slots groups) order
+marked_are_written slots groups marks order is = ap (λ (ms : List Bool). filter (is_marked ms) order) is ∙ ap (λ (p : ℕ → Bool). filter p order) (fun_ext (marks_are slots groups))

@@ -7,7 +7,7 @@ ghost use Rattle.walrus_types.specs.Emitted.{type_groups, definition_at, is_entr
 ghost use Rattle.walrus_types.specs.Indices.{IsEmpty, type_indices, func_indices, global_indices};
 ghost use Rattle.walrus_types.specs.declared.error.EmitError.TheVariants.{TooMany};
 ghost use Rattle.walrus_types.specs.Refusal.{written_count};
-ghost use Rattle.walrus_types.specs.Steps.FreeGroups.{is_written_at};
+ghost use Rattle.walrus_types.specs.Steps.FreeGroups.{is_marked};
 ghost use Rattle.walrus_types.specs.Steps.WrittenGroups.{FailsBy, IsWritingOrder, written_in};
 
 mod free;
@@ -18,7 +18,7 @@ mod weighed;
 mod write;
 
 use crate::{EmitError, GroupAt, IdsToIndices, ModuleTypes, RecGroup};
-use free::{free_groups, heads, is_written_group};
+use free::{Survey, is_written_group, survey_of};
 use order::group_order;
 use std::alloc::{AllocError, Global};
 use write::{picked_groups, write_groups};
@@ -43,24 +43,18 @@ fn has_too_many(table: &ModuleTypes, groups: &[RecGroup]) -> bool
     false
 }
 
-// Those of the groups at these places that are written.
-fn written_places(
-    alloc: Global,
-    table: &ModuleTypes,
-    groups: &[RecGroup],
-    order: &[usize],
-) -> Result<Vec<usize>, AllocError>
-    requires live { All (λ (g : RecGroup). All (IsLive table.now.types.slots) g.types) groups.now }
-    requires within { All (λ g. g < length groups.now) order.now }
-    ensures { IfOk result (λ v. v.items ≡ filter (is_written_at table.now.types.slots groups.now) order.now) }
+// Those of these places that are marked.
+fn marked_places(alloc: Global, marks: &[bool], order: &[usize]) -> Result<Vec<usize>, AllocError>
+    requires within { All (λ g. g < length marks.now) order.now }
+    ensures { IfOk result (λ v. v.items ≡ filter (is_marked marks.now) order.now) }
 {
-    let mut written = Vec::with_capacity(alloc, order.len())?;
+    let mut places = Vec::with_capacity(alloc, order.len())?;
     for place in order {
-        if is_written_group(table, &groups[*place]) {
-            written.push(*place)?;
+        if marks[*place] {
+            places.push(*place)?;
         }
     }
-    Ok(written)
+    Ok(places)
 }
 
 // The places of the groups that are written, in the order in which they are.
@@ -69,10 +63,13 @@ fn writing_order(alloc: Global, table: &ModuleTypes) -> Result<Vec<usize>, Alloc
     ensures count { IfOk result (λ v. written_in (type_groups table.now.groups) v.items ≡ written_count (is_entry_at table.now.types.slots) (type_groups table.now.groups)) }
 {
     let groups = table.rec_groups();
-    let free = free_groups(alloc, table, groups)?;
-    let heads = heads(alloc, table, groups)?;
+    let Survey {
+        free,
+        heads,
+        written,
+    } = survey_of(alloc, table, groups)?;
     let order = group_order(alloc, free.as_slice(), heads)?;
-    written_places(alloc, table, groups, order.as_slice())
+    marked_places(alloc, written.as_slice(), order.as_slice())
 }
 
 // The section of a table that has not too many types.

@@ -1,5 +1,5 @@
 -- Which groups of a table are free, and which are written, as tests.
-use Rattle.std.specs.Prelude.{ℕ, ◌==◌, ◌||◌, ◌&&◌, List, [], ◌∷◌, Bool, true, false, not, is_none, Option, Some, None, option_and_then}
+use Rattle.std.specs.Prelude.{slice_index_or, ℕ, ◌==◌, ◌||◌, ◌&&◌, List, [], ◌∷◌, Bool, true, false, not, is_none, Option, Some, None, option_and_then}
 use Rattle.std.specs.List.{list_all, list_any}
 use Rattle.walrus_arena.specs.Arena.{Slots, get}
 use Rattle.walrus_types.specs.Types.{ModuleType, type_definition}
@@ -36,6 +36,14 @@ first_of (i ∷ ids) = Some i
 abbrev pub head : Slots ModuleType → RecGroup → Option ModuleType
 head slots g = option_and_then (get slots) (first_of g.types)
 
+-- some type of the group stands for more than the entry of a function
+abbrev pub is_written_group : Slots ModuleType → RecGroup → Bool
+is_written_group slots g = list_any (λ i. not (is_entry_at slots i)) g.types
+
 -- whether the group at this place is written
 abbrev pub is_written_at : Slots ModuleType → List RecGroup → ℕ → Bool
-is_written_at slots groups g = list_any (λ i. not (is_entry_at slots i)) (group_at groups g).types
+is_written_at slots groups g = is_written_group slots (group_at groups g)
+
+-- whether there is a mark at this place, and it is set
+abbrev pub is_marked : List Bool → ℕ → Bool
+is_marked marks g = slice_index_or marks g false

@@ -1,11 +1,10 @@
 // Which groups are free, and which are written.
-ghost use Rattle.std.specs.Prelude.{◌≡◌, IfOk, map, All, not};
-ghost use Rattle.std.specs.List.{list_all, list_any};
+ghost use Rattle.std.specs.Prelude.{◌≡◌, IfOk, map, All};
+ghost use Rattle.std.specs.List.{list_all};
 ghost use Rattle.walrus_arena.specs.Arena.{IsLive};
 ghost use Rattle.walrus_types.specs.declared.table.RecGroup.{RecGroup};
 ghost use Rattle.walrus_types.specs.Definition.{composite_names, supertype_names, names_of};
-ghost use Rattle.walrus_types.specs.Emitted.{is_entry_at};
-ghost use Rattle.walrus_types.specs.Steps.FreeGroups.{is_own_or_dead, names_none_other, is_free, head};
+ghost use Rattle.walrus_types.specs.Steps.FreeGroups.{is_own_or_dead, names_none_other, is_free, head, is_written_group};
 ghost use Rattle.walrus_types.specs.Types.{kind_composite, type_definition};
 ghost use Rattle.walrus_types.specs.Value.{heap_names, val_names, storage_names, field_names};
 
@@ -112,21 +111,6 @@ fn is_free_group(table: &ModuleTypes, group: &RecGroup) -> bool
     }
 }
 
-pub(super) fn free_groups(
-    alloc: Global,
-    table: &ModuleTypes,
-    groups: &[RecGroup],
-) -> Result<Vec<bool>, AllocError>
-    requires { All (λ (g : RecGroup). All (IsLive table.now.types.slots) g.types) groups.now }
-    ensures { IfOk result (λ v. v.items ≡ map (is_free table.now.types.slots) groups.now) }
-{
-    let mut free = Vec::with_capacity(alloc, groups.len())?;
-    for group in groups {
-        free.push(is_free_group(table, group))?;
-    }
-    Ok(free)
-}
-
 fn head_of<'a>(table: &'a ModuleTypes, group: &RecGroup) -> Option<Weighed<'a>>
     requires { All (IsLive table.now.types.slots) group.now.types }
     ensures { result ≡ head table.now.types.slots group.now }
@@ -137,26 +121,10 @@ fn head_of<'a>(table: &'a ModuleTypes, group: &RecGroup) -> Option<Weighed<'a>>
     }
 }
 
-// The first type of each group.
-pub(super) fn heads<'a>(
-    alloc: Global,
-    table: &'a ModuleTypes,
-    groups: &[RecGroup],
-) -> Result<Vec<Option<Weighed<'a>>>, AllocError>
-    requires { All (λ (g : RecGroup). All (IsLive table.now.types.slots) g.types) groups.now }
-    ensures { IfOk result (λ v. v.items ≡ map (head table.now.types.slots) groups.now) }
-{
-    let mut heads = Vec::with_capacity(alloc, groups.len())?;
-    for group in groups {
-        heads.push(head_of(table, group))?;
-    }
-    Ok(heads)
-}
-
 // Whether some type of the group stands for more than the entry of a function.
 pub(super) fn is_written_group(table: &ModuleTypes, group: &RecGroup) -> bool
     requires { All (IsLive table.now.types.slots) group.now.types }
-    ensures { result ≡ list_any (λ i. not (is_entry_at table.now.types.slots i)) group.now.types }
+    ensures { result ≡ is_written_group table.now.types.slots group.now }
 {
     for id in group.types.as_slice() {
         if !table.get(*id).is_for_function_entry() {
@@ -164,4 +132,38 @@ pub(super) fn is_written_group(table: &ModuleTypes, group: &RecGroup) -> bool
         }
     }
     false
+}
+
+// What decides the place of each group: whether it is free, its first type, and whether it is written.
+#[derive(Drop)]
+pub(super) struct Survey<'a> {
+    pub(super) free: Vec<bool>,
+    pub(super) heads: Vec<Option<Weighed<'a>>>,
+    pub(super) written: Vec<bool>,
+}
+
+// Each type is looked at once for all three, since the types are what it costs to reach.
+pub(super) fn survey_of<'a>(
+    alloc: Global,
+    table: &'a ModuleTypes,
+    groups: &[RecGroup],
+) -> Result<Survey<'a>, AllocError>
+    requires { All (λ (g : RecGroup). All (IsLive table.now.types.slots) g.types) groups.now }
+    ensures free { IfOk result (λ s. s.free.items ≡ map (is_free table.now.types.slots) groups.now) }
+    ensures heads { IfOk result (λ s. s.heads.items ≡ map (head table.now.types.slots) groups.now) }
+    ensures written { IfOk result (λ s. s.written.items ≡ map (is_written_group table.now.types.slots) groups.now) }
+{
+    let mut free = Vec::with_capacity(alloc, groups.len())?;
+    let mut heads = Vec::with_capacity(alloc, groups.len())?;
+    let mut written = Vec::with_capacity(alloc, groups.len())?;
+    for group in groups {
+        free.push(is_free_group(table, group))?;
+        heads.push(head_of(table, group))?;
+        written.push(is_written_group(table, group))?;
+    }
+    Ok(Survey {
+        free,
+        heads,
+        written,
+    })
 }
