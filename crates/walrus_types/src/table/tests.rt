@@ -9,6 +9,7 @@ use std::test::Fail;
 
 mod adding;
 mod deleting;
+mod every_deletion;
 mod finding;
 mod grouping;
 mod reading;

@@ -2,7 +2,7 @@
 use super::*;
 
 // An explicit group of structs, each with a reference to the type with this id, or without fields.
-fn add_namers(
+pub(super) fn add_namers(
     alloc: Global,
     types: &mut ModuleTypes,
     names: &[Option<usize>],
@@ -28,7 +28,11 @@ fn namer(alloc: Global, name: Option<usize>) -> Result<CompositeType, AllocError
     }
 }
 
-fn delete_group(rt: &impl Abort, types: &mut ModuleTypes, index: usize) -> Result<(), AllocError> {
+pub(super) fn delete_group(
+    rt: &impl Abort,
+    types: &mut ModuleTypes,
+    index: usize,
+) -> Result<(), AllocError> {
     let id = TypeId::from_index(index);
     assert!(rt; types.contains(id));
     types.delete_entire_group(id)
@@ -40,20 +44,6 @@ fn has_one_empty_group(types: &ModuleTypes) -> bool {
         [group] => group.is_explicit && group.types.as_slice().is_empty(),
         _ => false,
     }
-}
-
-#[test]
-fn every_deletion_of_a_built_table_succeeds(rt: HostRuntime) -> Result<(), Fail> {
-    let mut types = ModuleTypes::new(rt.alloc());
-    types.add(&[], &[])?;
-    types.add_entry_ty(&[])?;
-    add_namers(rt.alloc(), &mut types, &[Some(3), None])?;
-    assert_eq!(rt; delete(&rt, &mut types, 0), Ok(()));
-    assert_eq!(rt; try_delete(&rt, &mut types, 1), Ok(true));
-    assert_eq!(rt; try_delete(&rt, &mut types, 3), Ok(false));
-    assert_eq!(rt; delete_group(&rt, &mut types, 2), Ok(()));
-    assert!(rt; types.iter().next().is_none());
-    Ok(())
 }
 
 #[test]
