@@ -4,6 +4,7 @@ use crate::sample::{Piece, Shape, entry, group, section, to};
 use crate::{RecGroup, ValAt};
 use Piece::{Many, One};
 use Shape::{Func, Struct};
+use std::alloc::AllocError;
 use std::process::Abort;
 use std::test::Fail;
 
@@ -30,6 +31,47 @@ fn is_refused(
     let groups = section(alloc, pieces)?;
     let refused = parse_types(alloc, groups.as_slice()).err();
     assert_eq!(rt; refused, Some(wanted));
+    Ok(())
+}
+
+// The group of this piece. It is asked for again after a refusal.
+fn group_again(alloc: Global, piece: Piece<'_>) -> Result<GroupAt, AllocError> {
+    match group(alloc, piece) {
+        Ok(made) => Ok(made),
+        Err(_) => group(alloc, piece),
+    }
+}
+
+// Pushes a group. After a refusal for memory the reader must be as it was, and the call is made again.
+fn push_again(
+    rt: &impl Abort,
+    reader: &mut SectionReader,
+    group: &GroupAt,
+) -> Result<(), ReadError> {
+    let before = reader.ids.type_count();
+    match reader.push_group(group) {
+        Err(ReadError::Memory) => {
+            assert_eq!(rt; reader.ids.type_count(), before);
+            reader.push_group(group)
+        }
+        answer => answer,
+    }
+}
+
+// With each allocation refused in turn, by the runner.
+#[test]
+fn a_group_is_read_as_if_it_had_not_been_refused(rt: HostRuntime) -> Result<(), Fail> {
+    let alone = group_again(rt.alloc(), One(Func(&[])))?;
+    let rec = group_again(rt.alloc(), Many(&[Struct(&[to(0)])]))?;
+    let mut reader = SectionReader::new(rt.alloc());
+    for _ in 0..5u32 {
+        push_again(&rt, &mut reader, &alone)?;
+        push_again(&rt, &mut reader, &rec)?;
+    }
+    let (types, ids) = reader.finish();
+    assert!(rt; are(ids.as_slice(), &[0, 1, 0, 3, 0, 5, 0, 7, 0, 9]));
+    assert_eq!(rt; types.rec_groups().len(), 6);
+    assert!(rt; is(&types.rec_groups()[5], &[9], true));
     Ok(())
 }
 

@@ -2,6 +2,7 @@
 use super::*;
 use crate::{ArrayType, FunctionType, HeapType, Id, Listed, Reference, StructType};
 use std::alloc::Global;
+use std::process::Abort;
 use std::test::Fail;
 
 fn concrete(index: usize) -> ValType {
@@ -79,5 +80,41 @@ fn a_type_may_be_made_with_no_id(rt: HostRuntime) -> Result<(), Fail> {
     });
     let made = ty(array, None);
     assert_eq!(rt; referenced(rt.alloc(), &made)?.as_slice(), [7].as_slice());
+    Ok(())
+}
+
+// A type that is made with the ids 2, 1 and 0. Its list is asked for again after a refusal.
+fn namer(alloc: Global) -> Result<Type, AllocError> {
+    let mut params = Vec::new(alloc);
+    if params.reserve(2).is_err() {
+        params.reserve(2)?;
+    }
+    params.push(concrete(1))?;
+    params.push(concrete(0))?;
+    let kind = CompositeType::Function(FunctionType::new(params, Vec::new(alloc)));
+    Ok(ty(kind, Some(Id::from_index(2))))
+}
+
+// Puts the ids at the end. After a refusal the list must be as it was, and the call is made again.
+fn put_again(rt: &impl Abort, ty: &Type, list: &mut Vec<TypeId>) -> Result<(), AllocError> {
+    let before = list.len();
+    if ty.referenced_types(list).is_ok() {
+        return Ok(());
+    }
+    assert_eq!(rt; list.len(), before);
+    ty.referenced_types(list)
+}
+
+// With each allocation refused in turn, by the runner.
+#[test]
+fn refused_ids_come_when_they_are_asked_for_again(rt: HostRuntime) -> Result<(), Fail> {
+    let made = namer(rt.alloc())?;
+    let mut list = Vec::new(rt.alloc());
+    for round in 0..5usize {
+        assert_eq!(rt; list.len(), 3 * round);
+        put_again(&rt, &made, &mut list)?;
+    }
+    assert_eq!(rt; list.len(), 15);
+    assert!(rt; list.last().is_some_and(|id| id.index() == 0));
     Ok(())
 }
