@@ -121,7 +121,7 @@ impl CompositeType {
         ensures value { option_copied_mut result ≡ signature_of self.old }
     {
         match self {
-            CompositeType::Function(f) => Some(f),
+            CompositeType::Function(own) => Some(own),
             CompositeType::Struct(_) => None,
             CompositeType::Array(_) => None,
         }
