@@ -1,5 +1,5 @@
 -- What is written for a table obeys the rule on pairs of its groups.
-use Rattle.std.proofs.Common.{◌≡◌, ℕ, ◌+◌, ◌<◌, ◌≤◌, ◌↔◌, ◌^◌, List, map, take, length, refl, sym, ap, subst, ◌∙◌, arith, Some, None, Option, IsSome, false, All, get_or, Result, Ok, Err, IfErr, IsErrOf}
+use Rattle.std.proofs.Common.{◌≡◌, ℕ, ◌+◌, ◌<◌, ◌≤◌, List, take, length, refl, sym, ap, subst, ◌∙◌, arith, Some, None, Option, IsSome, false, All, get_or}
 use Rattle.std.specs.List.{slice_get, slice_index}
 use Rattle.std.proofs.lemmas.List.{get_or_default, get_or-map, length-map}
 use Rattle.std.proofs.lemmas.Option.{slice_get-get_or}
@@ -11,7 +11,7 @@ use Rattle.walrus_types.specs.declared.error.EmitError.TheVariants as emit
 use Rattle.walrus_types.specs.Definition.{Definition}
 use Rattle.walrus_types.specs.Section.{Section}
 use Rattle.walrus_types.specs.ReadTable.{TypeGroup}
-use Rattle.walrus_types.specs.Emission.{no_group, group_at, IsMember, IsWritten, IsEmission}
+use Rattle.walrus_types.specs.Emission.{no_group, group_at, IsMember, IsEmission}
 use Rattle.walrus_types.specs.Indices.{Given}
 use Rattle.walrus_types.specs.Naming.{value_in}
 use Rattle.walrus_types.specs.Table as table
@@ -19,7 +19,7 @@ use Rattle.walrus_types.specs.Table.{Table, IsTable}
 use Rattle.walrus_types.specs.Emitted.{contents, type_groups, definition_at, is_entry_at, IfNameMissing, IsWrittenId, IsEmitted, MissesFirst}
 use Rattle.walrus_types.specs.Steps.WrittenGroups.{AreWritten, FailsBy, IsApart, IsFirstMissingIn, IsWritingOrder, ids_in, in_order}
 use Rattle.walrus_types.proofs.WrittenPlaces.{Home, home, member_at}
-use Rattle.walrus_types.proofs.WrittenOrder.{at_member, to_member, emission, none_missing, first_missing, placed_member}
+use Rattle.walrus_types.proofs.WrittenOrder.{at_member, emission, none_missing, first_missing, placed_member}
 use Rattle.walrus_types.proofs.WritingOrder.{single, same_member}
 
 module _ (t : Table) (known : IsTable t) (order : List ℕ) (ord : IsWritingOrder (type_groups t.groups) (definition_at t.types.slots) (is_entry_at t.types.slots) order) where

@@ -1,15 +1,15 @@
 -- A section either can be read or has a first fault, and never both.
-use Rattle.std.proofs.Common.{◌≡◌, ℕ, zero, suc, ◌+◌, ◌-◌, ◌<◌, ◌≤◌, ◌^◌, nat_le, List, [], ◌∷◌, ◌++◌, length, get_or, find, cond, subst, refl, sym, ap, ◌∙◌, arith, Some, None, Option, option_map, Bool, true, false, ◌⊎◌, inl, inr, append-nil, append_assoc, length-append, rules}
+use Rattle.std.proofs.Common.{◌≡◌, ℕ, suc, ◌+◌, ◌-◌, ◌<◌, ◌≤◌, ◌^◌, nat_le, List, [], ◌∷◌, ◌++◌, length, get_or, find, cond, subst, refl, sym, ap, ◌∙◌, arith, Some, None, Option, option_map, Bool, false, ◌⊎◌, inl, inr, append-nil, append_assoc, length-append, rules}
 use Rattle.std.specs.Option.{option_or}
 use Rattle.std.proofs.lemmas.Bool.{cases_lt, lt-leb}
 use Rattle.std.proofs.lemmas.List.{get_or_append_left}
 use Rattle.walrus_types.specs.declared.error.ReadError.{ReadError}
 use Rattle.walrus_types.specs.declared.error.ReadError.TheVariants.{BadIndex, TooMany}
 use Rattle.walrus_types.specs.Definition.{Definition, Names, names_of}
-use Rattle.walrus_types.specs.Section.{Place, Group, Section, Numbered, numbered, places_from, no_place, IsWellNamed}
+use Rattle.walrus_types.specs.Section.{Place, Group, Section, numbered, places_from, no_place, IsWellNamed}
 use Rattle.walrus_types.specs.Fault.{Naming, namings_from, first_bad, fault_at, entry_limit, definitions_of, IsFirstFault}
 use Rattle.walrus_types.proofs.FaultLemmas.{IsSound, unfaulted, bad_of_cons, naming}
-use Rattle.walrus_types.proofs.NextGroup.{Follows, follows}
+use Rattle.walrus_types.proofs.NextGroup.{follows}
 use Rattle.walrus_types.proofs.Sections.Places.{places-append}
 use Rattle.walrus_types.proofs.Sections.Rows.{at}
 

@@ -1,7 +1,6 @@
 -- The groups of a read section, with one more group at the end.
-use Rattle.std.proofs.Common.{◌≡◌, ℕ, zero, suc, ◌+◌, ◌<◌, ◌≤◌, List, [], ◌∷◌, ◌++◌, length, refl, sym, ap, ◌∙◌, arith, Bool, true, false, cond, ◌==◌, append_assoc, zero-add}
+use Rattle.std.proofs.Common.{◌≡◌, ℕ, suc, ◌+◌, ◌<◌, List, [], ◌∷◌, ◌++◌, length, refl, sym, ap, ◌∙◌, arith, Bool, true, false, cond, ◌==◌, zero-add}
 use Rattle.std.specs.List.{range_with_len}
-use Rattle.walrus_types.specs.Definition.{Definition}
 use Rattle.walrus_types.specs.Section.{Section, Group, Single, Rec, places_from, recs_after, numbered}
 use Rattle.walrus_types.specs.ReadTable.{TypeGroup, read_groups}
 use Rattle.walrus_types.proofs.Sections.Rows.{length-rec_places}

@@ -1,17 +1,15 @@
 -- A section that was read, and one more group without fault: what the ids, the slots, the map and the groups are then.
-use Rattle.std.proofs.Common.{◌≡◌, ℕ, zero, suc, ◌+◌, ◌-◌, ◌^◌, ◌<◌, ◌≤◌, List, [], ◌∷◌, ◌++◌, length, get_or, refl, sym, ap, subst, ◌∙◌, arith, Some, None, Option, Bool, true, false, cond, ◌==◌, ◌⊎◌, inl, inr}
-use Rattle.std.specs.List.{slice_index, range_with_len}
+use Rattle.std.proofs.Common.{◌≡◌, ℕ, suc, ◌+◌, ◌-◌, ◌^◌, ◌<◌, ◌≤◌, List, [], ◌∷◌, ◌++◌, length, get_or, refl, sym, ap, subst, ◌∙◌, arith, Some, None, Option, Bool, true, false, cond, ◌==◌, ◌⊎◌, inl, inr}
+use Rattle.std.specs.List.{range_with_len}
 use Rattle.std.specs.Option.{is_none}
 use Rattle.std.proofs.lemmas.List.{get_or_append_left, get_or_at, append-nil}
-use Rattle.std.proofs.lemmas.List.FromFn.{length-range_with_len}
 use Rattle.std.proofs.lemmas.Bool.{cases_lt, eq-eqb, ne_eqb}
-use Rattle.walrus_arena.specs.Arena.{Slots, get}
-use Rattle.walrus_types.specs.declared.error.ReadError.{ReadError}
+use Rattle.walrus_arena.specs.Arena.{Slots}
 use Rattle.walrus_types.specs.Definition.{Definition, Names, renamed}
-use Rattle.walrus_types.specs.Section.{Section, Group, Single, Rec, Numbered, numbered, IsSingle, IsInRec, IsWellNamed}
+use Rattle.walrus_types.specs.Section.{Section, Group, Single, Rec, Numbered, numbered, IsSingle, IsWellNamed}
 use Rattle.walrus_types.specs.NormalForm.{image}
 use Rattle.walrus_types.specs.ReadTable.{TypeGroup, read_definition, read_groups}
-use Rattle.walrus_types.specs.Types.{ModuleType, type_definition}
+use Rattle.walrus_types.specs.Types.{ModuleType}
 use Rattle.walrus_types.specs.Fault.{fault_at, definitions_of}
 use Rattle.walrus_types.specs.Reading.{Reads, IsFoundAs, stored, stored_from, present}
 use Rattle.walrus_types.proofs.Definitions.{renamed_agree, Names-renamed}
@@ -19,7 +17,7 @@ use Rattle.walrus_types.proofs.FaultLemmas.{unfaulted}
 use Rattle.walrus_types.proofs.NextGroup.{Follows, follows, single_spot, rec_spot}
 use Rattle.walrus_types.proofs.ReadGroups.{groups_next}
 use Rattle.walrus_types.proofs.ReadSteps.{Holds, holds_same, read_found, read_new, read_members, members_slots}
-use Rattle.walrus_types.proofs.ReadSection.{TellsTypes, IsHeld, read_type, is_single, none_single, some_single, stored_definition, below_count, single_names, held, found_alike, reads_of}
+use Rattle.walrus_types.proofs.ReadSection.{TellsTypes, read_type, is_single, none_single, some_single, stored_definition, below_count, single_names, held, found_alike, reads_of}
 
 -- a definition that is past those of the section is one of the group
 past : (c i : ℕ) → c ≤ i → c + (i - c) ≡ i

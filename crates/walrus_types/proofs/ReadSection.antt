@@ -1,21 +1,18 @@
 -- One more group of a section is read.
-use Rattle.std.proofs.Common.{◌≡◌, ℕ, zero, suc, ◌+◌, ◌<◌, ◌≤◌, ◌^◌, List, [], ◌∷◌, ◌++◌, length, map, get_or, slice_get, refl, sym, ap, subst, ◌∙◌, arith, Some, None, Option, Bool, true, false, cond, eqb, ◌⊎◌, inl, inr, Contains}
-use Rattle.std.specs.List.{slice_index, slice_index_or, range_with_len}
+use Rattle.std.proofs.Common.{◌≡◌, ℕ, ◌<◌, ◌≤◌, List, refl, sym, ap, subst, ◌∙◌, arith, Some, None, Option, Bool, true, false, inl, inr}
 use Rattle.std.specs.Option.{is_none}
 use Rattle.std.specs.Cmp.{IsEquivalence}
-use Rattle.std.proofs.lemmas.List.{length_push, get_or_append_left, get_or_at}
-use Rattle.std.proofs.lemmas.Bool.{cases_lt, cases_eq}
-use Rattle.walrus_arena.specs.Arena.{Slots, get}
-use Rattle.walrus_types.specs.Definition.{Composite, Function, Struct, Array, Definition, Names, renamed, names_of}
-use Rattle.walrus_types.specs.Section.{Section, Group, Single, Rec, Numbered, numbered, IsSingle, IsInRec, IsWellNamed}
+use Rattle.std.proofs.lemmas.Bool.{cases_eq}
+use Rattle.walrus_arena.specs.Arena.{Slots}
+use Rattle.walrus_types.specs.Definition.{Composite, Function, Struct, Array, Definition, Names}
+use Rattle.walrus_types.specs.Section.{Section, Numbered, numbered, IsSingle, IsWellNamed}
 use Rattle.walrus_types.specs.NormalForm.{image}
 use Rattle.walrus_types.specs.ReadTable.{IsRead, IsCandidate, TypeGroup, read_definition, read_groups}
 use Rattle.walrus_types.specs.Types.{ModuleType, kind_composite, type_definition}
-use Rattle.walrus_types.specs.Reading.{Reads, IsFoundAs, composite_kind, stored}
-use Rattle.walrus_types.proofs.Definitions.{renamed_agree, Names-renamed, named_before}
-use Rattle.walrus_types.proofs.Sections.Lying.{IsLaidOut, in_or_out}
+use Rattle.walrus_types.specs.Reading.{Reads, composite_kind, stored}
+use Rattle.walrus_types.proofs.Definitions.{Names-renamed, named_before}
+use Rattle.walrus_types.proofs.Sections.Lying.{in_or_out}
 use Rattle.walrus_types.proofs.Sections.Rows.{laid_out}
-use Rattle.walrus_types.proofs.NextGroup.{Follows, follows, single_spot, rec_spot}
 use Rattle.walrus_types.proofs.ReadSteps.{Holds, IsEarlier}
 
 -- two types are equal where they are defined alike and both are, or are not, for the entry of a function

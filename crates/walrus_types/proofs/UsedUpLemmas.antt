@@ -1,13 +1,10 @@
 -- A table whose next id is used up.
-use Rattle.std.proofs.Common.{◌≡◌, ℕ, zero, suc, ◌+◌, ◌-◌, ◌<◌, ◌≤◌, List, [], ◌∷◌, ◌++◌, length, get_or, set, refl, sym, ap, subst, ◌∙◌, arith, Some, None, Option, IsSome, Bool, true, false, cond, ◌&&◌, ◌==◌, ◌⊎◌, inl, inr, Result, Ok, Err, IsOk, OnOk}
-use Rattle.std.specs.List.{slice_get, slice_index}
-use Rattle.std.specs.Option.{option_eq}
-use Rattle.std.proofs.Math.Bool.{and-false}
-use Rattle.std.proofs.Math.Seq.{set-append_seam}
-use Rattle.std.proofs.lemmas.Bool.{cases_lt, ne_eqb}
-use Rattle.std.proofs.lemmas.List.{length_push, get_or_append_left, get_or-append_right, get_or_at}
+use Rattle.std.proofs.Common.{◌≡◌, ℕ, zero, suc, ◌-◌, ◌≤◌, List, [], ◌∷◌, ◌++◌, length, refl, sym, ap, subst, ◌∙◌, arith, Some, None, IsSome, true, false, inl, inr}
+use Rattle.std.specs.List.{slice_index}
+use Rattle.std.proofs.lemmas.Bool.{cases_lt}
+use Rattle.std.proofs.lemmas.List.{length_push, get_or_append_left, get_or-append_right}
 use Rattle.walrus_arena.specs.Arena.{Slots, get, IsLive}
-use Rattle.walrus_arena.specs.Set.{Set, SameMap, Removes, mapped, holds, is_own_entry}
+use Rattle.walrus_arena.specs.Set.{Set, mapped}
 use Rattle.walrus_types.specs.declared.table.RecGroup.{RecGroup}
 use Rattle.walrus_types.specs.Types.{ModuleType}
 use Rattle.walrus_types.specs.Table.{Table, IsMember, group_at, type_eq}

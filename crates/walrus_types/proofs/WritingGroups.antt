@@ -1,25 +1,24 @@
 -- Groups are written one after the other, each by the indices given out so far.
 use Rattle.std.proofs.Common.{◌≡◌, ℕ, zero, suc, ◌+◌, ◌<◌, ◌≤◌, ◌^◌, List, [], ◌∷◌, ◌++◌, map, take, drop, length, refl, sym, ap, subst, ◌∙◌, arith, Some, None, Option, Bool, true, false, cond, get_or, Contains, All, nat_eq, eqb-true, unwrap_or, length-append, take-append-drop, ◌⊎◌, inl, inr}
-use Rattle.std.specs.List.{slice_get, slice_index, find, flat_map, IsDistinct}
+use Rattle.std.specs.List.{slice_get, slice_index, find, IsDistinct}
 use Rattle.std.specs.Option.{is_none}
 use Rattle.std.proofs.lemmas.Grind.{flat_map-append}
-use Rattle.std.proofs.lemmas.List.{take_more, map-append, append-nil, length-map, get_or-map, get_or_default}
+use Rattle.std.proofs.lemmas.List.{take_more, map-append, append-nil, get_or-map, get_or_default}
 use Rattle.std.proofs.lemmas.Option.{slice_get_within, slice_get-get_or, get_or_from_slice_get}
-use Rattle.std.proofs.lemmas.Bool.{cases_lt, cases_eq}
+use Rattle.std.proofs.lemmas.Bool.{cases_lt}
 use Rattle.std.proofs.lemmas.Map.Keys.{IsDistinct-from_apart}
 use Rattle.walrus_types.specs.declared.records.GroupAt.{GroupAt}
 use Rattle.walrus_types.specs.declared.error.EmitError.{EmitError}
 use Rattle.walrus_types.specs.declared.error.EmitError.TheVariants as emit
-use Rattle.walrus_types.specs.Definition.{Definition, Names, names_of, renamed}
+use Rattle.walrus_types.specs.Definition.{Definition, Names, names_of}
 use Rattle.walrus_types.specs.Section.{Section, Group, Single, Rec}
 use Rattle.walrus_types.specs.ReadTable.{TypeGroup}
 use Rattle.walrus_types.specs.Emission.{no_group, group_at}
 use Rattle.walrus_types.specs.Indices.{Given, Indexes, IsEmpty, IsSame}
 use Rattle.walrus_types.specs.declared.table.RecGroup.{RecGroup}
 use Rattle.walrus_types.specs.Emitted.{contents, type_groups}
-use Rattle.walrus_types.specs.Naming.{first_missing}
 use Rattle.walrus_types.specs.Records.{group_of, section_of}
-use Rattle.walrus_types.specs.Steps.WrittenGroups.{AllIndexed, AreWritten, ComesBefore, FailsBy, IsApart, IsFirstMissingIn, IsFirstUnindexed, IsMissingIn, ids_in, indexed, in_order, written_group}
+use Rattle.walrus_types.specs.Steps.WrittenGroups.{AllIndexed, AreWritten, FailsBy, IsApart, IsFirstMissingIn, IsFirstUnindexed, IsMissingIn, ids_in, indexed, written_group}
 use Rattle.walrus_types.proofs.Definitions.{renamed_agree}
 use Rattle.walrus_types.proofs.WrittenPlaces.{member_at}
 

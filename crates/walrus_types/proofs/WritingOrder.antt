@@ -1,5 +1,5 @@
 -- The order in which groups are sorted is the order in which they are written.
-use Rattle.std.proofs.Common.{◌≡◌, ℕ, zero, suc, ◌+◌, ◌<◌, ◌≤◌, ◌==◌, ◌||◌, ◌&&◌, List, [], ◌∷◌, ◌++◌, map, take, length, refl, sym, ap, subst, ◌∙◌, arith, Some, None, Option, option_map, IsSome, Bool, true, false, cond, not, get_or, Contains, eqb-true, eq-eqb, ◌⊎◌, inl, inr}
+use Rattle.std.proofs.Common.{◌≡◌, ℕ, zero, suc, ◌+◌, ◌<◌, ◌≤◌, ◌==◌, ◌||◌, ◌&&◌, List, [], ◌∷◌, ◌++◌, map, take, length, refl, sym, ap, subst, ◌∙◌, arith, Some, None, Option, option_map, IsSome, Bool, true, false, cond, not, get_or, eqb-true, eq-eqb, inl, inr}
 use Rattle.std.specs.List.{slice_get, slice_index, list_all, list_any, filter, range_with_len}
 use Rattle.std.specs.List.Sorted.{IsPermutation}
 use Rattle.std.specs.Option.{is_none}
@@ -8,7 +8,7 @@ use Rattle.std.specs.declared.cmp.Ordering.{Ordering}
 use Rattle.std.specs.declared.cmp.Ordering.TheVariants.{Less, Equal, Greater}
 use Rattle.std.proofs.lemmas.List.{length-map, take_more, append-nil, get_or_default}
 use Rattle.std.proofs.lemmas.List.Elements.{filter-append}
-use Rattle.std.proofs.lemmas.Option.{slice_get-map, slice_get_within, slice_get-get_or, get_or_from_slice_get, slice_get_cases}
+use Rattle.std.proofs.lemmas.Option.{slice_get-map, slice_get_within, slice_get-get_or, get_or_from_slice_get}
 use Rattle.std.proofs.lemmas.Bool.{cases_lt}
 use Rattle.std.proofs.Math.Path.{fun_ext}
 use Rattle.walrus_arena.specs.Arena.{Slots, get, IsLive}
@@ -19,12 +19,12 @@ use Rattle.walrus_types.specs.ReadTable.{TypeGroup}
 use Rattle.walrus_types.specs.Emission as emission
 use Rattle.walrus_types.specs.Emission.{IsMember, IsGrouped, IsWritten, IsFreeGroup, IsTurned}
 use Rattle.walrus_types.specs.Emission.{Stands}
-use Rattle.walrus_types.specs.Steps.Neighbours.{AllFree, IsTurnedRound, StandsBefore, OrdersNeighbours}
+use Rattle.walrus_types.specs.Steps.Neighbours.{IsTurnedRound, StandsBefore, OrdersNeighbours}
 use Rattle.walrus_types.specs.Types.{ModuleType, type_definition}
 use Rattle.walrus_types.specs.Table as table
 use Rattle.walrus_types.specs.Table.{Table, IsTable}
 use Rattle.walrus_types.specs.Emitted.{type_groups, slot_definition, definition_at, slot_is_entry, is_entry_at}
-use Rattle.walrus_types.specs.Steps.FreeGroups.{is_own_or_dead, names_none_other, slot_names_none_other, is_free_of, is_free, head, is_marked, is_written_at, is_written_group}
+use Rattle.walrus_types.specs.Steps.FreeGroups.{is_own_or_dead, slot_names_none_other, is_free_of, is_free, head, is_marked, is_written_at, is_written_group}
 use Rattle.walrus_types.specs.Steps.WrittenGroups.{IsWritingOrder, written_in}
 use Rattle.walrus_types.specs.Refusal.{written_count}
 use Rattle.walrus_types.proofs.WrittenCount.{count_of_order}

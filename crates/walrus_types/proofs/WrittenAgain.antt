@@ -1,27 +1,25 @@
 -- A table that a section was read into: what its groups hold, that it can be written, and what is written.
-use Rattle.std.proofs.Common.{◌≡◌, ℕ, zero, suc, ◌+◌, ◌<◌, ◌≤◌, ◌∙◌, refl, sym, ap, subst, arith, inl, inr, ◌⊎◌, Some, None, Bool, false, List, map, length, IsSome, get_or}
-use Rattle.std.specs.List.{slice_get}
-use Rattle.std.proofs.lemmas.Bool.{cases_lt, cases_eq}
+use Rattle.std.proofs.Common.{◌≡◌, ℕ, zero, ◌+◌, ◌<◌, ◌∙◌, refl, sym, ap, subst, arith, inl, inr, Some, false, List, map, length, IsSome, get_or}
 use Rattle.std.proofs.lemmas.List.{ext_get_or, get_or_default, get_or-map, length-map}
 use Rattle.std.proofs.lemmas.List.FromFn.{length-map-range_with_len, get_or-map-range_with_len}
 use Rattle.std.proofs.lemmas.Option.{slice_get_within, get_or_from_slice_get}
 use Rattle.walrus_arena.specs.Arena.{get}
-use Rattle.walrus_types.specs.Definition.{Composite, Function, Struct, Array, Definition, Names, names_of, renamed}
-use Rattle.walrus_types.specs.Section.{Section, numbered, places_from, IsWellNamed}
+use Rattle.walrus_types.specs.Definition.{Composite, Function, Struct, Array, Definition, Names, names_of}
+use Rattle.walrus_types.specs.Section.{Section, numbered, places_from}
 use Rattle.walrus_types.specs.NormalForm.{image, IsNormalForm}
-use Rattle.walrus_types.specs.ReadTable.{IsRead, TypeGroup, read_definition, read_groups}
-use Rattle.walrus_types.specs.Emission.{group_at, IsMember, IsGrouped, IsWritten, IsTurned, IsEmission}
+use Rattle.walrus_types.specs.ReadTable.{TypeGroup, read_definition, read_groups}
+use Rattle.walrus_types.specs.Emission.{group_at, IsMember, IsEmission}
 use Rattle.walrus_types.specs.Emitted.{type_groups, definition_at, slot_definition, is_entry_at, IsWrittenId, IsEmitted}
 use Rattle.walrus_types.specs.Indices.{Given}
 use Rattle.walrus_types.specs.Naming.{value_in}
 use Rattle.walrus_types.specs.Refusal.{HasIndexBy, IsMissing, IsFirstMissing}
-use Rattle.walrus_types.specs.Reading.{stored, composite_kind, Reads}
+use Rattle.walrus_types.specs.Reading.{stored, composite_kind}
 use Rattle.walrus_types.specs.Reader.{HasRead}
 use Rattle.walrus_types.specs.Records.{section_of}
 use Rattle.walrus_types.specs.Table.{Table}
-use Rattle.walrus_types.specs.Types.{ModuleType, kind_composite, type_definition}
+use Rattle.walrus_types.specs.Types.{kind_composite, type_definition}
 use Rattle.walrus_types.specs.declared.records.GroupAt.{GroupAt}
-use Rattle.walrus_types.proofs.Sections.Rows.{at, laid_out}
+use Rattle.walrus_types.proofs.Sections.Rows.{at}
 use Rattle.walrus_types.proofs.Emitting.Made.{down, twice}
 use Rattle.walrus_types.proofs.Emitting.Groups.{AreGroups, Kind, groups}
 use Rattle.walrus_types.proofs.Emitting.Emits.{sent, read_then_emitted, names_stand}

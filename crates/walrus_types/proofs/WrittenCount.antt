@@ -1,5 +1,5 @@
 -- How many types stand in written groups.
-use Rattle.std.proofs.Common.{◌≡◌, ℕ, zero, suc, ◌+◌, ◌<◌, ◌≤◌, List, [], ◌∷◌, ◌++◌, map, take, drop, length, not, refl, sym, ap, ◌∙◌, arith, Bool, true, false, cond, get_or, length-append, take-append-drop, sum_by}
+use Rattle.std.proofs.Common.{◌≡◌, ℕ, suc, ◌+◌, ◌<◌, ◌≤◌, List, [], ◌∷◌, ◌++◌, take, drop, length, not, refl, sym, ap, ◌∙◌, arith, Bool, true, false, cond, get_or, length-append, take-append-drop, sum_by}
 use Rattle.std.specs.List.{list_any, filter, range_with_len, slice_index_or}
 use Rattle.std.specs.List.Sorted.{IsPermutation}
 use Rattle.std.proofs.lemmas.List.{take_more, map-append}

@@ -1,11 +1,10 @@
 -- A table that a section was read into has no more types than the section has definitions.
-use Rattle.std.proofs.Common.{◌≡◌, ℕ, zero, suc, ◌+◌, ◌<◌, ◌≤◌, ◌^◌, ◌==◌, refl, sym, ap, subst, arith, Bool, true, false, cond, List, [], ◌∷◌, length, map}
-use Rattle.std.specs.List.{list_any, range_with_len, sum_by}
+use Rattle.std.proofs.Common.{◌≡◌, ℕ, suc, ◌+◌, ◌<◌, ◌≤◌, ◌^◌, ◌==◌, sym, subst, arith, Bool, true, false, cond, List, [], ◌∷◌, length}
+use Rattle.std.specs.List.{list_any, range_with_len}
 use Rattle.std.specs.Prelude.{if◌then◌else◌, not}
 use Rattle.std.proofs.lemmas.List.Sums.{sum_by-cons}
 use Rattle.std.proofs.lemmas.List.FromFn.{length-range_with_len}
-use Rattle.walrus_types.specs.Definition.{Definition}
-use Rattle.walrus_types.specs.Section.{Section, Single, Rec, Place, rec_places, recs_after, places_from, numbered}
+use Rattle.walrus_types.specs.Section.{Section, Single, Rec, recs_after, places_from, numbered}
 use Rattle.walrus_types.specs.NormalForm.{image}
 use Rattle.walrus_types.specs.ReadTable.{TypeGroup, read_groups}
 use Rattle.walrus_types.specs.Reader.{HasRead}

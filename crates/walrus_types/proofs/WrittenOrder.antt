@@ -1,14 +1,14 @@
 -- Groups that are written in order obey the rule on pairs of groups.
-use Rattle.std.proofs.Common.{◌≡◌, ℕ, zero, suc, ◌+◌, ◌<◌, ◌≤◌, List, [], ◌∷◌, ◌++◌, map, take, length, refl, sym, ap, subst, ◌∙◌, arith, Some, None, Option, Bool, true, false, zero-add, length-append, unwrap_or, get_or, ◌⊎◌, inl, inr, Contains}
-use Rattle.std.specs.List.{slice_get, slice_index, slice_index_or, flat_map}
+use Rattle.std.proofs.Common.{◌≡◌, ℕ, zero, suc, ◌+◌, ◌<◌, ◌≤◌, List, [], ◌∷◌, map, take, length, refl, sym, ap, subst, ◌∙◌, arith, Some, Option, Bool, true, false, length-append, unwrap_or, inl, inr, Contains}
+use Rattle.std.specs.List.{slice_get, slice_index}
 use Rattle.std.proofs.lemmas.List.{length-map, get_or-map}
 use Rattle.std.proofs.lemmas.List.Elements.{Contains-append_left, Contains-append_right, Contains-append_cases}
 use Rattle.std.proofs.lemmas.Option.{slice_get_within, slice_get-get_or, get_or_from_slice_get}
 use Rattle.std.proofs.lemmas.Bool.{cases_lt, cases_eq}
-use Rattle.walrus_types.specs.Definition.{Definition, names_of, renamed}
-use Rattle.walrus_types.specs.Section.{Section, Group, Single, Rec, places_from, no_place, numbered, IsFilled}
+use Rattle.walrus_types.specs.Definition.{Definition, renamed}
+use Rattle.walrus_types.specs.Section.{Section, places_from, numbered, IsFilled}
 use Rattle.walrus_types.specs.ReadTable.{TypeGroup}
-use Rattle.walrus_types.specs.Emission.{no_group, group_at, IsMember, IsWritten, IsFreeGroup, IsTurned, IsEmission}
+use Rattle.walrus_types.specs.Emission.{no_group, group_at, IsMember, IsWritten, IsTurned, IsEmission}
 use Rattle.walrus_types.specs.Emission.{Stands}
 use Rattle.walrus_types.specs.Refusal.{HasIndexBy, IsMissing, Precedes, IsFirstMissing}
 use Rattle.walrus_types.specs.Indices.{Given, Indexes}

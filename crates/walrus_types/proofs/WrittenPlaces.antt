@@ -1,12 +1,10 @@
 -- Where the ids of written groups stand in the section.
 use Rattle.std.proofs.Common.{◌≡◌, ℕ, zero, suc, ◌+◌, ◌<◌, List, [], ◌∷◌, ◌++◌, map, take, length, cond, refl, sym, ap, subst, ◌∙◌, arith, Some, None, Option, Bool, true, false, zero-add, length-append, ◌⊎◌, inl, inr}
-use Rattle.std.specs.List.{slice_get, slice_index, slice_index_or, flat_map}
-use Rattle.std.proofs.lemmas.List.{length-map}
-use Rattle.std.proofs.lemmas.Option.{slice_get_within}
+use Rattle.std.specs.List.{slice_get, slice_index, slice_index_or}
 use Rattle.walrus_types.specs.Definition.{Definition}
-use Rattle.walrus_types.specs.Section.{Section, Group, Single, Rec, Place, no_place, rec_places, recs_after, places_from}
+use Rattle.walrus_types.specs.Section.{Section, Single, Rec, Place, no_place, rec_places, recs_after, places_from}
 use Rattle.walrus_types.specs.ReadTable.{TypeGroup}
-use Rattle.walrus_types.specs.Emission.{no_group, group_at}
+use Rattle.walrus_types.specs.Emission.{group_at}
 use Rattle.walrus_types.specs.Steps.WrittenGroups.{ids_in, written_group}
 
 some_inj : {A : Type 0} {x y : A} → Some x ≡ Some y → x ≡ y

@@ -1,6 +1,5 @@
 -- A table of types that is written as a section.
-use Rattle.std.specs.Prelude.{◌≡◌, ℕ, ◌↔◌, Bool, false, List, map, not, Option, Some, None, IsSome}
-use Rattle.std.specs.List.{list_any}
+use Rattle.std.specs.Prelude.{ℕ, ◌↔◌, Bool, false, List, map, Option, Some, None, IsSome}
 use Rattle.walrus_arena.specs.Arena.{Slots, get}
 use Rattle.walrus_types.specs.declared.records.GroupAt.{GroupAt}
 use Rattle.walrus_types.specs.declared.table.RecGroup.{RecGroup}

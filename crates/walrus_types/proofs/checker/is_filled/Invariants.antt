@@ -1,4 +1,4 @@
-use Rattle.std.proofs.Common.{◌≡◌, ◌↔◌, drop}
+use Rattle.std.proofs.Common.{◌↔◌, drop}
 use Rattle.walrus_types.specs.Records.{section_of}
 use Rattle.walrus_types.specs.Section.{IsFilled}
 use Rattle.walrus_types.proofs.checker.is_filled.Given as goal

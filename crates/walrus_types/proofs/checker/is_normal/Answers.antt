@@ -1,4 +1,3 @@
-use Rattle.std.proofs.Common.{◌≡◌, ◌↔◌, IsTrue}
 use Rattle.std.proofs.lemmas.Result.{IfOk-weaker}
 use Rattle.walrus_types.specs.NormalForm.{IsNormal, image}
 use Rattle.walrus_types.specs.Section.{numbered_places}

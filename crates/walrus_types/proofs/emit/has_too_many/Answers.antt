@@ -1,4 +1,4 @@
-use Rattle.std.proofs.Common.{◌≡◌, ◌∙◌, ◌+◌, sym, ap, arith, refl, length}
+use Rattle.std.proofs.Common.{◌∙◌, ◌+◌, sym, ap, arith, refl, length}
 use Rattle.walrus_types.specs.Emitted.{is_entry_at}
 use Rattle.walrus_types.proofs.WrittenCount.{count_more_written, count_more_left, count_part}
 use Rattle.walrus_types.proofs.emit.has_too_many.Goals as goal

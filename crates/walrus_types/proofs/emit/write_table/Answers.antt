@@ -1,4 +1,4 @@
-use Rattle.std.proofs.Common.{◌≡◌, ◌<◌, ◌≤◌, ◌^◌, arith, ℕ, List, All, length, ap, sym, subst, ◌∙◌, false}
+use Rattle.std.proofs.Common.{◌≡◌, ◌<◌, ◌≤◌, ◌^◌, arith, ℕ, List, All, length, sym, subst, false}
 use Rattle.std.proofs.lemmas.Result.{IfOk-weaker, IfErr-weaker}
 use Rattle.walrus_arena.specs.Arena.{IsLive}
 use Rattle.walrus_types.specs.declared.table.RecGroup.{RecGroup}
@@ -6,7 +6,7 @@ use Rattle.walrus_types.specs.ReadTable.{TypeGroup}
 use Rattle.walrus_types.specs.Emission.{group_at}
 use Rattle.walrus_types.specs.Emitted.{type_groups, definition_at}
 use Rattle.walrus_types.specs.Indices.{type_indices}
-use Rattle.walrus_types.specs.Steps.WrittenGroups.{AreWritten, FailsBy, IsApart, IsFirstMissingIn, ids_in, in_order}
+use Rattle.walrus_types.specs.Steps.WrittenGroups.{AreWritten, FailsBy, IsApart, IsFirstMissingIn, ids_in}
 use Rattle.walrus_types.proofs.EmittedTables.{within, filled, singles, carried, apart, emitted, misses, as_ordered, live_in_order, filled_in_order}
 use Rattle.walrus_types.proofs.emit.write_table.Goals as goal
 

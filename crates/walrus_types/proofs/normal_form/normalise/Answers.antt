@@ -1,9 +1,6 @@
-use Rattle.std.proofs.Common.{◌≡◌, ℕ, suc, Ok, Err, OnOk, IfOk, Result}
-use Rattle.std.specs.List.{swap}
-use Rattle.walrus_types.specs.Moves.{IsRenumberedSwap}
-use Rattle.walrus_types.specs.NormalForm.{IsNormalForm}
+use Rattle.std.proofs.Common.{Ok, Err, OnOk, IfOk, Result}
 use Rattle.walrus_types.specs.Records.{section_of}
-use Rattle.walrus_types.specs.Section.{Section, IsWellNamed}
+use Rattle.walrus_types.specs.Section.{IsWellNamed}
 use Rattle.walrus_types.proofs.normal_form.normalise.Goals as goal
 
 -- what holds of an answer where W and N hold

@@ -1,9 +1,9 @@
-use Rattle.std.proofs.Common.{◌≡◌, ◌<◌, ◌≤◌, ◌^◌, ◌∙◌, ℕ, List, sym, ap, subst, arith, IsSome, length, get_or, map, Err}
+use Rattle.std.proofs.Common.{◌<◌, ◌≤◌, ◌^◌, ◌∙◌, ℕ, List, sym, ap, subst, arith, IsSome, length, get_or, map, Err}
 use Rattle.walrus_types.specs.Emitted.{is_entry_at, type_groups}
 use Rattle.walrus_types.specs.Refusal.{written_count}
 use Rattle.walrus_types.specs.Indices.{type_index, type_indices}
 use Rattle.walrus_types.specs.Naming.{value_in}
-use Rattle.walrus_types.specs.NormalForm.{IsNormalForm, image}
+use Rattle.walrus_types.specs.NormalForm.{IsNormalForm}
 use Rattle.walrus_types.specs.Records.{section_of}
 use Rattle.walrus_types.proofs.WrittenAgain.{normal_again, never_missing, each_indexed, sent_by_ids}
 use Rattle.walrus_types.proofs.WrittenFew.{written_few}

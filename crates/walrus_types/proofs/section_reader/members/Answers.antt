@@ -1,5 +1,4 @@
 use Rattle.std.proofs.Common.{arith, ap, map, List, ◌∙◌}
-use Rattle.walrus_types.specs.Definition.{Definition}
 use Rattle.walrus_types.specs.Table.{Member}
 use Rattle.walrus_types.specs.Steps.TableReads.{member_definition}
 use Rattle.walrus_types.proofs.ReaderCalls.{members_more}

@@ -1,4 +1,4 @@
-use Rattle.std.proofs.Common.{◌≡◌, ◌<◌, ◌≤◌, IsTrue, true, false, arith, refl}
+use Rattle.std.proofs.Common.{arith, refl}
 use Rattle.walrus_types.specs.NormalForm.{IsAnchor, image}
 use Rattle.walrus_types.specs.Section.{numbered_places}
 use Rattle.walrus_types.proofs.Deciding.{none_more}

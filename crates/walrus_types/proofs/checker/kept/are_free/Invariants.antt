@@ -1,4 +1,4 @@
-use Rattle.std.proofs.Common.{◌≡◌, ℕ, ◌<◌, ◌≤◌}
+use Rattle.std.proofs.Common.{ℕ, ◌<◌, ◌≤◌}
 use Rattle.walrus_types.specs.NormalForm.{image, IsAnchor}
 use Rattle.walrus_types.specs.Section.{numbered_places}
 use Rattle.walrus_types.proofs.checker.kept.are_free.Given as goal

@@ -1,7 +1,5 @@
-use Rattle.std.proofs.Common.{◌≡◌, ℕ, ◌<◌, length, Some, ◌≤◌}
-use Rattle.walrus_types.specs.Definition.{Names}
-use Rattle.walrus_types.specs.NormalForm.{IsKept, image}
-use Rattle.walrus_types.specs.Section.{numbered_places, IsSingle}
+use Rattle.std.proofs.Common.{◌≡◌, ℕ, ◌<◌}
+use Rattle.walrus_types.specs.NormalForm.{image}
 use Rattle.walrus_types.proofs.checker.laws.has_source.Given as goal
 
 abbrev pub invariant-loop-index : goal.invariant-loop-index

@@ -1,4 +1,4 @@
-use Rattle.std.proofs.Common.{◌≡◌, ℕ, ◌<◌, length, Some, ◌≤◌}
+use Rattle.std.proofs.Common.{ℕ, ◌<◌}
 use Rattle.walrus_types.specs.Definition.{Names}
 use Rattle.walrus_types.specs.NormalForm.{IsKept, image}
 use Rattle.walrus_types.specs.Section.{numbered_places, IsSingle}

@@ -1,7 +1,6 @@
-use Rattle.std.proofs.Common.{◌≡◌, ℕ, ◌<◌, length, Some, ◌≤◌}
-use Rattle.walrus_types.specs.Definition.{Names}
-use Rattle.walrus_types.specs.NormalForm.{IsKept, image}
-use Rattle.walrus_types.specs.Section.{numbered_places, IsSingle}
+use Rattle.std.proofs.Common.{◌≡◌, ℕ, ◌<◌, Some}
+use Rattle.walrus_types.specs.NormalForm.{image}
+use Rattle.walrus_types.specs.Section.{numbered_places}
 use Rattle.walrus_types.proofs.checker.laws.sends_recs_to_recs.Given as goal
 
 abbrev pub invariant-loop-index : goal.invariant-loop-index

@@ -1,4 +1,4 @@
-use Rattle.std.proofs.Common.{◌≡◌, ℕ, ◌<◌, length, arith}
+use Rattle.std.proofs.Common.{length}
 use Rattle.walrus_types.specs.Checker.{KeepsAnchors}
 use Rattle.walrus_types.specs.NormalForm.{image}
 use Rattle.walrus_types.specs.Section.{numbered_places}

@@ -1,4 +1,4 @@
-use Rattle.std.proofs.Common.{◌≡◌, ◌<◌, ◌≤◌, arith, ℕ}
+use Rattle.std.proofs.Common.{◌<◌, arith}
 use Rattle.walrus_types.specs.NormalForm.{image}
 use Rattle.walrus_types.proofs.Deciding.{as_held, as_not_held}
 use Rattle.walrus_types.proofs.checker.pairs.orders_pair.Goals as goal

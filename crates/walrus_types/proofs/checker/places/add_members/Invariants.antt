@@ -1,4 +1,4 @@
-use Rattle.std.proofs.Common.{◌≡◌, ◌++◌, ◌+◌, List, map, take, drop, length}
+use Rattle.std.proofs.Common.{◌≡◌, ◌++◌, ◌+◌, List, map, drop, length}
 use Rattle.walrus_types.specs.Records.{entry_definition}
 use Rattle.walrus_types.specs.Section.{Place, rec_places}
 use Rattle.walrus_types.proofs.checker.places.add_members.Given as goal

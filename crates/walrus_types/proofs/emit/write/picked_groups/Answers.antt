@@ -1,4 +1,4 @@
-use Rattle.std.proofs.Common.{◌≡◌, sym, ap, ◌∙◌}
+use Rattle.std.proofs.Common.{sym, ◌∙◌}
 use Rattle.walrus_types.proofs.WritingGroups.{one_more, table_group}
 use Rattle.walrus_types.proofs.emit.write.picked_groups.Goals as goal
 

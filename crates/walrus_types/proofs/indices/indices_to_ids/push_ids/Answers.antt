@@ -1,4 +1,4 @@
-use Rattle.std.proofs.Common.{◌≡◌, ℕ, List, ◌∙◌, ◌+◌, ap, ◌++◌, ◌∷◌, [], arith, append_assoc}
+use Rattle.std.proofs.Common.{ℕ, List, ◌∙◌, ap, ◌++◌, ◌∷◌, [], arith, append_assoc}
 use Rattle.std.specs.List.{range_with_len}
 use Rattle.walrus_types.proofs.ReaderCalls.{range_push}
 use Rattle.walrus_types.proofs.indices.indices_to_ids.push_ids.Goals as goal

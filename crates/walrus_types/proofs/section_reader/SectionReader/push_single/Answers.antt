@@ -1,5 +1,4 @@
-use Rattle.std.proofs.Common.{◌≡◌, ℕ, List, [], ◌∷◌, ◌++◌, length, map, None, Option, ap, sym, ◌∙◌}
-use Rattle.walrus_types.specs.declared.error.ReadError.{ReadError}
+use Rattle.std.proofs.Common.{◌≡◌, ℕ, List, [], ◌∷◌, ◌++◌, map, None, ap, sym, ◌∙◌}
 use Rattle.walrus_types.specs.declared.records.EntryAt.{EntryAt}
 use Rattle.walrus_types.specs.Fault.{fault_at}
 use Rattle.walrus_types.specs.IdLists.{IdLists}
