@@ -1,10 +1,9 @@
 -- What a contract sees of a set: an arena, and a finite map from values to ids.
-use Rattle.std.specs.Prelude.{◌≡◌, ℕ, map, List, [], ◌∷◌, ◌++◌, length, Bool, true, false, ◌&&◌, ◌==◌, if◌then◌else◌, Option, Some, None, option_and_then, refl}
+use Rattle.std.specs.Prelude.{◌≡◌, ℕ, List, [], ◌∷◌, ◌++◌, length, Bool, true, false, ◌&&◌, ◌==◌, if◌then◌else◌, Option, Some, None, option_and_then, refl}
 use Rattle.std.specs.Option.{option_eq}
-use Rattle.std.specs.List.{zip}
 use Rattle.std.specs.Coded.{Coded, code_by, coded×, coded_ℕ, coded_list, coded_option}
-use Rattle.std.specs.Map.{lookup, update_all}
-use Rattle.walrus_arena.specs.Arena.{Slots, get, with_value, without, range}
+use Rattle.std.specs.Map.{lookup}
+use Rattle.walrus_arena.specs.Arena.{Slots, get, with_value, without}
 
 -- the slots, and the entries of the map, whose order means nothing: `mapped` reads them
 pub record Set (T : Type 0) : Type 0 where

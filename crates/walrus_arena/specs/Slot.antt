@@ -1,5 +1,5 @@
 -- How an arena lays out a slot. No public clause cites this module.
-use Rattle.std.specs.Prelude.{◌≡◌, ℕ, ◌+◌, List, [], ◌∷◌, length, map, Option, Some, None, is_some, count_by, if◌then◌else◌, Bool}
+use Rattle.std.specs.Prelude.{◌≡◌, ℕ, List, map, Option, Some, None, is_some, count_by, if◌then◌else◌}
 use Rattle.walrus_arena.specs.declared.tombstone_arena.Slot.{Slot}
 
 module _ {T : Type 0} where

@@ -1,8 +1,7 @@
-use Rattle.std.proofs.Common.{◌≡◌, ◌++◌, [], ◌∷◌, ◌+◌, take, get_or, ◌∙◌, ap, sym}
+use Rattle.std.proofs.Common.{take, ◌∙◌, ap, sym}
 use Rattle.std.proofs.lemmas.List.{take_more}
 use Rattle.std.proofs.lemmas.List.Sums.{fold_push}
 use Rattle.walrus_arena.specs.Arena.{without}
-use Rattle.walrus_arena.specs.Set.{RemovesAll}
 use Rattle.walrus_arena.proofs.ArenaLemmas.{next_is_live}
 use Rattle.walrus_arena.proofs.SetLemmas.{RemovesAll-push}
 use Rattle.walrus_arena.proofs.arena_set.ArenaSet.remove_all.Goals as goal

@@ -1,5 +1,3 @@
-use Rattle.std.proofs.Common.{subst}
-use Rattle.walrus_arena.specs.Arena.{IsLive}
 use Rattle.walrus_arena.proofs.ArenaLemmas.{next_is_live}
 use Rattle.walrus_arena.proofs.tombstone_arena.TombstoneArena.delete_all.Goals as goal
 
