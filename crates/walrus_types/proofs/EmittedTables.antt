@@ -16,8 +16,8 @@ use Rattle.walrus_types.specs.Indices.{Given}
 use Rattle.walrus_types.specs.Naming.{value_in}
 use Rattle.walrus_types.specs.Table as table
 use Rattle.walrus_types.specs.Table.{Table, IsTable}
-use Rattle.walrus_types.specs.Emitted.{contents, type_groups, definition_at, is_entry_at, IfNameMissing, IsWrittenId, IsEmitted, MissesFirst}
-use Rattle.walrus_types.specs.Steps.WrittenGroups.{AreWritten, FailsBy, IsApart, IsFirstMissingIn, IsWritingOrder, ids_in, in_order}
+use Rattle.walrus_types.specs.Emitted.{contents, type_groups, definition_at, is_entry_at, written_types, IfNameMissing, IsWrittenId, IsEmitted, MissesFirst}
+use Rattle.walrus_types.specs.Steps.WrittenGroups.{AreWritten, FailsBy, IsApart, IsFirstMissingIn, IsWritingOrder, ids_in, in_order, written_in}
 use Rattle.walrus_types.proofs.WrittenPlaces.{Home, home, member_at}
 use Rattle.walrus_types.proofs.WrittenOrder.{at_member, emission, none_missing, first_missing, placed_member}
 use Rattle.walrus_types.proofs.WritingOrder.{single, same_member}
@@ -59,8 +59,9 @@ module _ (t : Table) (known : IsTable t) (order : List ℕ) (ord : IsWritingOrde
       let groups_same : h.group ≡ k.group = m.2 k.group n.0 same.0 in
       h.at ∙ (ap (λ (a : ℕ). length (ids_in (take a (in_order gs order))) + h.place) groups_same ∙ (ap (λ (u : ℕ). length (ids_in (take k.group (in_order gs order))) + u) same.1 ∙ sym k.at))
 
-  pub emitted : (out : List GroupAt) (x : Given) → AreWritten def (in_order gs order) out x → IsEmitted t out x
-  emitted out x w = record {
+  pub emitted : written_in gs order ≡ written_types t → (out : List GroupAt) (x : Given) → AreWritten def (in_order gs order) out x → IsEmitted t out x
+  emitted many out x w = record {
+    count = w.indexes.count ∙ many;
     section = subst (λ (n : Section). IsEmission gs def (is_entry_at t.types.slots) n (value_in x.index)) (sym w.section) (emission gs def (is_entry_at t.types.slots) order ord (single t known) x w.indexes);
     indexed = λ id. (from id, to id);
     complete = none_missing gs def (is_entry_at t.types.slots) order ord w.complete;

@@ -1,10 +1,11 @@
 -- The worked sections have the normal forms that they should.
 use Rattle.std.proofs.Common.{◌≡◌, ℕ, zero, suc, ◌<◌, [], ◌∷◌, length, slice_index_or, refl, ap, sym, inl, inr, ◌⊎◌, arith, Some, ◌↔◌}
 use Rattle.std.specs.declared.cmp.Ordering.TheVariants.{Less}
-use Rattle.walrus_types.specs.Definition.{Names, names_of, renamed, definition_cmp}
+use Rattle.walrus_types.specs.Definition.{Definition, Names, names_of, renamed, definition_cmp}
+use Rattle.walrus_types.specs.Moves.{IsRenumberedSwap}
 use Rattle.walrus_types.specs.Section.{Numbered, numbered, IsSingle}
 use Rattle.walrus_types.specs.NormalForm.{IsKept, IsAnchor, AreFree, IsNormalForm, image}
-use Rattle.walrus_types.specs.Worked.{out_of_order, in_order, repeated, told_once, two_loops}
+use Rattle.walrus_types.specs.Worked.{func, int_struct, out_of_order, in_order, repeated, told_once, two_loops}
 
 two : (P : ℕ → Type 0) → P 0 → P 1 → (i : ℕ) → i < 2 → P i
 two P a b zero h = a
@@ -127,3 +128,15 @@ both_kept =
     kept_second : IsKept (image (0 ∷ 1 ∷ [])) 1
     kept_second zero g e = absurd cc
     kept_second (suc j) g e = absurd (omega arith)
+
+-- the two that are out of order change places, and name nothing
+
+nameless : (d : Definition) → names_of d ≡ [] → (k : ℕ) → ¬ (Names d k)
+nameless d none k named = let below : named.0 < 0 = omega (arith, named.1, ap length none) in absurd (omega (arith, below))
+
+pub swapped : IsRenumberedSwap out_of_order in_order 0
+swapped = record {
+  exchanged = record { before = []; first = int_struct; second = func; after = []; s_is = refl; r_is = refl; place = refl };
+  first_nameless = nameless int_struct refl;
+  second_nameless = nameless func refl;
+}

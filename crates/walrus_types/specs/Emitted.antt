@@ -1,5 +1,5 @@
 -- A table of types that is written as a section.
-use Rattle.std.specs.Prelude.{ℕ, ◌↔◌, Bool, false, List, map, Option, Some, None, IsSome}
+use Rattle.std.specs.Prelude.{◌≡◌, ℕ, ◌↔◌, Bool, false, List, map, Option, Some, None, IsSome}
 use Rattle.walrus_arena.specs.Arena.{Slots, get}
 use Rattle.walrus_types.specs.declared.records.GroupAt.{GroupAt}
 use Rattle.walrus_types.specs.declared.table.RecGroup.{RecGroup}
@@ -49,16 +49,17 @@ IfNameMissing emit.Memory P = Unit {0}
 abbrev pub IsWrittenId : List TypeGroup → (ℕ → Bool) → ℕ → Type 0
 IsWrittenId gs is_entry id = (g : ℕ) × (u : ℕ) × IsWritten gs is_entry g × IsMember gs g u id
 
--- the table is written as these records, and exactly the ids of its written groups have an index;
--- each name has one when it is written
-pub record IsEmitted (t : Table) (out : List GroupAt) (x : Given) : Type 0 where
-  pub section : IsEmission (type_groups t.groups) (definition_at t.types.slots) (is_entry_at t.types.slots) (section_of out) (value_in x.index)
-  pub indexed : (id : ℕ) → (IsSome (x.index id) ↔ IsWrittenId (type_groups t.groups) (is_entry_at t.types.slots) id)
-  pub complete : (g u t' i k : ℕ) → ¬ (IsMissing (type_groups t.groups) (definition_at t.types.slots) (is_entry_at t.types.slots) g u t' i k)
-
 -- how many types the written groups of the table have
 abbrev pub written_types : Table → ℕ
 written_types t = written_count (is_entry_at t.types.slots) (type_groups t.groups)
+
+-- the table is written as these records; as many indices are given as types are written, and exactly the ids of the
+-- written groups have one; each name has one when it is written
+pub record IsEmitted (t : Table) (out : List GroupAt) (x : Given) : Type 0 where
+  pub section : IsEmission (type_groups t.groups) (definition_at t.types.slots) (is_entry_at t.types.slots) (section_of out) (value_in x.index)
+  pub count : x.count ≡ written_types t
+  pub indexed : (id : ℕ) → (IsSome (x.index id) ↔ IsWrittenId (type_groups t.groups) (is_entry_at t.types.slots) id)
+  pub complete : (g u t' i k : ℕ) → ¬ (IsMissing (type_groups t.groups) (definition_at t.types.slots) (is_entry_at t.types.slots) g u t' i k)
 
 -- of all names in the table's written groups that have no index when they are written, `to` in `from` is the first
 abbrev pub MissesFirst : Table → ℕ → ℕ → Type 0

@@ -150,11 +150,12 @@ pub fn contents_tell_records()
 {}
 
 /// Three sections with their normal forms: the order of definitions turns two; a `Single` that repeats an earlier one goes to it,
-/// and not to the equal member of a `Rec`; `Single`s that name themselves stay apart.
+/// and not to the equal member of a `Rec`; `Single`s that name themselves stay apart. And the two that are turned are a renumbered swap.
 pub fn worked_sections()
     ensures turned { IsNormalForm out_of_order in_order (1 ∷ 0 ∷ []) }
     ensures merged { IsNormalForm repeated told_once (0 ∷ 1 ∷ 0 ∷ []) }
     ensures both_kept { IsNormalForm two_loops two_loops (0 ∷ 1 ∷ []) }
+    ensures swapped { IsRenumberedSwap out_of_order in_order 0 }
 {}
 
 /// Two value types with the same text are equal, where what they name are places. The ids of a `ValType` are, so [`same_text`] says it of any two of them.

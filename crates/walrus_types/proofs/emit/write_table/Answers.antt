@@ -55,7 +55,7 @@ returns-clause-written c =
     let t = c.args.table.now in
     IfOk-weaker c.write_groups.result _ _ (λ r h.
     (let P : List TypeGroup → Type 0 = λ ws. AreWritten (definition_at t.types.slots) ws r.0.items (type_indices r.1) in
-    emitted t c.rec_groups.ensures.grouped c.in_ok-order.order.items c.in_ok-order.ensures.order r.0.items (type_indices r.1) (subst P given h))) c.write_groups.ensures.written
+    emitted t c.rec_groups.ensures.grouped c.in_ok-order.order.items c.in_ok-order.ensures.order c.in_ok-order.ensures.count r.0.items (type_indices r.1) (subst P given h))) c.write_groups.ensures.written
 
 pub returns-clause-missing : goal.returns-clause-missing
 returns-clause-missing c =

@@ -9,3 +9,6 @@ returns-clause-merged c = worked.merged
 
 pub returns-clause-both_kept : goal.returns-clause-both_kept
 returns-clause-both_kept c = worked.both_kept
+
+pub returns-clause-swapped : goal.returns-clause-swapped
+returns-clause-swapped c = worked.swapped
