@@ -23,14 +23,17 @@ ghost use Rattle.walrus_types.specs.Records.{entry_definition, section_of};
 ghost use Rattle.walrus_types.specs.Section.{IsWellNamed, Section, numbered};
 ghost use Rattle.walrus_types.specs.Text.{HasPlaces, val_text};
 ghost use Rattle.walrus_types.specs.Types.{ModuleType, type_definition};
-ghost use Rattle.walrus_types.specs.Value.{bool_cmp};
+ghost use Rattle.walrus_types.specs.Value.{bool_cmp, field_cmp, val_cmp};
 ghost use Rattle.walrus_types.specs.Views.{constant_of};
 ghost use Rattle.walrus_types.specs.Worked.{in_order, out_of_order, repeated, told_once, two_loops};
 ghost use Rattle.walrus_types.specs.declared.records.EntryAt.{EntryAt};
+ghost use Rattle.walrus_types.specs.declared.ty.value.Field.{Field};
 ghost use Rattle.walrus_types.specs.declared.ty.value.Val as value;
 
 pub use crate::table::every_table_is_sound;
-use crate::{AbstractHeapType, EntryAt, Heap, RefType, Type, TypeId, Val, ValType};
+use crate::{
+    AbstractHeapType, EntryAt, FieldAt, FieldType, Heap, RefType, Type, TypeId, Val, ValAt, ValType,
+};
 
 /// A well-named section has one normal form: one section, and one map onto it.
 pub fn one_normal_form()
@@ -141,6 +144,14 @@ pub fn types_in_order()
         ⟦<Type as Ord>⟧.cmp t u ≡ ordering_then (definition_cmp (type_definition t) (type_definition u)) (bool_cmp t.is_for_function_entry u.is_for_function_entry) }
     ensures equal { (t u : ModuleType) →
         (IsTrue (⟦<Type as PartialEq>⟧.eq t u) ↔ ((type_definition t ≡ type_definition u) × (t.is_for_function_entry ≡ u.is_for_function_entry))) }
+{}
+
+/// Value types and fields, of a module and of a section, compare by their cases in the order in which these are declared, and then by their parts from left to right.
+pub fn value_types_in_order()
+    ensures vals { (v w : value.Val ℕ) → ⟦<ValType as Ord>⟧.cmp v w ≡ val_cmp v w }
+    ensures fields { (f g : Field ℕ) → ⟦<FieldType as Ord>⟧.cmp f g ≡ field_cmp f g }
+    ensures section_vals { (v w : value.Val ℕ) → ⟦<ValAt as Ord>⟧.cmp v w ≡ val_cmp v w }
+    ensures section_fields { (f g : Field ℕ) → ⟦<FieldAt as Ord>⟧.cmp f g ≡ field_cmp f g }
 {}
 
 /// Section records with the same contents are the same, so what the laws say of contents they say of records.
