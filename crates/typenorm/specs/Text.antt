@@ -1,4 +1,4 @@
--- The text of a type section: a line of words for each definition, `rec` and `end` round each recursion group.
+-- The text of a type section: a line of words for each definition, `rec` and `end` round each `Rec`.
 use Rattle.std.specs.Prelude.{ℕ, Bool, true, false, List, [], ◌∷◌, ◌++◌, map, Option, Some, None, codes, decimal, if◌then◌else◌}
 use Rattle.std.specs.Prelude.{◌≡◌, ◌<◌, ◌^◌, ◌⊎◌, ◌==◌, ◌||◌, ◌&&◌, nat_lt, length, slice_index}
 use Rattle.std.specs.List.{flat_map, AllByRecursion}
@@ -62,7 +62,6 @@ composite_words (comp.Function params results) = codes "func" ∷ (map val_word 
 composite_words (comp.Struct fields) = codes "struct" ∷ map field_word fields
 composite_words (comp.Array field) = codes "array" ∷ field_word field ∷ []
 
--- `open` where the type is not final, its supertype where it has one, then what it is made of
 abbrev pub open_words : Bool → List (List ℕ)
 open_words true = []
 open_words false = codes "open" ∷ []
@@ -71,6 +70,7 @@ abbrev pub supertype_words : Option ℕ → List (List ℕ)
 supertype_words None = []
 supertype_words (Some k) = (codes "sub:" ++ decimal k) ∷ []
 
+-- `open` where the type is not final, its supertype where it has one, then what it is made of
 abbrev pub entry_words : EntryAt → List (List ℕ)
 entry_words e = open_words e.is_final ++ (supertype_words e.supertype ++ composite_words e.comp)
 

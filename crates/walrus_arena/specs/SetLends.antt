@@ -7,7 +7,7 @@ use Rattle.walrus_arena.specs.Arena.{with_value}
 use Rattle.walrus_arena.specs.Set.{Set}
 use Rattle.walrus_arena.specs.contracts.arena_set.ArenaSet.{the_row}
 
--- what a clause has as T.Hash
+-- what a clause has as T.Hash: equality, and what of a value is hashed
 abbrev pub HashMembers : Type 0 → Type 0
 HashMembers T = record { eq : T → T → Bool; hash_input : T → List (List ℕ) }
 

@@ -1,4 +1,4 @@
--- How many bytes of memory an atomic instruction touches.
+-- How many bytes of memory an atomic instruction of the threads proposal touches.
 use Rattle.std.specs.Prelude.{ℕ}
 use Rattle.walrus_ir.specs.declared.ir.atomics.AtomicWidth.{AtomicWidth}
 use Rattle.walrus_ir.specs.declared.ir.atomics.AtomicWidth.TheVariants as width

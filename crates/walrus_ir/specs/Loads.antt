@@ -1,4 +1,5 @@
 -- How many bytes of memory a load reads, and whether it is atomic.
+-- WebAssembly core specification, "Memory Instructions"; what is atomic is of the threads proposal.
 use Rattle.std.specs.Prelude.{ℕ, Bool, true, false}
 use Rattle.walrus_ir.specs.declared.ir.kinds.ExtendedLoad.{ExtendedLoad}
 use Rattle.walrus_ir.specs.declared.ir.kinds.ExtendedLoad.TheVariants as extended

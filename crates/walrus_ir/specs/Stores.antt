@@ -1,4 +1,5 @@
 -- How many bytes of memory a store writes, and whether it is atomic.
+-- WebAssembly core specification, "Memory Instructions"; what is atomic is of the threads proposal.
 use Rattle.std.specs.Prelude.{ℕ, Bool, false}
 use Rattle.walrus_ir.specs.declared.ir.kinds.StoreKind.{StoreKind}
 use Rattle.walrus_ir.specs.declared.ir.kinds.StoreKind.TheVariants as store

@@ -1,4 +1,4 @@
--- The laws of the normal form on two indices.
+-- The laws of the normal form on two indices, as the slow program tries them.
 use Rattle.std.specs.Prelude.{◌≡◌, ℕ, ◌<◌, ◌↔◌, ◌⊎◌}
 use Rattle.std.specs.declared.cmp.Ordering.TheVariants.{Less}
 use Rattle.walrus_types.specs.Definition.{definition_cmp}

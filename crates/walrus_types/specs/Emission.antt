@@ -8,6 +8,7 @@ use Rattle.walrus_types.specs.Definition.{Definition, Names, renamed, definition
 use Rattle.walrus_types.specs.Section.{Section, numbered, IsFilled}
 use Rattle.walrus_types.specs.ReadTable.{TypeGroup}
 
+-- stands for a group that is not there
 abbrev pub no_group : TypeGroup
 no_group = record { ids = []; is_explicit = false }
 

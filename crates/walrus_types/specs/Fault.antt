@@ -20,7 +20,7 @@ abbrev pub namings_from : ℕ → List Definition → List Naming
 namings_from i [] = []
 namings_from i (d ∷ ds) = map (λ k. record { entry = i; index = k }) (names_of d) ++ namings_from (i + 1) ds
 
--- the first that is at or past the end
+-- the first of these whose index is at or past the end
 abbrev pub first_bad : ℕ → List Naming → Option Naming
 first_bad end namings = find (λ n. nat_le end n.index) namings
 

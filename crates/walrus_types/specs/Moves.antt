@@ -1,4 +1,4 @@
--- Changes of a section that leave its normal form: the swap of two neighbouring `Single`s with the names sent along,
+-- Changes of a section that keep its normal form: the swap of two neighbouring `Single`s with the names sent along,
 -- three moves, chains of moves, and descents.
 -- WebAssembly core specification, "Modules", types: a definition is named by its index, so where it moves its names move along.
 use Rattle.std.specs.Prelude.{◌≡◌, ℕ, suc, ◌<◌, ◌≤◌, ◌-◌, ◌==◌, nat_lt, cond, [], ◌∷◌, ◌++◌, map, length, ◌⊎◌}

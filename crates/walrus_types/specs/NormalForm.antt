@@ -1,5 +1,5 @@
 -- When a section n, with a map m that sends each index of a section s to an index of n, is a normal form of s.
--- WebAssembly core specification, "Types", recursive types: two definitions are one type where they stand at the same place
+-- WebAssembly core specification, "Validation", defined types: two definitions are one type where they stand at the same place
 -- of groups that are the same once all names are resolved. The specification has no normal form of a section. This one merges
 -- `Single`s that the map makes the same and orders them where nothing hinders it; it keeps each `Rec` whole and in its order,
 -- and merges no member of one.

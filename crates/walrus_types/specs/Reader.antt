@@ -15,6 +15,7 @@ pub record Reader : Type 0 where
 abbrev pub HasRead : Section → Table → List ℕ → Type 0
 HasRead s t ids = Reads s ids t.types.slots (mapped type_eq t.types) (type_groups t.groups)
 
+-- the same table, and the same ids
 pub record IsSameReader (old new : Reader) : Type 0 where
   pub table : IsSameTable old.table new.table
   pub ids : new.ids ≡ old.ids

@@ -32,6 +32,7 @@ pub record Table : Type 0 where
   pub types : Set ModuleType
   pub groups : List RecGroup
 
+-- stands for a group that is not there
 abbrev pub no_group : RecGroup
 no_group = record { types = []; is_explicit = true }
 

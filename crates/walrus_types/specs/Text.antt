@@ -1,5 +1,5 @@
 -- The text of types, in the words of the WebAssembly text format, with a type of the module written as the number of its id.
--- WebAssembly core specification, "Text Format", "Types".
+-- WebAssembly core specification, "Text Format", "Types". `exact` stands as in walrus, without the brackets of the custom descriptors proposal.
 use Rattle.std.specs.Prelude.{ℕ, ◌<◌, ◌^◌, List, [], ◌∷◌, ◌++◌, codes, decimal, if◌then◌else◌}
 use Rattle.std.specs.List.{flat_map, AllByRecursion}
 use Rattle.walrus_types.specs.Value.{val_names}

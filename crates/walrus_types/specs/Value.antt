@@ -1,5 +1,6 @@
 -- Value types and what they are made of, over numbers that stand for types: what they name, how they are renamed, and their order.
 -- WebAssembly core specification, "Types": abstract heap types, heap types, reference types, value types, storage types, field types.
+-- `Exact` is of the custom descriptors proposal.
 use Rattle.std.specs.Prelude.{ℕ, Bool, true, false, List, [], ◌∷◌}
 use Rattle.std.specs.declared.cmp.Ordering.{Ordering}
 use Rattle.std.specs.declared.cmp.Ordering.TheVariants.{Less, Equal, Greater}

@@ -45,7 +45,7 @@ storage_place storage.I16 = 32
 abbrev pub is_named : ℕ → Bool
 is_named i = cond (i == 17) true (i == 30)
 
--- a lesser one has the lesser rank, or both name a type and have the same
+-- the rank of what has the place i and is mutable where m says so: the lesser of two has the lesser rank, or both name a type and have the same
 abbrev pub rank : ℕ → Bool → ℕ
 rank i m = 2 * (i + 1) + cond (is_named i) 0 (bool_index m)
 
