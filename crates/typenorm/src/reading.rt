@@ -19,7 +19,8 @@ const READ_LIMIT: u64 = 1 << 48;
 /// How many bytes one read asks for.
 const BLOCK: usize = 8192;
 
-/// The groups of a text, whose first bad line ends it.
+/// The groups of a text. It is read to its end even behind a bad line; then `BadText` has the first one. `Stream` comes where a read
+/// fails or `READ_LIMIT` reads did not come to the end, `Memory` where memory was refused.
 pub fn read_section<R: Read>(alloc: Global, reader: &mut R) -> Result<Vec<GroupAt>, Stop>
     ensures read { IfOk result (λ groups. IfSome (R.remaining reader.old) (λ text. lines_of text ≡ section_lines groups.items)) }
     ensures fits { IfOk result (λ groups. HasSectionIndices groups.items) }

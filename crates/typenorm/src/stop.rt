@@ -11,7 +11,7 @@ use std::io::Write;
 /// What ends a run without a normal form.
 #[derive(Debug, Drop)]
 pub enum Stop {
-    /// The text of this line, counted from 1, is none of a section.
+    /// The text of this line, counted from 1, is none of a section. It is one past the last line where a `rec` has no `end`.
     BadText { line: u64 },
     /// The section has no normal form.
     Refused(ReadError),

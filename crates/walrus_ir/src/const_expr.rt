@@ -1,4 +1,5 @@
 //! Constant expressions, and their operations with ids and with indices.
+//! WebAssembly core specification, "Validation", constant expressions.
 ghost use Rattle.std.specs.Prelude.{◌≡◌, Some, None, IfOk, IfErr, OnOk, map, option_map};
 ghost use Rattle.std.specs.List.{flat_map};
 ghost use Rattle.walrus_types.specs.Naming.{IfUnknownIndex, IfNoIndex};

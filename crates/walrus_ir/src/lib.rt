@@ -4,7 +4,7 @@
 //! - [`InstrSeq`] is a sequence of instructions, each with an [`InstrLocId`]. Instructions that have sequences inside name them by [`InstrSeqId`], so a function's body is a list of sequences.
 //! - [`Local`] is a local of a function, [`Value`] what a constant gives.
 //!
-//! Nothing here says what is valid: any instruction may stand anywhere. Names, fields and their order are those of walrus's `ir`, but for the struct [`DropInstr`] and the fields `data_id`, which are `Drop` and `data` there.
+//! Nothing here says what is valid: any instruction may stand anywhere. Names, and fields with their order, are those of walrus's `ir`, but for the struct [`DropInstr`] and the fields `data_id`, which are `Drop` and `data` there. The variants of [`Instr`] and [`UnaryOp`] are grouped by what they do.
 //!
 //! # A branch
 //!

@@ -1,7 +1,7 @@
 //! A plain and slow program that tells whether a section, with a map onto it, is a normal form of another section.
 //!
 //! It is the definition of the normal form, law by law, tried at every index and every pair of indices: it takes time in the
-//! third power of the number of definitions. It is there to try the definition on examples, and to judge other programs by.
+//! fourth power of the number of definitions. It is there to try the definition on examples, and to judge other programs by.
 ghost use Rattle.std.specs.Prelude.{◌≡◌, IsTrue, IfOk, ◌↔◌, ℕ, ◌<◌, length};
 ghost use Rattle.walrus_types.specs.NormalForm.{IsNormalForm, IsNormal, image};
 ghost use Rattle.walrus_types.specs.Records.{section_of};
@@ -30,6 +30,8 @@ use std::alloc::{AllocError, Global};
 
 /// Whether `output`, with the map that has for each index of `section` an index of `output`, is a normal form of `section`.
 /// Where the section is well-named there is one such output and one such map, which `normalise` answers.
+///
+/// walrus has no such call.
 pub fn is_normal_form(
     alloc: Global,
     section: &[GroupAt],

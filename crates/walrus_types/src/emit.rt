@@ -23,7 +23,7 @@ use order::group_order;
 use std::alloc::{AllocError, Global};
 use write::{picked_groups, write_groups};
 
-// The number of types that can't be written.
+// The least number of types that can't be written.
 const TOO_MANY: usize = 1 << 32;
 
 // Whether 2^32 types or more stand in written groups.
@@ -92,7 +92,7 @@ impl ModuleTypes {
     ///
     /// Empty groups are left out, and groups whose types all stand for entries of functions. A group that isn't explicit and whose type names no other live type is free: neighbouring free groups are sorted by their types, and groups with equal types keep their order. All other groups stay where they are.
     ///
-    /// `TooMany` is answered where 2^32 types or more would be written, before anything else is looked at. `NoIndex` has the first type in the order of the section that names one which has no index by the end of its own group, and its first such name. The table is never changed.
+    /// `TooMany` is answered where 2^32 types or more would be written, before anything else is looked at. `NoIndex` has the first type in the order of the section that names one which has no index by the end of its own group, and its first such name. `Memory` comes where there was no room. The table is never changed.
     pub fn emit(&self) -> Result<(Vec<GroupAt>, IdsToIndices), EmitError>
         ensures written { IfOk result (λ r. IsEmitted self.now r.0.items (type_indices r.1)) }
         ensures others { IfOk result (λ r. IsEmpty (func_indices r.1) × IsEmpty (global_indices r.1)) }

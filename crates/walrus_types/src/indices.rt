@@ -1,4 +1,4 @@
-//! The names of things by id, what each id is the id of, and the maps between ids and the indices of a section.
+//! The names of things by id, what each id is the id of, and the maps between ids and the indices of a binary module.
 mod ids_to_indices;
 mod indices_to_ids;
 #[cfg(test)]

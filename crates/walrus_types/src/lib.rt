@@ -1,4 +1,12 @@
 //! Types of WebAssembly modules, the records of a type section, and the normal form of a section.
+//!
+//! - [`Type`] is a type of a module, which names others by id, and [`ModuleTypes`] is the table of them.
+//! - [`GroupAt`] and [`EntryAt`] are the records of a type section, which name types by index. [`IndicesToIds`] and [`IdsToIndices`] lead from one to the other.
+//! - [`SectionReader`] and [`parse_types`] read a section into a table, and [`ModuleTypes::emit`] writes a table as a section.
+//! - [`normalise`] does both, which gives the normal form of a section. [`is_normal_form`] judges an answer, and [`same_up_to_moves`] compares two sections.
+//! - [`laws`] and [`record_laws`] have the theorems.
+//!
+//! Nothing here says what is valid: whether a supertype is final or matches, for one, is not looked at.
 #![tactic(auto)]
 
 mod checker;

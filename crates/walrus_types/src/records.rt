@@ -1,4 +1,5 @@
 //! A type section as data, in which types are named by their index in the section.
+//! WebAssembly core specification, "Types", and "Binary Format", type section.
 use crate::{Field, Heap, Listed, Reference, Storage, Val};
 
 /// A heap type of a section.
@@ -16,7 +17,7 @@ pub type StorageAt = Storage<u32>;
 /// A field type of a section.
 pub type FieldAt = Field<u32>;
 
-/// A composite type of a section.
+/// A composite type of a section: `comptype` in the WebAssembly specification.
 #[derive(Clone, PartialEq, Eq, PartialOrd, Ord, Hash, Debug, Drop)]
 pub enum CompAt {
     Function {

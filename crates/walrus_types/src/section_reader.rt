@@ -27,6 +27,8 @@ use std::slice;
 /// Reads a type section into a table of types, one recursion group after the other.
 ///
 /// Each entry gets an id of its own, which is its index. An entry that stands alone and is equal to an earlier one that stands alone is sent to that one, and its own id is dead. The entries of a `Rec` are never sent elsewhere.
+///
+/// Only names are checked, not what else makes a section valid: a supertype may be final, come later in its group, or not match.
 #[derive(Drop)]
 pub struct SectionReader {
     types: ModuleTypes,
@@ -176,7 +178,7 @@ fn members(
 
 /// Reads a whole section: the table of its types, and the id that each index stands for.
 ///
-/// The first group that `SectionReader::push_group` refuses decides.
+/// The first group that `SectionReader::push_group` refuses decides, with its error.
 pub fn parse_types(
     alloc: Global,
     groups: &[GroupAt],

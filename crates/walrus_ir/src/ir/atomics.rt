@@ -18,6 +18,7 @@ pub enum AtomicOp {
     Xchg,
 }
 
+/// `AtomicOp`, whichever it is.
 impl fmt::Debug for AtomicOp {
     fn fmt<W: fmt::Write>(&self, f: &mut fmt::Formatter<W>) -> fmt::Result {
         f.write_str("AtomicOp")

@@ -258,6 +258,7 @@ pub enum BinaryOp {
     I16x8RelaxedDotI8x16I7x16S,
 }
 
+/// `BinaryOp`, whichever it is.
 impl fmt::Debug for BinaryOp {
     fn fmt<W: fmt::Write>(&self, f: &mut fmt::Formatter<W>) -> fmt::Result {
         f.write_str("BinaryOp")

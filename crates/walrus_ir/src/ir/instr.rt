@@ -162,6 +162,7 @@ impl Instr {
     }
 }
 
+/// `Instr`, whichever it is.
 impl fmt::Debug for Instr {
     fn fmt<W: fmt::Write>(&self, f: &mut fmt::Formatter<W>) -> fmt::Result {
         f.write_str("Instr")

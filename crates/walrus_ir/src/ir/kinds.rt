@@ -1,4 +1,5 @@
 //! What loads and stores read and write, how many bytes of memory that is, and whether it is atomic.
+//! WebAssembly core specification, "Memory Instructions"; what is atomic is of the threads proposal.
 ghost use Rattle.std.specs.Prelude.{◌≡◌};
 ghost use Rattle.walrus_ir.specs.Loads.{extended_is_atomic, load_is_atomic, load_width};
 ghost use Rattle.walrus_ir.specs.Stores.{store_is_atomic, store_width};

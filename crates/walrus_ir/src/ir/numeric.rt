@@ -1,5 +1,5 @@
 //! Constants, operators, and what works on values of any type.
-//! WebAssembly core specification, "Numeric Instructions" and "Parametric Instructions".
+//! WebAssembly core specification, "Numeric Instructions" and "Parametric Instructions"; those on 128 bits are of the wide arithmetic proposal.
 use crate::{BinaryOp, TernaryOp, UnaryOp, Value};
 use walrus_types::ValType;
 
@@ -50,10 +50,10 @@ pub struct I64Add128 {}
 #[derive(Clone, Copy, Debug)]
 pub struct I64Sub128 {}
 
-/// `i64.mul_wide_s`: the product of two signed numbers, in two halves.
+/// `i64.mul_wide_s`: the product of two signed `i64`, of 128 bits in two halves.
 #[derive(Clone, Copy, Debug)]
 pub struct I64MulWideS {}
 
-/// `i64.mul_wide_u`: the product of two unsigned numbers, in two halves.
+/// `i64.mul_wide_u`: the product of two unsigned `i64`, of 128 bits in two halves.
 #[derive(Clone, Copy, Debug)]
 pub struct I64MulWideU {}

@@ -23,6 +23,7 @@ pub enum TernaryOp {
     I32x4RelaxedDotI8x16I7x16AddS,
 }
 
+/// `TernaryOp`, whichever it is.
 impl fmt::Debug for TernaryOp {
     fn fmt<W: fmt::Write>(&self, f: &mut fmt::Formatter<W>) -> fmt::Result {
         f.write_str("TernaryOp")

@@ -181,6 +181,7 @@ pub enum UnaryOp {
     I32x4RelaxedTruncF64x2UZero,
 }
 
+/// `UnaryOp`, whichever it is.
 impl fmt::Debug for UnaryOp {
     fn fmt<W: fmt::Write>(&self, f: &mut fmt::Formatter<W>) -> fmt::Result {
         f.write_str("UnaryOp")

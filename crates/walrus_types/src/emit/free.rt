@@ -1,4 +1,4 @@
-// Which groups are free, and which are written.
+//! Which groups are free, and which are written.
 ghost use Rattle.std.specs.Prelude.{◌≡◌, IfOk, map, All};
 ghost use Rattle.std.specs.List.{list_all};
 ghost use Rattle.walrus_arena.specs.Arena.{IsLive};
@@ -142,7 +142,7 @@ pub(super) struct Survey<'a> {
     pub(super) written: Vec<bool>,
 }
 
-// Each type is looked at once for all three, since the types are what it costs to reach.
+// One pass tells all three, since it is reaching a type that costs.
 pub(super) fn survey_of<'a>(
     alloc: Global,
     table: &'a ModuleTypes,

@@ -1,4 +1,4 @@
-// The order in which groups are written.
+//! The order in which groups are written.
 ghost use Rattle.std.specs.Prelude.{◌≡◌, IfOk, map, length};
 ghost use Rattle.walrus_types.specs.Steps.PlacesInOrder.{IsOrder, numbered};
 ghost use Rattle.walrus_types.specs.Steps.Neighbours.{AreStarts, AreKeys, OrdersNeighbours};

@@ -1,4 +1,4 @@
-// Types that are compared by a few small numbers first, and by their lists only where these are the same.
+//! Types that are compared by a few small numbers first, and by their lists only where these are the same.
 ghost use Rattle.std.specs.Prelude.{◌≡◌, ◌≤◌};
 ghost use Rattle.walrus_types.specs.contracts.ty.TypeEq.TheImpl.Laws as type_eq;
 ghost use Rattle.walrus_types.specs.contracts.ty.TypeOrd.TheImpl.Laws as type_ord;
@@ -15,7 +15,7 @@ use std::cmp::Ordering;
 use std::marker::Model;
 use std::slice;
 
-// The kind of a type, and for the first of its parameters or fields a number that a lesser one has less of.
+// The kind of a type, and a number for each of its first five parameters or fields, less for a lesser one. Behind one that names a type all are 0.
 type Weight = (u8, u8, u8, u8, u8, u8);
 
 // The ranks of a reference to a type and of a nullable one, which do not tell all of it.

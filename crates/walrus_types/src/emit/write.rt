@@ -1,4 +1,4 @@
-// Records of groups, and the indices that their types get.
+//! Records of groups, and the indices that their types get.
 ghost use Rattle.std.specs.Prelude.{◌≡◌, ℕ, ◌<◌, ◌≤◌, ◌^◌, IfOk, IfErr, OnOk, None, Some, All, map, length, false, slice_index};
 ghost use Rattle.walrus_arena.specs.Arena.{IsLive};
 ghost use Rattle.walrus_types.specs.declared.table.RecGroup.{RecGroup};

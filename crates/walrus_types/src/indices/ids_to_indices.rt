@@ -1,4 +1,4 @@
-//! The indices that things get in a section.
+//! The indices that things get in a binary module.
 ghost use Rattle.std.specs.Prelude.{◌≡◌, ℕ, ◌+◌, ◌^◌, ◌<◌, ◌≤◌, ◌++◌, length, List, None, All, OnOk, OnErr, nat_eq};
 ghost use Rattle.std.specs.List.{IsDistinct};
 ghost use Rattle.std.specs.Option.{ok_or};
@@ -9,7 +9,8 @@ use crate::{Function, FunctionId, Global, GlobalId, Id, NoIndex, Type, TypeId};
 use std::alloc::AllocError;
 use std::collections::HashMap;
 
-/// The indices of types, functions and globals in a section, for each kind in the order in which its ids were pushed, from 0.
+/// The indices of types, functions and globals in a binary module, for each kind in the order in which its ids were pushed, from 0.
+/// WebAssembly core specification, "Modules", indices.
 #[derive(Drop)]
 pub struct IdsToIndices {
     types: Indices<Type>,
@@ -77,7 +78,7 @@ impl IdsToIndices {
         }
     }
 
-    /// Gives the next type index to this type, which has none. A refusal changes nothing.
+    /// Gives the next type index, which must be below 2^32, to this type, which has none. A refusal changes nothing.
     pub fn push_type(&mut self, id: TypeId) -> Result<(), AllocError>
         requires fresh { (type_indices self.old).index id ≡ None }
         requires room { (type_indices self.old).count < 2 ^ 32 }
@@ -89,7 +90,7 @@ impl IdsToIndices {
         self.types.push(id)
     }
 
-    /// Gives the next function index to this function, which has none. A refusal changes nothing.
+    /// Gives the next function index, which must be below 2^32, to this function, which has none. A refusal changes nothing.
     pub fn push_func(&mut self, id: FunctionId) -> Result<(), AllocError>
         requires fresh { (func_indices self.old).index id ≡ None }
         requires room { (func_indices self.old).count < 2 ^ 32 }
@@ -101,7 +102,7 @@ impl IdsToIndices {
         self.funcs.push(id)
     }
 
-    /// Gives the next global index to this global, which has none. A refusal changes nothing.
+    /// Gives the next global index, which must be below 2^32, to this global, which has none. A refusal changes nothing.
     pub fn push_global(&mut self, id: GlobalId) -> Result<(), AllocError>
         requires fresh { (global_indices self.old).index id ≡ None }
         requires room { (global_indices self.old).count < 2 ^ 32 }
@@ -125,21 +126,21 @@ impl IdsToIndices {
         self.types.push_all(ids)
     }
 
-    /// The index of this type.
+    /// The index of this type; `NoIndex` where it has none.
     pub fn get_type_index(&self, id: TypeId) -> Result<u32, NoIndex>
         ensures { result ≡ ok_or ((type_indices self.now).index id) (OfType id) }
     {
         self.types.get(id).ok_or(NoIndex::OfType(id))
     }
 
-    /// The index of this function.
+    /// The index of this function; `NoIndex` where it has none.
     pub fn get_func_index(&self, id: FunctionId) -> Result<u32, NoIndex>
         ensures { result ≡ ok_or ((func_indices self.now).index id) (OfFunc id) }
     {
         self.funcs.get(id).ok_or(NoIndex::OfFunc(id))
     }
 
-    /// The index of this global.
+    /// The index of this global; `NoIndex` where it has none.
     pub fn get_global_index(&self, id: GlobalId) -> Result<u32, NoIndex>
         ensures { result ≡ ok_or ((global_indices self.now).index id) (OfGlobal id) }
     {

@@ -1,4 +1,4 @@
-//! What the indices of a section stand for.
+//! What the indices of a binary module stand for.
 ghost use Rattle.std.specs.Prelude.{◌≡◌, ◌+◌, ◌^◌, ◌<◌, ◌≤◌, take, vec_len, vec_capacity, [], ◌∷◌, ◌++◌, length, OnOk, OnErr, slice_get, slice_set};
 ghost use Rattle.std.specs.List.{range_with_len};
 ghost use Rattle.std.specs.Option.{ok_or};
@@ -7,7 +7,8 @@ use crate::{FunctionId, GlobalId, TypeId, UnknownIndex};
 use std::alloc::{AllocError, Global};
 use std::marker::Model;
 
-/// The ids that the indices of a section stand for. Types, functions and globals are numbered apart, each from 0.
+/// The ids that the indices of a binary module stand for. Types, functions and globals are numbered apart, each from 0.
+/// WebAssembly core specification, "Modules", indices.
 #[derive(Drop)]
 pub struct IndicesToIds {
     types: Vec<TypeId>,
@@ -66,7 +67,7 @@ impl IndicesToIds {
         Ok(())
     }
 
-    /// The type that this index stands for.
+    /// The type that this index stands for; `UnknownIndex` where it stands for none.
     pub fn get_type(&self, index: u32) -> Result<TypeId, UnknownIndex>
         ensures { result ≡ ok_or (slice_get self.now.types index) (record { 0 = index }) }
     {
@@ -76,7 +77,7 @@ impl IndicesToIds {
         }
     }
 
-    /// The function that this index stands for.
+    /// The function that this index stands for; `UnknownIndex` where it stands for none.
     pub fn get_func(&self, index: u32) -> Result<FunctionId, UnknownIndex>
         ensures { result ≡ ok_or (slice_get self.now.funcs index) (record { 0 = index }) }
     {
@@ -86,7 +87,7 @@ impl IndicesToIds {
         }
     }
 
-    /// The global that this index stands for.
+    /// The global that this index stands for; `UnknownIndex` where it stands for none.
     pub fn get_global(&self, index: u32) -> Result<GlobalId, UnknownIndex>
         ensures { result ≡ ok_or (slice_get self.now.globals index) (record { 0 = index }) }
     {

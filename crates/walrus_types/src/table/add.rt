@@ -12,7 +12,7 @@ use crate::{
 use std::alloc::AllocError;
 
 impl ModuleTypes {
-    /// The id of the final function type with these parameters and results, and without supertype.
+    /// The id of the final function type with these parameters and results, and without supertype, as `add_composite` answers it.
     pub fn add(&mut self, params: &[ValType], results: &[ValType]) -> Result<TypeId, AllocError>
         ensures answer { IfOk result (λ id. IsAnswer self.new (nameless (function params.now results.now) true None false (next_id self.old)) id) }
         ensures ok { IfOk result (λ id. FindsOrAdds self.old self.new (nameless (function params.now results.now) true None false (next_id self.old)) id) }
@@ -23,7 +23,7 @@ impl ModuleTypes {
         self.add_composite(CompositeType::Function(ty), true, None)
     }
 
-    /// The id of the final struct type with these fields, and without supertype.
+    /// The id of the final struct type with these fields, and without supertype, as `add_composite` answers it.
     pub fn add_struct(&mut self, fields: Vec<FieldType>) -> Result<TypeId, AllocError>
         ensures answer { IfOk result (λ id. IsAnswer self.new (nameless (kind.Struct (record { fields = fields.items })) true None false (next_id self.old)) id) }
         ensures ok { IfOk result (λ id. FindsOrAdds self.old self.new (nameless (kind.Struct (record { fields = fields.items })) true None false (next_id self.old)) id) }
@@ -35,7 +35,7 @@ impl ModuleTypes {
         self.add_composite(CompositeType::Struct(ty), true, None)
     }
 
-    /// The id of the final array type with these elements, and without supertype.
+    /// The id of the final array type with these elements, and without supertype, as `add_composite` answers it.
     pub fn add_array(&mut self, element: FieldType) -> Result<TypeId, AllocError>
         ensures answer { IfOk result (λ id. IsAnswer self.new (nameless (kind.Array (record { field = element })) true None false (next_id self.old)) id) }
         ensures ok { IfOk result (λ id. FindsOrAdds self.old self.new (nameless (kind.Array (record { field = element })) true None false (next_id self.old)) id) }
@@ -50,8 +50,7 @@ impl ModuleTypes {
 
     /// The id of the type with this composite, finality and supertype.
     ///
-    /// It is the id of an equal type that was added alone, where the table knows one, or else that of a new type without a name, in a group of its own at the end.
-    /// After an error no id is used up.
+    /// It is the id of an equal type that was added alone, where the table knows one, or else that of a new type without a name, in a group of its own at the end. After an `AllocError` the table has the same types and groups, finds the same, and no id is used up.
     pub fn add_composite(
         &mut self,
         comp: CompositeType,
@@ -66,7 +65,7 @@ impl ModuleTypes {
         self.insert(Type::new_composite(id, comp, is_final, supertype))
     }
 
-    /// The id of the type that stands for a function body with these results: a final function type without parameters and supertype, with the mark of a function entry.
+    /// The id of the type that stands for a function body with these results: a final function type without parameters and supertype, with the mark of a function entry. It is found or made as by `add_composite`.
     pub fn add_entry_ty(&mut self, results: &[ValType]) -> Result<TypeId, AllocError>
         ensures answer { IfOk result (λ id. IsAnswer self.new (nameless (function [] results.now) true None true (next_id self.old)) id) }
         ensures ok { IfOk result (λ id. FindsOrAdds self.old self.new (nameless (function [] results.now) true None true (next_id self.old)) id) }

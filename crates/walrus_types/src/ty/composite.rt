@@ -1,4 +1,5 @@
 //! Function, struct and array types.
+//! WebAssembly core specification, "Types", composite types.
 ghost use Rattle.std.specs.Prelude.{◌≡◌};
 
 use crate::{FieldType, Listed, ValType};

@@ -1,4 +1,5 @@
 //! Value types, heap types and fields, over what stands for a type in them: an id in a module, an index in a section.
+//! WebAssembly core specification, "Types".
 use crate::TypeId;
 
 /// A heap type of the WebAssembly core specification that no module defines.
@@ -18,18 +19,18 @@ pub enum AbstractHeapType {
     NoExn,
 }
 
-/// What a reference points at, where `N` names a type.
+/// What a reference points at, where `N` names a type: `heaptype`.
 #[derive(Clone, Copy, PartialEq, Eq, PartialOrd, Ord, Hash, Debug)]
 pub enum Heap<N> {
     /// A type that the specification defines.
     Abstract(AbstractHeapType),
     /// A type of the section, or a subtype of it.
     Concrete(N),
-    /// A type of the section, and no subtype of it.
+    /// A type of the section, and no subtype of it: `exact` in the custom descriptors proposal.
     Exact(N),
 }
 
-/// A reference type, where `N` names a type.
+/// A reference type, where `N` names a type: `reftype`.
 #[derive(Clone, Copy, PartialEq, Eq, PartialOrd, Ord, Hash, Debug)]
 pub struct Reference<N> {
     /// Whether the null reference is one of its values.
@@ -38,7 +39,7 @@ pub struct Reference<N> {
     pub heap_type: Heap<N>,
 }
 
-/// A value type, where `N` names a type.
+/// A value type, where `N` names a type: `valtype`.
 #[derive(Clone, Copy, PartialEq, Eq, PartialOrd, Ord, Hash, Debug)]
 pub enum Val<N> {
     I32,
@@ -49,7 +50,7 @@ pub enum Val<N> {
     Ref(Reference<N>),
 }
 
-/// What a field holds, where `N` names a type.
+/// What a field holds, where `N` names a type: `storagetype`.
 #[derive(Clone, Copy, PartialEq, Eq, PartialOrd, Ord, Hash, Debug)]
 pub enum Storage<N> {
     Val(Val<N>),
@@ -57,7 +58,7 @@ pub enum Storage<N> {
     I16,
 }
 
-/// A field of a struct or of an array, where `N` names a type.
+/// A field of a struct or of an array, where `N` names a type: `fieldtype`.
 #[derive(Clone, Copy, PartialEq, Eq, PartialOrd, Ord, Hash, Debug)]
 pub struct Field<N> {
     /// What it holds.

@@ -16,7 +16,7 @@ use crate::{AbstractHeapType, HeapType, RefType, StorageType, ValType};
 
 impl StorageType {
     /// The type of the values that such a field is read and written with: `i32` for `i8` and `i16`.
-    /// WebAssembly core specification, "Validation", "Conventions": unpacking.
+    /// WebAssembly core specification, "Types": `unpack`.
     pub fn unpack(&self) -> ValType
         ensures { result ≡ unpacked self.now }
     {
@@ -29,7 +29,7 @@ impl StorageType {
 }
 
 impl RefType {
-    /// The type of all references to what the module itself can look into.
+    /// The type of all internal references: structs, arrays, small integers, and what `any.convert_extern` gives.
     pub const ANYREF: RefType = RefType {
         nullable: true,
         heap_type: HeapType::Abstract(AbstractHeapType::Any),

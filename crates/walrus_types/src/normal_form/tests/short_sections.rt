@@ -1,4 +1,4 @@
-//! Every section of up to three entries out of five, in groups of every kind.
+//! Every section of one to three entries out of five, grouped in every way without empty `Rec`s.
 use crate::sample::{Shape, entry, to};
 use crate::{
     CompAt, EntryAt, GroupAt, HeapAt, Listed, ReadError, StorageAt, ValAt, is_normal_form,
