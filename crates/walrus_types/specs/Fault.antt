@@ -6,7 +6,7 @@ use Rattle.walrus_types.specs.declared.error.ReadError.TheVariants.{BadIndex, To
 use Rattle.walrus_types.specs.Definition.{Definition, names_of}
 use Rattle.walrus_types.specs.Section.{Group, Single, Rec, Section, numbered, IsWellNamed}
 
--- every section has fewer entries than this, as its indices have 32 bits
+-- every section has fewer entries than this, as they are counted in 32 bits
 abbrev pub entry_limit : ℕ
 entry_limit = 2 ^ 32
 

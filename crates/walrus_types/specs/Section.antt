@@ -69,7 +69,7 @@ IsInRec s i = (x : ℕ × ℕ) × (s.spot i ≡ Some x)
 abbrev pub NamesBelowEnds : Numbered → Type 0
 NamesBelowEnds s = (i : ℕ) → i < s.count → (k : ℕ) → Names (s.definition i) k → k < s.end i
 
--- the section can be read: its indices fit 32 bits, and no name points past its own group. That it is valid is not asked:
+-- the section can be read: 32 bits count its entries, and no name points past its own group. That it is valid is not asked:
 -- a supertype may be final, come later in its group, or not match
 pub record IsWellNamed (s : Section) : Type 0 where
   pub few : (numbered s).count < 2 ^ 32

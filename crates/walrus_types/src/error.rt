@@ -141,7 +141,7 @@ pub enum ReadError {
         /// One past the last index of its group.
         end: u32,
     },
-    /// The section has 2^32 entries or more, so that not every entry has an index.
+    /// The section has 2^32 entries or more, so that no `u32` counts them.
     #[error("too many entries")]
     TooMany,
     /// Memory was refused.
