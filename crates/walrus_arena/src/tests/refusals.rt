@@ -1,4 +1,4 @@
-//! Refused growth: a refused call leaves the set as it was, and goes through when it is made again.
+//! Refused growth: a refused call leaves the set as it was, and goes through when it is made again. `rt try --test --fail-alloc 1..` refuses each allocation in turn.
 ghost use Rattle.std.specs.Prelude.{◌≡◌};
 
 use super::*;
@@ -76,7 +76,6 @@ fn insert_new(rt: &impl Abort, set: &mut ArenaSet<Tagged>, key: u32) -> Result<u
     Ok(set.insert(make_tagged(key, 0))?.index())
 }
 
-// With each allocation refused in turn, by the runner.
 #[test]
 fn a_refused_insert_changes_nothing(rt: HostRuntime) -> Result<(), Fail> {
     let mut set = ArenaSet::new(rt.alloc());

@@ -1,4 +1,4 @@
-//! How many operators there are of each kind.
+//! How many operators on one value there are.
 use super::*;
 
 // Tests and bit counts of integers.

@@ -148,7 +148,7 @@ fn names_follow_their_types(rt: HostRuntime) -> Result<(), Fail> {
     stays(&rt, rt.alloc(), &sorted, &[0, 1, 2])
 }
 
-// What came out while singles were also sent to members of recs is its own normal form.
+// What comes out where `Single`s are also sent to members of `Rec`s is its own normal form.
 #[test]
 fn outputs_of_the_former_rule_stay(rt: HostRuntime) -> Result<(), Fail> {
     let func = One(Func(&[]));
