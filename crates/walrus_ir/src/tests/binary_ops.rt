@@ -1,4 +1,4 @@
-//! How many operators there are of each kind.
+//! How many operators on two values there are.
 use super::*;
 
 // Comparisons of integers.
