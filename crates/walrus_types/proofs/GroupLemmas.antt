@@ -62,11 +62,5 @@ table_grouped t new go members is adds =
     let count : length (placed (next_id t) members) ≡ length members = length-placed (next_id t) members in
     table_grown t new go (go ++ replicate (length members) (length t.groups)) (placed (next_id t) members) (record { types = range (next_id t) (length members); is_explicit = true }) is (group_grows t new members adds) (subst (λ (n : ℕ). Extends go (go ++ replicate (length members) (length t.groups)) n (length t.groups)) (sym count) (extends_all go (length members) (length t.groups)))
 
--- the next of the members takes its place
-pub placed_step : (first many : ℕ) (m : Member) (rest left : List Member) → left ≡ m ∷ rest → placed (first + many) left ≡ nameless m.0 m.1 m.2 false (first + many) ∷ placed (first + (many + 1)) rest
-placed_step first many m rest left e =
-    let f : first + many + 1 ≡ first + (many + 1) = omega arith in
-    ap (placed (first + many)) e ∙ ap (λ (n : ℕ). nameless m.0 m.1 m.2 false (first + many) ∷ placed n rest) f
-
 pub count_parts : {X : Type 0} (a b c d : ℕ) → ◌≡◌ {A = Result X AddRecGroupError} (Err (Count a b)) (Err (Count c d)) → (a ≡ c) × (b ≡ d)
 count_parts a b c d h = (cc, cc)

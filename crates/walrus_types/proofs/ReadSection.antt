@@ -29,9 +29,6 @@ read_type n r i = stored (read_definition n (image r) i) i
 abbrev pub is_single : Numbered → ℕ → Bool
 is_single n i = is_none (n.spot i)
 
-abbrev pub NamesBelow : Numbered → ℕ → Type 0
-NamesBelow n c = (i : ℕ) → i < c → (k : ℕ) → Names (n.definition i) k → k < c
-
 pub spot_none : {A : Type 0} (o : Option A) → is_none o ≡ true → o ≡ None
 spot_none None h = refl
 spot_none (Some x) h = cc

@@ -444,9 +444,6 @@ kept_more p xs i ys below is test = sym (more_kept p xs i below ∙ (ap (λ (b :
 pub left_out : (p : ℕ → Bool) (xs : List ℕ) (i : ℕ) (ys : List ℕ) → i < length xs → ys ≡ filter p (take i xs) → p (slice_index xs i) ≡ false → ys ≡ filter p (take (i + 1) xs)
 left_out p xs i ys below is test = is ∙ sym (more_kept p xs i below ∙ (ap (λ (b : Bool). filter p (take i xs) ++ cond b (slice_index xs i ∷ []) []) test ∙ append-nil (filter p (take i xs))))
 
-pub mark_here : (marks : List Bool) (mark : Bool) (n : ℕ) → n < length marks → mark ≡ get_or marks n mark → is_marked marks n ≡ mark
-mark_here marks mark n below is = get_or_default marks n false mark below ∙ sym is
-
 -- the marks of the groups that are written
 pub marks_are : (slots : Slots ModuleType) (groups : List RecGroup) (n : ℕ) → is_marked (map (is_written_group slots) groups) n ≡ is_written_at slots groups n
 marks_are s [] n = refl

@@ -149,22 +149,4 @@ impl ModuleTypes {
         let ty = &self.types[id];
         (ty.params(), ty.results())
     }
-
-    // The type of the id, if it is live.
-    pub(crate) fn get_if_live(&self, id: TypeId) -> Option<&Type>
-        ensures { option_copied result ≡ get self.now.types.slots id }
-    {
-        if self.types.contains(id) {
-            Some(&self.types[id])
-        } else {
-            None
-        }
-    }
-
-    // The number of slots, live and dead.
-    pub(crate) fn types_len(&self) -> usize
-        ensures { result ≡ length self.now.types.slots }
-    {
-        self.types.next_id().index()
-    }
 }

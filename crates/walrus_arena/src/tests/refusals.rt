@@ -1,4 +1,4 @@
-//! Refused growth: a refused call leaves the set as it was, and goes through when it is made again. `rt try --test --fail-alloc 1..` refuses each allocation in turn.
+//! Refused growth: a refused call leaves the set as it was, and goes through when it is made again. `rt try --test --fail-alloc N` refuses the N-th allocation.
 ghost use Rattle.std.specs.Prelude.{◌≡◌};
 
 use super::*;

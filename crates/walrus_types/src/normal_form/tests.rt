@@ -150,7 +150,7 @@ fn names_follow_their_types(rt: HostRuntime) -> Result<(), Fail> {
 
 // What comes out where `Single`s are also sent to members of `Rec`s is its own normal form.
 #[test]
-fn outputs_of_the_former_rule_stay(rt: HostRuntime) -> Result<(), Fail> {
+fn outputs_of_another_rule_stay(rt: HostRuntime) -> Result<(), Fail> {
     let func = One(Func(&[]));
     let rec = Many(&[Func(&[])]);
     stays(&rt, rt.alloc(), &[rec], &[0])?;

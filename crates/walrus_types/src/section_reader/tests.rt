@@ -58,7 +58,7 @@ fn push_again(
     }
 }
 
-// `rt try --test --fail-alloc 1..` refuses each allocation in turn.
+// `rt try --test --fail-alloc N` refuses the N-th allocation.
 #[test]
 fn a_group_is_read_as_if_it_had_not_been_refused(rt: HostRuntime) -> Result<(), Fail> {
     let alone = group_again(rt.alloc(), One(Func(&[])))?;

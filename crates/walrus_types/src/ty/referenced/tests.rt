@@ -105,7 +105,7 @@ fn put_again(rt: &impl Abort, ty: &Type, list: &mut Vec<TypeId>) -> Result<(), A
     ty.referenced_types(list)
 }
 
-// `rt try --test --fail-alloc 1..` refuses each allocation in turn.
+// `rt try --test --fail-alloc N` refuses the N-th allocation.
 #[test]
 fn refused_ids_come_when_they_are_asked_for_again(rt: HostRuntime) -> Result<(), Fail> {
     let made = namer(rt.alloc())?;
