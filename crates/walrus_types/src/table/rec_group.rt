@@ -1,6 +1,6 @@
 //! Adding explicit recursion groups to a table.
 ghost use Rattle.std.specs.Prelude.{◌≡◌, ◌≢◌, ◌+◌, ◌<◌, ◌≤◌, ◌^◌, ℕ, ◌++◌, length, replicate, vec_len, vec_capacity, IfOk, OnOk, OnErr, Ok, Err};
-ghost use Rattle.std.specs.Fn.{FnOnceReturnsAt};
+ghost use Rattle.std.specs.Fn.{FnOnceReturnsAt, FnOnceTakesAt};
 ghost use Rattle.walrus_arena.specs.Arena.{range};
 ghost use Rattle.walrus_types.specs.Table.{placed, AddsGroup, next_id, Builds};
 ghost use Rattle.walrus_types.specs.declared.table.rec_group.AddRecGroupError.TheVariants.{Count};
@@ -35,13 +35,13 @@ impl From<AllocError> for AddRecGroupError {
 impl ModuleTypes {
     /// Adds an explicit recursion group of `count` types at the end, and answers their ids.
     ///
-    /// The types are made by `build`, which gets the ids that they will have, in order, so that they can name each other. Each gets its composite, finality and supertype from it, and no name. They are not shared: no later addition of an equal type answers one of them.
+    /// The types are made by `build`, which runs at most once, on a slice of exactly `count` ids: those that the types will have, in order. So the types can name each other, and `build` may index the slice at each place below `count`. Nothing more is asked of it than that it can be called with these ids. Each type gets its composite, finality and supertype from it, and no name. They are not shared: no later addition of an equal type answers one of them.
     /// `Count` comes where `build` made another number of types than `count`. `Memory` comes where there was no room, or `build` said so. After an error the table is as it was, and no id is used up.
     pub fn add_rec_group<
         F: FnOnce(&[TypeId]) -> Result<Vec<(CompositeType, bool, Option<TypeId>)>, AllocError>
             + Drop,
     >(&mut self, count: usize, build: F) -> Result<Vec<TypeId>, AddRecGroupError>
-        requires { F.IsAlwaysCallable build }
+        requires { FnOnceTakesAt F.FnOnce build (range (next_id self.old) count) }
         ensures ids { IfOk result (λ ids. ids.items ≡ range (next_id self.old) count) }
         ensures ok { OnOk result (Builds (FnOnceReturnsAt F.FnOnce build) (range (next_id self.old) count) (λ members. (length members ≡ count) × AddsGroup self.old self.new members)) }
         ensures err { OnErr result (self.new ≡ self.old) }

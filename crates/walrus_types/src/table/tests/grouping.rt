@@ -65,6 +65,26 @@ fn a_type_knows_its_group(rt: HostRuntime) -> Result<(), Fail> {
 }
 
 #[test]
+fn a_group_is_built_from_the_ids_it_will_have(rt: HostRuntime) -> Result<(), Fail> {
+    let alloc = rt.alloc();
+    let mut types = ModuleTypes::new(alloc);
+    types.add(&[], &[])?;
+    let ids = types.add_rec_group(2, |ids| {
+        let (a, b) = (ids[0], ids[1]);
+        let first = structure(alloc, &[reference(b)])?;
+        let second = structure(alloc, &[reference(a)])?;
+        Ok(vec![in alloc; member(first), member(second)]?)
+    })?;
+    assert!(rt; are(ids.as_slice(), &[1, 2]));
+    let (a, b) = (TypeId::from_index(1), TypeId::from_index(2));
+    assert!(rt; types.contains(a));
+    assert!(rt; types.contains(b));
+    assert!(rt; *types.get(a).kind() == structure(alloc, &[reference(b)])?);
+    assert!(rt; *types.get(b).kind() == structure(alloc, &[reference(a)])?);
+    Ok(())
+}
+
+#[test]
 fn a_group_may_be_empty(rt: HostRuntime) -> Result<(), Fail> {
     let alloc = rt.alloc();
     let mut types = ModuleTypes::new(alloc);
