@@ -1,6 +1,7 @@
 -- Lines and words of a text, as bytes.
-use Rattle.std.specs.Prelude.{ℕ, Bool, true, false, List, [], ◌∷◌, ◌++◌, ◌==◌, map, filter}
-use Rattle.std.specs.List.{flat_map, slice_split}
+use Rattle.std.specs.Prelude.{ℕ, Bool, true, false, List, [], ◌∷◌, ◌++◌, ◌==◌, map, filter, nat_eq}
+use Rattle.std.specs.List.{flat_map, slice_split, position_or_len}
+use Rattle.std.specs.Cmp.Lexicographic.{pointwise}
 
 abbrev pub has_items : {X : Type 0} → List X → Bool
 has_items [] = false
@@ -17,6 +18,10 @@ worded_line line = filter has_items (words_of line ∷ [])
 -- the words of each line of a text that has any; a line ends with a line feed, which the last one may lack
 abbrev pub lines_of : List ℕ → List (List (List ℕ))
 lines_of text = filter has_items (map words_of (slice_split (λ b. b == 10) text))
+
+-- how many words stand before the first that is `end`; all of them where none is
+abbrev pub words_before : List ℕ → List (List ℕ) → ℕ
+words_before end words = position_or_len (λ word. pointwise nat_eq word end) words
 
 -- words, each with a space before it
 abbrev pub spaced : List (List ℕ) → List ℕ

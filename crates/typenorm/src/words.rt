@@ -1,7 +1,7 @@
 //! A line as words: what stands between spaces. No other byte divides words.
 ghost use Rattle.std.specs.Prelude.{◌≡◌, ◌==◌, ◌∷◌, [], ◌<◌, ◌≤◌, length, not, IfSome, IfNone};
 ghost use Rattle.std.specs.List.{position, position_or_len};
-ghost use Rattle.typenorm.specs.Words.{has_items, words_of};
+ghost use Rattle.typenorm.specs.Words.{has_items, words_of, words_before};
 
 /// The first word of a line, and what stands after it; `None` where the line has no word.
 #[tactic(auto, using(crate::proofs::WordLemmas::words_from_word, crate::proofs::WordLemmas::no_words))]
@@ -16,6 +16,35 @@ pub fn next_word(line: &[u8]) -> Option<(&[u8], &[u8])>
         return None;
     }
     Some((word, rest))
+}
+
+/// How many words the line has.
+pub fn word_count(line: &[u8]) -> usize
+    ensures { result ≡ length (words_of line.now) }
+{
+    let mut count = 0;
+    let mut rest = line;
+    while let Some((_, after)) = next_word(rest) {
+        count += 1;
+        rest = after;
+    }
+    count
+}
+
+/// How many words stand before the first that is `end`; all of them where none is.
+pub fn words_before(line: &[u8], end: &[u8]) -> usize
+    ensures { result ≡ words_before end.now (words_of line.now) }
+{
+    let mut count = 0;
+    let mut rest = line;
+    while let Some((word, after)) = next_word(rest) {
+        if word == end {
+            break;
+        }
+        count += 1;
+        rest = after;
+    }
+    count
 }
 
 /// Whether the line has no word.

@@ -8,7 +8,7 @@ ghost use Rattle.typenorm.specs.Words.{words_of};
 ghost use Rattle.typenorm.specs.Text.{AreIndices, IsText, BeginsWith, IsSupertypeWord, IsArrayLine, IsValWord, IsFieldWord, IsCompositeLine, IsSubtypeLine, IsEntryLine, val_word, field_word, composite_words, supertype_words, open_words, entry_words};
 
 use crate::parse::value::{after, field_type, index, value_type};
-use crate::words::{is_blank, next_word};
+use crate::words::{is_blank, next_word, word_count, words_before};
 use std::alloc::{AllocError, Global};
 use walrus_types::{CompAt, EntryAt, FieldAt, Listed, ValAt};
 
@@ -162,13 +162,13 @@ fn values(alloc: Global, line: &[u8]) -> Result<(Vec<ValAt>, &[u8]), AllocError>
     ensures fits { IfOk result (λ read. AreIndices (flat_map val_names read.0.items)) }
     ensures stops { IfOk result (λ read. ¬ BeginsWith IsValWord (words_of read.1.now)) }
 {
-    let mut values = Vec::new(alloc);
+    // Room for each word that can be a value, so that the list need not grow.
+    let mut values = Vec::with_capacity(alloc, words_before(line, b"->"))?;
     let mut rest = line;
     while let Some((value, after)) = next_value(rest) {
         values.push(value)?;
         rest = after;
     }
-    values.shrink_to_fit();
     Ok((values, rest))
 }
 
@@ -190,13 +190,13 @@ fn fields(alloc: Global, line: &[u8]) -> Result<(Vec<FieldAt>, &[u8]), AllocErro
     ensures fits { IfOk result (λ read. AreIndices (flat_map field_names read.0.items)) }
     ensures stops { IfOk result (λ read. ¬ BeginsWith IsFieldWord (words_of read.1.now)) }
 {
-    let mut fields = Vec::new(alloc);
+    // Room for each word, so that the list need not grow.
+    let mut fields = Vec::with_capacity(alloc, word_count(line))?;
     let mut rest = line;
     while let Some((field, after)) = next_field(rest) {
         fields.push(field)?;
         rest = after;
     }
-    fields.shrink_to_fit();
     Ok((fields, rest))
 }
 
