@@ -1,4 +1,5 @@
 //! What no clause says: whole runs on texts, the lines on standard error, and streams that fail.
+mod reports;
 mod rows;
 mod short_texts;
 mod streams;

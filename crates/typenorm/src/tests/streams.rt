@@ -52,6 +52,23 @@ impl Write for Sink {
     }
 }
 
+/// Takes all that it is given, but cannot send it on.
+#[derive(Drop)]
+struct Stuck {
+    bytes: Vec<u8>,
+}
+
+impl Write for Stuck {
+    fn write(&mut self, buf: &[u8]) -> io::Result<usize> {
+        self.bytes.extend_from_slice(buf)?;
+        Ok(buf.len())
+    }
+
+    fn flush(&mut self) -> io::Result<()> {
+        Err(Error::from(ErrorKind::BrokenPipe))
+    }
+}
+
 const TEXTS: [&[u8]; 22] = [
     b"",
     b"struct i32\nfunc ->\n",
@@ -122,10 +139,34 @@ fn failed_write(rt: HostRuntime) -> Result<(), Fail> {
             let status = run(alloc, &mut reader, &mut out, &mut err);
             if out.bytes.len() < whole.out.len() {
                 assert_eq!(rt; status, 4);
+                assert_eq!(rt; err.as_slice(), b"input or output failed\n".as_slice());
             } else {
                 assert_eq!(rt; status, whole.status);
                 assert_eq!(rt; out.bytes.as_slice(), whole.out.as_slice());
+                assert_eq!(rt; err.as_slice(), whole.err.as_slice());
             }
+        }
+    }
+    Ok(())
+}
+
+#[test]
+fn failed_flush(rt: HostRuntime) -> Result<(), Fail> {
+    let alloc = rt.alloc();
+    for text in TEXTS {
+        let whole = answer(alloc, text);
+        let mut reader = text;
+        let mut out = Stuck {
+            bytes: Vec::new(alloc),
+        };
+        let mut err: Vec<u8> = Vec::new(alloc);
+        let status = run(alloc, &mut reader, &mut out, &mut err);
+        if whole.status == 0 {
+            assert_eq!(rt; status, 4);
+            assert_eq!(rt; err.as_slice(), b"input or output failed\n".as_slice());
+        } else {
+            assert_eq!(rt; status, whole.status);
+            assert_eq!(rt; err.as_slice(), whole.err.as_slice());
         }
     }
     Ok(())
