@@ -1,5 +1,5 @@
 -- Lines of definitions, word by word.
-use Rattle.std.proofs.Common.{◌≡◌, ◌≢◌, ℕ, zero, suc, ◌+◌, ◌<◌, ◌^◌, Bool, true, false, List, [], ◌∷◌, ◌++◌, map, length, refl, sym, ◌∙◌, ap, subst, arith}
+use Rattle.std.proofs.Common.{◌≡◌, ◌≢◌, ℕ, ◌+◌, ◌<◌, ◌^◌, Bool, true, false, List, [], ◌∷◌, ◌++◌, map, length, refl, sym, ◌∙◌, ap, subst, arith}
 use Rattle.std.specs.Prelude.{Option, Some, None, codes, decimal, not, if◌then◌else◌}
 use Rattle.std.proofs.lemmas.Bool.{false≢true}
 use Rattle.typenorm.specs.Words.{has_items}
@@ -11,9 +11,9 @@ use Rattle.walrus_types.specs.declared.records.CompAt.{CompAt}
 use Rattle.walrus_types.specs.declared.records.CompAt.TheVariants as comp
 use Rattle.walrus_types.specs.declared.records.EntryAt.{EntryAt}
 use Rattle.walrus_types.specs.Value.{val_names, field_names}
-use Rattle.walrus_types.specs.Definition.{names_of, composite_names, supertype_names}
+use Rattle.walrus_types.specs.Definition.{composite_names, supertype_names}
 use Rattle.walrus_types.specs.Records.{comp_composite}
-use Rattle.typenorm.specs.Text.{AreIndices, IsText, BeginsWith, IsValWord, IsFieldWord, IsSupertypeWord, IsArrayLine, IsCompositeLine, IsSubtypeLine, IsEntryLine, heap_word, val_word, field_word, open_words, supertype_words, composite_words, entry_words}
+use Rattle.typenorm.specs.Text.{AreIndices, IsText, BeginsWith, IsValWord, IsFieldWord, IsSupertypeWord, IsArrayLine, IsCompositeLine, IsSubtypeLine, IsEntryLine, heap_word, val_word, field_word, open_words, supertype_words, composite_words}
 
 -- the first two bytes of the first word
 abbrev byte_of : List (List ℕ) → ℕ

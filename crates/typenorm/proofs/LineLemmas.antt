@@ -1,9 +1,7 @@
 -- Lines of a section.
-use Rattle.std.proofs.Common.{◌≡◌, ℕ, List, [], ◌∷◌, Bool, true, false}
-use Rattle.std.specs.Prelude.{codes, not}
-use Rattle.typenorm.specs.declared.parse.line.Line.{Line}
+use Rattle.std.proofs.Common.{◌≡◌, ℕ, List, [], ◌∷◌}
+use Rattle.std.specs.Prelude.{codes}
 use Rattle.typenorm.specs.declared.parse.line.Line.TheVariants as line
-use Rattle.typenorm.specs.Words.{has_items}
 use Rattle.typenorm.specs.Text.{IsEntryLine}
 use Rattle.typenorm.specs.Lines.{IsLine}
 

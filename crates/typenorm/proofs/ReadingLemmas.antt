@@ -1,5 +1,5 @@
 -- What a byte, a line and the end do to what is known of a text.
-use Rattle.std.proofs.Common.{◌≡◌, ℕ, ◌==◌, Bool, true, false, List, [], ◌∷◌, ◌++◌, map, filter, All, Option, None, Some, Result, Ok, Err, ◌⊎◌, inl, inr, ◌<◌, ◌+◌, length, take, refl, sym, ◌∙◌, ap, subst, append_assoc, append-nil, arith}
+use Rattle.std.proofs.Common.{◌≡◌, ℕ, ◌==◌, Bool, true, false, List, [], ◌∷◌, ◌++◌, map, filter, All, Option, None, Some, Result, Ok, Err, ◌⊎◌, inl, inr, ◌<◌, length, take, refl, sym, ◌∙◌, ap, subst, append_assoc, append-nil, arith}
 use Rattle.std.specs.Prelude.{is_some, IfOk, IfErr, IfSome}
 use Rattle.std.specs.Result.{IsErrAnd}
 use Rattle.std.specs.Io.KnownBytes.{Consumes, IsAtEnd}

@@ -1,12 +1,10 @@
 -- The lines of a section, one by one.
-use Rattle.std.specs.Prelude.{◌≡◌, ℕ, List, [], ◌∷◌, ◌++◌, map, Option, Some, None, codes}
-use Rattle.walrus_types.specs.declared.records.EntryAt.{EntryAt}
-use Rattle.walrus_types.specs.declared.records.GroupAt.{GroupAt}
+use Rattle.std.specs.Prelude.{ℕ, List, [], ◌∷◌, codes}
 use Rattle.walrus_types.specs.Definition.{names_of}
 use Rattle.walrus_types.specs.Records.{entry_definition}
 use Rattle.typenorm.specs.declared.parse.line.Line.{Line}
 use Rattle.typenorm.specs.declared.parse.line.Line.TheVariants as line
-use Rattle.typenorm.specs.Text.{AreIndices, IsText, entry_words, section_lines}
+use Rattle.typenorm.specs.Text.{AreIndices, IsText, entry_words}
 
 -- the words of a line
 abbrev pub line_words : Line → List (List ℕ)

@@ -3,7 +3,6 @@ use Rattle.std.specs.Prelude.{ℕ, List, [], ◌∷◌, ◌++◌, map, Option, S
 use Rattle.std.specs.declared.vec.Vec.{Vec}
 use Rattle.std.specs.declared.alloc.Global.{Global}
 use Rattle.walrus_types.specs.declared.records.EntryAt.{EntryAt}
-use Rattle.walrus_types.specs.declared.records.GroupAt.{GroupAt}
 use Rattle.typenorm.specs.declared.parse.line.Line.{Line}
 use Rattle.typenorm.specs.declared.parse.line.Line.TheVariants as line
 use Rattle.typenorm.specs.declared.section.Gathered.{Gathered}

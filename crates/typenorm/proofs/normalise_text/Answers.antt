@@ -1,4 +1,3 @@
-use Rattle.std.specs.Prelude.{IfSome}
 use Rattle.typenorm.proofs.ReadingLemmas.{if_err_and, tells_refused}
 use Rattle.typenorm.proofs.normalise_text.Goals as goal
 

@@ -1,9 +1,7 @@
-use Rattle.std.proofs.Common.{ℕ, List, [], ◌∷◌, ◌++◌, map, take}
-use Rattle.std.specs.List.{flat_map}
+use Rattle.std.proofs.Common.{◌++◌, map, take}
 use Rattle.std.specs.Prelude.{codes, decimal}
 use Rattle.std.specs.Io.KnownBytes.{Appends}
-use Rattle.typenorm.specs.Words.{spaced, text_of}
-use Rattle.typenorm.specs.Text.{val_word, field_word, entry_words, section_lines}
+use Rattle.typenorm.specs.Words.{spaced}
 use Rattle.typenorm.proofs.print.write_map.Given as goal
 
 abbrev pub invariant-loop-index : goal.invariant-loop-index

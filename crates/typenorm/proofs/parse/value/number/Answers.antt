@@ -1,6 +1,3 @@
-use Rattle.std.proofs.Common.{subst}
-use Rattle.std.specs.Prelude.{IfSome, IfNone, decimal, ◌≡◌}
-use Rattle.typenorm.specs.Text.{IsIndexWord}
 use Rattle.typenorm.proofs.IndexLemmas.{other_form_none, number_found, number_none}
 use Rattle.typenorm.proofs.parse.value.number.Goals as goal
 

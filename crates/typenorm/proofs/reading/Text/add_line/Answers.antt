@@ -1,4 +1,4 @@
-use Rattle.std.proofs.Common.{◌≡◌, ◌++◌, ◌∷◌, [], List, ℕ, filter, true, false, sym, ap, subst, ◌∙◌}
+use Rattle.std.proofs.Common.{◌≡◌, ◌++◌, ◌∷◌, [], filter, false, sym, ap, subst, ◌∙◌}
 use Rattle.std.specs.Prelude.{IfOk, IsTrue}
 use Rattle.typenorm.specs.Words.{has_items, words_of, worded_line}
 use Rattle.typenorm.specs.Text.{IsAstray}

@@ -1,4 +1,4 @@
-use Rattle.std.proofs.Common.{◌≡◌, ◌++◌, ◌∷◌, [], length, sym, subst, ◌∙◌, arith}
+use Rattle.std.proofs.Common.{◌≡◌, ◌++◌, ◌∷◌, [], length, subst, arith}
 use Rattle.typenorm.specs.Reading.{IsJudged}
 use Rattle.typenorm.proofs.ReadingLemmas.{all_read, last_feed, no_items}
 use Rattle.typenorm.proofs.reading.Text.end_last_line.Goals as goal
