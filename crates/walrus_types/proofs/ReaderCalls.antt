@@ -17,7 +17,7 @@ use Rattle.walrus_types.specs.Reader.{HasRead, Reader, IsSameReader}
 use Rattle.walrus_types.specs.Reading.{stored}
 use Rattle.walrus_types.specs.Records.{entry_definition, group_of, section_of}
 use Rattle.walrus_types.specs.Section.{Section, Single, Rec, numbered}
-use Rattle.walrus_types.specs.SubTypes.{sub_type_definition}
+use Rattle.walrus_types.specs.Steps.SubTypes.{sub_type_definition}
 use Rattle.walrus_types.specs.Table.{Table, Member}
 use Rattle.walrus_types.specs.Steps.TableReads.{ReadsSingle, ReadsRec, member_definition}
 use Rattle.walrus_types.specs.Types.{ModuleType, nameless}

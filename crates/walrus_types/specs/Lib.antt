@@ -9,7 +9,6 @@ pub mod Worked
 pub mod Signature
 pub mod Types
 pub mod Records
-pub mod Checker
 pub mod Refusal
 pub mod Fault
 pub mod Reading
@@ -17,7 +16,6 @@ pub mod IdLists
 pub mod Indices
 pub mod Table
 pub mod Naming
-pub mod SubTypes
 pub mod Emitted
 pub mod Reader
 pub mod TableLends

@@ -7,3 +7,5 @@ pub mod PlacesInOrder
 pub mod Neighbours
 pub mod WrittenGroups
 pub mod Weights
+pub mod Checker
+pub mod SubTypes

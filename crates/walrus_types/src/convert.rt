@@ -4,7 +4,7 @@ ghost use Rattle.walrus_types.specs.declared.error.NoIndex.TheVariants.{OfType};
 ghost use Rattle.walrus_types.specs.Definition.{Function, composite_names, composite_renamed, names_of, renamed, supertype_names};
 ghost use Rattle.walrus_types.specs.IdLists.{type_at};
 ghost use Rattle.walrus_types.specs.Indices.{type_index};
-ghost use Rattle.walrus_types.specs.SubTypes.{sub_type_definition};
+ghost use Rattle.walrus_types.specs.Steps.SubTypes.{sub_type_definition};
 ghost use Rattle.walrus_types.specs.Naming.{first_missing, value_in, IfUnknownIndex, IfNoIndex};
 ghost use Rattle.walrus_types.specs.Records.{comp_composite, entry_definition};
 ghost use Rattle.walrus_types.specs.Types.{kind_composite, type_definition};

@@ -4,7 +4,7 @@ ghost use Rattle.std.specs.declared.cmp.Ordering.TheVariants.{Less};
 ghost use Rattle.walrus_types.specs.Definition.{definition_cmp};
 ghost use Rattle.walrus_types.specs.NormalForm.{IsKept, IsAnchor, AreFree, image};
 ghost use Rattle.walrus_types.specs.Section.{numbered_places, IsSingle};
-ghost use Rattle.walrus_types.specs.Checker.{Differ, KeepsAnchors, OrdersFree};
+ghost use Rattle.walrus_types.specs.Steps.Checker.{Differ, KeepsAnchors, OrdersFree};
 
 use super::definitions::{are_same, order_of};
 use super::kept::{are_free, image_of, is_anchor, is_kept};

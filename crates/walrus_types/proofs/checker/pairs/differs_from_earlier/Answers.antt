@@ -1,4 +1,4 @@
-use Rattle.walrus_types.specs.Checker.{Differ}
+use Rattle.walrus_types.specs.Steps.Checker.{Differ}
 use Rattle.walrus_types.specs.Section.{numbered_places}
 use Rattle.walrus_types.proofs.Deciding.{from_false, not_each, each_more}
 use Rattle.walrus_types.proofs.checker.pairs.differs_from_earlier.Goals as goal

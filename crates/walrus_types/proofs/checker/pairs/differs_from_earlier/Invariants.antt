@@ -1,5 +1,5 @@
 use Rattle.std.proofs.Common.{ℕ, ◌<◌}
-use Rattle.walrus_types.specs.Checker.{Differ}
+use Rattle.walrus_types.specs.Steps.Checker.{Differ}
 use Rattle.walrus_types.specs.Section.{numbered_places}
 use Rattle.walrus_types.proofs.checker.pairs.differs_from_earlier.Given as goal
 

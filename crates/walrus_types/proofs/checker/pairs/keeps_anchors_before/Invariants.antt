@@ -1,5 +1,5 @@
 use Rattle.std.proofs.Common.{ℕ, ◌<◌}
-use Rattle.walrus_types.specs.Checker.{KeepsAnchors}
+use Rattle.walrus_types.specs.Steps.Checker.{KeepsAnchors}
 use Rattle.walrus_types.specs.NormalForm.{image}
 use Rattle.walrus_types.specs.Section.{numbered_places}
 use Rattle.walrus_types.proofs.checker.pairs.keeps_anchors_before.Given as goal

@@ -1,5 +1,5 @@
 use Rattle.std.proofs.Common.{ℕ, ◌<◌}
-use Rattle.walrus_types.specs.Checker.{OrdersFree}
+use Rattle.walrus_types.specs.Steps.Checker.{OrdersFree}
 use Rattle.walrus_types.specs.NormalForm.{image}
 use Rattle.walrus_types.specs.Section.{numbered_places}
 use Rattle.walrus_types.proofs.checker.pairs.orders_free.Given as goal

@@ -1,4 +1,4 @@
-use Rattle.walrus_types.specs.Checker.{OrdersFree}
+use Rattle.walrus_types.specs.Steps.Checker.{OrdersFree}
 use Rattle.walrus_types.specs.NormalForm.{image}
 use Rattle.walrus_types.specs.Section.{numbered_places}
 use Rattle.walrus_types.proofs.Deciding.{from_false, not_each, each_more}

@@ -1,5 +1,5 @@
 use Rattle.std.proofs.Common.{length}
-use Rattle.walrus_types.specs.Checker.{Differ}
+use Rattle.walrus_types.specs.Steps.Checker.{Differ}
 use Rattle.walrus_types.specs.Section.{numbered_places}
 use Rattle.walrus_types.proofs.Deciding.{from_false, not_each_pair, each_pair_more}
 use Rattle.walrus_types.proofs.checker.pairs.singles_differ.Goals as goal
