@@ -4,10 +4,10 @@ use Rattle.std.specs.List.{slice_get, slice_index}
 use Rattle.std.specs.Option.{IsSomeAnd}
 use Rattle.std.proofs.lemmas.List.{length_push, get_or_append_left, get_or_at, get_or_default}
 use Rattle.walrus_arena.specs.Arena.{Slots, get}
-use Rattle.walrus_arena.specs.Set.{mapped, found, holds}
 use Rattle.walrus_types.specs.declared.table.RecGroup.{RecGroup}
 use Rattle.walrus_types.specs.Types.{ModuleType}
-use Rattle.walrus_types.specs.Table.{Table, group_at, no_group, own_group, IsMember, type_eq, IsSameType, AddsType, IsAnswer}
+use Rattle.walrus_types.specs.TypesById.{type_eq, IsSameType, passes, known_id, found}
+use Rattle.walrus_types.specs.Table.{Table, rec_group_at, no_rec_group, own_group, IsIdAt, AddsType, IsAnswer}
 use Rattle.walrus_types.specs.Steps.TableIndex.{IsIndexed}
 use Rattle.walrus_types.proofs.SameType.{same_from_eq}
 use Rattle.walrus_types.proofs.TableLemmas.{Grows, Extends, table_grown, member_below, some_inj, none_some}
@@ -33,7 +33,7 @@ added_grows t new ty id adds = record {
   groups = adds.groups;
   members = ap (λ (n : ℕ). n ∷ []) adds.types.named;
   single = λ h. omega arith;
-  map = λ q i h. elim (one_of (type_eq ty q) id i (mapped type_eq t.types q) (sym (adds.types.map q) ∙ h)) [
+  map = λ q i h. elim (one_of (type_eq ty q) id i (known_id t.types q) (sym (adds.types.map q) ∙ h)) [
     | inl e ↦ inr (refl, omega (arith, e.1, adds.types.named), omega (arith, e.1, adds.types.named))
     | inr was ↦ inl was
   ];
@@ -66,31 +66,31 @@ group_is_own g u id h mark few =
     let made : List ℕ → Bool → RecGroup = λ ids b. record { types = ids; is_explicit = b } in
     ap (λ (ids : List ℕ). made ids g.is_explicit) (one_item g.types u id h few) ∙ ap (made (id ∷ [])) mark
 
-holds_same : (ty : ModuleType) (o : Option ModuleType) → holds (type_eq ty) o ≡ true → IsSomeAnd o (IsSameType ty) × IsSome o
+holds_same : (ty : ModuleType) (o : Option ModuleType) → passes (type_eq ty) o ≡ true → IsSomeAnd o (IsSameType ty) × IsSome o
 holds_same ty None h = let c : ⊥ = cc in absurd c
 holds_same ty (Some x) h = (same_from_eq ty x h, refl)
 
 module _ (t : Table) (go : List ℕ) (ty : ModuleType) (is : IsIndexed t go) where
   -- what the map leads to, where it is equal
-  answer_mapped : (id : ℕ) → mapped type_eq t.types ty ≡ Some id → holds (type_eq ty) (get t.types.slots id) ≡ true → IsAnswer t ty id
+  answer_mapped : (id : ℕ) → known_id t.types ty ≡ Some id → passes (type_eq ty) (get t.types.slots id) ≡ true → IsAnswer t ty id
   answer_mapped id leads equal =
       let same : _ = holds_same ty (get t.types.slots id) equal in
       let home : ℕ = slice_index go id in
-      let p : (u : ℕ) × IsMember t.groups (slice_index go id) u id = is.grouped id same.1 in
-      let mark : (group_at t.groups (slice_index go id)).is_explicit ≡ false = is.candidates ty id leads same.1 in
-      let own : group_at t.groups (slice_index go id) ≡ own_group id = group_is_own (group_at t.groups (slice_index go id)) p.0 id p.1 mark (is.single (slice_index go id) mark) in
+      let p : (u : ℕ) × IsIdAt t.groups (slice_index go id) u id = is.grouped id same.1 in
+      let mark : (rec_group_at t.groups (slice_index go id)).is_explicit ≡ false = is.candidates ty id leads same.1 in
+      let own : rec_group_at t.groups (slice_index go id) ≡ own_group id = group_is_own (rec_group_at t.groups (slice_index go id)) p.0 id p.1 mark (is.single (slice_index go id) mark) in
       let below : slice_index go id < length t.groups = member_below t.groups (slice_index go id) p.0 id p.1 in
-      record { same = same.0; alone = (slice_index go id, below, sym (get_or_default t.groups (slice_index go id) no_group (own_group id) below) ∙ own) }
+      record { same = same.0; alone = (slice_index go id, below, sym (get_or_default t.groups (slice_index go id) no_rec_group (own_group id) below) ∙ own) }
 
-  pub answer_found : (o : Option ℕ) → o ≡ found type_eq t.types ty → IfSome o (λ id. IsAnswer t ty id)
+  pub answer_found : (o : Option ℕ) → o ≡ found t.types ty → IfSome o (λ id. IsAnswer t ty id)
   answer_found None e = tt
-  answer_found (Some id) e = by_map (mapped type_eq t.types ty) refl (sym e)
+  answer_found (Some id) e = by_map (known_id t.types ty) refl (sym e)
     where
-      by_map : (m : Option ℕ) → m ≡ mapped type_eq t.types ty → option_and_then (λ i. cond (holds (type_eq ty) (get t.types.slots i)) (Some i) None) m ≡ Some id → IsAnswer t ty id
+      by_map : (m : Option ℕ) → m ≡ known_id t.types ty → option_and_then (λ i. cond (passes (type_eq ty) (get t.types.slots i)) (Some i) None) m ≡ Some id → IsAnswer t ty id
       by_map None e f = absurd (none_some f)
       by_map (Some i) e f =
-          let two : _ = found_parts (holds (type_eq ty) (get t.types.slots i)) i id f in
-          answer_mapped id (sym e ∙ ap Some two.1) (subst (λ (n : ℕ). holds (type_eq ty) (get t.types.slots n) ≡ true) two.1 two.0)
+          let two : _ = found_parts (passes (type_eq ty) (get t.types.slots i)) i id f in
+          answer_mapped id (sym e ∙ ap Some two.1) (subst (λ (n : ℕ). passes (type_eq ty) (get t.types.slots n) ≡ true) two.1 two.0)
 
 pub on_err_holds : {X E P : Type 0} (r : Result X E) → P → OnErr r P
 on_err_holds (Ok x) p = tt

@@ -1,13 +1,13 @@
 -- Each call keeps a table sound.
 use Rattle.std.proofs.Common.{◌≡◌, ℕ, zero, suc, ◌+◌, ◌<◌, List, [], ◌∷◌, ◌++◌, length, refl, sym, ap, subst, ◌∙◌, arith, Some, None, Option, IsSome, set, inl, inr, get_or-set_same, get_or-set_other, append-nil}
-use Rattle.std.specs.List.{slice_index}
+use Rattle.std.specs.List.{slice_index, range_with_len}
 use Rattle.std.proofs.lemmas.Bool.{cases_lt}
 use Rattle.std.proofs.lemmas.List.{length-set, length_push}
-use Rattle.walrus_arena.specs.Arena.{Slots, get, IsLive, range}
-use Rattle.walrus_arena.specs.Set.{RemovesAll}
+use Rattle.walrus_arena.specs.Arena.{Slots, get, IsLive}
 use Rattle.walrus_types.specs.declared.table.RecGroup.{RecGroup}
 use Rattle.walrus_types.specs.Types.{ModuleType}
-use Rattle.walrus_types.specs.Table.{Table, group_at, type_eq, next_id, DeletesGroup, placed}
+use Rattle.walrus_types.specs.TypesById.{LosesAll}
+use Rattle.walrus_types.specs.Table.{Table, rec_group_at, next_id, DeletesGroup, placed}
 use Rattle.walrus_types.specs.TableLends.{with_type}
 use Rattle.walrus_types.specs.Steps.TableIndex.{IsIndexed}
 use Rattle.walrus_types.specs.TableCalls.{Call, Keeps, Adds, Groups, Writes, Dies, Ends, new_ids, Calls, Start, Then, empty_table, EveryTableIsSound}
@@ -65,7 +65,7 @@ indexed_written t go id ty is live = record {
   known = λ q i h. (let below : i < length t.types.slots = is.known q i h in omega (arith, below, length-set t.types.slots id (Some ty)));
 }
 
-home_of_live : (t : Table) (go : List ℕ) (id : ℕ) → IsIndexed t go → IsLive t.types.slots id → IsHome t id (slice_index go id) (group_at t.groups (slice_index go id))
+home_of_live : (t : Table) (go : List ℕ) (id : ℕ) → IsIndexed t go → IsLive t.types.slots id → IsHome t id (slice_index go id) (rec_group_at t.groups (slice_index go id))
 home_of_live t go id is live =
     let p : _ = is.grouped id live in
     record {
@@ -79,11 +79,11 @@ home_of_live t go id is live =
 group_end : (t new : Table) (go : List ℕ) (id : ℕ) → IsIndexed t go → IsLive t.types.slots id → DeletesGroup t new id → IsIndexed new go
 group_end t new go id is live ends =
     let at : ℕ = slice_index go id in
-    let g : RecGroup = group_at t.groups (slice_index go id) in
-    let home : IsHome t id (slice_index go id) (group_at t.groups (slice_index go id)) = home_of_live t go id is live in
-    let removes : RemovesAll type_eq t.types (group_at t.groups (slice_index go id)).types new.types = subst (λ (o : Option RecGroup). IsSomeAnd o (λ r. RemovesAll type_eq t.types r.types new.types)) (sym (group_answer t id (slice_index go id) (group_at t.groups (slice_index go id)) home)) ends.types in
-    let done : _ = table_ended t go id (slice_index go id) (group_at t.groups (slice_index go id)) new.types is home removes in
-    subst (λ (gs : List RecGroup). IsIndexed (record { types = new.types; groups = gs }) go) (groups_are t go id (slice_index go id) (group_at t.groups (slice_index go id)) new.types is home removes ∙ sym ends.groups) done
+    let g : RecGroup = rec_group_at t.groups (slice_index go id) in
+    let home : IsHome t id (slice_index go id) (rec_group_at t.groups (slice_index go id)) = home_of_live t go id is live in
+    let removes : LosesAll t.types (rec_group_at t.groups (slice_index go id)).types new.types = subst (λ (o : Option RecGroup). IsSomeAnd o (λ r. LosesAll t.types r.types new.types)) (sym (group_answer t id (slice_index go id) (rec_group_at t.groups (slice_index go id)) home)) ends.types in
+    let done : _ = table_ended t go id (slice_index go id) (rec_group_at t.groups (slice_index go id)) new.types is home removes in
+    subst (λ (gs : List RecGroup). IsIndexed (record { types = new.types; groups = gs }) go) (groups_are t go id (slice_index go id) (rec_group_at t.groups (slice_index go id)) new.types is home removes ∙ sym ends.groups) done
 
 after_call : (old new : Table) → Call old new → IsSomewhere old → IsSomewhere new
 unfolding IsSomewhere
@@ -94,32 +94,32 @@ after_call old new (Writes id ty live writes) at = (at.0, subst (λ (t : Table).
 after_call old new (Dies id live deletes) at = (at.0, table_deleted old new at.0 id at.1 live deletes)
 after_call old new (Ends id live deletes) at = (at.0, group_end old new at.0 id at.1 live deletes)
 
-range_join : (first a b : ℕ) → range first a ++ range (first + a) b ≡ range first (a + b)
-range_join first zero b = (let e : first + 0 ≡ first = omega arith in let f : b ≡ 0 + b = omega arith in ap (λ (n : ℕ). range n b) e ∙ ap (range first) f)
+range_join : (first a b : ℕ) → range_with_len first a ++ range_with_len (first + a) b ≡ range_with_len first (a + b)
+range_join first zero b = (let e : first + 0 ≡ first = omega arith in let f : b ≡ 0 + b = omega arith in ap (λ (n : ℕ). range_with_len n b) e ∙ ap (range_with_len first) f)
 range_join first (suc a) b =
     let e : first + suc a ≡ first + 1 + a = omega arith in
     let f : suc (a + b) ≡ suc a + b = omega arith in
-    ap (λ (n : ℕ). first ∷ (range (first + 1) a ++ range n b)) e ∙ ap (λ (ns : List ℕ). first ∷ ns) (range_join (first + 1) a b) ∙ ap (range first) f
+    ap (λ (n : ℕ). first ∷ (range_with_len (first + 1) a ++ range_with_len n b)) e ∙ ap (λ (ns : List ℕ). first ∷ ns) (range_join (first + 1) a b) ∙ ap (range_with_len first) f
 
 -- the ids that a call gives come after those that were given before
-ids_after : (old new : Table) (call : Call old new) (ids : List ℕ) (go : List ℕ) → IsIndexed old go → ids ≡ range 0 (next_id old) → ids ++ new_ids call ≡ range 0 (next_id new)
-ids_after old new (Keeps same) ids go is e = append-nil ids ∙ e ∙ ap (range 0) (sym (ap length same.types.slots))
+ids_after : (old new : Table) (call : Call old new) (ids : List ℕ) (go : List ℕ) → IsIndexed old go → ids ≡ range_with_len 0 (next_id old) → ids ++ new_ids call ≡ range_with_len 0 (next_id new)
+ids_after old new (Keeps same) ids go is e = append-nil ids ∙ e ∙ ap (range_with_len 0) (sym (ap length same.types.slots))
 ids_after old new (Adds ty id adds) ids go is e =
-    let one : id ∷ [] ≡ range (0 + next_id old) 1 = (let n : id ≡ 0 + next_id old = omega (arith, adds.types.named) in ap (λ (k : ℕ). k ∷ []) n) in
+    let one : id ∷ [] ≡ range_with_len (0 + next_id old) 1 = (let n : id ≡ 0 + next_id old = omega (arith, adds.types.named) in ap (λ (k : ℕ). k ∷ []) n) in
     let many : next_id old + 1 ≡ next_id new = omega (arith, length_push old.types.slots (Some ty), ap length adds.types.slots) in
-    ap (λ (xs : List ℕ). xs ++ id ∷ []) e ∙ ap (λ (xs : List ℕ). range 0 (next_id old) ++ xs) one ∙ range_join 0 (next_id old) 1 ∙ ap (range 0) many
+    ap (λ (xs : List ℕ). xs ++ id ∷ []) e ∙ ap (λ (xs : List ℕ). range_with_len 0 (next_id old) ++ xs) one ∙ range_join 0 (next_id old) 1 ∙ ap (range_with_len 0) many
 ids_after old new (Groups members adds) ids go is e =
     let zeroed : next_id old ≡ 0 + next_id old = omega arith in
     let slots : length new.types.slots ≡ length old.types.slots + length (placed (next_id old) members) = ap (λ s. length s.slots) adds.types ∙ many_grown old.types.slots (placed (next_id old) members) in
     let many : next_id old + length members ≡ next_id new = omega (arith, slots, length-placed (next_id old) members) in
-    ap (λ (xs : List ℕ). xs ++ range (next_id old) (length members)) e ∙ ap (λ (n : ℕ). range 0 (next_id old) ++ range n (length members)) zeroed ∙ range_join 0 (next_id old) (length members) ∙ ap (range 0) many
-ids_after old new (Writes id ty live writes) ids go is e = append-nil ids ∙ e ∙ ap (range 0) (sym (ap (λ t. length t.types.slots) writes ∙ length-set old.types.slots id (Some ty)))
-ids_after old new (Dies id live deletes) ids go is e = append-nil ids ∙ e ∙ ap (range 0) (sym (ap length deletes.types.slots ∙ length-set old.types.slots id None))
+    ap (λ (xs : List ℕ). xs ++ range_with_len (next_id old) (length members)) e ∙ ap (λ (n : ℕ). range_with_len 0 (next_id old) ++ range_with_len n (length members)) zeroed ∙ range_join 0 (next_id old) (length members) ∙ ap (range_with_len 0) many
+ids_after old new (Writes id ty live writes) ids go is e = append-nil ids ∙ e ∙ ap (range_with_len 0) (sym (ap (λ t. length t.types.slots) writes ∙ length-set old.types.slots id (Some ty)))
+ids_after old new (Dies id live deletes) ids go is e = append-nil ids ∙ e ∙ ap (range_with_len 0) (sym (ap length deletes.types.slots ∙ length-set old.types.slots id None))
 ids_after old new (Ends id live deletes) ids go is e =
     let after : IsIndexed new go = group_end old new go id is live deletes in
-    append-nil ids ∙ e ∙ ap (range 0) (sym is.indexed ∙ after.indexed)
+    append-nil ids ∙ e ∙ ap (range_with_len 0) (sym is.indexed ∙ after.indexed)
 
-somewhere : (t : Table) (ids : List ℕ) → Calls t ids → IsSomewhere t × (ids ≡ range 0 (next_id t))
+somewhere : (t : Table) (ids : List ℕ) → Calls t ids → IsSomewhere t × (ids ≡ range_with_len 0 (next_id t))
 unfolding IsSomewhere
 somewhere t ids Start = (([], empty_indexed), refl)
 somewhere t ids (Then old _ before made call) =

@@ -47,7 +47,7 @@ module _ (t : Table) (known : IsTable t) (order : List ℕ) (ord : IsWritingOrde
       subst (λ (n : ℕ). 0 < length (group_at gs n).ids) (sym (at_zero k d lt)) (omega (arith, m.place))
 
   pub singles : All (λ (g : RecGroup). g.is_explicit ≡ false → length g.types ≤ 1) t.groups
-  singles k d lt = subst (λ (g : RecGroup). g.is_explicit ≡ false → length g.types ≤ 1) (get_or_default t.groups k table.no_group d lt) (known.single k)
+  singles k d lt = subst (λ (g : RecGroup). g.is_explicit ≡ false → length g.types ≤ 1) (get_or_default t.groups k table.no_rec_group d lt) (known.single k)
 
   pub apart : IsApart (ids_in (in_order gs order))
   apart p q i at_p at_q =
@@ -93,7 +93,7 @@ module _ (t : Table) (known : IsTable t) (order : List ℕ) (ord : IsWritingOrde
 -- each type of a group is live
 pub live_groups : (t : Table) → IsTable t → All (λ (g : RecGroup). All (IsLive t.types.slots) g.types) t.groups
 live_groups t known k d lt u e in_u =
-    let same : table.group_at t.groups k ≡ get_or t.groups k d = get_or_default t.groups k table.no_group d lt in
+    let same : table.rec_group_at t.groups k ≡ get_or t.groups k d = get_or_default t.groups k table.no_rec_group d lt in
     let P : RecGroup → Type 0 = λ g. slice_get g.types u ≡ Some (get_or (get_or t.groups k d).types u e) in
     known.live k u (get_or (get_or t.groups k d).types u e) (subst P (sym same) (slice_get-get_or (get_or t.groups k d).types u e in_u))
 
@@ -105,11 +105,11 @@ module _ (t : Table) (known : IsTable t) (order : List ℕ) (ord : IsWritingOrde
   inside : get_or order k 0 < length t.groups
   inside = within t known order ord k 0 below
 
-  here : get_or (in_order (type_groups t.groups) order) k d ≡ contents (get_or t.groups (get_or order k 0) table.no_group)
-  here = get_or-map (group_at (type_groups t.groups)) order k 0 d below ∙ get_or-map contents t.groups (get_or order k 0) table.no_group no_group inside
+  here : get_or (in_order (type_groups t.groups) order) k d ≡ contents (get_or t.groups (get_or order k 0) table.no_rec_group)
+  here = get_or-map (group_at (type_groups t.groups)) order k 0 d below ∙ get_or-map contents t.groups (get_or order k 0) table.no_rec_group no_group inside
 
   pub live_in_order : All (IsLive t.types.slots) (get_or (in_order (type_groups t.groups) order) k d).ids
-  live_in_order = subst (λ (g : TypeGroup). All (IsLive t.types.slots) g.ids) (sym here) (live_groups t known (get_or order k 0) table.no_group inside)
+  live_in_order = subst (λ (g : TypeGroup). All (IsLive t.types.slots) g.ids) (sym here) (live_groups t known (get_or order k 0) table.no_rec_group inside)
 
   pub filled_in_order : 0 < length (get_or (in_order (type_groups t.groups) order) k d).ids
   filled_in_order = subst (λ (g : TypeGroup). 0 < length g.ids) (sym (get_or-map (group_at (type_groups t.groups)) order k 0 d below)) (filled t known order ord k 0 below)

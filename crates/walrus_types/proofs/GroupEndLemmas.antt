@@ -5,10 +5,10 @@ use Rattle.std.specs.List.{slice_get, list_any, IsDistinct, AllByRecursion}
 use Rattle.std.proofs.lemmas.List.{length-set}
 use Rattle.std.proofs.lemmas.Option.{slice_get-get_or}
 use Rattle.walrus_arena.specs.Arena.{Slots, get, IsLive}
-use Rattle.walrus_arena.specs.Set.{Set, mapped, is_own_entry, RemovesAll}
 use Rattle.walrus_types.specs.declared.table.RecGroup.{RecGroup}
 use Rattle.walrus_types.specs.Types.{ModuleType}
-use Rattle.walrus_types.specs.Table.{Table, group_at, IsMember, type_eq, DeletesGroup, group_ended}
+use Rattle.walrus_types.specs.TypesById.{TypesById, known_id, is_known_as, LosesAll}
+use Rattle.walrus_types.specs.Table.{Table, rec_group_at, IsIdAt, DeletesGroup, group_ended}
 use Rattle.walrus_types.specs.Steps.TableIndex.{IsIndexed}
 use Rattle.walrus_types.proofs.TableLemmas.{IsHome, live_below, none_some, has_any, any_has, group_answer}
 use Rattle.walrus_types.proofs.ShrinkLemmas.{table_shrunk, without_at, kept_old}
@@ -20,11 +20,11 @@ removed_slot true true o = refl
 removed_slot true false o = refl
 removed_slot false c o = refl
 
-all_count : (old new : Set ModuleType) (ids : List ℕ) → RemovesAll type_eq old ids new → length new.slots ≡ length old.slots
+all_count : (old new : TypesById) (ids : List ℕ) → LosesAll old ids new → length new.slots ≡ length old.slots
 all_count old new [] all = ap length all.slots
 all_count old new (id ∷ ids) all = all_count all.0 new ids all.2 ∙ (ap length all.1.slots ∙ length-set old.slots id None)
 
-all_slot : (old new : Set ModuleType) (ids : List ℕ) → ((u id : ℕ) → slice_get ids u ≡ Some id → id < length old.slots) → RemovesAll type_eq old ids new → (i : ℕ) → get new.slots i ≡ cond (list_any (nat_eq i) ids) None (get old.slots i)
+all_slot : (old new : TypesById) (ids : List ℕ) → ((u id : ℕ) → slice_get ids u ≡ Some id → id < length old.slots) → LosesAll old ids new → (i : ℕ) → get new.slots i ≡ cond (list_any (nat_eq i) ids) None (get old.slots i)
 all_slot old new [] below all i = ap (λ (s : Slots ModuleType). get s i) all.slots
 all_slot old new (id ∷ ids) below all i =
     let count : length all.0.slots ≡ length old.slots = ap length all.1.slots ∙ length-set old.slots id None in
@@ -33,13 +33,13 @@ all_slot old new (id ∷ ids) below all i =
     ∙ ap (cond (list_any (nat_eq i) ids) None) first
     ∙ removed_slot (nat_eq i id) (list_any (nat_eq i) ids) (get old.slots i)
 
-all_map : (old new : Set ModuleType) (ids : List ℕ) → RemovesAll type_eq old ids new → (q : ModuleType) (i : ℕ) → mapped type_eq new q ≡ Some i → mapped type_eq old q ≡ Some i
+all_map : (old new : TypesById) (ids : List ℕ) → LosesAll old ids new → (q : ModuleType) (i : ℕ) → known_id new q ≡ Some i → known_id old q ≡ Some i
 all_map old new [] all q i h = sym (all.map q) ∙ h
-all_map old new (id ∷ ids) all q i h = kept_old (is_own_entry type_eq old id q) (mapped type_eq old q) i (sym (all.1.map q) ∙ all_map all.0 new ids all.2 q i h)
+all_map old new (id ∷ ids) all q i h = kept_old (is_known_as old id q) (known_id old q) i (sym (all.1.map q) ∙ all_map all.0 new ids all.2 q i h)
 
 -- the groups after the end of one
 
-pub group_at_ended : (gs : List RecGroup) (id k : ℕ) → group_at (map (group_ended id) gs) k ≡ group_ended id (group_at gs k)
+pub group_at_ended : (gs : List RecGroup) (id k : ℕ) → rec_group_at (map (group_ended id) gs) k ≡ group_ended id (rec_group_at gs k)
 group_at_ended [] id k = refl
 group_at_ended (g ∷ gs) id zero = refl
 group_at_ended (g ∷ gs) id (suc k) = group_at_ended gs id k
@@ -58,21 +58,21 @@ ended_lacks id g none = by_test (list_any (nat_eq id) g.types) refl
     by_test true e = (let m : _ = any_has g.types id (sym e) in absurd (none m.0 m.1))
     by_test false e = refl
 
-groups_lack : (id : ℕ) (gs : List RecGroup) → ((l u : ℕ) → IsMember gs l u id → ⊥) → map (group_ended id) gs ≡ gs
+groups_lack : (id : ℕ) (gs : List RecGroup) → ((l u : ℕ) → IsIdAt gs l u id → ⊥) → map (group_ended id) gs ≡ gs
 groups_lack id [] none = refl
 groups_lack id (g ∷ gs) none = ap (λ (h : RecGroup). h ∷ map (group_ended id) gs) (ended_lacks id g (λ u h. none 0 u h)) ∙ ap (λ (t : List RecGroup). g ∷ t) (groups_lack id gs (λ l u h. none (suc l) u h))
 
-ended_one : (id : ℕ) (gs : List RecGroup) (k u : ℕ) → IsMember gs k u id → ((l v : ℕ) → IsMember gs l v id → l ≡ k) → set gs k (made_empty (group_at gs k)) ≡ map (group_ended id) gs
+ended_one : (id : ℕ) (gs : List RecGroup) (k u : ℕ) → IsIdAt gs k u id → ((l v : ℕ) → IsIdAt gs l v id → l ≡ k) → set gs k (made_empty (rec_group_at gs k)) ≡ map (group_ended id) gs
 ended_one id [] k u h only = refl
 ended_one id (g ∷ gs) zero u h only = ap (λ (t : List RecGroup). made_empty g ∷ t) (sym (groups_lack id gs (λ l v m. let e : suc l ≡ 0 = only (suc l) v m in omega (arith, e)))) ∙ ap (λ (e : RecGroup). e ∷ map (group_ended id) gs) (sym (ended_has id g u h))
 ended_one id (g ∷ gs) (suc k) u h only =
-    ap (λ (e : RecGroup). e ∷ set gs k (made_empty (group_at gs k))) (sym (ended_lacks id g (λ v m. let e : 0 ≡ suc k = only 0 v m in omega (arith, e)))) ∙ ap (λ (t : List RecGroup). group_ended id g ∷ t) (ended_one id gs k u h (λ l v m. let e : suc l ≡ suc k = only (suc l) v m in omega (arith, e)))
+    ap (λ (e : RecGroup). e ∷ set gs k (made_empty (rec_group_at gs k))) (sym (ended_lacks id g (λ v m. let e : 0 ≡ suc k = only 0 v m in omega (arith, e)))) ∙ ap (λ (t : List RecGroup). group_ended id g ∷ t) (ended_one id gs k u h (λ l v m. let e : suc l ≡ suc k = only (suc l) v m in omega (arith, e)))
 
 module _ (t : Table) (go : List ℕ) (id at : ℕ) (g : RecGroup) (is : IsIndexed t go) (home : IsHome t id at g) where
-  in_home : (u i : ℕ) → slice_get g.types u ≡ Some i → IsMember t.groups at u i
+  in_home : (u i : ℕ) → slice_get g.types u ≡ Some i → IsIdAt t.groups at u i
   in_home u i h = subst (λ (r : RecGroup). slice_get r.types u ≡ Some i) (sym home.here) h
 
-  from_home : (u i : ℕ) → IsMember t.groups at u i → slice_get g.types u ≡ Some i
+  from_home : (u i : ℕ) → IsIdAt t.groups at u i → slice_get g.types u ≡ Some i
   from_home u i h = subst (λ (r : RecGroup). slice_get r.types u ≡ Some i) home.here h
 
   pub members_live : (u i : ℕ) → slice_get g.types u ≡ Some i → IsLive t.types.slots i
@@ -84,37 +84,37 @@ module _ (t : Table) (go : List ℕ) (id at : ℕ) (g : RecGroup) (is : IsIndexe
   pub members_once : (u v i : ℕ) → slice_get g.types u ≡ Some i → slice_get g.types v ≡ Some i → u ≡ v
   members_once u v i h h' = is.once at u v i (in_home u i h) (in_home v i h')
 
-module _ (t : Table) (go : List ℕ) (id at : ℕ) (g : RecGroup) (types : Set ModuleType) (is : IsIndexed t go) (home : IsHome t id at g) (removes : RemovesAll type_eq t.types g.types types) where
+module _ (t : Table) (go : List ℕ) (id at : ℕ) (g : RecGroup) (types : TypesById) (is : IsIndexed t go) (home : IsHome t id at g) (removes : LosesAll t.types g.types types) where
   abbrev new : Table
   new = record { types = types; groups = set t.groups at (record { types = []; is_explicit = g.is_explicit }) }
 
   pub groups_are : new.groups ≡ map (group_ended id) t.groups
   unfolding made_empty
   groups_are =
-      let one : record { types = []; is_explicit = g.is_explicit } ≡ made_empty (group_at t.groups at) = ap made_empty (sym home.here) in
+      let one : record { types = []; is_explicit = g.is_explicit } ≡ made_empty (rec_group_at t.groups at) = ap made_empty (sym home.here) in
       ap (set t.groups at) one ∙ ended_one id t.groups at home.member.0 home.member.1 home.only
 
   pub group_deleted : DeletesGroup t new id
   group_deleted = record {
-    types = subst (λ (o : Option RecGroup). IsSomeAnd o (λ r. RemovesAll type_eq t.types r.types types)) (group_answer t id at g home) removes;
+    types = subst (λ (o : Option RecGroup). IsSomeAnd o (λ r. LosesAll t.types r.types types)) (group_answer t id at g home) removes;
     groups = groups_are;
   }
 
-  groups_at : (k : ℕ) → group_at new.groups k ≡ group_ended id (group_at t.groups k)
-  groups_at k = ap (λ (gs : List RecGroup). group_at gs k) groups_are ∙ group_at_ended t.groups id k
+  groups_at : (k : ℕ) → rec_group_at new.groups k ≡ group_ended id (rec_group_at t.groups k)
+  groups_at k = ap (λ (gs : List RecGroup). rec_group_at gs k) groups_are ∙ group_at_ended t.groups id k
 
   -- a member of a group afterwards was one before, of a group that lacks the id
-  stayed : (k u i : ℕ) → IsMember new.groups k u i → IsMember t.groups k u i × (list_any (nat_eq id) (group_at t.groups k).types ≡ false)
-  stayed k u i h = by_test (list_any (nat_eq id) (group_at t.groups k).types) refl (subst (λ (r : RecGroup). slice_get r.types u ≡ Some i) (groups_at k) h)
+  stayed : (k u i : ℕ) → IsIdAt new.groups k u i → IsIdAt t.groups k u i × (list_any (nat_eq id) (rec_group_at t.groups k).types ≡ false)
+  stayed k u i h = by_test (list_any (nat_eq id) (rec_group_at t.groups k).types) refl (subst (λ (r : RecGroup). slice_get r.types u ≡ Some i) (groups_at k) h)
     where
-      by_test : (b : Bool) → b ≡ list_any (nat_eq id) (group_at t.groups k).types → slice_get (cond b (record { types = []; is_explicit = (group_at t.groups k).is_explicit }) (group_at t.groups k)).types u ≡ Some i → IsMember t.groups k u i × (list_any (nat_eq id) (group_at t.groups k).types ≡ false)
+      by_test : (b : Bool) → b ≡ list_any (nat_eq id) (rec_group_at t.groups k).types → slice_get (cond b (record { types = []; is_explicit = (rec_group_at t.groups k).is_explicit }) (rec_group_at t.groups k)).types u ≡ Some i → IsIdAt t.groups k u i × (list_any (nat_eq id) (rec_group_at t.groups k).types ≡ false)
       by_test true e f = absurd (none_some f)
       by_test false e f = (f, sym e)
 
-  has_id : list_any (nat_eq id) (group_at t.groups at).types ≡ true
-  has_id = has_any (group_at t.groups at).types home.member.0 id home.member.1
+  has_id : list_any (nat_eq id) (rec_group_at t.groups at).types ≡ true
+  has_id = has_any (rec_group_at t.groups at).types home.member.0 id home.member.1
 
-  not_gone : (k u i : ℕ) → IsMember t.groups k u i → list_any (nat_eq id) (group_at t.groups k).types ≡ false → list_any (nat_eq i) g.types ≡ false
+  not_gone : (k u i : ℕ) → IsIdAt t.groups k u i → list_any (nat_eq id) (rec_group_at t.groups k).types ≡ false → list_any (nat_eq i) g.types ≡ false
   not_gone k u i m lacks = by_test (list_any (nat_eq i) g.types) refl
     where
       by_test : (b : Bool) → b ≡ list_any (nat_eq i) g.types → b ≡ false
@@ -122,19 +122,19 @@ module _ (t : Table) (go : List ℕ) (id at : ℕ) (g : RecGroup) (types : Set M
       by_test true e =
           let v : _ = any_has g.types i (sym e) in
           let same : k ≡ at = sym (is.own k u i m) ∙ is.own at v.0 i (in_home t go id at g is home v.0 i v.1) in
-          let has : list_any (nat_eq id) (group_at t.groups k).types ≡ true = subst (λ (n : ℕ). list_any (nat_eq id) (group_at t.groups n).types ≡ true) (sym same) has_id in
+          let has : list_any (nat_eq id) (rec_group_at t.groups k).types ≡ true = subst (λ (n : ℕ). list_any (nat_eq id) (rec_group_at t.groups n).types ≡ true) (sym same) has_id in
           let c : ⊥ = cc in
           absurd c
 
-  stays : (k v i : ℕ) → IsMember t.groups k v i → list_any (nat_eq i) g.types ≡ false → IsMember new.groups k v i
-  stays k v i m here = subst (λ (r : RecGroup). slice_get r.types v ≡ Some i) (sym (groups_at k)) (by_test (list_any (nat_eq id) (group_at t.groups k).types) refl)
+  stays : (k v i : ℕ) → IsIdAt t.groups k v i → list_any (nat_eq i) g.types ≡ false → IsIdAt new.groups k v i
+  stays k v i m here = subst (λ (r : RecGroup). slice_get r.types v ≡ Some i) (sym (groups_at k)) (by_test (list_any (nat_eq id) (rec_group_at t.groups k).types) refl)
     where
-      by_test : (b : Bool) → b ≡ list_any (nat_eq id) (group_at t.groups k).types → slice_get (cond b (record { types = []; is_explicit = (group_at t.groups k).is_explicit }) (group_at t.groups k)).types v ≡ Some i
+      by_test : (b : Bool) → b ≡ list_any (nat_eq id) (rec_group_at t.groups k).types → slice_get (cond b (record { types = []; is_explicit = (rec_group_at t.groups k).is_explicit }) (rec_group_at t.groups k)).types v ≡ Some i
       by_test false e = m
       by_test true e =
-          let w : _ = any_has (group_at t.groups k).types id (sym e) in
+          let w : _ = any_has (rec_group_at t.groups k).types id (sym e) in
           let same : k ≡ at = home.only k w.0 w.1 in
-          let inside : slice_get g.types v ≡ Some i = from_home t go id at g is home v i (subst (λ (n : ℕ). IsMember t.groups n v i) same m) in
+          let inside : slice_get g.types v ≡ Some i = from_home t go id at g is home v i (subst (λ (n : ℕ). IsIdAt t.groups n v i) same m) in
           let gone : list_any (nat_eq i) g.types ≡ true = has_any g.types v i inside in
           let c : ⊥ = cc in
           absurd c
@@ -154,18 +154,18 @@ module _ (t : Table) (go : List ℕ) (id at : ℕ) (g : RecGroup) (types : Set M
     from = λ k u i h. (let s : _ = stayed k u i h in (u, s.0, not_gone k u i s.0 s.1));
     to = λ k v i m here. (v, stays k v i m here);
     once = λ k u v i h h'. is.once k u v i (stayed k u i h).0 (stayed k v i h').0;
-    mark = λ k. ap (λ (r : RecGroup). r.is_explicit) (groups_at k) ∙ ended_mark (group_at t.groups k) (list_any (nat_eq id) (group_at t.groups k).types);
-    few = λ k. (let f : length (group_ended id (group_at t.groups k)).types ≤ length (group_at t.groups k).types = ended_few (group_at t.groups k) (list_any (nat_eq id) (group_at t.groups k).types) in omega (arith, f, ap (λ (r : RecGroup). length r.types) (groups_at k)));
+    mark = λ k. ap (λ (r : RecGroup). r.is_explicit) (groups_at k) ∙ ended_mark (rec_group_at t.groups k) (list_any (nat_eq id) (rec_group_at t.groups k).types);
+    few = λ k. (let f : length (group_ended id (rec_group_at t.groups k)).types ≤ length (rec_group_at t.groups k).types = ended_few (rec_group_at t.groups k) (list_any (nat_eq id) (rec_group_at t.groups k).types) in omega (arith, f, ap (λ (r : RecGroup). length r.types) (groups_at k)));
     map = λ q i h. all_map t.types types g.types removes q i h;
   })
 
-pub ended_indexed : (t : Table) (go : List ℕ) (id at : ℕ) (g : RecGroup) (types : Set ModuleType) (ids left : List ℕ) → IsIndexed t go → IsHome t id at g → ids ≡ g.types → left ≡ [] → RemovesAll type_eq t.types ids types → IsIndexed (record { types = types; groups = set t.groups at (record { types = left; is_explicit = g.is_explicit }) }) go
+pub ended_indexed : (t : Table) (go : List ℕ) (id at : ℕ) (g : RecGroup) (types : TypesById) (ids left : List ℕ) → IsIndexed t go → IsHome t id at g → ids ≡ g.types → left ≡ [] → LosesAll t.types ids types → IsIndexed (record { types = types; groups = set t.groups at (record { types = left; is_explicit = g.is_explicit }) }) go
 ended_indexed t go id at g types ids left is home ids_is left_is removes =
-    subst (λ (ns : List ℕ). IsIndexed (record { types = types; groups = set t.groups at (record { types = ns; is_explicit = g.is_explicit }) }) go) (sym left_is) (table_ended t go id at g types is home (subst (λ (ns : List ℕ). RemovesAll type_eq t.types ns types) ids_is removes))
+    subst (λ (ns : List ℕ). IsIndexed (record { types = types; groups = set t.groups at (record { types = ns; is_explicit = g.is_explicit }) }) go) (sym left_is) (table_ended t go id at g types is home (subst (λ (ns : List ℕ). LosesAll t.types ns types) ids_is removes))
 
-pub ended_deletes : (t : Table) (go : List ℕ) (id at : ℕ) (g : RecGroup) (types : Set ModuleType) (ids left : List ℕ) → IsIndexed t go → IsHome t id at g → ids ≡ g.types → left ≡ [] → RemovesAll type_eq t.types ids types → DeletesGroup t (record { types = types; groups = set t.groups at (record { types = left; is_explicit = g.is_explicit }) }) id
+pub ended_deletes : (t : Table) (go : List ℕ) (id at : ℕ) (g : RecGroup) (types : TypesById) (ids left : List ℕ) → IsIndexed t go → IsHome t id at g → ids ≡ g.types → left ≡ [] → LosesAll t.types ids types → DeletesGroup t (record { types = types; groups = set t.groups at (record { types = left; is_explicit = g.is_explicit }) }) id
 ended_deletes t go id at g types ids left is home ids_is left_is removes =
-    subst (λ (ns : List ℕ). DeletesGroup t (record { types = types; groups = set t.groups at (record { types = ns; is_explicit = g.is_explicit }) }) id) (sym left_is) (group_deleted t go id at g types is home (subst (λ (ns : List ℕ). RemovesAll type_eq t.types ns types) ids_is removes))
+    subst (λ (ns : List ℕ). DeletesGroup t (record { types = types; groups = set t.groups at (record { types = ns; is_explicit = g.is_explicit }) }) id) (sym left_is) (group_deleted t go id at g types is home (subst (λ (ns : List ℕ). LosesAll t.types ns types) ids_is removes))
 
 -- a list whose places all differ is distinct
 

@@ -1,25 +1,23 @@
 -- Lemmas on tables that gain an explicit group.
-use Rattle.std.proofs.Common.{◌≡◌, ℕ, zero, suc, ◌+◌, ◌-◌, ◌<◌, List, [], ◌∷◌, ◌++◌, length, replicate, refl, sym, ap, subst, ◌∙◌, arith, Some, false, true, inl, Result, Err}
-use Rattle.std.specs.List.{slice_index}
+use Rattle.std.proofs.Common.{◌≡◌, ℕ, zero, suc, ◌+◌, ◌-◌, ◌<◌, List, [], ◌∷◌, ◌++◌, length, replicate, refl, sym, ap, subst, ◌∙◌, arith, Some, true, inl, Result, Err}
+use Rattle.std.specs.List.{slice_index, range_with_len}
 use Rattle.std.proofs.lemmas.List.{get_or_append_left, get_or-append_right}
 use Rattle.std.proofs.Common.{length-append}
-use Rattle.walrus_arena.specs.Arena.{range}
 use Rattle.walrus_types.specs.declared.table.rec_group.AddRecGroupError.{AddRecGroupError}
 use Rattle.walrus_types.specs.declared.table.rec_group.AddRecGroupError.TheVariants.{Count}
-use Rattle.walrus_types.specs.Types.{nameless}
-use Rattle.walrus_types.specs.Table.{Table, Member, placed, AddsGroup, next_id, type_eq}
-use Rattle.walrus_arena.specs.Set.{mapped}
+use Rattle.walrus_types.specs.Table.{Table, Member, placed, AddsGroup, next_id}
+use Rattle.walrus_types.specs.TypesById.{known_id}
 use Rattle.walrus_types.specs.Steps.TableIndex.{IsIndexed}
 use Rattle.walrus_types.proofs.TableLemmas.{Grows, Extends, table_grown}
 
-range_push_suc : (first count : ℕ) → range first count ++ (first + count) ∷ [] ≡ range first (suc count)
+range_push_suc : (first count : ℕ) → range_with_len first count ++ (first + count) ∷ [] ≡ range_with_len first (suc count)
 range_push_suc first zero = let e : first + 0 ≡ first = omega arith in ap (λ (n : ℕ). n ∷ []) e
 range_push_suc first (suc count) =
     let e : first + suc count ≡ first + 1 + count = omega arith in
-    ap (λ (ns : List ℕ). first ∷ ns) (ap (λ (n : ℕ). range (first + 1) count ++ n ∷ []) e ∙ range_push_suc (first + 1) count)
+    ap (λ (ns : List ℕ). first ∷ ns) (ap (λ (n : ℕ). range_with_len (first + 1) count ++ n ∷ []) e ∙ range_push_suc (first + 1) count)
 
-pub range_push : (first count next : ℕ) → next ≡ count + 1 → range first count ++ (first + count) ∷ [] ≡ range first next
-range_push first count next e = let f : suc count ≡ next = omega (arith, e) in range_push_suc first count ∙ ap (range first) f
+pub range_push : (first count next : ℕ) → next ≡ count + 1 → range_with_len first count ++ (first + count) ∷ [] ≡ range_with_len first next
+range_push first count next e = let f : suc count ≡ next = omega (arith, e) in range_push_suc first count ∙ ap (range_with_len first) f
 
 replicate_push_suc : {A : Type 0} (count : ℕ) (x : A) → replicate count x ++ x ∷ [] ≡ replicate (suc count) x
 replicate_push_suc zero x = refl
@@ -48,19 +46,19 @@ pub length-placed : (id : ℕ) (members : List Member) → length (placed id mem
 length-placed id [] = refl
 length-placed id (m ∷ members) = ap suc (length-placed (id + 1) members)
 
-group_grows : (t new : Table) (members : List Member) → AddsGroup t new members → Grows t new (placed (next_id t) members) (record { types = range (next_id t) (length members); is_explicit = true })
+group_grows : (t new : Table) (members : List Member) → AddsGroup t new members → Grows t new (placed (next_id t) members) (record { types = range_with_len (next_id t) (length members); is_explicit = true })
 group_grows t new members adds = record {
   slots = ap (λ s. s.slots) adds.types;
   groups = adds.groups;
-  members = ap (range (next_id t)) (sym (length-placed (next_id t) members));
+  members = ap (range_with_len (next_id t)) (sym (length-placed (next_id t) members));
   single = λ h. (let c : ⊥ = cc in absurd c);
-  map = λ q id h. inl (subst (λ s. mapped type_eq s q ≡ Some id) adds.types h);
+  map = λ q id h. inl (subst (λ s. known_id s q ≡ Some id) adds.types h);
 }
 
 pub table_grouped : (t new : Table) (go : List ℕ) (members : List Member) → IsIndexed t go → AddsGroup t new members → IsIndexed new (go ++ replicate (length members) (length t.groups))
 table_grouped t new go members is adds =
     let count : length (placed (next_id t) members) ≡ length members = length-placed (next_id t) members in
-    table_grown t new go (go ++ replicate (length members) (length t.groups)) (placed (next_id t) members) (record { types = range (next_id t) (length members); is_explicit = true }) is (group_grows t new members adds) (subst (λ (n : ℕ). Extends go (go ++ replicate (length members) (length t.groups)) n (length t.groups)) (sym count) (extends_all go (length members) (length t.groups)))
+    table_grown t new go (go ++ replicate (length members) (length t.groups)) (placed (next_id t) members) (record { types = range_with_len (next_id t) (length members); is_explicit = true }) is (group_grows t new members adds) (subst (λ (n : ℕ). Extends go (go ++ replicate (length members) (length t.groups)) n (length t.groups)) (sym count) (extends_all go (length members) (length t.groups)))
 
 pub count_parts : {X : Type 0} (a b c d : ℕ) → ◌≡◌ {A = Result X AddRecGroupError} (Err (Count a b)) (Err (Count c d)) → (a ≡ c) × (b ≡ d)
 count_parts a b c d h = (cc, cc)

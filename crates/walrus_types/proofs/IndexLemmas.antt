@@ -1,7 +1,7 @@
 -- Lists of ids and the indices that they are given.
-use Rattle.std.proofs.Common.{◌≡◌, ℕ, zero, suc, ◌+◌, ◌<◌, ◌==◌, cond, List, [], ◌∷◌, ◌++◌, take, length, get_or, refl, sym, ap, subst, ◌∙◌, arith, append_assoc, Some, None, Option, true, false, Bool, eq-eqb, eqb-true, All, nat_eq, ◌⊎◌, inl, inr, length-append}
-use Rattle.std.specs.List.{slice_get, IsDistinct, AllByRecursion}
-use Rattle.std.proofs.lemmas.List.{take_more, length_push, length-take, get_or-take, get_or_default, get_or-append-add}
+use Rattle.std.proofs.Common.{◌≡◌, ℕ, zero, suc, ◌+◌, ◌<◌, ◌==◌, cond, List, [], ◌∷◌, ◌++◌, take, length, get_or, refl, sym, ap, subst, ◌∙◌, arith, append_assoc, Some, None, true, false, Bool, eq-eqb, eqb-true, All, nat_eq, ◌⊎◌, inl, inr}
+use Rattle.std.specs.List.{slice_get, IsDistinct}
+use Rattle.std.proofs.lemmas.List.{take_more, length_push, length-take, get_or-take, get_or_default}
 use Rattle.std.proofs.lemmas.Option.{slice_get_within, get_or_from_slice_get}
 use Rattle.std.proofs.lemmas.Map.Keys.{apart_from_distinct}
 use Rattle.walrus_types.specs.Indices.{Given, Indexes, GivesNext}

@@ -20,6 +20,7 @@ pub mod ReadSection
 pub mod ReadGroups
 pub mod ReadNext
 pub mod SameType
+pub mod SeenTypes
 pub mod SameRecords
 pub mod AddLemmas
 pub mod TableLemmas

@@ -1,10 +1,9 @@
 -- What a reader has read, after one more group.
-use Rattle.std.proofs.Common.{◌≡◌, ℕ, zero, suc, ◌+◌, List, [], ◌∷◌, ◌++◌, length, map, refl, sym, ap, subst, ◌∙◌, Some, None, Option, Bool, true, false, cond, if◌then◌else◌, MatchOption, option_and_then}
+use Rattle.std.proofs.Common.{◌≡◌, ℕ, ◌+◌, List, [], ◌∷◌, ◌++◌, length, map, refl, sym, ap, subst, ◌∙◌, Some, None, Option, Bool, true, false, cond, if◌then◌else◌, MatchOption, option_and_then}
 use Rattle.std.specs.List.{range_with_len}
 use Rattle.std.specs.Cmp.{IsEquivalence}
 use Rattle.std.proofs.lemmas.List.{map-append, length-map}
-use Rattle.walrus_arena.specs.Arena.{Slots, get, range}
-use Rattle.walrus_arena.specs.Set.{Set, mapped, found, holds}
+use Rattle.walrus_arena.specs.Arena.{Slots, get}
 use Rattle.walrus_types.specs.declared.ty.composite.CompositeType.{CompositeType}
 use Rattle.walrus_types.specs.declared.ty.composite.CompositeType.TheVariants as kind
 use Rattle.walrus_types.specs.Definition.{Definition, renamed}
@@ -13,7 +12,8 @@ use Rattle.walrus_types.specs.NormalForm.{image}
 use Rattle.walrus_types.specs.ReadTable.{TypeGroup}
 use Rattle.walrus_types.specs.contracts.ty.TypeEq.TheImpl.Laws.{laws-law}
 use Rattle.walrus_types.specs.Types.{ModuleType, kind_composite, nameless}
-use Rattle.walrus_types.specs.Table.{Table, AddsType, AddsGroup, Member, placed, type_eq, IsSameTable, next_id}
+use Rattle.walrus_types.specs.TypesById.{TypesById, type_eq, passes, known_id, found}
+use Rattle.walrus_types.specs.Table.{Table, AddsType, AddsGroup, Member, placed, IsSameTable, next_id}
 use Rattle.walrus_types.specs.Steps.TableReads.{ReadsSingle, UsesUpId, member_definition}
 use Rattle.walrus_types.specs.Fault.{fault_at}
 use Rattle.walrus_types.specs.Reading.{Reads, stored, stored_from, present, composite_kind}
@@ -71,20 +71,20 @@ reads_at s r r' slots slots' f g groups groups' a b e c is =
 -- a refused change leaves what was read
 pub read_still : (s : Section) (old new : Table) (r : List ℕ) → IsSameTable old new → HasRead s old r → HasRead s new r
 read_still s old new r same is =
-    reads_at s r r old.types.slots new.types.slots (mapped type_eq old.types) (mapped type_eq new.types) (map contents old.groups) (map contents new.groups) refl (sym same.types.slots) same.types.map (ap (map contents) (sym same.groups)) is
+    reads_at s r r old.types.slots new.types.slots (known_id old.types) (known_id new.types) (map contents old.groups) (map contents new.groups) refl (sym same.types.slots) same.types.map (ap (map contents) (sym same.groups)) is
 
 module _ (s : Section) (old : Table) (r : List ℕ) (is : HasRead s old r) where
   -- what the map has is live and equal, so it is found
-  found_by : (q : ModuleType) (o : Option ℕ) → mapped type_eq old.types q ≡ o → option_and_then (λ id. if holds (type_eq q) (get old.types.slots id) then Some id else None) o ≡ o
+  found_by : (q : ModuleType) (o : Option ℕ) → known_id old.types q ≡ o → option_and_then (λ id. if passes (type_eq q) (get old.types.slots id) then Some id else None) o ≡ o
   found_by q None h = refl
   found_by q (Some j) h =
       let f = (is.found q j).0 h in
       let at : get old.types.slots j ≡ Some (stored _ j) = is.live j f.below f.live in
       let same : type_eq q (stored _ j) ≡ true = tells.same q (stored _ j) (f.same ∙ sym (stored_definition _ j)) f.plain in
-      ap (λ o. if holds (type_eq q) o then Some j else None) at ∙ ap (λ (b : Bool). if b then Some j else None) same
+      ap (λ o. if passes (type_eq q) o then Some j else None) at ∙ ap (λ (b : Bool). if b then Some j else None) same
 
-  found_is : (q : ModuleType) → found type_eq old.types q ≡ mapped type_eq old.types q
-  found_is q = found_by q (mapped type_eq old.types q) refl
+  found_is : (q : ModuleType) → found old.types q ≡ known_id old.types q
+  found_is q = found_by q (known_id old.types q) refl
 
   module _ (d : Definition) (fine : fault_at (numbered s).count (d ∷ []) ≡ None) (new : Table) (id : ℕ) where
     abbrev b : ℕ
@@ -93,24 +93,20 @@ module _ (s : Section) (old : Table) (r : List ℕ) (is : HasRead s old r) where
     abbrev ty : ModuleType
     ty = stored (renamed (image (r ++ b ∷ [])) d) b
 
-    single_by : (o : Option ℕ) → found type_eq old.types ty ≡ o → MatchOption o (AddsType old new ty id) (λ known. (id ≡ known) × UsesUpId old new) → HasRead (s ++ Single d ∷ []) new (r ++ id ∷ [])
+    single_by : (o : Option ℕ) → found old.types ty ≡ o → MatchOption o (AddsType old new ty id) (λ known. (id ≡ known) × UsesUpId old new) → HasRead (s ++ Single d ∷ []) new (r ++ id ∷ [])
     single_by None h adds =
         let here : b ≡ id = sym is.slot_each ∙ sym adds.types.named in
-        reads_at (s ++ Single d ∷ []) (r ++ b ∷ []) (r ++ id ∷ []) (old.types.slots ++ Some ty ∷ []) new.types.slots (mapped type_eq new.types) (mapped type_eq new.types) (map contents old.groups ++ record { ids = b ∷ []; is_explicit = false } ∷ []) (map contents new.groups)
+        reads_at (s ++ Single d ∷ []) (r ++ b ∷ []) (r ++ id ∷ []) (old.types.slots ++ Some ty ∷ []) new.types.slots (known_id new.types) (known_id new.types) (map contents old.groups ++ record { ids = b ∷ []; is_explicit = false } ∷ []) (map contents new.groups)
         (ap (λ (i : ℕ). r ++ i ∷ []) here) (sym adds.types.slots) (λ q. refl)
         (ap (λ (i : ℕ). map contents old.groups ++ record { ids = i ∷ []; is_explicit = false } ∷ []) here ∙ sym (ap (map contents) adds.groups ∙ map-append contents old.groups _))
-        (reads_new type_eq tells s r old.types.slots (mapped type_eq old.types) (map contents old.groups) is d fine (sym (found_is ty) ∙ h) (mapped type_eq new.types) (λ q. adds.types.map q ∙ ap (λ (i : ℕ). cond (type_eq ty q) (Some i) (mapped type_eq old.types q)) (sym here)))
+        (reads_new type_eq tells s r old.types.slots (known_id old.types) (map contents old.groups) is d fine (sym (found_is ty) ∙ h) (known_id new.types) (λ q. adds.types.map q ∙ ap (λ (i : ℕ). cond (type_eq ty q) (Some i) (known_id old.types q)) (sym here)))
     single_by (Some j) h uses =
-        reads_at (s ++ Single d ∷ []) (r ++ j ∷ []) (r ++ id ∷ []) (old.types.slots ++ None ∷ []) new.types.slots (mapped type_eq old.types) (mapped type_eq new.types) (map contents old.groups) (map contents new.groups)
+        reads_at (s ++ Single d ∷ []) (r ++ j ∷ []) (r ++ id ∷ []) (old.types.slots ++ None ∷ []) new.types.slots (known_id old.types) (known_id new.types) (map contents old.groups) (map contents new.groups)
         (ap (λ (i : ℕ). r ++ i ∷ []) (sym uses.0)) (sym uses.1.slots) uses.1.map (ap (map contents) (sym uses.1.groups))
-        (reads_found type_eq tells s r old.types.slots (mapped type_eq old.types) (map contents old.groups) is d fine j (sym (found_is ty) ∙ h))
+        (reads_found type_eq tells s r old.types.slots (known_id old.types) (map contents old.groups) is d fine j (sym (found_is ty) ∙ h))
 
     pub single_read : ReadsSingle old new ty id → HasRead (s ++ Single d ∷ []) new (r ++ id ∷ [])
-    single_read reads = single_by (found type_eq old.types ty) refl reads
-
-range_is : (a n : ℕ) → range a n ≡ range_with_len a n
-range_is a zero = refl
-range_is a (suc n) = ap (λ xs. a ∷ xs) (range_is (a + 1) n)
+    single_read reads = single_by (found old.types ty) refl reads
 
 tail_same : (x y : Definition) (xs ys : List Definition) → x ∷ xs ≡ y ∷ ys → xs ≡ ys
 tail_same x y xs ys h = cc
@@ -139,10 +135,10 @@ module _ (s : Section) (old : Table) (r : List ℕ) (is : HasRead s old r) (ds :
       let first : next_id old ≡ (numbered s).count = is.slot_each in
       let many : length members ≡ length ds = sym (length-map members member_definition) ∙ (ap length same ∙ length-map ds (renamed (image (r ++ own)))) in
       let tys : placed (next_id old) members ≡ stored_from (image (r ++ own)) (numbered s).count ds = placed_is (image (r ++ own)) (next_id old) members ds same ∙ ap (λ (i : ℕ). stored_from (image (r ++ own)) i ds) first in
-      let ids : range (next_id old) (length members) ≡ own = range_is (next_id old) (length members) ∙ (ap (λ (i : ℕ). range_with_len i (length members)) first ∙ ap (range_with_len (numbered s).count) many) in
-      reads_at (s ++ Rec ds ∷ []) (r ++ own) (r ++ own) (old.types.slots ++ present (stored_from (image (r ++ own)) (numbered s).count ds)) new.types.slots (mapped type_eq old.types) (mapped type_eq new.types) (map contents old.groups ++ record { ids = own; is_explicit = true } ∷ []) (map contents new.groups)
+      let ids : range_with_len (next_id old) (length members) ≡ own = ap (λ (i : ℕ). range_with_len i (length members)) first ∙ ap (range_with_len (numbered s).count) many in
+      reads_at (s ++ Rec ds ∷ []) (r ++ own) (r ++ own) (old.types.slots ++ present (stored_from (image (r ++ own)) (numbered s).count ds)) new.types.slots (known_id old.types) (known_id new.types) (map contents old.groups ++ record { ids = own; is_explicit = true } ∷ []) (map contents new.groups)
       refl
-      (ap (λ (xs : List ModuleType). old.types.slots ++ present xs) (sym tys) ∙ sym (ap (λ (t : Set ModuleType). t.slots) adds.types))
-      (λ q. ap (λ (t : Set ModuleType). mapped type_eq t q) adds.types)
+      (ap (λ (xs : List ModuleType). old.types.slots ++ present xs) (sym tys) ∙ sym (ap (λ (t : TypesById). t.slots) adds.types))
+      (λ q. ap (λ (t : TypesById). known_id t q) adds.types)
       (ap (λ (xs : List ℕ). map contents old.groups ++ record { ids = xs; is_explicit = true } ∷ []) (sym ids) ∙ sym (ap (map contents) adds.groups ∙ map-append contents old.groups _))
-      (reads_rec type_eq tells s r old.types.slots (mapped type_eq old.types) (map contents old.groups) is ds fine)
+      (reads_rec type_eq tells s r old.types.slots (known_id old.types) (map contents old.groups) is ds fine)

@@ -38,7 +38,7 @@ use Rattle.std.proofs.lemmas.List.Elements.{same_from_all_zip}
 use Rattle.walrus_arena.specs.Set.{ClonesAreEqual}
 use Rattle.walrus_types.specs.Signature.{Signature}
 use Rattle.walrus_types.specs.Types.{ModuleType, function}
-use Rattle.walrus_types.specs.Table.{type_eq, IsSameType}
+use Rattle.walrus_types.specs.TypesById.{type_eq, IsSameType}
 
 and_left : (p q : Bool) → (p && q) ≡ true → p ≡ true
 and_left true q h = refl

@@ -4,13 +4,15 @@ use Rattle.std.specs.List.{slice_index}
 use Rattle.std.proofs.lemmas.Bool.{cases_lt}
 use Rattle.std.proofs.lemmas.List.{length_push, get_or_append_left, get_or-append_right}
 use Rattle.walrus_arena.specs.Arena.{Slots, get, IsLive}
-use Rattle.walrus_arena.specs.Set.{Set, mapped}
+use Rattle.walrus_arena.specs.Set.{Set}
 use Rattle.walrus_types.specs.declared.table.RecGroup.{RecGroup}
 use Rattle.walrus_types.specs.Types.{ModuleType}
-use Rattle.walrus_types.specs.Table.{Table, IsMember, group_at, type_eq}
+use Rattle.walrus_types.specs.TypesById.{known_id}
+use Rattle.walrus_types.specs.Table.{Table, IsIdAt, rec_group_at}
 use Rattle.walrus_types.specs.Steps.TableIndex.{IsIndexed}
 use Rattle.walrus_types.specs.Steps.TableReads.{UsesUpId}
 use Rattle.walrus_types.proofs.TableLemmas.{live_below}
+use Rattle.walrus_types.proofs.SeenTypes.{seen}
 
 none_there : {T : Type 0} (k : ℕ) → get {T = T} (None ∷ []) k ≡ None
 none_there zero = refl
@@ -35,31 +37,31 @@ module _ (t new : Table) (go : List ℕ) (is : IsIndexed t go) (uses : UsesUpId 
   same_number : (id : ℕ) → IsLive t.types.slots id → slice_index go' id ≡ slice_index go id
   same_number id live = let b = live_below t.types.slots id live in get_or_append_left go (0 ∷ []) 0 id (omega (arith, b, is.indexed))
 
-  was_member : (k u id : ℕ) → IsMember new.groups k u id → IsMember t.groups k u id
-  was_member k u id m = subst (λ (gs : List RecGroup). IsMember gs k u id) uses.groups m
+  was_member : (k u id : ℕ) → IsIdAt new.groups k u id → IsIdAt t.groups k u id
+  was_member k u id m = subst (λ (gs : List RecGroup). IsIdAt gs k u id) uses.groups m
 
-  same_group : (k : ℕ) → group_at new.groups k ≡ group_at t.groups k
-  same_group k = ap (λ (gs : List RecGroup). group_at gs k) uses.groups
+  same_group : (k : ℕ) → rec_group_at new.groups k ≡ rec_group_at t.groups k
+  same_group k = ap (λ (gs : List RecGroup). rec_group_at gs k) uses.groups
 
-  was_mapped : (q : ModuleType) (id : ℕ) → mapped type_eq new.types q ≡ Some id → mapped type_eq t.types q ≡ Some id
+  was_mapped : (q : ModuleType) (id : ℕ) → known_id new.types q ≡ Some id → known_id t.types q ≡ Some id
   was_mapped q id h = sym (uses.map q) ∙ h
 
   pub used_up_indexed : IsIndexed new go'
   used_up_indexed = record {
     indexed = omega (arith, length_push go 0, is.indexed, ap length uses.slots, length_push t.types.slots None);
-    grouped = λ id live. (let old = was_live id live in let m = is.grouped id old in (m.0, subst (λ (k : ℕ). IsMember new.groups k m.0 id) (sym (same_number id old)) (subst (λ (gs : List RecGroup). IsMember gs (slice_index go id) m.0 id) (sym uses.groups) m.1)));
+    grouped = λ id live. (let old = was_live id live in let m = is.grouped id old in (m.0, subst (λ (k : ℕ). IsIdAt new.groups k m.0 id) (sym (same_number id old)) (subst (λ (gs : List RecGroup). IsIdAt gs (slice_index go id) m.0 id) (sym uses.groups) m.1)));
     live = λ k u id m. still_live id (is.live k u id (was_member k u id m));
     own = λ k u id m. (let old = was_member k u id m in same_number id (is.live k u id old) ∙ is.own k u id old);
     once = λ k u v id m l. is.once k u v id (was_member k u id m) (was_member k v id l);
     single = λ k h. subst (λ (g : RecGroup). length g.types ≤ 1) (sym (same_group k)) (is.single k (ap (λ (g : RecGroup). g.is_explicit) (sym (same_group k)) ∙ h));
-    candidates = λ q id h live. (let old = was_live id live in ap (λ (k : ℕ). (group_at new.groups k).is_explicit) (same_number id old) ∙ (ap (λ (g : RecGroup). g.is_explicit) (same_group (slice_index go id)) ∙ is.candidates q id (was_mapped q id h) old));
+    candidates = λ q id h live. (let old = was_live id live in ap (λ (k : ℕ). (rec_group_at new.groups k).is_explicit) (same_number id old) ∙ (ap (λ (g : RecGroup). g.is_explicit) (same_group (slice_index go id)) ∙ is.candidates q id (was_mapped q id h) old));
     known = λ q id h. (let b = is.known q id (was_mapped q id h) in omega (arith, b, ap length uses.slots, length_push t.types.slots None));
   }
 
 -- a new slot that is dead from the start
-pub uses_up : (old new : Set ModuleType) (groups : List RecGroup) → new ≡ record { slots = old.slots ++ None ∷ []; entries = old.entries } → UsesUpId (record { types = old; groups = groups }) (record { types = new; groups = groups })
+pub uses_up : (old new : Set ModuleType) (groups : List RecGroup) → new ≡ record { slots = old.slots ++ None ∷ []; entries = old.entries } → UsesUpId (record { types = seen old; groups = groups }) (record { types = seen new; groups = groups })
 uses_up old new groups is = record {
   slots = ap (λ (s : Set ModuleType). s.slots) is;
-  map = λ q. ap (λ (s : Set ModuleType). mapped type_eq s q) is;
+  map = λ q. ap (λ (s : Set ModuleType). known_id (seen s) q) is;
   groups = refl;
 }

@@ -5,7 +5,7 @@ use Rattle.walrus_types.specs.Definition.{Definition, Names, names_of, renamed, 
 use Rattle.walrus_types.specs.Moves.{IsRenumberedSwap}
 use Rattle.walrus_types.specs.Section.{Numbered, numbered, IsSingle}
 use Rattle.walrus_types.specs.NormalForm.{IsKept, IsAnchor, AreFree, IsNormalForm, image}
-use Rattle.walrus_types.specs.Worked.{func, int_struct, out_of_order, in_order, repeated, told_once, two_loops}
+use Rattle.walrus_types.specs.Worked.{func, int_struct, out_of_order, ordered, repeated, told_once, two_loops}
 
 two : (P : ℕ → Type 0) → P 0 → P 1 → (i : ℕ) → i < 2 → P i
 two P a b zero h = a
@@ -45,10 +45,10 @@ neither s m i j f g (inl x) = f x
 neither s m i j f g (inr x) = g x
 
 -- the order of definitions turns the two
-pub turned : IsNormalForm out_of_order in_order (1 ∷ 0 ∷ [])
+pub turned : IsNormalForm out_of_order ordered (1 ∷ 0 ∷ [])
 turned =
     let s = numbered out_of_order in
-    let n = numbered in_order in
+    let n = numbered ordered in
     let m = image (1 ∷ 0 ∷ []) in
     let first : ¬ (IsAnchor s m 0) = not_anchor s m 0 refl (λ k h. absurd (no_names s 0 k refl h)) in
     let second : ¬ (IsAnchor s m 1) = not_anchor s m 1 refl (λ k h. absurd (no_names s 1 k refl h)) in
@@ -134,7 +134,7 @@ both_kept =
 nameless : (d : Definition) → names_of d ≡ [] → (k : ℕ) → ¬ (Names d k)
 nameless d none k named = let below : named.0 < 0 = omega (arith, named.1, ap length none) in absurd (omega (arith, below))
 
-pub swapped : IsRenumberedSwap out_of_order in_order 0
+pub swapped : IsRenumberedSwap out_of_order ordered 0
 swapped = record {
   exchanged = record { before = []; first = int_struct; second = func; after = []; s_is = refl; r_is = refl; place = refl };
   first_nameless = nameless int_struct refl;

@@ -6,7 +6,7 @@ use Rattle.std.specs.Option.{is_none}
 use Rattle.std.specs.Ordering.{ordering_then}
 use Rattle.std.specs.declared.cmp.Ordering.{Ordering}
 use Rattle.std.specs.declared.cmp.Ordering.TheVariants.{Less, Equal, Greater}
-use Rattle.std.proofs.lemmas.List.{length-map, take_more, append-nil, get_or_default}
+use Rattle.std.proofs.lemmas.List.{length-map, take_more, append-nil}
 use Rattle.std.proofs.lemmas.List.Elements.{filter-append}
 use Rattle.std.proofs.lemmas.Option.{slice_get-map, slice_get_within, slice_get-get_or, get_or_from_slice_get}
 use Rattle.std.proofs.lemmas.Bool.{cases_lt}
@@ -116,12 +116,12 @@ filter_pair p (z ∷ xs) a b x y lt h k = by (p z) a b (λ c d l f g. filter_pai
 
 -- the groups of the table, by ids
 
-ids_at : (groups : List RecGroup) (g : ℕ) → (emission.group_at (type_groups groups) g).ids ≡ (table.group_at groups g).types
+ids_at : (groups : List RecGroup) (g : ℕ) → (emission.group_at (type_groups groups) g).ids ≡ (table.rec_group_at groups g).types
 ids_at [] g = refl
 ids_at (x ∷ groups) zero = refl
 ids_at (x ∷ groups) (suc g) = ids_at groups g
 
-explicit_at : (groups : List RecGroup) (g : ℕ) → g < length groups → (emission.group_at (type_groups groups) g).is_explicit ≡ (table.group_at groups g).is_explicit
+explicit_at : (groups : List RecGroup) (g : ℕ) → g < length groups → (emission.group_at (type_groups groups) g).is_explicit ≡ (table.rec_group_at groups g).is_explicit
 explicit_at [] g h = absurd (omega (arith, h))
 explicit_at (x ∷ groups) zero h = refl
 explicit_at (x ∷ groups) (suc g) h = explicit_at groups g (omega (arith, h))
@@ -219,10 +219,10 @@ module _ (t : Table) (is : IsTable t) where
   many : length gs ≡ length groups
   many = length-map groups _
 
-  in_table : (g u i : ℕ) → IsMember gs g u i → table.IsMember groups g u i
+  in_table : (g u i : ℕ) → IsMember gs g u i → table.IsIdAt groups g u i
   in_table g u i m = ap (λ (ids : List ℕ). slice_get ids u) (sym (ids_at groups g)) ∙ at_member gs g u i m
 
-  from_table : (g u i : ℕ) → table.IsMember groups g u i → IsMember gs g u i
+  from_table : (g u i : ℕ) → table.IsIdAt groups g u i → IsMember gs g u i
   from_table g u i m = to_member gs g u i (ap (λ (ids : List ℕ). slice_get ids u) (ids_at groups g) ∙ m)
 
   pub live_member : (g u i : ℕ) → IsMember gs g u i → IsLive slots i
@@ -252,39 +252,39 @@ module _ (t : Table) (is : IsTable t) where
   abbrev free : List Bool
   free = map (is_free slots) groups
 
-  test_at : (a : ℕ) → a < length groups → slice_get free a ≡ Some (is_free slots (table.group_at groups a))
-  test_at a h = slice_get-map (is_free slots) groups a ∙ ap (option_map (is_free slots)) (slice_get-get_or groups a table.no_group h)
+  test_at : (a : ℕ) → a < length groups → slice_get free a ≡ Some (is_free slots (table.rec_group_at groups a))
+  test_at a h = slice_get-map (is_free slots) groups a ∙ ap (option_map (is_free slots)) (slice_get-get_or groups a table.no_rec_group h)
 
   free_group : (a u i : ℕ) → slice_get free a ≡ Some true → IsMember gs a u i → IsFreeGroup gs def a
   free_group a u i h m =
       let below : a < length groups = in_groups a u i m in
-      let yes : is_free slots (table.group_at groups a) ≡ true = some_inj (sym (test_at a below) ∙ h) in
-      let l : _ = free_list slots (table.group_at groups a).is_explicit (table.group_at groups a).types u i yes (in_table a u i m) in
+      let yes : is_free slots (table.rec_group_at groups a) ≡ true = some_inj (sym (test_at a below) ∙ h) in
+      let l : _ = free_list slots (table.rec_group_at groups a).is_explicit (table.rec_group_at groups a).types u i yes (in_table a u i m) in
       record {
         implicit = explicit_at groups a below ∙ l.implicit;
         own = λ v j mem k n x.
-            (let l' : _ = free_list slots (table.group_at groups a).is_explicit (table.group_at groups a).types v j yes (in_table a v j mem) in
+            (let l' : _ = free_list slots (table.rec_group_at groups a).is_explicit (table.rec_group_at groups a).types v j yes (in_table a v j mem) in
             no_names (get slots j) slots j k l'.own n (live_grouped k x));
       }
 
   from_free_group : (a : ℕ) → a < length groups → ((u i : ℕ) → IsMember gs a u i → IsFreeGroup gs def a) → slice_get free a ≡ Some true
   from_free_group a below each =
-      test_at a below ∙ ap (λ (b : Bool). Some b) (from_free_list slots (table.group_at groups a).is_explicit (table.group_at groups a).types (λ u i at.
+      test_at a below ∙ ap (λ (b : Bool). Some b) (from_free_list slots (table.rec_group_at groups a).is_explicit (table.rec_group_at groups a).types (λ u i at.
       (let m : IsMember gs a u i = from_table a u i at in let f : IsFreeGroup gs def a = each u i m in
       (sym (explicit_at groups a below) ∙ f.implicit, from_names (get slots i) slots i (λ k n live. f.own u i m k n (grouped_live k live))))) (is.single a))
 
   only_member : (a u i v j : ℕ) → slice_get free a ≡ Some true → IsMember gs a u i → IsMember gs a v j → j ≡ i
   only_member a u i v j h m m' =
-      let yes : is_free slots (table.group_at groups a) ≡ true = some_inj (sym (test_at a (in_groups a u i m)) ∙ h) in
-      (free_list slots (table.group_at groups a).is_explicit (table.group_at groups a).types u i yes (in_table a u i m)).only v j (in_table a v j m')
+      let yes : is_free slots (table.rec_group_at groups a) ≡ true = some_inj (sym (test_at a (in_groups a u i m)) ∙ h) in
+      (free_list slots (table.rec_group_at groups a).is_explicit (table.rec_group_at groups a).types u i yes (in_table a u i m)).only v j (in_table a v j m')
 
   -- the type that stands for a group
 
   heads_at : (g i : ℕ) (x : ModuleType) → IsMember gs g 0 i → get slots i ≡ Some x → slice_get (map (head slots) groups) g ≡ Some (Some x)
   heads_at g i x m at =
-      slice_get-map (head slots) groups g ∙ (ap (option_map (head slots)) (slice_get-get_or groups g table.no_group (in_groups g 0 i m)) ∙ ap (λ (o : Option ModuleType). Some o) (first (table.group_at groups g).types (in_table g 0 i m)))
+      slice_get-map (head slots) groups g ∙ (ap (option_map (head slots)) (slice_get-get_or groups g table.no_rec_group (in_groups g 0 i m)) ∙ ap (λ (o : Option ModuleType). Some o) (first (table.rec_group_at groups g).types (in_table g 0 i m)))
     where
-      first : (ids : List ℕ) → slice_get ids 0 ≡ Some i → head slots (record { types = ids; is_explicit = (table.group_at groups g).is_explicit }) ≡ Some x
+      first : (ids : List ℕ) → slice_get ids 0 ≡ Some i → head slots (record { types = ids; is_explicit = (table.rec_group_at groups g).is_explicit }) ≡ Some x
       first [] h = cc
       first (j ∷ ids) h = ap (get slots) (some_inj h) ∙ at
 
@@ -353,7 +353,7 @@ module _ (t : Table) (is : IsTable t) where
 
   is_written_from : (g : ℕ) → written g ≡ true → IsWritten gs entry g
   is_written_from g h =
-      let r : _ = any_at (λ i. not (entry i)) (table.group_at groups g).types h in
+      let r : _ = any_at (λ i. not (entry i)) (table.rec_group_at groups g).types h in
       (r.0, r.1, from_table g r.0 r.1 r.2, flip (entry r.1) r.3)
     where
       flip : (b : Bool) → not b ≡ true → b ≡ false
@@ -361,7 +361,7 @@ module _ (t : Table) (is : IsTable t) where
       flip false e = refl
 
   is_written_to : (g : ℕ) → IsWritten gs entry g → written g ≡ true
-  is_written_to g w = any_from (λ i. not (entry i)) (table.group_at groups g).types w.0 w.1 (in_table g w.0 w.1 w.2) (ap not w.3)
+  is_written_to g w = any_from (λ i. not (entry i)) (table.rec_group_at groups g).types w.0 w.1 (in_table g w.0 w.1 w.2) (ap not w.3)
 
   module _ (order : List ℕ) (sorts : OrdersNeighbours type_cmp free (map (head slots) groups) order) where
     abbrev kept : List ℕ

@@ -1,6 +1,6 @@
 -- A table of types that is written as a section.
+-- WebAssembly core specification, "Modules", types: what is written is a module's list of recursion groups. The specification has no rule by which a table is written; this one is of this crate's own.
 use Rattle.std.specs.Prelude.{◌≡◌, ℕ, ◌↔◌, Bool, false, List, map, Option, Some, None, IsSome}
-use Rattle.walrus_arena.specs.Arena.{Slots, get}
 use Rattle.walrus_types.specs.declared.records.GroupAt.{GroupAt}
 use Rattle.walrus_types.specs.declared.table.RecGroup.{RecGroup}
 use Rattle.walrus_types.specs.declared.error.EmitError.{EmitError}
@@ -12,6 +12,7 @@ use Rattle.walrus_types.specs.Emission.{IsMember, IsWritten, IsEmission}
 use Rattle.walrus_types.specs.Refusal.{IsMissing, IsFirstMissing, written_count}
 use Rattle.walrus_types.specs.Records.{section_of}
 use Rattle.walrus_types.specs.Types.{ModuleType, type_definition}
+use Rattle.walrus_types.specs.TypesById.{TypeSlots, live_type}
 use Rattle.walrus_types.specs.Naming.{value_in}
 use Rattle.walrus_types.specs.Indices.{Given}
 use Rattle.walrus_types.specs.Table.{Table}
@@ -28,16 +29,16 @@ slot_definition None = no_place.definition
 slot_definition (Some t) = type_definition t
 
 -- what the type of a live id is defined to be
-abbrev pub definition_at : Slots ModuleType → ℕ → Definition
-definition_at slots id = slot_definition (get slots id)
+abbrev pub definition_at : TypeSlots → ℕ → Definition
+definition_at slots id = slot_definition (live_type slots id)
 
 abbrev pub slot_is_entry : Option ModuleType → Bool
 slot_is_entry None = false
 slot_is_entry (Some t) = t.is_for_function_entry
 
 -- whether the type of a live id stands for the entry of a function
-abbrev pub is_entry_at : Slots ModuleType → ℕ → Bool
-is_entry_at slots id = slot_is_entry (get slots id)
+abbrev pub is_entry_at : TypeSlots → ℕ → Bool
+is_entry_at slots id = slot_is_entry (live_type slots id)
 
 -- P of both ids, if the error is that a type names one that has no index
 abbrev pub IfNameMissing : EmitError → (ℕ → ℕ → Type 0) → Type 0

@@ -1,6 +1,7 @@
 -- Which indices the ids of a module were given in a section.
+-- WebAssembly core specification, "Modules", indices: types, functions and globals have an index space each, numbered from 0.
 use Rattle.std.specs.Prelude.{◌≡◌, ℕ, ◌+◌, ◌==◌, ◌++◌, List, length, Option, Some, None, nat_eq, slice_get, ◌↔◌, if◌then◌else◌}
-use Rattle.std.specs.HashMap.{get}
+use Rattle.std.specs.Map.{lookup}
 use Rattle.walrus_types.specs.declared.indices.ids_to_indices.Indices.{Indices}
 use Rattle.walrus_types.specs.declared.indices.ids_to_indices.IdsToIndices.{IdsToIndices}
 
@@ -10,7 +11,7 @@ pub record Given : Type 0 where
   pub index : ℕ → Option ℕ
 
 abbrev pub given : {T : Type 0} → Indices T → Given
-given x = record { count = x.count; index = λ id. get nat_eq x.by_id id }
+given x = record { count = x.count; index = λ id. lookup (nat_eq id) x.by_id.entries }
 
 abbrev pub type_indices : IdsToIndices → Given
 type_indices x = given x.types

@@ -14,6 +14,7 @@ pub mod Fault
 pub mod Reading
 pub mod IdLists
 pub mod Indices
+pub mod TypesById
 pub mod Table
 pub mod Naming
 pub mod Emitted

@@ -1,4 +1,5 @@
 -- Renaming by a look-up that may lack a name, as where ids stand for indices or indices for ids.
+-- WebAssembly core specification, "Modules", indices: a type is named by its index. Names by id, and the look-ups between both, are of this crate's own.
 use Rattle.std.specs.Prelude.{ℕ, List, Option, find, is_none, unwrap_or}
 use Rattle.walrus_types.specs.declared.error.NoIndex.{NoIndex}
 use Rattle.walrus_types.specs.declared.error.FromRecordError.{FromRecordError}

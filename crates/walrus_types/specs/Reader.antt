@@ -1,9 +1,10 @@
 -- What contracts see of a section that is read group by group.
+-- WebAssembly core specification, "Binary Format", type section: the recursion groups of a module, one after the other.
 use Rattle.std.specs.Prelude.{◌≡◌, ℕ, List}
-use Rattle.walrus_arena.specs.Set.{mapped}
 use Rattle.walrus_types.specs.Section.{Section}
 use Rattle.walrus_types.specs.Emitted.{type_groups}
-use Rattle.walrus_types.specs.Table.{Table, IsSameTable, type_eq}
+use Rattle.walrus_types.specs.TypesById.{known_id}
+use Rattle.walrus_types.specs.Table.{Table, IsSameTable}
 use Rattle.walrus_types.specs.Reading.{Reads}
 
 -- the table so far, and the id that each index stands for
@@ -13,7 +14,7 @@ pub record Reader : Type 0 where
 
 -- the table and the ids are what this section is read into
 abbrev pub HasRead : Section → Table → List ℕ → Type 0
-HasRead s t ids = Reads s ids t.types.slots (mapped type_eq t.types) (type_groups t.groups)
+HasRead s t ids = Reads s ids t.types.slots (known_id t.types) (type_groups t.groups)
 
 -- the same table, and the same ids
 pub record IsSameReader (old new : Reader) : Type 0 where

@@ -1,4 +1,5 @@
 -- The contents of section records: what they define, without where their lists lie in memory.
+-- WebAssembly core specification, "Types": composite types, sub types and recursive types, which name types by index.
 use Rattle.std.specs.Prelude.{List, map}
 use Rattle.walrus_types.specs.declared.records.CompAt.{CompAt}
 use Rattle.walrus_types.specs.declared.records.CompAt.TheVariants as comp

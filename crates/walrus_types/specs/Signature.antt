@@ -1,4 +1,5 @@
 -- What contracts see of a function type.
+-- WebAssembly core specification, "Types": composite types, of which a function type has parameters and results.
 use Rattle.std.specs.Prelude.{ℕ, List}
 use Rattle.walrus_types.specs.declared.ty.value.Val.{Val}
 

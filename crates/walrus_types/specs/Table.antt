@@ -1,69 +1,56 @@
--- A table of types: the live types by id, which value is found at which id, and the recursion groups that the types stand in.
--- WebAssembly core specification, "Types": recursive types.
-use Rattle.std.specs.Prelude.{◌≡◌, ℕ, ◌<◌, ◌≤◌, Bool, true, false, List, [], ◌∷◌, ◌++◌, length, map, ◌+◌, slice_get, slice_index_or, nat_eq, filter, not, ◌≢◌, Option, Some, None, MatchOption, IsSomeAnd, option_and_then, option_map, if◌then◌else◌, Result, Ok}
+-- A table of types: the types of a module by id, and the recursion groups that they stand in.
+-- WebAssembly core specification, "Types": recursive types; "Modules", types: the list of a module's recursion groups.
+use Rattle.std.specs.Prelude.{◌≡◌, ℕ, ◌<◌, ◌≤◌, Bool, true, false, List, [], ◌∷◌, ◌++◌, length, map, ◌+◌, slice_get, slice_index_or, nat_eq, filter, filter_map, not, ◌≢◌, Option, Some, None, MatchOption, IsSomeAnd, option_and_then, option_map, if◌then◌else◌, Result, Ok}
 use Rattle.std.specs.declared.vec.Vec.{Vec}
 use Rattle.std.specs.declared.alloc.Global.{Global}
 use Rattle.std.specs.declared.alloc.AllocError.{AllocError}
-use Rattle.std.specs.List.{Contains, list_any}
-use Rattle.walrus_arena.specs.Arena.{get, IsLive, items, range}
-use Rattle.walrus_arena.specs.Set.{Set, mapped, found, Adds, IsSame, Removes, RemovesAll}
+use Rattle.std.specs.List.{Contains, list_any, range_with_len}
 use Rattle.walrus_types.specs.declared.ty.composite.CompositeType.{CompositeType}
 use Rattle.walrus_types.specs.declared.table.RecGroup.{RecGroup}
-use Rattle.walrus_types.specs.contracts.ty.TypePartialEq.TheImpl.{ghosts}
 use Rattle.walrus_types.specs.Signature.{Signature}
 use Rattle.walrus_types.specs.Types.{ModuleType, signature_of, nameless, function, type_definition}
+use Rattle.walrus_types.specs.TypesById.{IsSameType, TypesById, live_type, IsLive, known_id, found, IsUnchanged, Gains, Loses, LosesAll}
 use Rattle.walrus_types.specs.Definition.{names_of}
 use Rattle.walrus_types.specs.declared.ty.value.Val.{Val}
 use Rattle.std.specs.String.{string_bytes}
 
--- whether two types are equal: by composite, finality, supertype and the mark of a function entry
-unfoldable pub type_eq : ModuleType → ModuleType → Bool
-type_eq = ghosts.eq
-
--- both have the same composite, finality, supertype and mark of a function entry
-pub record IsSameType (a b : ModuleType) : Type 0 where
-  pub kind : a.kind ≡ b.kind
-  pub is_final : a.is_final ≡ b.is_final
-  pub supertype : a.supertype ≡ b.supertype
-  pub is_for_function_entry : a.is_for_function_entry ≡ b.is_for_function_entry
-
--- the types by id, with the map that finds them, and the groups in the order in which they came
+-- the types by id, and the groups in the order in which they came
 pub record Table : Type 0 where
-  pub types : Set ModuleType
+  pub types : TypesById
   pub groups : List RecGroup
 
 -- stands for a group that is not there
-abbrev pub no_group : RecGroup
-no_group = record { types = []; is_explicit = true }
+abbrev pub no_rec_group : RecGroup
+no_rec_group = record { types = []; is_explicit = true }
 
-abbrev pub group_at : List RecGroup → ℕ → RecGroup
-group_at groups k = slice_index_or groups k no_group
+abbrev pub rec_group_at : List RecGroup → ℕ → RecGroup
+rec_group_at groups k = slice_index_or groups k no_rec_group
 
 -- the id is the u-th of the group k
-abbrev pub IsMember : List RecGroup → ℕ → ℕ → ℕ → Type 0
-IsMember groups k u id = slice_get (group_at groups k).types u ≡ Some id
+abbrev pub IsIdAt : List RecGroup → ℕ → ℕ → ℕ → Type 0
+IsIdAt groups k u id = slice_get (rec_group_at groups k).types u ≡ Some id
 
 -- each live id stands in exactly one group, once, and no dead id stands in one;
 -- a group that was not given as one has one id at most; and only the ids of such groups are found by value
 pub record IsTable (t : Table) : Type 0 where
-  pub grouped : (id : ℕ) → IsLive t.types.slots id → (k : ℕ) × (u : ℕ) × IsMember t.groups k u id
-  pub live : (k u id : ℕ) → IsMember t.groups k u id → IsLive t.types.slots id
-  pub once : (k u l v id : ℕ) → IsMember t.groups k u id → IsMember t.groups l v id → (k ≡ l) × (u ≡ v)
-  pub single : (k : ℕ) → (group_at t.groups k).is_explicit ≡ false → length (group_at t.groups k).types ≤ 1
-  pub candidates : (q : ModuleType) (id k u : ℕ) → mapped type_eq t.types q ≡ Some id → IsMember t.groups k u id → (group_at t.groups k).is_explicit ≡ false
+  pub grouped : (id : ℕ) → IsLive t.types.slots id → (k : ℕ) × (u : ℕ) × IsIdAt t.groups k u id
+  pub live : (k u id : ℕ) → IsIdAt t.groups k u id → IsLive t.types.slots id
+  pub once : (k u l v id : ℕ) → IsIdAt t.groups k u id → IsIdAt t.groups l v id → (k ≡ l) × (u ≡ v)
+  pub single : (k : ℕ) → (rec_group_at t.groups k).is_explicit ≡ false → length (rec_group_at t.groups k).types ≤ 1
+  pub candidates : (q : ModuleType) (id k u : ℕ) → known_id t.types q ≡ Some id → IsIdAt t.groups k u id → (rec_group_at t.groups k).is_explicit ≡ false
 
 -- the live types in the order of their ids
 abbrev pub live_types : Table → List ModuleType
-live_types t = map (λ item. item.1) (items t.types.slots)
+live_types t = filter_map (λ slot. slot) t.types.slots
 
 -- the parameters and results of the type of this id, if it is live and a function type
 abbrev pub signature_at : Table → ℕ → Option Signature
-signature_at t id = option_and_then (λ ty. signature_of ty.kind) (get t.types.slots id)
+signature_at t id = option_and_then (λ ty. signature_of ty.kind) (live_type t.types.slots id)
 
 -- the first group that has the id
-abbrev pub group_of : List RecGroup → ℕ → Option RecGroup
-group_of [] id = None
-group_of (g ∷ groups) id = if list_any (nat_eq id) g.types then Some g else group_of groups id
+abbrev pub group_with : List RecGroup → ℕ → Option RecGroup
+group_with [] id = None
+group_with (g ∷ groups) id = if list_any (nat_eq id) g.types then Some g else group_with groups id
 
 -- the group that an id gets that no group was given for
 abbrev pub own_group : ℕ → RecGroup
@@ -72,21 +59,21 @@ own_group id = record { types = id ∷ []; is_explicit = false }
 module _ (old new : Table) where
   -- the same types, found in the same way, and the same groups
   pub record IsSameTable : Type 0 where
-    pub types : IsSame type_eq old.types new.types
+    pub types : IsUnchanged old.types new.types
     pub groups : new.groups ≡ old.groups
 
   -- the type goes into a new slot at the end, is found there, and has a group of its own at the end
   pub record AddsType (ty : ModuleType) (id : ℕ) : Type 0 where
-    pub types : Adds type_eq old.types new.types ty id
+    pub types : Gains old.types new.types ty id
     pub groups : new.groups ≡ old.groups ++ own_group id ∷ []
 
 -- what is found is answered and nothing changes; where nothing is found the type is added
 abbrev pub FindsOrAdds : Table → Table → ModuleType → ℕ → Type 0
-FindsOrAdds old new ty id = MatchOption (found type_eq old.types ty) (AddsType old new ty id) (λ known. (id ≡ known) × IsSameTable old new)
+FindsOrAdds old new ty id = MatchOption (found old.types ty) (AddsType old new ty id) (λ known. (id ≡ known) × IsSameTable old new)
 
 -- the id is live, its type is the same, and it has a group of its own
 pub record IsAnswer (t : Table) (ty : ModuleType) (id : ℕ) : Type 0 where
-  pub same : IsSomeAnd (get t.types.slots id) (IsSameType ty)
+  pub same : IsSomeAnd (live_type t.types.slots id) (IsSameType ty)
   pub alone : Contains t.groups (own_group id)
 
 -- the id of the next new type
@@ -105,7 +92,7 @@ placed id (m ∷ rest) = nameless m.0 m.1 m.2 false id ∷ placed (id + 1) rest
 -- the types go into new slots at the end, and stand in one explicit group at the end; none of them is found by value
 pub record AddsGroup (old new : Table) (members : List Member) : Type 0 where
   pub types : new.types ≡ record old.types { slots = old.types.slots ++ map Some (placed (next_id old) members) }
-  pub groups : new.groups ≡ old.groups ++ record { types = range (next_id old) (length members); is_explicit = true } ∷ []
+  pub groups : new.groups ≡ old.groups ++ record { types = range_with_len (next_id old) (length members); is_explicit = true } ∷ []
 
 -- at these ids something was built of which P holds
 abbrev pub Builds : (List ℕ → Result (Vec Member Global) (AllocError) → Type 0) → List ℕ → (List Member → Type 0) → Type 0
@@ -113,8 +100,8 @@ Builds gives ids P = (members : Vec Member Global) × gives ids (Ok members) × 
 
 -- the first live id, by id, of whose type P holds; none only where P holds of no live type
 abbrev pub IsFirst : Table → (ModuleType → Type 0) → Option ℕ → Type 0
-IsFirst t P None = (id : ℕ) → IsSomeAnd (get t.types.slots id) P → ⊥
-IsFirst t P (Some id) = IsSomeAnd (get t.types.slots id) P × ((j : ℕ) → j < id → IsSomeAnd (get t.types.slots j) P → ⊥)
+IsFirst t P None = (id : ℕ) → IsSomeAnd (live_type t.types.slots id) P → ⊥
+IsFirst t P (Some id) = IsSomeAnd (live_type t.types.slots id) P × ((j : ℕ) → j < id → IsSomeAnd (live_type t.types.slots j) P → ⊥)
 
 -- its name is this text
 abbrev pub IsNamed : List ℕ → ModuleType → Type 0
@@ -139,12 +126,12 @@ group_ended id g = if list_any (nat_eq id) g.types then record { types = []; is_
 module _ (old new : Table) (id : ℕ) where
   -- the type died and left its group
   pub record Deletes : Type 0 where
-    pub types : Removes type_eq old.types new.types id
+    pub types : Loses old.types new.types id
     pub groups : new.groups ≡ map (group_without id) old.groups
 
   -- all types of the id's group died, and the group stays without types
   pub record DeletesGroup : Type 0 where
-    pub types : IsSomeAnd (group_of old.groups id) (λ g. RemovesAll type_eq old.types g.types new.types)
+    pub types : IsSomeAnd (group_with old.groups id) (λ g. LosesAll old.types g.types new.types)
     pub groups : new.groups ≡ map (group_ended id) old.groups
 
 -- whether the definition of the type names the id
@@ -153,8 +140,8 @@ names ty id = list_any (nat_eq id) (names_of (type_definition ty))
 
 -- the type of this other id is live and names the id
 abbrev pub IsOtherNamer : Table → ℕ → ℕ → Type 0
-IsOtherNamer t other id = (other ≢ id) × IsSomeAnd (get t.types.slots other) (λ ty. names ty id ≡ true)
+IsOtherNamer t other id = (other ≢ id) × IsSomeAnd (live_type t.types.slots other) (λ ty. names ty id ≡ true)
 
 -- another type of the id's group names it
 abbrev pub IsNamedInGroup : Table → ℕ → Type 0
-IsNamedInGroup t id = IsSomeAnd (group_of t.groups id) (λ g. (u : ℕ) × (other : ℕ) × (slice_get g.types u ≡ Some other) × IsOtherNamer t other id)
+IsNamedInGroup t id = IsSomeAnd (group_with t.groups id) (λ g. (u : ℕ) × (other : ℕ) × (slice_get g.types u ≡ Some other) × IsOtherNamer t other id)

@@ -1,7 +1,9 @@
 -- What calls may make of a table, one after the other.
+-- The specification has no table of types that changes: its calls are of this crate's own.
 use Rattle.std.specs.Prelude.{◌≡◌, ℕ, List, [], ◌∷◌, ◌++◌, length}
-use Rattle.walrus_arena.specs.Arena.{IsLive, range}
+use Rattle.std.specs.List.{range_with_len}
 use Rattle.walrus_types.specs.Types.{ModuleType}
+use Rattle.walrus_types.specs.TypesById.{IsLive}
 use Rattle.walrus_types.specs.Table.{Table, Member, next_id, IsTable, IsSameTable, AddsType, AddsGroup, Deletes, DeletesGroup}
 use Rattle.walrus_types.specs.TableLends.{with_type}
 
@@ -21,7 +23,7 @@ pub data Call (old new : Table) : Type 0 where
 abbrev pub new_ids : {old new : Table} → Call old new → List ℕ
 new_ids (Keeps same) = []
 new_ids (Adds ty id adds) = id ∷ []
-new_ids {old} (Groups members adds) = range (next_id old) (length members)
+new_ids {old} (Groups members adds) = range_with_len (next_id old) (length members)
 new_ids (Writes id ty live writes) = []
 new_ids (Dies id live deletes) = []
 new_ids (Ends id live deletes) = []
@@ -34,7 +36,7 @@ pub data Calls : Table → List ℕ → Type 0 where
 -- whatever was called, each type is in one group, and the ids were given in order, each once
 pub record IsSound (t : Table) (ids : List ℕ) : Type 0 where
   pub table : IsTable t
-  pub ids_in_order : ids ≡ range 0 (next_id t)
+  pub ids_in_order : ids ≡ range_with_len 0 (next_id t)
 
 abbrev pub EveryTableIsSound : Type 0
 EveryTableIsSound = (t : Table) (ids : List ℕ) → Calls t ids → IsSound t ids

@@ -1,4 +1,5 @@
 -- Types seen by their kind, what is read of a field, and the ids that a type is made with.
+-- WebAssembly core specification, "Types": composite types, and the value type that a storage type unpacks to.
 use Rattle.std.specs.Prelude.{ℕ, true, List, ◌++◌, Option, Some, None}
 use Rattle.walrus_types.specs.declared.ty.value.AbstractHeapType.{AbstractHeapType}
 use Rattle.walrus_types.specs.declared.ty.value.AbstractHeapType.TheVariants as abstract

@@ -1,4 +1,5 @@
 -- Small sections, to see the normal form at.
+-- The specification has no normal form of a section, and no such examples: they are of this crate's own.
 use Rattle.std.specs.Prelude.{ℕ, true, false, [], ◌∷◌, None}
 use Rattle.walrus_types.specs.declared.ty.value.Heap.TheVariants as heap
 use Rattle.walrus_types.specs.declared.ty.value.Val.TheVariants as val
@@ -25,8 +26,8 @@ link k = final (Struct (record { element_type = storage.Val (val.Ref (record { n
 abbrev pub out_of_order : Section
 out_of_order = Single int_struct ∷ Single func ∷ []
 
-abbrev pub in_order : Section
-in_order = Single func ∷ Single int_struct ∷ []
+abbrev pub ordered : Section
+ordered = Single func ∷ Single int_struct ∷ []
 
 -- the last repeats the first
 abbrev pub repeated : Section

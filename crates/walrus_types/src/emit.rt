@@ -1,7 +1,7 @@
 //! Emission: the type section of a table.
 ghost use Rattle.std.specs.Prelude.{◌≡◌, ◌≤◌, ◌<◌, ◌^◌, ◌↔◌, IfOk, IfErr, IsTrue, IsErrOf, All, filter, length, not};
 ghost use Rattle.std.specs.List.{list_any};
-ghost use Rattle.walrus_arena.specs.Arena.{IsLive};
+ghost use Rattle.walrus_types.specs.TypesById.{IsLive};
 ghost use Rattle.walrus_types.specs.declared.table.RecGroup.{RecGroup};
 ghost use Rattle.walrus_types.specs.Emitted.{type_groups, definition_at, is_entry_at, written_types, IfNameMissing, IsEmitted, MissesFirst};
 ghost use Rattle.walrus_types.specs.Indices.{IsEmpty, type_indices, func_indices, global_indices};

@@ -25,7 +25,7 @@ ghost use Rattle.walrus_types.specs.Text.{HasPlaces, val_text};
 ghost use Rattle.walrus_types.specs.Types.{ModuleType, type_definition};
 ghost use Rattle.walrus_types.specs.Value.{bool_cmp, field_cmp, val_cmp};
 ghost use Rattle.walrus_types.specs.Views.{constant_of};
-ghost use Rattle.walrus_types.specs.Worked.{in_order, out_of_order, repeated, told_once, two_loops};
+ghost use Rattle.walrus_types.specs.Worked.{ordered, out_of_order, repeated, told_once, two_loops};
 ghost use Rattle.walrus_types.specs.declared.records.EntryAt.{EntryAt};
 ghost use Rattle.walrus_types.specs.declared.ty.value.Field.{Field};
 ghost use Rattle.walrus_types.specs.declared.ty.value.Val as value;
@@ -163,10 +163,10 @@ pub fn contents_tell_records()
 /// Three sections with their normal forms: the order of definitions turns two; a `Single` that repeats an earlier one goes to it,
 /// and not to the equal member of a `Rec`; `Single`s that name themselves stay apart. And the two that are turned are a renumbered swap.
 pub fn worked_sections()
-    ensures turned { IsNormalForm out_of_order in_order (1 ∷ 0 ∷ []) }
+    ensures turned { IsNormalForm out_of_order ordered (1 ∷ 0 ∷ []) }
     ensures merged { IsNormalForm repeated told_once (0 ∷ 1 ∷ 0 ∷ []) }
     ensures both_kept { IsNormalForm two_loops two_loops (0 ∷ 1 ∷ []) }
-    ensures swapped { IsRenumberedSwap out_of_order in_order 0 }
+    ensures swapped { IsRenumberedSwap out_of_order ordered 0 }
 {}
 
 /// Two value types with the same text are equal, where what they name are places. The ids of a `ValType` are, so [`same_text`] says it of any two of them.

@@ -1,8 +1,8 @@
 //! The types of a module, and the recursion groups that they stand in.
 ghost use Rattle.std.specs.Prelude.{◌≡◌, ◌↔◌, [], IsTrue, IsSome, IsSomeAnd, Some, length, option_copied};
 ghost use Rattle.std.specs.Borrow.{sem};
-ghost use Rattle.walrus_arena.specs.Arena.{get, IsLive};
-ghost use Rattle.walrus_types.specs.Table.{IsTable, group_of, live_types, signature_at};
+ghost use Rattle.walrus_types.specs.TypesById.{live_type, IsLive};
+ghost use Rattle.walrus_types.specs.Table.{IsTable, group_with, live_types, signature_at};
 ghost use Rattle.walrus_types.specs.TableLends.{LendsType};
 
 mod add;
@@ -52,9 +52,17 @@ impl Model for ModuleTypes {
 
     ghost Value = { Table };
 
-    ghost view = { λ t. record { types = t.types; groups = t.groups.items } };
+    ghost view = { λ t. record {
+      types = record { slots = t.types.slots; entries = t.types.entries };
+      groups = t.groups.items;
+    } };
 
-    ghost invariant = { λ t. IsIndexed (record { types = t.types; groups = t.groups.items }) t.group_of.items };
+    ghost invariant = { λ t. IsIndexed
+        (record {
+          types = record { slots = t.types.slots; entries = t.types.entries };
+          groups = t.groups.items;
+        })
+        t.group_of.items };
 }
 
 impl ModuleTypes {
@@ -79,7 +87,7 @@ impl ModuleTypes {
     /// The type of a live id.
     pub fn get(&self, id: TypeId) -> &Type
         requires { IsLive self.now.types.slots id }
-        ensures { get self.now.types.slots id ≡ Some result.now }
+        ensures { live_type self.now.types.slots id ≡ Some result.now }
     {
         &self.types[id]
     }
@@ -103,7 +111,7 @@ impl ModuleTypes {
 
     /// The group that has the id, if the id is live.
     pub fn rec_group_for_type(&self, id: TypeId) -> Option<&RecGroup>
-        ensures { option_copied result ≡ group_of self.now.groups id }
+        ensures { option_copied result ≡ group_with self.now.groups id }
     {
         if self.types.contains(id) {
             Some(&self.groups[self.group_of[id.index()]])
@@ -120,7 +128,7 @@ impl ModuleTypes {
     pub fn get_mut(&mut self, id: TypeId) -> &mut Type
         requires { IsLive self.old.types.slots id }
         ensures* writes_back { sem 𝓛 (LendsType self.entry id result) }
-        ensures value { get self.old.types.slots id ≡ Some result.now }
+        ensures value { live_type self.old.types.slots id ≡ Some result.now }
     {
         &mut self.types[id]
     }

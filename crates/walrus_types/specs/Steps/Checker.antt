@@ -1,4 +1,5 @@
 -- The laws of the normal form on two indices, as the slow program tries them.
+-- Of this crate's own working; it serves the normal form of a type section. WebAssembly core specification, "Modules", types.
 use Rattle.std.specs.Prelude.{◌≡◌, ℕ, ◌<◌, ◌↔◌, ◌⊎◌}
 use Rattle.std.specs.declared.cmp.Ordering.TheVariants.{Less}
 use Rattle.walrus_types.specs.Definition.{definition_cmp}

@@ -1,4 +1,5 @@
 -- Places of a list between which no anchor stands, and the order in which such neighbours go by their heads and all else stays.
+-- Of this crate's own working; it serves the writing of a table as a type section. WebAssembly core specification, "Modules", types.
 use Rattle.std.specs.Prelude.{◌≡◌, ℕ, ◌<◌, ◌≤◌, List, length, slice_get, slice_index, Some, Option, Bool, true, ◌⊎◌, IsPermutation}
 use Rattle.std.specs.List.{range_with_len}
 use Rattle.std.specs.declared.cmp.Ordering.{Ordering}

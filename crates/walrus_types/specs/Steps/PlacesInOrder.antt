@@ -1,4 +1,5 @@
 -- The places of a list in ascending order of its elements.
+-- Of this crate's own working; it serves the writing of a table as a type section. WebAssembly core specification, "Modules", types.
 use Rattle.std.specs.Prelude.{◌≡◌, ℕ, ◌+◌, ◌<◌, List, [], ◌∷◌, length, slice_get, slice_index, Some, ◌⊎◌, IsPermutation}
 use Rattle.std.specs.List.{range_with_len}
 use Rattle.std.specs.declared.cmp.Ordering.{Ordering}
@@ -17,6 +18,6 @@ pub record IsOrder {T : Type 0} (cmp : T → T → Ordering) (xs : List T) (plac
   pub ascending : (i j : ℕ) → i < j → j < length places → Before cmp xs (slice_index places i) (slice_index places j)
 
 -- the elements with their places, the first of which is i
-abbrev pub numbered : {T : Type 0} → ℕ → List T → List (T × ℕ)
-numbered i [] = []
-numbered i (x ∷ xs) = (x, i) ∷ numbered (i + 1) xs
+abbrev pub with_places : {T : Type 0} → ℕ → List T → List (T × ℕ)
+with_places i [] = []
+with_places i (x ∷ xs) = (x, i) ∷ with_places (i + 1) xs

@@ -1,4 +1,5 @@
 -- The contents of what the record of a type says.
+-- Of this crate's own working; it serves the reading of the definitions in a type section. WebAssembly core specification, "Types", sub types.
 use Rattle.walrus_types.specs.declared.convert.SubType.{SubType}
 use Rattle.walrus_types.specs.Definition.{Definition}
 use Rattle.walrus_types.specs.Types.{kind_composite}

@@ -1,19 +1,20 @@
 -- What reading does to a table.
+-- Of this crate's own working; it serves the reading of a type section. WebAssembly core specification, "Modules", types.
 use Rattle.std.specs.Prelude.{◌≡◌, ℕ, List, [], ◌∷◌, ◌++◌, map, None, MatchOption}
-use Rattle.walrus_arena.specs.Set.{SameMap, found}
 use Rattle.walrus_types.specs.Definition.{Definition}
-use Rattle.walrus_types.specs.Table.{Table, Member, AddsType, AddsGroup, type_eq}
+use Rattle.walrus_types.specs.TypesById.{KnowsSame, found}
+use Rattle.walrus_types.specs.Table.{Table, Member, AddsType, AddsGroup}
 use Rattle.walrus_types.specs.Types.{ModuleType, kind_composite}
 
 -- the next id is used up: its slot is dead, and nothing else changes
 pub record UsesUpId (old new : Table) : Type 0 where
   pub slots : new.types.slots ≡ old.types.slots ++ None ∷ []
-  pub map : SameMap type_eq old.types new.types
+  pub map : KnowsSame old.types new.types
   pub groups : new.groups ≡ old.groups
 
 -- what is found is answered and the next id is used up; where nothing is found the type is added
 abbrev pub ReadsSingle : Table → Table → ModuleType → ℕ → Type 0
-ReadsSingle old new ty id = MatchOption (found type_eq old.types ty) (AddsType old new ty id) (λ known. (id ≡ known) × UsesUpId old new)
+ReadsSingle old new ty id = MatchOption (found old.types ty) (AddsType old new ty id) (λ known. (id ≡ known) × UsesUpId old new)
 
 -- what is said of a new type of a group, as a definition
 abbrev pub member_definition : Member → Definition

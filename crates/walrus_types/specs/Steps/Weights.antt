@@ -1,4 +1,5 @@
 -- A few small numbers for a type, by which most types can be told apart before their lists are looked at.
+-- Of this crate's own working; it serves the order of types, in which a table is written. WebAssembly core specification, "Types", composite types.
 use Rattle.std.specs.Prelude.{ℕ, ◌+◌, ◌*◌, ◌==◌, cond, Bool, true, false, List, [], ◌∷◌}
 use Rattle.std.specs.declared.cmp.Ordering.{Ordering}
 use Rattle.std.specs.Ordering.{nat_cmp, ordering_then}

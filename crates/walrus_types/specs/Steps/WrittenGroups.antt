@@ -1,4 +1,5 @@
 -- Groups that are written one after the other, and the indices that their ids get.
+-- Of this crate's own working; it serves the writing of a table as a type section. WebAssembly core specification, "Modules", types.
 use Rattle.std.specs.Prelude.{◌≡◌, ℕ, Bool, true, false, [], ◌∷◌, ◌+◌, ◌<◌, ◌⊎◌, cond, List, length, map, take, slice_get, slice_index, Contains, Option, Some, None, unwrap_or}
 use Rattle.std.specs.List.{flat_map}
 use Rattle.walrus_types.specs.Definition.{Definition, names_of, renamed}

@@ -1,7 +1,7 @@
 //! Which groups are free, and which are written.
 ghost use Rattle.std.specs.Prelude.{◌≡◌, IfOk, map, All};
 ghost use Rattle.std.specs.List.{list_all};
-ghost use Rattle.walrus_arena.specs.Arena.{IsLive};
+ghost use Rattle.walrus_types.specs.TypesById.{IsLive};
 ghost use Rattle.walrus_types.specs.declared.table.RecGroup.{RecGroup};
 ghost use Rattle.walrus_types.specs.Definition.{composite_names, supertype_names, names_of};
 ghost use Rattle.walrus_types.specs.Steps.FreeGroups.{is_own_or_dead, names_none_other, is_free, head, is_written_group};

@@ -1,6 +1,6 @@
 //! The order in which groups are written.
 ghost use Rattle.std.specs.Prelude.{◌≡◌, IfOk, map, length};
-ghost use Rattle.walrus_types.specs.Steps.PlacesInOrder.{IsOrder, numbered};
+ghost use Rattle.walrus_types.specs.Steps.PlacesInOrder.{IsOrder, with_places};
 ghost use Rattle.walrus_types.specs.Steps.Neighbours.{AreStarts, AreKeys, OrdersNeighbours};
 
 use std::alloc::{AllocError, Global};
@@ -34,7 +34,7 @@ fn keyed<K: Drop>(
 }
 
 fn paired<T: Drop>(alloc: Global, items: Vec<T>) -> Result<Vec<(T, usize)>, AllocError>
-    ensures { IfOk result (λ v. v.items ≡ numbered 0 items.items) }
+    ensures { IfOk result (λ v. v.items ≡ with_places 0 items.items) }
 {
     items
         .into_iter()

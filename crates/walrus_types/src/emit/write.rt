@@ -1,6 +1,6 @@
 //! Records of groups, and the indices that their types get.
 ghost use Rattle.std.specs.Prelude.{◌≡◌, ℕ, ◌<◌, ◌≤◌, ◌^◌, IfOk, IfErr, OnOk, None, Some, All, map, length, false, slice_index};
-ghost use Rattle.walrus_arena.specs.Arena.{IsLive};
+ghost use Rattle.walrus_types.specs.TypesById.{IsLive};
 ghost use Rattle.walrus_types.specs.declared.table.RecGroup.{RecGroup};
 ghost use Rattle.walrus_types.specs.declared.error.ToRecordError.TheVariants as to_record;
 ghost use Rattle.walrus_types.specs.Definition.{names_of};

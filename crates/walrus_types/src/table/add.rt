@@ -1,8 +1,8 @@
 //! Adding types to a table.
 ghost use Rattle.std.specs.Prelude.{◌≡◌, [], IfOk, OnErr, Some, None, IfSome, true, false};
-ghost use Rattle.walrus_arena.specs.Set.{found};
+ghost use Rattle.walrus_types.specs.TypesById.{found};
 ghost use Rattle.walrus_types.specs.Types.{nameless, function};
-ghost use Rattle.walrus_types.specs.Table.{type_eq, FindsOrAdds, IsAnswer, AddsType, IsSameTable, next_id};
+ghost use Rattle.walrus_types.specs.Table.{FindsOrAdds, IsAnswer, AddsType, IsSameTable, next_id};
 ghost use Rattle.walrus_types.specs.declared.ty.composite.CompositeType.TheVariants as kind;
 
 use super::{ModuleTypes, RecGroup};
@@ -89,7 +89,7 @@ impl ModuleTypes {
     }
 
     pub(super) fn known(&self, ty: &Type) -> Option<TypeId>
-        ensures value { result ≡ found type_eq self.now.types ty.now }
+        ensures value { result ≡ found self.now.types ty.now }
         ensures answer { IfSome result (λ id. IsAnswer self.now ty.now id) }
     {
         self.types.find(ty)
@@ -97,7 +97,7 @@ impl ModuleTypes {
 
     // A type that isn't found gets a new slot, and a group of its own.
     pub(super) fn add_new(&mut self, ty: Type) -> Result<TypeId, AllocError>
-        requires { found type_eq self.old.types ty ≡ None }
+        requires { found self.old.types ty ≡ None }
         ensures answer { IfOk result (λ id. IsAnswer self.new ty id) }
         ensures ok { IfOk result (λ id. AddsType self.old self.new ty id) }
         ensures err { OnErr result (IsSameTable self.old self.new) }

@@ -1,6 +1,6 @@
 //! Deleting types from a table.
 ghost use Rattle.std.specs.Prelude.{◌≡◌, ◌↔◌, IsOk, IsTrue, IfOk, OnOk, MatchBool};
-ghost use Rattle.walrus_arena.specs.Arena.{IsLive};
+ghost use Rattle.walrus_types.specs.TypesById.{IsLive};
 ghost use Rattle.walrus_types.specs.Table.{Deletes, DeletesGroup, IsNamedInGroup, IsOtherNamer};
 
 use super::ModuleTypes;

@@ -1,7 +1,7 @@
 //! Adding explicit recursion groups to a table.
 ghost use Rattle.std.specs.Prelude.{◌≡◌, ◌≢◌, ◌+◌, ◌<◌, ◌≤◌, ◌^◌, ℕ, ◌++◌, length, replicate, vec_len, vec_capacity, IfOk, OnOk, OnErr, Ok, Err};
 ghost use Rattle.std.specs.Fn.{FnOnceReturnsAt, FnOnceTakesAt};
-ghost use Rattle.walrus_arena.specs.Arena.{range};
+ghost use Rattle.std.specs.List.{range_with_len};
 ghost use Rattle.walrus_types.specs.Table.{placed, AddsGroup, next_id, Builds};
 ghost use Rattle.walrus_types.specs.declared.table.rec_group.AddRecGroupError.TheVariants.{Count};
 
@@ -41,11 +41,11 @@ impl ModuleTypes {
         F: FnOnce(&[TypeId]) -> Result<Vec<(CompositeType, bool, Option<TypeId>)>, AllocError>
             + Drop,
     >(&mut self, count: usize, build: F) -> Result<Vec<TypeId>, AddRecGroupError>
-        requires { FnOnceTakesAt F.FnOnce build (range (next_id self.old) count) }
-        ensures ids { IfOk result (λ ids. ids.items ≡ range (next_id self.old) count) }
-        ensures ok { OnOk result (Builds (FnOnceReturnsAt F.FnOnce build) (range (next_id self.old) count) (λ members. (length members ≡ count) × AddsGroup self.old self.new members)) }
+        requires { FnOnceTakesAt F.FnOnce build (range_with_len (next_id self.old) count) }
+        ensures ids { IfOk result (λ ids. ids.items ≡ range_with_len (next_id self.old) count) }
+        ensures ok { OnOk result (Builds (FnOnceReturnsAt F.FnOnce build) (range_with_len (next_id self.old) count) (λ members. (length members ≡ count) × AddsGroup self.old self.new members)) }
         ensures err { OnErr result (self.new ≡ self.old) }
-        ensures count { (wanted : ℕ) (got : ℕ) → result ≡ Err (Count wanted got) → (wanted ≡ count) × (got ≢ count) × Builds (FnOnceReturnsAt F.FnOnce build) (range (next_id self.old) count) (λ members. length members ≡ got) }
+        ensures count { (wanted : ℕ) (got : ℕ) → result ≡ Err (Count wanted got) → (wanted ≡ count) × (got ≢ count) × Builds (FnOnceReturnsAt F.FnOnce build) (range_with_len (next_id self.old) count) (λ members. length members ≡ got) }
     {
         let ids = self.next_ids(count)?;
         let members = build(ids.as_slice())?;
@@ -61,7 +61,7 @@ impl ModuleTypes {
 
     // The ids that so many new types will have.
     fn next_ids(&self, count: usize) -> Result<Vec<TypeId>, AllocError>
-        ensures { IfOk result (λ ids. ids.items ≡ range (next_id self.now) count) }
+        ensures { IfOk result (λ ids. ids.items ≡ range_with_len (next_id self.now) count) }
     {
         let first = self.group_of.len();
         let mut ids = Vec::with_capacity(*self.groups.allocator(), count)?;

@@ -1,25 +1,27 @@
 use Rattle.std.proofs.lemmas.Result.{on_ok_weaker}
 use Rattle.walrus_arena.specs.Set.{Removes}
-use Rattle.walrus_types.specs.Table.{Table, type_eq}
+use Rattle.walrus_types.specs.Table.{Table}
+use Rattle.walrus_types.specs.TypesById.{type_eq}
 use Rattle.walrus_types.proofs.TableLemmas.{home_of}
 use Rattle.walrus_types.proofs.ShrinkLemmas.{table_deleted, deletes_from, ok_holds}
+use Rattle.walrus_types.proofs.SeenTypes.{seen, removes_seen}
 use Rattle.walrus_types.proofs.table.ModuleTypes.delete.Goals as goal
 
 pub invariant_of-self : goal.invariant_of-self
 unfolding type_eq
 invariant_of-self c =
-    let t : Table = record { types = c.self.inside.types; groups = c.self.inside.groups.items } in
+    let t : Table = record { types = seen c.self.inside.types; groups = c.self.inside.groups.items } in
     let live = rw (← c.self.view_is) at c.requires in
-    let removes : Removes type_eq t.types c.remove.new.self c.args.id = ok_holds c.remove.result c.remove.ensures.succeeds c.remove.ensures.ok in
+    let removes : Removes type_eq c.self.inside.types c.remove.new.self c.args.id = ok_holds c.remove.result c.remove.ensures.succeeds c.remove.ensures.ok in
     let at = rw c.index.ensures at c.index-at.ensures in
     let home = home_of t c.self.inside.group_of.items c.args.id c.index-at.result.now c.index_mut-group.result.now c.self.invariant live at c.index_mut-group.ensures.value in
-    table_deleted t _ c.self.inside.group_of.items c.args.id c.self.invariant live (deletes_from t c.args.id c.index-at.result.now c.index_mut-group.result.now c.remove.new.self c.leave.new.self home c.leave.ensures removes)
+    table_deleted t _ c.self.inside.group_of.items c.args.id c.self.invariant live (deletes_from t c.args.id c.index-at.result.now c.index_mut-group.result.now (seen c.remove.new.self) c.leave.new.self home c.leave.ensures (removes_seen c.self.inside.types c.remove.new.self c.args.id removes))
 
 pub returns-clause-ok : goal.returns-clause-ok
 unfolding type_eq
 returns-clause-ok c =
-    let t : Table = record { types = c.self.inside.types; groups = c.self.inside.groups.items } in
+    let t : Table = record { types = seen c.self.inside.types; groups = c.self.inside.groups.items } in
     let live = rw (← c.self.view_is) at c.requires in
     let at = rw c.index.ensures at c.index-at.ensures in
     let home = home_of t c.self.inside.group_of.items c.args.id c.index-at.result.now c.index_mut-group.result.now c.self.invariant live at c.index_mut-group.ensures.value in
-    on_ok_weaker c.remove.result (λ (r : Removes type_eq t.types c.remove.new.self c.args.id). rw (← c.self.view_is) (deletes_from t c.args.id c.index-at.result.now c.index_mut-group.result.now c.remove.new.self c.leave.new.self home c.leave.ensures r)) c.remove.ensures.ok
+    on_ok_weaker c.remove.result (λ (r : Removes type_eq c.self.inside.types c.remove.new.self c.args.id). rw (← c.self.view_is) (deletes_from t c.args.id c.index-at.result.now c.index_mut-group.result.now (seen c.remove.new.self) c.leave.new.self home c.leave.ensures (removes_seen c.self.inside.types c.remove.new.self c.args.id r))) c.remove.ensures.ok

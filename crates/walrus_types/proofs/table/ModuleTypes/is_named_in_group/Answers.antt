@@ -5,11 +5,12 @@ use Rattle.walrus_types.proofs.TableLemmas.{home_of}
 use Rattle.walrus_types.proofs.FindLemmas.{not_both}
 use Rattle.walrus_types.proofs.GroupEndLemmas.{members_live}
 use Rattle.walrus_types.proofs.NamedLemmas.{member_read, none_more, named_here, named_nowhere}
+use Rattle.walrus_types.proofs.SeenTypes.{seen}
 use Rattle.walrus_types.proofs.table.ModuleTypes.is_named_in_group.Goals as goal
 
 pub is_other_namer-requires : goal.is_other_namer-requires
 is_other_namer-requires c =
-    let t : Table = record { types = c.self.inside.types; groups = c.self.inside.groups.items } in
+    let t : Table = record { types = seen c.self.inside.types; groups = c.self.inside.groups.items } in
     let live = rw (← c.self.view_is) at c.requires in
     let at = rw c.index.ensures at c.index-2.ensures in
     let home = home_of t c.self.inside.group_of.items c.args.id c.index-2.result.now c.index-group.result.now c.self.invariant live at c.index-group.ensures in
@@ -18,7 +19,7 @@ is_other_namer-requires c =
 
 pub returns-then-is_other_namer : goal.returns-then-is_other_namer
 returns-then-is_other_namer c =
-    let t : Table = record { types = c.self.inside.types; groups = c.self.inside.groups.items } in
+    let t : Table = record { types = seen c.self.inside.types; groups = c.self.inside.groups.items } in
     let live = rw (← c.self.view_is) at c.requires in
     let at = rw c.index.ensures at c.index-2.ensures in
     let home = home_of t c.self.inside.group_of.items c.args.id c.index-2.result.now c.index-group.result.now c.self.invariant live at c.index-group.ensures in
@@ -33,7 +34,7 @@ loop-other-preserved c =
 
 pub returns : goal.returns
 returns c =
-    let t : Table = record { types = c.self.inside.types; groups = c.self.inside.groups.items } in
+    let t : Table = record { types = seen c.self.inside.types; groups = c.self.inside.groups.items } in
     let live = rw (← c.self.view_is) at c.requires in
     let at = rw c.index.ensures at c.index-2.ensures in
     let home = home_of t c.self.inside.group_of.items c.args.id c.index-2.result.now c.index-group.result.now c.self.invariant live at c.index-group.ensures in

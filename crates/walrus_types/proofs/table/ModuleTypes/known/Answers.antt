@@ -1,13 +1,16 @@
-use Rattle.walrus_types.specs.Table.{Table, type_eq}
+use Rattle.std.proofs.Common.{◌∙◌}
+use Rattle.walrus_types.specs.Table.{Table}
+use Rattle.walrus_types.specs.TypesById.{type_eq}
 use Rattle.walrus_types.proofs.AddLemmas.{answer_found}
+use Rattle.walrus_types.proofs.SeenTypes.{seen, found_seen}
 use Rattle.walrus_types.proofs.table.ModuleTypes.known.Goals as goal
 
 pub returns-clause-value : goal.returns-clause-value
 unfolding type_eq
-returns-clause-value c = rw (← c.self.view_is) c.find.ensures
+returns-clause-value c = rw (← c.self.view_is) (c.find.ensures ∙ found_seen c.self.inside.types c.args.ty.now)
 
 pub returns-clause-answer : goal.returns-clause-answer
 unfolding type_eq
 returns-clause-answer c =
-    let t : Table = record { types = c.self.inside.types; groups = c.self.inside.groups.items } in
-    rw (← c.self.view_is) (answer_found t c.self.inside.group_of.items c.args.ty.now c.self.invariant c.find.result c.find.ensures)
+    let t : Table = record { types = seen c.self.inside.types; groups = c.self.inside.groups.items } in
+    rw (← c.self.view_is) (answer_found t c.self.inside.group_of.items c.args.ty.now c.self.invariant c.find.result (c.find.ensures ∙ found_seen c.self.inside.types c.args.ty.now))
