@@ -1,7 +1,7 @@
 -- How the groups of a table are written as a section: the rule by which two groups keep or change their order, and what
 -- is written for them. A table is seen as a list of groups of ids, what each id defines, and which ids stand for the
 -- entries of functions alone. The live ids are those that stand in a group.
--- WebAssembly core specification, "Modules", types: a definition may name the indices of its own group and of earlier ones.
+-- WebAssembly core specification, "Validation", "Modules", types: a definition may name the indices of its own group and of earlier ones.
 use Rattle.std.specs.Prelude.{◌≡◌, ℕ, ◌<◌, ◌≤◌, Bool, true, false, ◌⊎◌, List, [], length, slice_index_or, Some, None}
 use Rattle.std.specs.declared.cmp.Ordering.TheVariants.{Less}
 use Rattle.walrus_types.specs.Definition.{Definition, Names, renamed, definition_cmp}

@@ -1,5 +1,5 @@
 -- When a recursion group of a section cannot be read, and why: the section gets too long, or an entry names an index that its group and those before it do not have.
--- WebAssembly core specification, "Validation", recursive types: a group names types of its own and of the groups before it. The errors are of this crate's own.
+-- WebAssembly core specification, "Validation", "Modules", types: a group is valid where it names types of its own and of the groups before it. The errors are of this crate's own.
 use Rattle.std.specs.Prelude.{◌≡◌, ℕ, ◌+◌, ◌^◌, nat_le, List, [], ◌∷◌, ◌++◌, length, map, find, Option, Some, option_map, if◌then◌else◌}
 use Rattle.walrus_types.specs.declared.error.ReadError.{ReadError}
 use Rattle.walrus_types.specs.declared.error.ReadError.TheVariants.{BadIndex, TooMany}

@@ -1,6 +1,6 @@
 -- What a table of types holds once a section is read into it. Each index of the section has a slot of its own;
 -- r sends each index to the slot that stands for it, and slot i is live exactly where r i is i.
--- WebAssembly core specification, "Modules", types: a definition may name the indices of its own group and of earlier ones.
+-- WebAssembly core specification, "Validation", "Modules", types: a definition may name the indices of its own group and of earlier ones.
 use Rattle.std.specs.Prelude.{◌≡◌, ℕ, suc, ◌+◌, ◌<◌, ◌==◌, Bool, true, false, cond, List, [], ◌∷◌, length}
 use Rattle.std.specs.List.{range_with_len}
 use Rattle.walrus_types.specs.Definition.{Definition, Names, renamed}

@@ -1,5 +1,5 @@
 -- What a table of types, and the ids that indices stand for, are once a section is read into them.
--- WebAssembly core specification, "Modules", types: a definition may name the indices of its own group and of earlier ones.
+-- WebAssembly core specification, "Validation", "Modules", types: a definition may name the indices of its own group and of earlier ones.
 use Rattle.std.specs.Prelude.{◌≡◌, ℕ, ◌+◌, ◌<◌, List, [], ◌∷◌, map, length, Option, Some, None, false, ◌↔◌}
 use Rattle.walrus_types.specs.declared.ty.composite.CompositeType.{CompositeType}
 use Rattle.walrus_types.specs.declared.ty.composite.CompositeType.TheVariants as kind

@@ -1,6 +1,6 @@
 -- When groups can't be written: some type names one that has no index when its own group is written, or there are too many.
 -- A table is seen as in the rule by which its groups are written.
--- WebAssembly core specification, "Validation", recursive types: a group names types of its own and of the groups before it.
+-- WebAssembly core specification, "Validation", "Modules", types: a group is valid where it names types of its own and of the groups before it. The refusals are of this crate's own.
 use Rattle.std.specs.Prelude.{◌≡◌, ℕ, ◌<◌, ◌⊎◌, Bool, not, if◌then◌else◌, List, length, slice_get, Some, sum_by}
 use Rattle.std.specs.List.{list_any}
 use Rattle.walrus_types.specs.Definition.{Definition, names_of}

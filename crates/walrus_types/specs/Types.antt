@@ -1,5 +1,5 @@
 -- What contracts see of the types of a module.
--- WebAssembly core specification, "Types": composite types and sub types. The id, the name and the mark of a function entry are of this crate's own.
+-- WebAssembly core specification, "Types": composite types and sub types. The id, the name and the mark of a function entry are no part of a type there.
 use Rattle.std.specs.Prelude.{ℕ, Bool, List, [], Option, Some, None}
 use Rattle.std.specs.declared.string.String.{String}
 use Rattle.std.specs.declared.alloc.Global.{Global}

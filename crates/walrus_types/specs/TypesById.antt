@@ -31,7 +31,7 @@ pub record TypesById : Type 0 where
 abbrev pub live_type : TypeSlots → ℕ → Option ModuleType
 live_type slots id = slice_index_or slots id None
 
--- the id is that of a type which lives
+-- the type of this id lives
 abbrev pub IsLive : TypeSlots → ℕ → Type 0
 IsLive slots id = IsSome (live_type slots id)
 
