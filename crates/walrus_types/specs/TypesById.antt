@@ -18,7 +18,7 @@ pub record IsSameType (a b : ModuleType) : Type 0 where
   pub supertype : a.supertype ≡ b.supertype
   pub is_for_function_entry : a.is_for_function_entry ≡ b.is_for_function_entry
 
--- at the place of each id its type, and `None` where it died
+-- at the place of each id its type, and `None` where none lives
 abbrev pub TypeSlots : Type 0
 TypeSlots = List (Option ModuleType)
 
@@ -68,7 +68,7 @@ module _ (old new : TypesById) where
     pub slots : new.slots ≡ old.slots ++ Some ty ∷ []
     pub map : (q : ModuleType) → known_id new q ≡ (if type_eq ty q then Some id else known_id old q)
 
-  -- the type of the id died, and the id is no longer noted for the types equal to it
+  -- the type of the id died; where this very id was noted for the types equal to it, none is noted any more
   pub record Loses (id : ℕ) : Type 0 where
     pub slots : new.slots ≡ slice_set old.slots id None
     pub map : (q : ModuleType) → known_id new q ≡ (if is_known_as old id q then None else known_id old q)
