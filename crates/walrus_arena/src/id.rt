@@ -19,18 +19,26 @@ pub type Id<T> = Key<*const T>;
 /// A place in an arena, with `P` for what stands there. A contract sees it as its number. See [`Id`].
 #[derive_where(Clone, Copy)]
 pub struct Key<P> {
-    index: usize,
+    // In bytes, which need no alignment: a type has ids five enums deep, and each of these would be padded to 8 bytes.
+    index: [u8; 8],
     of: PhantomData<P>,
 }
 
 impl<P> Model for Key<P> {
-    ghost use Rattle.std.specs.Prelude.{ℕ};
+    ghost use Rattle.std.specs.Prelude.{◌≡◌, ℕ, ◌<◌, length, refl};
+    ghost use Rattle.std.specs.Int.{w64, from_le_bytes, to_le_bytes};
+    ghost use Rattle.std.proofs.Common.{get_or};
+    ghost use Rattle.std.proofs.lemmas.Nat.{le_bytes_8};
 
     ghost Value = { ℕ };
 
-    ghost view = { λ i. i.index };
+    ghost view = { λ i. from_le_bytes w64 i.index };
 
-    ghost inverse = { λ n. record { index = n; of = record {} } };
+    ghost invariant = { λ i. (length i.index ≡ 8) × ((k : ℕ) → get_or i.index k 0 < 256) };
+
+    ghost inverse = { λ n. record { index = to_le_bytes w64 n; of = record {} } };
+
+    ghost inverse_ok = { λ a h i. record { index = le_bytes_8 a.index (from_le_bytes w64 a.index) h.0 h.1 refl i; of = a.of } };
 }
 
 impl<P> Key<P> {
@@ -39,7 +47,7 @@ impl<P> Key<P> {
         ensures { result ≡ index }
     {
         Key {
-            index,
+            index: index.to_le_bytes(),
             of: PhantomData,
         }
     }
@@ -48,14 +56,14 @@ impl<P> Key<P> {
     pub fn index(self) -> usize
         ensures { result ≡ self }
     {
-        self.place()
+        Key::place(&self)
     }
 
     // `index` behind a reference.
     pub(crate) fn place(&self) -> usize
         ensures { result ≡ self.now }
     {
-        self.index
+        usize::from_le_bytes(self.index)
     }
 }
 
@@ -65,7 +73,7 @@ impl<P> PartialEq for Key<P> {
     ghost laws = { Prim.search (comparing, rules) };
 
     fn eq(&self, other: &Key<P>) -> bool {
-        self.index == other.index
+        self.place() == other.place()
     }
 }
 
@@ -93,7 +101,7 @@ impl<P> Ord for Key<P> {
     ghost matches_eq = { Prim.search (comparing, rules) };
 
     fn cmp(&self, other: &Key<P>) -> Ordering {
-        self.index.cmp(&other.index)
+        self.place().cmp(&other.place())
     }
 }
 
@@ -103,12 +111,12 @@ impl<P> Hash for Key<P> {
     ghost respects_eq = { Prim.search (hashing, rules) };
 
     fn hash<H: Hasher>(&self, state: &mut H) {
-        self.index.hash(state);
+        self.place().hash(state);
     }
 }
 
 impl<P> fmt::Debug for Key<P> {
     fn fmt<W: fmt::Write>(&self, f: &mut fmt::Formatter<W>) -> fmt::Result {
-        f.debug_tuple("Id").field(&self.index).finish()
+        f.debug_tuple("Id").field(&self.place()).finish()
     }
 }
