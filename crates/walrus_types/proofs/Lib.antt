@@ -32,6 +32,7 @@ pub mod Contents
 pub mod WrittenFew
 pub mod Worked
 pub mod Weights
+pub mod Told
 pub mod Renaming
 pub mod UsedUpLemmas
 pub mod ReaderLemmas
@@ -51,3 +52,4 @@ pub mod NamedLemmas
 pub mod ReaderCalls
 pub mod FaultLaws
 pub mod Texts
+pub mod ToldTypes

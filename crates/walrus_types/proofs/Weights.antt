@@ -26,7 +26,7 @@ use Rattle.walrus_types.specs.Value.{abstract_index, heap_cmp, val_cmp, storage_
 use Rattle.walrus_types.specs.contracts.ty.TypeOrd.TheImpl.Laws as type_laws
 use Rattle.walrus_types.proofs.Orders.Types.{type_cmp, type_is}
 
-abstract_small : (a : AbstractHeapType) → abstract_index a ≤ 11
+pub abstract_small : (a : AbstractHeapType) → abstract_index a ≤ 11
 abstract_small abstract.Func = omega arith
 abstract_small abstract.Extern = omega arith
 abstract_small abstract.Any = omega arith
@@ -147,7 +147,7 @@ val_less (val.Ref r) val.V128 h = absurd (omega (arith, h))
 val_less (val.Ref r) (val.Ref q) h = nullable_less r.nullable q.nullable r.heap_type q.heap_type (omega (arith, h))
 
 -- a place that is not that of a reference to a type
-unnamed : (i : ℕ) → is_named i ≡ false → (¬ (i ≡ 17)) × (¬ (i ≡ 30))
+pub unnamed : (i : ℕ) → is_named i ≡ false → (¬ (i ≡ 17)) × (¬ (i ≡ 30))
 unnamed i h = (λ e. (let k : true ≡ false = sym (ap is_named e) ∙ h in cc), λ e. (let k : true ≡ false = sym (ap is_named e) ∙ h in cc))
 
 -- the place of a reference to a type
@@ -241,7 +241,7 @@ rank_less i j m n h = elim (cases_lt i j) [
 ]
 
 -- the rank of what names a type is known by itself
-named_is_open : (i : ℕ) → is_named i ≡ true → is_open (2 * (i + 1) + 0) ≡ true
+pub named_is_open : (i : ℕ) → is_named i ≡ true → is_open (2 * (i + 1) + 0) ≡ true
 named_is_open i h = elim (named (i == 17) (i == 30) i refl refl h) [
   | inl e ↦ ap (λ (x : ℕ). is_open (2 * (x + 1) + 0)) e
   | inr e ↦ ap (λ (x : ℕ). is_open (2 * (x + 1) + 0)) e
@@ -264,10 +264,10 @@ rank_some : (i : ℕ) (m : Bool) → nat_cmp (rank i m) 0 ≡ Greater
 rank_some i m = let some : 0 < rank i m = omega arith in grind (arith, nat_tests, some)
 
 -- what is asked of a rank, so that lists can be told by the ranks of their first items
-record Tells {A : Type 0} (r : A → ℕ) (cmp : A → A → Ordering) : Type 0 where
-  some : (x : A) → nat_cmp (r x) 0 ≡ Greater
-  less : (x y : A) → nat_cmp (r x) (r y) ≡ Less → cmp x y ≡ Less
-  same : (x y : A) → r x ≡ r y → is_open (r x) ≡ false → cmp x y ≡ Equal
+pub record Tells {A : Type 0} (r : A → ℕ) (cmp : A → A → Ordering) : Type 0 where
+  pub some : (x : A) → nat_cmp (r x) 0 ≡ Greater
+  pub less : (x y : A) → nat_cmp (r x) (r y) ≡ Less → cmp x y ≡ Less
+  pub same : (x y : A) → r x ≡ r y → is_open (r x) ≡ false → cmp x y ≡ Equal
 
 module _ {A : Type 0} (r : A → ℕ) (cmp : A → A → Ordering) (tells : Tells r cmp) where
   first_less : (xs ys : List A) → nat_cmp (first_rank r xs) (first_rank r ys) ≡ Less → slice_cmp cmp xs ys ≡ Less
@@ -314,7 +314,7 @@ module _ {A : Type 0} (r : A → ℕ) (cmp : A → A → Ordering) (tells : Tell
       let all = ordering_then o1 (ordering_then o2 (ordering_then o3 (ordering_then o4 o5))) in
       step o1 (ordering_then o2 (ordering_then o3 (ordering_then o4 o5))) xs ys refl second (sym (ap (λ o. ordering_then o all) (itself k)) ∙ h)
 
-val_tells : Tells val_rank val_cmp
+pub val_tells : Tells val_rank val_cmp
 val_tells = record {
   some = λ v. rank_some (val_place v) false;
   less = λ v w h. by_val v w (rank_less (val_place v) (val_place w) false false h);
@@ -325,7 +325,7 @@ val_tells = record {
     by_val v w (by_place h) = val_less v w h
     by_val v w (by_mutability e f h) = cc
 
-field_tells : Tells field_rank field_cmp
+pub field_tells : Tells field_rank field_cmp
 field_tells = record {
   some = λ f. rank_some (storage_place f.element_type) f.mutable;
   less = λ f g h. by_field f g (rank_less (storage_place f.element_type) (storage_place g.element_type) f.mutable g.mutable h);

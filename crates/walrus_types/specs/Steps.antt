@@ -7,5 +7,6 @@ pub mod PlacesInOrder
 pub mod Neighbours
 pub mod WrittenGroups
 pub mod Weights
+pub mod Told
 pub mod Checker
 pub mod SubTypes

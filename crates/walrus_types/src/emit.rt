@@ -8,12 +8,13 @@ ghost use Rattle.walrus_types.specs.Indices.{IsEmpty, type_indices, func_indices
 ghost use Rattle.walrus_types.specs.declared.error.EmitError.TheVariants.{TooMany};
 ghost use Rattle.walrus_types.specs.Refusal.{written_count};
 ghost use Rattle.walrus_types.specs.Steps.FreeGroups.{is_marked};
-ghost use Rattle.walrus_types.specs.Steps.WrittenGroups.{FailsBy, IsWritingOrder, written_in};
+ghost use Rattle.walrus_types.specs.Steps.WrittenGroups.{AreTold, FailsBy, IsWritingOrder, written_in};
 
 mod free;
 mod order;
 #[cfg(test)]
 mod tests;
+mod told;
 mod weighed;
 mod write;
 
@@ -21,6 +22,7 @@ use crate::{EmitError, GroupAt, IdsToIndices, ModuleTypes, RecGroup};
 use free::{Survey, is_written_group, survey_of};
 use order::group_order;
 use std::alloc::{AllocError, Global};
+use weighed::Weight;
 use write::{picked_groups, write_groups};
 
 // The least number of types that can't be written.
@@ -57,19 +59,29 @@ fn marked_places(alloc: Global, marks: &[bool], order: &[usize]) -> Result<Vec<u
     Ok(places)
 }
 
-// The places of the groups that are written, in the order in which they are.
-fn writing_order(alloc: Global, table: &ModuleTypes) -> Result<Vec<usize>, AllocError>
-    ensures order { IfOk result (λ v. IsWritingOrder (type_groups table.now.groups) (definition_at table.now.types.slots) (is_entry_at table.now.types.slots) v.items) }
-    ensures count { IfOk result (λ v. written_in (type_groups table.now.groups) v.items ≡ written_count (is_entry_at table.now.types.slots) (type_groups table.now.groups)) }
+// The places of the groups that are written, in the order in which they are. And of all groups in their own order the
+// weights that tell all of their first types.
+#[derive(Drop)]
+struct WritingOrder {
+    places: Vec<usize>,
+    told: Vec<Option<Weight>>,
+}
+
+fn writing_order(alloc: Global, table: &ModuleTypes) -> Result<WritingOrder, AllocError>
+    ensures order { IfOk result (λ o. IsWritingOrder (type_groups table.now.groups) (definition_at table.now.types.slots) (is_entry_at table.now.types.slots) o.places.items) }
+    ensures count { IfOk result (λ o. written_in (type_groups table.now.groups) o.places.items ≡ written_count (is_entry_at table.now.types.slots) (type_groups table.now.groups)) }
+    ensures told { IfOk result (λ o. AreTold table.now.types.slots table.now.groups o.told.items) }
 {
     let groups = table.rec_groups();
     let Survey {
         free,
         heads,
         written,
+        told,
     } = survey_of(alloc, table, groups)?;
     let order = group_order(alloc, free.as_slice(), heads)?;
-    marked_places(alloc, written.as_slice(), order.as_slice())
+    let places = marked_places(alloc, written.as_slice(), order.as_slice())?;
+    Ok(WritingOrder { places, told })
 }
 
 // The section of a table that has not too many types.
@@ -82,8 +94,13 @@ fn write_table(
     ensures others { IfOk result (λ r. IsEmpty (func_indices r.1) × IsEmpty (global_indices r.1)) }
     ensures missing { IfErr result (λ e. FailsBy e (MissesFirst table.now)) }
 {
-    let order = writing_order(alloc, table)?;
-    let groups = picked_groups(alloc, table.rec_groups(), order.as_slice())?;
+    let WritingOrder { places, told } = writing_order(alloc, table)?;
+    let groups = picked_groups(
+        alloc,
+        table.rec_groups(),
+        told.as_slice(),
+        places.as_slice(),
+    )?;
     write_groups(alloc, table, groups.as_slice())
 }
 

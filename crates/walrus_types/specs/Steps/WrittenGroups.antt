@@ -1,6 +1,6 @@
 -- Groups that are written one after the other, and the indices that their ids get.
 -- Of this crate's own working; it serves the writing of a table as a type section. WebAssembly core specification, "Modules", types.
-use Rattle.std.specs.Prelude.{◌≡◌, ℕ, Bool, true, false, [], ◌∷◌, ◌+◌, ◌<◌, ◌⊎◌, cond, List, length, map, take, slice_get, slice_index, Contains, Option, Some, None, unwrap_or}
+use Rattle.std.specs.Prelude.{◌≡◌, ℕ, IsSomeAnd, Bool, true, false, [], ◌∷◌, ◌+◌, ◌<◌, ◌⊎◌, cond, List, length, map, take, slice_get, slice_index, Contains, Option, Some, None, unwrap_or}
 use Rattle.std.specs.List.{flat_map}
 use Rattle.walrus_types.specs.Definition.{Definition, names_of, renamed}
 use Rattle.walrus_types.specs.Section.{Group, Single, Rec}
@@ -17,10 +17,36 @@ use Rattle.walrus_types.specs.Indices.{Given, Indexes}
 use Rattle.walrus_types.specs.Naming.{first_missing}
 use Rattle.walrus_types.specs.Emission.{group_at, IsWritten}
 use Rattle.walrus_types.specs.Emission.{Stands}
+use Rattle.walrus_types.specs.TypesById.{TypeSlots, live_type}
+use Rattle.walrus_types.specs.Table.{rec_group_at}
+use Rattle.walrus_types.specs.Steps.Told.{IsToldBy}
+use Rattle.walrus_types.specs.Steps.Weights.{Weight}
 
 -- the ids of these groups in order
 abbrev pub ids_in : List TypeGroup → List ℕ
 ids_in ws = flat_map (λ w. w.ids) ws
+
+-- a group that is to be written, with the weight of its first type, where that tells all of the type
+pub record PickedGroup : Type 0 where
+  pub group : TypeGroup
+  pub told : Option Weight
+
+-- their groups
+abbrev pub groups_of : List PickedGroup → List TypeGroup
+groups_of ps = map (λ p. p.group) ps
+
+-- where there is a weight, it tells all of the type of this id
+abbrev pub TellsType : TypeSlots → ℕ → Option Weight → Type 0
+TellsType slots id told = (w : Weight) → told ≡ Some w → IsSomeAnd (live_type slots id) (IsToldBy w)
+
+-- where there is a weight, it tells all of the group's first type
+abbrev pub TellsFirst : TypeSlots → PickedGroup → Type 0
+TellsFirst slots p = TellsType slots (slice_index p.group.ids 0) p.told
+
+-- for each group a weight that tells all of its first type, or none
+pub record AreTold (slots : TypeSlots) (groups : List RecGroup) (told : List (Option Weight)) : Type 0 where
+  pub as_many : length told ≡ length groups
+  pub each : (g : ℕ) (o : Option Weight) → slice_get told g ≡ Some o → TellsType slots (slice_index (rec_group_at groups g).types 0) o
 
 -- the groups at these places
 abbrev pub in_order : List TypeGroup → List ℕ → List TypeGroup

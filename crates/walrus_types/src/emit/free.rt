@@ -1,14 +1,16 @@
 //! Which groups are free, and which are written.
-ghost use Rattle.std.specs.Prelude.{◌≡◌, IfOk, map, All};
+ghost use Rattle.std.specs.Prelude.{◌≡◌, IfOk, IfSome, IsSomeAnd, map, All};
 ghost use Rattle.std.specs.List.{list_all};
 ghost use Rattle.walrus_types.specs.TypesById.{IsLive};
 ghost use Rattle.walrus_types.specs.declared.table.RecGroup.{RecGroup};
 ghost use Rattle.walrus_types.specs.Definition.{composite_names, supertype_names, names_of};
 ghost use Rattle.walrus_types.specs.Steps.FreeGroups.{is_own_or_dead, names_none_other, is_free, head, is_written_group};
+ghost use Rattle.walrus_types.specs.Steps.Told.{IsToldBy};
+ghost use Rattle.walrus_types.specs.Steps.WrittenGroups.{AreTold};
 ghost use Rattle.walrus_types.specs.Types.{kind_composite, type_definition};
 ghost use Rattle.walrus_types.specs.Value.{heap_names, val_names, storage_names, field_names};
 
-use super::weighed::Weighed;
+use super::weighed::{Weighed, Weight};
 use crate::{
     CompositeType, FieldType, Heap, HeapType, ModuleTypes, RecGroup, Storage, StorageType, Type,
     TypeId, Val, ValType,
@@ -134,15 +136,27 @@ pub(super) fn is_written_group(table: &ModuleTypes, group: &RecGroup) -> bool
     false
 }
 
-// What decides the place of each group: whether it is free, its first type, and whether it is written.
+// The weight of the head, where that tells all of the type.
+fn told_of(head: &Option<Weighed<'_>>) -> Option<Weight>
+    ensures { IfSome result (λ w. IsSomeAnd head.now (IsToldBy w)) }
+{
+    match head {
+        Some(ty) => ty.told(),
+        None => None,
+    }
+}
+
+// What decides the place of each group: whether it is free, its first type, and whether it is written; and what its first
+// type is, where the weight tells it.
 #[derive(Drop)]
 pub(super) struct Survey<'a> {
     pub(super) free: Vec<bool>,
     pub(super) heads: Vec<Option<Weighed<'a>>>,
     pub(super) written: Vec<bool>,
+    pub(super) told: Vec<Option<Weight>>,
 }
 
-// One pass tells all three, since it is reaching a type that costs.
+// One pass tells all of it, since it is reaching a type that costs.
 pub(super) fn survey_of<'a>(
     alloc: Global,
     table: &'a ModuleTypes,
@@ -152,18 +166,23 @@ pub(super) fn survey_of<'a>(
     ensures free { IfOk result (λ s. s.free.items ≡ map (is_free table.now.types.slots) groups.now) }
     ensures heads { IfOk result (λ s. s.heads.items ≡ map (head table.now.types.slots) groups.now) }
     ensures written { IfOk result (λ s. s.written.items ≡ map (is_written_group table.now.types.slots) groups.now) }
+    ensures told { IfOk result (λ s. AreTold table.now.types.slots groups.now s.told.items) }
 {
     let mut free = Vec::with_capacity(alloc, groups.len())?;
     let mut heads = Vec::with_capacity(alloc, groups.len())?;
     let mut written = Vec::with_capacity(alloc, groups.len())?;
+    let mut told = Vec::with_capacity(alloc, groups.len())?;
     for group in groups {
         free.push(is_free_group(table, group))?;
-        heads.push(head_of(table, group))?;
+        let head = head_of(table, group);
+        told.push(told_of(&head))?;
+        heads.push(head)?;
         written.push(is_written_group(table, group))?;
     }
     Ok(Survey {
         free,
         heads,
         written,
+        told,
     })
 }

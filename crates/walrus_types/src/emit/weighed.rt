@@ -1,10 +1,12 @@
 //! Types that are compared by a few small numbers first, and by their lists only where these are the same.
-ghost use Rattle.std.specs.Prelude.{◌≡◌, ◌≤◌};
+ghost use Rattle.std.specs.Prelude.{◌≡◌, ◌≤◌, IfSome};
 ghost use Rattle.walrus_types.specs.contracts.ty.TypeEq.TheImpl.Laws as type_eq;
 ghost use Rattle.walrus_types.specs.contracts.ty.TypeOrd.TheImpl.Laws as type_ord;
 ghost use Rattle.walrus_types.specs.contracts.ty.TypePartialEq.TheImpl.Laws as type_partial_eq;
 ghost use Rattle.walrus_types.specs.contracts.ty.TypePartialOrd.TheImpl.Laws as type_partial_ord;
+ghost use Rattle.walrus_types.specs.Steps.Told.{is_short, is_closed, is_told, IsToldBy};
 ghost use Rattle.walrus_types.specs.Steps.Weights.{heap_place, val_place, storage_place, is_open, val_rank, field_rank, first_rank, after_first, ranks, type_weight};
+ghost use Rattle.walrus_types.specs.Types.{kind_composite, type_definition};
 ghost use Rattle.walrus_types.specs.Value.{abstract_index};
 
 use crate::{
@@ -16,7 +18,7 @@ use std::marker::Model;
 use std::slice;
 
 // The kind of a type, and a number for each of its first five parameters or fields, less for a lesser one. Behind one that names a type all are 0.
-type Weight = (u8, u8, u8, u8, u8, u8);
+pub(super) type Weight = (u8, u8, u8, u8, u8, u8);
 
 // The ranks of a reference to a type and of a nullable one, which do not tell all of it.
 const NAMED: u8 = 36;
@@ -164,32 +166,75 @@ fn weight_of(ty: &Type) -> Weight
     }
 }
 
-// A type with its weight: it compares as the type does.
+// Whether it has at most as many parameters or fields as a weight has ranks, and no results.
+fn is_short(kind: &CompositeType) -> bool
+    ensures { result ≡ is_short (kind_composite kind.now) }
+{
+    match kind {
+        CompositeType::Function(function) => {
+            function.results().is_empty() && function.params().len() <= 5
+        }
+        CompositeType::Struct(of) => of.fields.as_slice().len() <= 5,
+        CompositeType::Array(_) => true,
+    }
+}
+
+fn is_closed(weight: Weight) -> bool
+    ensures { result ≡ is_closed weight }
+{
+    let (_, first, second, third, fourth, fifth) = weight;
+    !is_open(first) && !is_open(second) && !is_open(third) && !is_open(fourth) && !is_open(fifth)
+}
+
+// Whether the weight of the type tells all of it.
+fn is_told(ty: &Type, weight: Weight) -> bool
+    requires { weight ≡ type_weight ty.now }
+    ensures { result ≡ is_told (type_definition ty.now) }
+{
+    ty.is_final && ty.supertype.is_none() && is_short(&ty.kind) && is_closed(weight)
+}
+
+// A type with its weight, and whether this tells all of it. It compares as the type does.
 #[derive(Drop)]
 pub(super) struct Weighed<'a> {
     weight: Weight,
+    tells_all: bool,
     ty: &'a Type,
 }
 
 impl<'a> Model for Weighed<'a> {
     ghost use Rattle.std.specs.Prelude.{◌≡◌};
+    ghost use Rattle.walrus_types.specs.Steps.Told.{is_told};
     ghost use Rattle.walrus_types.specs.Steps.Weights.{type_weight};
-    ghost use Rattle.walrus_types.specs.Types.{ModuleType};
+    ghost use Rattle.walrus_types.specs.Types.{ModuleType, type_definition};
 
     ghost Value = { ModuleType };
 
     ghost view = { λ s. s.ty.now };
 
-    ghost invariant = { λ s. s.weight ≡ type_weight s.ty.now };
+    ghost invariant = { λ s. (s.weight ≡ type_weight s.ty.now) × (s.tells_all ≡ is_told (type_definition s.ty.now)) };
 }
 
 impl<'a> Weighed<'a> {
     pub(super) fn new(ty: &'a Type) -> Weighed<'a>
         ensures { result ≡ ty.now }
     {
+        let weight = weight_of(ty);
         Weighed {
-            weight: weight_of(ty),
+            weight,
+            tells_all: is_told(ty, weight),
             ty,
+        }
+    }
+
+    // Its weight, where that tells all of the type.
+    pub(super) fn told(&self) -> Option<Weight>
+        ensures { IfSome result (λ w. IsToldBy w self.now) }
+    {
+        if self.tells_all {
+            Some(self.weight)
+        } else {
+            None
         }
     }
 }

@@ -1,6 +1,6 @@
 //! Records of groups, and the indices that their types get.
 ghost use Rattle.std.specs.Prelude.{◌≡◌, ℕ, ◌<◌, ◌≤◌, ◌^◌, IfOk, IfErr, OnOk, None, Some, All, map, length, false, slice_index};
-ghost use Rattle.walrus_types.specs.TypesById.{IsLive};
+ghost use Rattle.walrus_types.specs.TypesById.{IsLive, TypeSlots};
 ghost use Rattle.walrus_types.specs.declared.table.RecGroup.{RecGroup};
 ghost use Rattle.walrus_types.specs.declared.error.ToRecordError.TheVariants as to_record;
 ghost use Rattle.walrus_types.specs.Definition.{names_of};
@@ -10,8 +10,10 @@ ghost use Rattle.walrus_types.specs.Indices.{IsEmpty, type_index, type_indices, 
 ghost use Rattle.walrus_types.specs.Naming.{first_missing};
 ghost use Rattle.walrus_types.specs.ReadTable.{TypeGroup};
 ghost use Rattle.walrus_types.specs.Records.{entry_definition, group_of};
-ghost use Rattle.walrus_types.specs.Steps.WrittenGroups.{AllIndexed, AreWritten, FailsBy, IsApart, IsFirstMissingIn, IsFirstUnindexed, RefusesType, ids_in, indexed, in_order, refused, written_group};
+ghost use Rattle.walrus_types.specs.Steps.WrittenGroups.{AllIndexed, AreWritten, FailsBy, IsApart, IsFirstMissingIn, IsFirstUnindexed, RefusesType, AreTold, TellsFirst, TellsType, groups_of, ids_in, indexed, in_order, refused, written_group};
 
+use super::told::told_entry;
+use super::weighed::Weight;
 use crate::{
     EmitError, EntryAt, GroupAt, IdsToIndices, Listed, ModuleTypes, NoIndex, RecGroup,
     ToRecordError, TypeId,
@@ -78,40 +80,45 @@ fn entries_of(
     Ok(entries)
 }
 
-// A group that is to be written. The type of a group that isn't explicit is at hand.
+// A group that is to be written. The type of a group that isn't explicit is at hand, and so is the weight of its first
+// type, where that tells all of the type.
 #[derive(Drop)]
 pub(super) struct Picked<'a> {
     lone: Option<TypeId>,
+    told: Option<Weight>,
     group: &'a RecGroup,
 }
 
 impl<'a> Model for Picked<'a> {
-    ghost use Rattle.walrus_types.specs.ReadTable.{TypeGroup};
-    ghost use Rattle.walrus_types.specs.Steps.WrittenGroups.{IsLone};
+    ghost use Rattle.walrus_types.specs.Steps.WrittenGroups.{IsLone, PickedGroup};
 
-    ghost Value = { TypeGroup };
+    ghost Value = { PickedGroup };
 
-    ghost view = { λ s. record { ids = s.group.now.types; is_explicit = s.group.now.is_explicit } };
+    ghost view = { λ s. record {
+      group = record { ids = s.group.now.types; is_explicit = s.group.now.is_explicit };
+      told = s.told;
+    } };
 
     ghost invariant = { λ s. IsLone s.lone s.group.now };
 }
 
 impl<'a> Picked<'a> {
-    fn new(group: &'a RecGroup) -> Picked<'a>
+    fn new(group: &'a RecGroup, told: Option<Weight>) -> Picked<'a>
         requires filled { 0 < length group.now.types }
         requires single { group.now.is_explicit ≡ false → length group.now.types ≤ 1 }
-        ensures { result ≡ record { ids = group.now.types; is_explicit = group.now.is_explicit } }
+        ensures group { result.group ≡ record { ids = group.now.types; is_explicit = group.now.is_explicit } }
+        ensures told { result.told ≡ told }
     {
         let lone = if group.is_explicit {
             None
         } else {
             Some(group.types.as_slice()[0])
         };
-        Picked { lone, group }
+        Picked { lone, told, group }
     }
 
     fn ids(&self) -> &[TypeId]
-        ensures { result.now ≡ self.now.ids }
+        ensures { result.now ≡ self.now.group.ids }
     {
         match &self.lone {
             Some(id) => slice::from_ref(id),
@@ -124,18 +131,41 @@ impl<'a> Picked<'a> {
 pub(super) fn picked_groups<'a>(
     alloc: Global,
     groups: &'a [RecGroup],
+    told: &[Option<Weight>],
     order: &[usize],
 ) -> Result<Vec<Picked<'a>>, AllocError>
+    requires as_many { length told.now ≡ length groups.now }
     requires within { All (λ g. g < length groups.now) order.now }
     requires single { All (λ (g : RecGroup). g.is_explicit ≡ false → length g.types ≤ 1) groups.now }
     requires filled { All (λ g. 0 < length (group_at (type_groups groups.now) g).ids) order.now }
-    ensures { IfOk result (λ v. v.items ≡ in_order (type_groups groups.now) order.now) }
+    ensures groups { IfOk result (λ v. groups_of v.items ≡ in_order (type_groups groups.now) order.now) }
+    ensures told { (slots : TypeSlots) → AreTold slots groups.now told.now → IfOk result (λ v. All (TellsFirst slots) v.items) }
 {
     let mut all = Vec::with_capacity(alloc, order.len())?;
     for place in order {
-        all.push(Picked::new(&groups[*place]))?;
+        all.push(Picked::new(&groups[*place], told[*place]))?;
     }
     Ok(all)
+}
+
+// The record of the type of a live id, from the weight where that tells all of the type.
+fn lone_entry(
+    alloc: Global,
+    table: &ModuleTypes,
+    id: TypeId,
+    told: Option<Weight>,
+    indices: &IdsToIndices,
+) -> Result<EntryAt, EmitError>
+    requires live { IsLive table.now.types.slots id }
+    requires told { TellsType table.now.types.slots id told }
+    ensures renamed { IfOk result (λ e. entry_definition e ≡ indexed (type_index indices.now) (definition_at table.now.types.slots) id) }
+    ensures complete { OnOk result (first_missing (type_index indices.now) (names_of (definition_at table.now.types.slots id)) ≡ None) }
+    ensures missing { IfErr result (λ e. FailsBy e (λ i k. (i ≡ id) × (first_missing (type_index indices.now) (names_of (definition_at table.now.types.slots id)) ≡ Some k))) }
+{
+    match told {
+        Some(weight) => Ok(told_entry(alloc, weight)?),
+        None => entry_of(alloc, table, id, indices),
+    }
 }
 
 fn record_of(
@@ -144,14 +174,15 @@ fn record_of(
     group: &Picked<'_>,
     indices: &IdsToIndices,
 ) -> Result<GroupAt, EmitError>
-    requires live { All (IsLive table.now.types.slots) group.now.ids }
-    ensures renamed { IfOk result (λ g. group_of g ≡ written_group (indexed (type_index indices.now) (definition_at table.now.types.slots)) group.now) }
-    ensures complete { OnOk result (AllIndexed (type_index indices.now) (definition_at table.now.types.slots) group.now.ids) }
-    ensures missing { IfErr result (λ e. FailsBy e (IsFirstUnindexed (type_index indices.now) (definition_at table.now.types.slots) group.now.ids)) }
+    requires live { All (IsLive table.now.types.slots) group.now.group.ids }
+    requires told { TellsFirst table.now.types.slots group.now }
+    ensures renamed { IfOk result (λ g. group_of g ≡ written_group (indexed (type_index indices.now) (definition_at table.now.types.slots)) group.now.group) }
+    ensures complete { OnOk result (AllIndexed (type_index indices.now) (definition_at table.now.types.slots) group.now.group.ids) }
+    ensures missing { IfErr result (λ e. FailsBy e (IsFirstUnindexed (type_index indices.now) (definition_at table.now.types.slots) group.now.group.ids)) }
 {
     match group.lone {
         Some(id) => {
-            let entry = entry_of(alloc, table, id, indices)?;
+            let entry = lone_entry(alloc, table, id, group.told, indices)?;
             Ok(GroupAt::Single(entry))
         }
         None => {
@@ -167,13 +198,14 @@ pub(super) fn write_groups(
     table: &ModuleTypes,
     groups: &[Picked<'_>],
 ) -> Result<(Vec<GroupAt>, IdsToIndices), EmitError>
-    requires live { All (λ (g : TypeGroup). All (IsLive table.now.types.slots) g.ids) groups.now }
-    requires filled { All (λ (g : TypeGroup). 0 < length g.ids) groups.now }
-    requires apart { IsApart (ids_in groups.now) }
-    requires few { length (ids_in groups.now) < 2 ^ 32 }
-    ensures written { IfOk result (λ r. AreWritten (definition_at table.now.types.slots) groups.now r.0.items (type_indices r.1)) }
+    requires live { All (λ (g : TypeGroup). All (IsLive table.now.types.slots) g.ids) (groups_of groups.now) }
+    requires told { All (TellsFirst table.now.types.slots) groups.now }
+    requires filled { All (λ (g : TypeGroup). 0 < length g.ids) (groups_of groups.now) }
+    requires apart { IsApart (ids_in (groups_of groups.now)) }
+    requires few { length (ids_in (groups_of groups.now)) < 2 ^ 32 }
+    ensures written { IfOk result (λ r. AreWritten (definition_at table.now.types.slots) (groups_of groups.now) r.0.items (type_indices r.1)) }
     ensures others { IfOk result (λ r. IsEmpty (func_indices r.1) × IsEmpty (global_indices r.1)) }
-    ensures missing { IfErr result (λ e. FailsBy e (IsFirstMissingIn (definition_at table.now.types.slots) groups.now)) }
+    ensures missing { IfErr result (λ e. FailsBy e (IsFirstMissingIn (definition_at table.now.types.slots) (groups_of groups.now))) }
 {
     let mut written = Vec::with_capacity(alloc, groups.len())?;
     let mut indices = IdsToIndices::new(alloc);

@@ -1,11 +1,12 @@
 use Rattle.walrus_types.specs.Emitted.{definition_at}
 use Rattle.walrus_types.specs.Indices.{IsEmpty, type_indices, func_indices, global_indices}
+use Rattle.walrus_types.specs.Steps.WrittenGroups.{groups_of}
 use Rattle.walrus_types.proofs.WritingGroups.{IsProgress}
 use Rattle.walrus_types.proofs.emit.write.write_groups.Given as goal
 
 abbrev pub invariant-loop-group : goal.invariant-loop-group
 invariant-loop-group l = record {
-  written : IsProgress (definition_at l.table.types.slots) l.groups l.group-index l.written.items (type_indices l.indices);
+  written : IsProgress (definition_at l.table.types.slots) (groups_of l.groups) l.group-index l.written.items (type_indices l.indices);
   funcs : IsEmpty (func_indices l.indices);
   globals : IsEmpty (global_indices l.indices);
 }

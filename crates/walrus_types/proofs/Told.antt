@@ -1,0 +1,289 @@
+-- What a weight tells all of: the ranks of a short list of items that name no type are those before the first 0, and no other list has them.
+use Rattle.std.proofs.Common.{◌≡◌, ℕ, zero, suc, ◌+◌, ◌*◌, ◌<◌, ◌≤◌, ◌&&◌, ◌==◌, Bool, true, false, not, cond, List, [], ◌∷◌, ◌++◌, length, map, is_none, Option, Some, None, All, refl, ap, sym, subst, ◌∙◌, arith}
+use Rattle.std.specs.List.{list_all, flat_map}
+use Rattle.std.specs.declared.cmp.Ordering.{Ordering}
+use Rattle.std.specs.declared.cmp.Ordering.TheVariants.{Equal}
+use Rattle.std.specs.Ordering.{ordering_then}
+use Rattle.std.specs.Cmp.Lexicographic.{slice_cmp}
+use Rattle.std.proofs.lemmas.Bool.Decides.{nat_tests}
+use Rattle.std.proofs.lemmas.Bool.{leb-true}
+use Rattle.walrus_types.specs.declared.ty.composite.CompositeType.{CompositeType}
+use Rattle.walrus_types.specs.declared.ty.composite.CompositeType.TheVariants as kind
+use Rattle.walrus_types.specs.declared.ty.value.Heap.{Heap}
+use Rattle.walrus_types.specs.declared.ty.value.Heap.TheVariants as heap
+use Rattle.walrus_types.specs.declared.ty.value.Val.{Val}
+use Rattle.walrus_types.specs.declared.ty.value.Val.TheVariants as val
+use Rattle.walrus_types.specs.declared.ty.value.Storage.{Storage}
+use Rattle.walrus_types.specs.declared.ty.value.Storage.TheVariants as storage
+use Rattle.walrus_types.specs.declared.ty.value.Field.{Field}
+use Rattle.walrus_types.specs.Signature.{Signature}
+use Rattle.walrus_types.specs.Definition.{Composite, Function, Struct, Array, Definition, composite_cmp, composite_names, supertype_names, names_of}
+use Rattle.walrus_types.specs.Steps.Told.{is_short, is_told, ranks_in, is_closed, before_zero, IsClosedRank}
+use Rattle.walrus_types.specs.Steps.Weights.{Weight, rank, is_named, is_open, heap_place, val_place, storage_place, val_rank, field_rank, first_rank, after_first, ranks, kind_weight, type_weight}
+use Rattle.walrus_types.specs.Types.{ModuleType, kind_composite, type_definition}
+use Rattle.walrus_types.specs.Value.{abstract_index, bool_index, heap_names, val_names, field_names, storage_names, val_cmp, field_cmp}
+use Rattle.walrus_types.proofs.Definitions.{definition_exact}
+use Rattle.walrus_types.proofs.Weights.{Tells, val_tells, field_tells, abstract_small, named_is_open, unnamed}
+use Rattle.std.proofs.lemmas.List.Sums.{take_while-cons}
+
+none : {A : Type 0} (xs : List A) → (length xs == 0) ≡ true → xs ≡ []
+none [] h = refl
+none (x ∷ xs) h = let e : length xs + 1 ≡ 0 = grind (arith, nat_tests, h) in absurd (omega (arith, e))
+
+some : (n : ℕ) → 0 < n → (n == 0) ≡ false
+some n h = test (n == 0) refl
+  where
+    test : (b : Bool) → (n == 0) ≡ b → (n == 0) ≡ false
+    test true e = let z : n ≡ 0 = grind (arith, nat_tests, e) in absurd (omega (arith, z, h))
+    test false e = e
+
+and_left : (b c : Bool) → (b && c) ≡ true → b ≡ true
+and_left true c h = refl
+and_left false c h = cc
+
+and_right : (b c : Bool) → (b && c) ≡ true → c ≡ true
+and_right true c h = h
+and_right false c h = cc
+
+and_true : (b : Bool) → (b && true) ≡ b
+and_true true = refl
+and_true false = refl
+
+is_false : (b : Bool) → not b ≡ true → b ≡ false
+is_false true h = cc
+is_false false h = refl
+
+-- both are empty
+empty_both : {A : Type 0} (xs ys : List A) → (length (xs ++ ys) == 0) ≡ ((length xs == 0) && (length ys == 0))
+empty_both [] ys = refl
+empty_both (x ∷ xs) ys = some (length (x ∷ (xs ++ ys))) (omega arith) ∙ ap (λ b. b && (length ys == 0)) (sym (some (length (x ∷ xs)) (omega arith)))
+
+empty_all : {A : Type 0} (names : A → List ℕ) (xs : List A) → (length (flat_map names xs) == 0) ≡ list_all (λ x. length (names x) == 0) xs
+empty_all names [] = refl
+empty_all names (x ∷ xs) = empty_both (names x) (flat_map names xs) ∙ ap (λ b. (length (names x) == 0) && b) (empty_all names xs)
+
+-- a definition that the weight tells all of names nothing
+pub told_names : (d : Definition) → is_told d ≡ true → names_of d ≡ []
+told_names d h = none (names_of d) (and_right _ _ (and_right _ _ (and_right d.is_final _ h)))
+
+-- the rank of an item is open where it names a type
+
+not_named : (b c : Bool) (i : ℕ) → (i == 17) ≡ b → (i == 30) ≡ c → ¬ (i ≡ 17) → ¬ (i ≡ 30) → cond b true c ≡ false
+not_named true c i e f x y = absurd (x (grind (arith, nat_tests, e)))
+not_named false true i e f x y = absurd (y (grind (arith, nat_tests, f)))
+not_named false false i e f x y = refl
+
+not_open : (b c : Bool) (n : ℕ) → (n == 36) ≡ b → (n == 62) ≡ c → ¬ (n ≡ 36) → ¬ (n ≡ 62) → cond b true c ≡ false
+not_open true c n e f x y = absurd (x (grind (arith, nat_tests, e)))
+not_open false true n e f x y = absurd (y (grind (arith, nat_tests, f)))
+not_open false false n e f x y = refl
+
+rank_open_at : (i : ℕ) (b m : Bool) → is_named i ≡ b → is_open (2 * (i + 1) + cond b 0 (bool_index m)) ≡ b
+rank_open_at i true m e = named_is_open i e
+rank_open_at i false true e = not_open _ _ (2 * (i + 1) + 1) refl refl (λ k. omega (arith, k)) (λ k. omega (arith, k))
+rank_open_at i false false e = let apart = unnamed i e in not_open _ _ (2 * (i + 1) + 0) refl refl (λ k. apart.0 (omega (arith, k))) (λ k. apart.1 (omega (arith, k)))
+
+rank_open : (i : ℕ) (m : Bool) → is_open (rank i m) ≡ is_named i
+rank_open i m = rank_open_at i (is_named i) m refl
+
+heap_named : (n : Bool) (h : Heap ℕ) → not (is_named (5 + (13 * bool_index n + heap_place h))) ≡ (length (heap_names h) == 0)
+heap_named true (heap.Abstract a) = ap not (not_named _ _ (5 + (13 * 1 + abstract_index a)) refl refl (λ k. omega (arith, k, abstract_small a)) (λ k. omega (arith, k, abstract_small a)))
+heap_named false (heap.Abstract a) = ap not (not_named _ _ (5 + (13 * 0 + abstract_index a)) refl refl (λ k. omega (arith, k, abstract_small a)) (λ k. omega (arith, k, abstract_small a)))
+heap_named true (heap.Concrete k) = refl
+heap_named false (heap.Concrete k) = refl
+heap_named true (heap.Exact k) = refl
+heap_named false (heap.Exact k) = refl
+
+val_named : (v : Val ℕ) → not (is_named (val_place v)) ≡ (length (val_names v) == 0)
+val_named val.I32 = refl
+val_named val.I64 = refl
+val_named val.F32 = refl
+val_named val.F64 = refl
+val_named val.V128 = refl
+val_named (val.Ref r) = heap_named r.nullable r.heap_type
+
+storage_named : (s : Storage ℕ) → not (is_named (storage_place s)) ≡ (length (storage_names s) == 0)
+storage_named (storage.Val v) = val_named v
+storage_named storage.I8 = refl
+storage_named storage.I16 = refl
+
+val_closed : (v : Val ℕ) → not (is_open (val_rank v)) ≡ (length (val_names v) == 0)
+val_closed v = ap not (rank_open (val_place v) false) ∙ val_named v
+
+field_closed : (f : Field ℕ) → not (is_open (field_rank f)) ≡ (length (field_names f) == 0)
+field_closed f = ap not (rank_open (storage_place f.element_type) f.mutable) ∙ storage_named f.element_type
+
+before_some : (n : ℕ) (ns : List ℕ) → 0 < n → before_zero (n ∷ ns) ≡ n ∷ before_zero ns
+before_some n ns h = take_while-cons (λ m. not (m == 0)) n ns ∙ ap (λ b. cond (not b) (n ∷ before_zero ns) []) (some n h)
+
+-- the ranks of the first n
+abbrev walk : {A : Type 0} → (A → ℕ) → ℕ → List A → List ℕ
+walk r zero xs = []
+walk r (suc n) xs = first_rank r xs ∷ walk r n (after_first r xs)
+
+abbrev names_none : {A : Type 0} → (A → List ℕ) → List A → Bool
+names_none names xs = list_all (λ x. length (names x) == 0) xs
+
+module _ {A : Type 0} (r : A → ℕ) (cmp : A → A → Ordering) (names : A → List ℕ) (tells : Tells r cmp) (closed : (x : A) → not (is_open (r x)) ≡ (length (names x) == 0)) where
+  rank_some : (x : A) → 0 < r x
+  rank_some x = grind (arith, nat_tests, tells.some x)
+
+  closed_at : (n : ℕ) (o : Bool) (xs : List A) → list_all (λ m. not (is_open m)) (walk r n xs) ≡ names_none names xs → (not o && list_all (λ m. not (is_open m)) (walk r n (cond o [] xs))) ≡ (not o && names_none names xs)
+  closed_at n true xs f = refl
+  closed_at n false xs f = f
+
+  -- no rank is open where no item names a type
+  walk_closed : (n : ℕ) (xs : List A) → length xs ≤ n → list_all (λ m. not (is_open m)) (walk r n xs) ≡ names_none names xs
+  walk_closed zero [] l = refl
+  walk_closed zero (x ∷ xs) l = absurd (omega (arith, l))
+  walk_closed (suc n) [] l = walk_closed n [] (omega arith)
+  walk_closed (suc n) (x ∷ xs) l = closed_at n (is_open (r x)) xs (walk_closed n xs (omega (arith, l))) ∙ ap (λ b. b && names_none names xs) (closed x)
+
+  told_at : (n : ℕ) (x : A) (o : Bool) (xs : List A) → (not o && list_all (λ m. not (is_open m)) (walk r n (cond o [] xs))) ≡ true → (list_all (λ m. not (is_open m)) (walk r n xs) ≡ true → before_zero (walk r n xs) ≡ map r xs) → before_zero (r x ∷ walk r n (cond o [] xs)) ≡ r x ∷ map r xs
+  told_at n x true xs h f = cc
+  told_at n x false xs h f = before_some (r x) (walk r n xs) (rank_some x) ∙ ap (λ ns. r x ∷ ns) (f h)
+
+  -- the ranks before the first 0 are those of all items
+  walk_told : (n : ℕ) (xs : List A) → length xs ≤ n → list_all (λ m. not (is_open m)) (walk r n xs) ≡ true → before_zero (walk r n xs) ≡ map r xs
+  walk_told zero [] l h = refl
+  walk_told zero (x ∷ xs) l h = absurd (omega (arith, l))
+  walk_told (suc n) [] l h = refl
+  walk_told (suc n) (x ∷ xs) l h = told_at n x (is_open (r x)) xs h (walk_told n xs (omega (arith, l)))
+
+  ranks_closed : (k : ℕ) (xs : List A) → length xs ≤ 5 → is_closed (ranks k r xs) ≡ names_none names xs
+  ranks_closed k xs l = walk_closed 5 xs l
+
+  ranks_told : (k : ℕ) (xs : List A) → length xs ≤ 5 → names_none names xs ≡ true → before_zero (ranks_in (ranks k r xs)) ≡ map r xs
+  ranks_told k xs l h = walk_told 5 xs l (walk_closed 5 xs l ∙ h)
+
+  item_closed : (x : A) → (length (names x) == 0) ≡ true → is_open (r x) ≡ false
+  item_closed x h = is_false _ (closed x ∙ h)
+
+  all_closed : (xs : List A) → names_none names xs ≡ true → All (IsClosedRank r) (map r xs)
+  all_closed [] h i d l = absurd (omega (arith, l))
+  all_closed (x ∷ xs) h zero d l = (x, refl, item_closed x (and_left _ _ h))
+  all_closed (x ∷ xs) h (suc i) d l = all_closed xs (and_right _ _ h) i d (omega (arith, l))
+
+  same_ranks : (xs ys : List A) → names_none names ys ≡ true → map r xs ≡ map r ys → slice_cmp cmp xs ys ≡ Equal
+  same_ranks [] [] h e = refl
+  same_ranks [] (y ∷ ys) h e = cc
+  same_ranks (x ∷ xs) [] h e = cc
+  same_ranks (x ∷ xs) (y ∷ ys) h e =
+      let first : r x ≡ r y = cc in
+      let rest : map r xs ≡ map r ys = cc in
+      ap (λ o. ordering_then o (slice_cmp cmp xs ys)) (tells.same x y first (ap is_open first ∙ item_closed y (and_left _ _ h))) ∙ same_ranks xs ys (and_right _ _ h) rest
+
+composite_exact : (c d : Composite) → composite_cmp c d ≡ Equal → c ≡ d
+composite_exact c d h = ap (λ (e : Definition). e.composite) (definition_exact (bare c) (bare d) (ap (λ o. ordering_then o Equal) h))
+  where
+    bare : Composite → Definition
+    bare e = record { composite = e; is_final = true; supertype = None }
+
+-- a composite type that is short and names no type
+
+abbrev nameless : CompositeType → Bool
+nameless k = length (composite_names (kind_composite k)) == 0
+
+params_short : (f : Signature) → is_short (Function f.params f.results) ≡ true → length f.params ≤ 5
+params_short f s = leb-true (length f.params) 5 (and_right (length f.results == 0) _ s)
+
+no_results : (f : Signature) → is_short (Function f.params f.results) ≡ true → f.results ≡ []
+no_results f s = none f.results (and_left _ _ s)
+
+params_nameless : (f : Signature) → is_short (Function f.params f.results) ≡ true → (length (composite_names (Function f.params f.results)) == 0) ≡ list_all (λ v. length (val_names v) == 0) f.params
+params_nameless f s =
+    ap (λ rs. length (flat_map val_names f.params ++ flat_map val_names rs) == 0) (no_results f s)
+    ∙ (empty_both (flat_map val_names f.params) [] ∙ (and_true (length (flat_map val_names f.params) == 0) ∙ empty_all val_names f.params))
+
+kind_closed : (k : CompositeType) → is_short (kind_composite k) ≡ true → is_closed (kind_weight k) ≡ nameless k
+kind_closed (kind.Function f) s = ranks_closed val_rank val_cmp val_names val_tells val_closed 0 f.params (params_short f s) ∙ sym (params_nameless f s)
+kind_closed (kind.Struct t) s = ranks_closed field_rank field_cmp field_names field_tells field_closed 1 t.fields (leb-true (length t.fields) 5 s) ∙ sym (empty_all field_names t.fields)
+kind_closed (kind.Array a) s = ranks_closed field_rank field_cmp field_names field_tells field_closed 2 (a.field ∷ []) (omega arith) ∙ and_true (length (field_names a.field) == 0)
+
+vals_asked : (k : CompositeType) → is_short (kind_composite k) ≡ true → nameless k ≡ true → (kind_weight k).0 ≡ 0 → All (IsClosedRank val_rank) (before_zero (ranks_in (kind_weight k)))
+vals_asked (kind.Function f) s h o =
+    let no_names = sym (params_nameless f s) ∙ h in
+    subst (λ (ns : List ℕ). All (IsClosedRank val_rank) ns) (sym (ranks_told val_rank val_cmp val_names val_tells val_closed 0 f.params (params_short f s) no_names)) (all_closed val_rank val_cmp val_names val_tells val_closed f.params no_names)
+vals_asked (kind.Struct t) s h o = absurd (omega (arith, o))
+vals_asked (kind.Array a) s h o = absurd (omega (arith, o))
+
+vals_told : (k : CompositeType) (vs : List (Val ℕ)) → is_short (kind_composite k) ≡ true → nameless k ≡ true → (kind_weight k).0 ≡ 0 → map val_rank vs ≡ before_zero (ranks_in (kind_weight k)) → Function vs [] ≡ kind_composite k
+vals_told (kind.Function f) vs s h o e =
+    let no_names = sym (params_nameless f s) ∙ h in
+    let same = e ∙ ranks_told val_rank val_cmp val_names val_tells val_closed 0 f.params (params_short f s) no_names in
+    composite_exact (Function vs []) (Function f.params [])
+    (ap (λ p. ordering_then p Equal) (same_ranks val_rank val_cmp val_names val_tells val_closed vs f.params no_names same))
+    ∙ ap (Function f.params) (sym (no_results f s))
+vals_told (kind.Struct t) vs s h o e = absurd (omega (arith, o))
+vals_told (kind.Array a) vs s h o e = absurd (omega (arith, o))
+
+fields_asked : (k : CompositeType) → is_short (kind_composite k) ≡ true → nameless k ≡ true → (kind_weight k).0 ≡ 1 → All (IsClosedRank field_rank) (before_zero (ranks_in (kind_weight k)))
+fields_asked (kind.Function f) s h o = absurd (omega (arith, o))
+fields_asked (kind.Struct t) s h o =
+    let no_names = sym (empty_all field_names t.fields) ∙ h in
+    subst (λ (ns : List ℕ). All (IsClosedRank field_rank) ns) (sym (ranks_told field_rank field_cmp field_names field_tells field_closed 1 t.fields (leb-true (length t.fields) 5 s) no_names)) (all_closed field_rank field_cmp field_names field_tells field_closed t.fields no_names)
+fields_asked (kind.Array a) s h o = absurd (omega (arith, o))
+
+fields_told : (k : CompositeType) (fs : List (Field ℕ)) → is_short (kind_composite k) ≡ true → nameless k ≡ true → (kind_weight k).0 ≡ 1 → map field_rank fs ≡ before_zero (ranks_in (kind_weight k)) → Struct fs ≡ kind_composite k
+fields_told (kind.Function f) fs s h o e = absurd (omega (arith, o))
+fields_told (kind.Struct t) fs s h o e =
+    let no_names = sym (empty_all field_names t.fields) ∙ h in
+    let same = e ∙ ranks_told field_rank field_cmp field_names field_tells field_closed 1 t.fields (leb-true (length t.fields) 5 s) no_names in
+    composite_exact (Struct fs) (Struct t.fields) (same_ranks field_rank field_cmp field_names field_tells field_closed fs t.fields no_names same)
+fields_told (kind.Array a) fs s h o e = absurd (omega (arith, o))
+
+field_asked : (k : CompositeType) → nameless k ≡ true → ¬ ((kind_weight k).0 ≡ 0) → ¬ ((kind_weight k).0 ≡ 1) → IsClosedRank field_rank (kind_weight k).1
+field_asked (kind.Function f) h o p = absurd (o refl)
+field_asked (kind.Struct t) h o p = absurd (p refl)
+field_asked (kind.Array a) h o p = (a.field, refl, item_closed field_rank field_cmp field_names field_tells field_closed a.field h)
+
+field_told : (k : CompositeType) (f : Field ℕ) → nameless k ≡ true → ¬ ((kind_weight k).0 ≡ 0) → ¬ ((kind_weight k).0 ≡ 1) → field_rank f ≡ (kind_weight k).1 → Array f ≡ kind_composite k
+field_told (kind.Function g) f h o p e = absurd (o refl)
+field_told (kind.Struct t) f h o p e = absurd (p refl)
+field_told (kind.Array a) f h o p e = composite_exact (Array f) (Array a.field) (field_tells.same f a.field e (ap is_open e ∙ item_closed field_rank field_cmp field_names field_tells field_closed a.field h))
+
+-- the same for a type and its weight
+
+told_short : (t : ModuleType) → is_told (type_definition t) ≡ true → is_short (kind_composite t.kind) ≡ true
+told_short t h = and_left _ _ (and_right (is_none t.supertype) _ (and_right t.is_final _ h))
+
+told_nameless : (t : ModuleType) → is_told (type_definition t) ≡ true → nameless t.kind ≡ true
+told_nameless t h = and_left _ _ (sym (empty_both (composite_names (kind_composite t.kind)) (supertype_names t.supertype)) ∙ and_right (is_short (kind_composite t.kind)) _ (and_right (is_none t.supertype) _ (and_right t.is_final _ h)))
+
+-- the test of a short type
+pub told_is : (t : ModuleType) (w : Weight) (b : Bool) → w ≡ type_weight t → t.is_final ≡ true → is_none t.supertype ≡ true → is_short (kind_composite t.kind) ≡ true → b ≡ is_closed w → b ≡ is_told (type_definition t)
+told_is t w b e f n s h =
+    h ∙ (ap is_closed e ∙ (kind_closed t.kind s ∙ sym (ap (λ x. x && (is_none t.supertype && (is_short (kind_composite t.kind) && (length (names_of (type_definition t)) == 0)))) f
+    ∙ (ap (λ x. x && (is_short (kind_composite t.kind) && (length (names_of (type_definition t)) == 0))) n
+    ∙ (ap (λ x. x && (length (names_of (type_definition t)) == 0)) s
+    ∙ (empty_both (composite_names (kind_composite t.kind)) (supertype_names t.supertype)
+    ∙ no_supertype (nameless t.kind) t.supertype n))))))
+  where
+    no_supertype : (x : Bool) (o : Option ℕ) → is_none o ≡ true → (x && (length (supertype_names o) == 0)) ≡ x
+    no_supertype x None h = and_true x
+    no_supertype x (Some k) h = cc
+
+module _ (t : ModuleType) (w : Weight) (e : w ≡ type_weight t) (h : is_told (type_definition t) ≡ true) where
+  kind_at : (n : ℕ) → w.0 ≡ n → (kind_weight t.kind).0 ≡ n
+  kind_at n o = sym (ap (λ (v : Weight). v.0) e) ∙ o
+
+  kind_not : (n : ℕ) → ¬ (w.0 ≡ n) → ¬ ((kind_weight t.kind).0 ≡ n)
+  kind_not n o p = o (ap (λ (v : Weight). v.0) e ∙ p)
+
+  pub asks_vals : w.0 ≡ 0 → All (IsClosedRank val_rank) (before_zero (ranks_in w))
+  asks_vals o = subst (λ (v : Weight). All (IsClosedRank val_rank) (before_zero (ranks_in v))) (sym e) (vals_asked t.kind (told_short t h) (told_nameless t h) (kind_at 0 o))
+
+  pub tells_vals : (vs : List (Val ℕ)) → w.0 ≡ 0 → map val_rank vs ≡ before_zero (ranks_in w) → Function vs [] ≡ kind_composite t.kind
+  tells_vals vs o m = vals_told t.kind vs (told_short t h) (told_nameless t h) (kind_at 0 o) (m ∙ ap (λ v. before_zero (ranks_in v)) e)
+
+  pub asks_fields : w.0 ≡ 1 → All (IsClosedRank field_rank) (before_zero (ranks_in w))
+  asks_fields o = subst (λ (v : Weight). All (IsClosedRank field_rank) (before_zero (ranks_in v))) (sym e) (fields_asked t.kind (told_short t h) (told_nameless t h) (kind_at 1 o))
+
+  pub tells_fields : (fs : List (Field ℕ)) → w.0 ≡ 1 → map field_rank fs ≡ before_zero (ranks_in w) → Struct fs ≡ kind_composite t.kind
+  tells_fields fs o m = fields_told t.kind fs (told_short t h) (told_nameless t h) (kind_at 1 o) (m ∙ ap (λ v. before_zero (ranks_in v)) e)
+
+  pub asks_field : ¬ (w.0 ≡ 0) → ¬ (w.0 ≡ 1) → IsClosedRank field_rank w.1
+  asks_field o p = subst (λ (v : Weight). IsClosedRank field_rank v.1) (sym e) (field_asked t.kind (told_nameless t h) (kind_not 0 o) (kind_not 1 p))
+
+  pub tells_field : (f : Field ℕ) → ¬ (w.0 ≡ 0) → ¬ (w.0 ≡ 1) → field_rank f ≡ w.1 → Array f ≡ kind_composite t.kind
+  tells_field f o p m = field_told t.kind f (told_nameless t h) (kind_not 0 o) (kind_not 1 p) (m ∙ ap (λ (v : Weight). v.1) e)

@@ -1,0 +1,161 @@
+//! Records of types that their weights tell all of, made from the weights alone.
+// To reach a type of the table costs more than all else that is done to write it, as the sorted types lie all over the memory.
+ghost use Rattle.std.specs.Prelude.{◌≡◌, ◌≤◌, ◌==◌, IfOk, All, map, position, false};
+ghost use Rattle.walrus_types.specs.Records.{comp_composite, entry_definition};
+ghost use Rattle.walrus_types.specs.Steps.Told.{IsClosedRank, IsToldBy, before_zero};
+ghost use Rattle.walrus_types.specs.Steps.Weights.{is_named, val_place, storage_place, val_rank, field_rank};
+ghost use Rattle.walrus_types.specs.Types.{ModuleType, kind_composite, type_definition};
+ghost use Rattle.walrus_types.specs.Value.{abstract_index};
+
+#[cfg(test)]
+mod tests;
+
+use super::weighed::Weight;
+use crate::{
+    AbstractHeapType, CompAt, EntryAt, Field, FieldAt, Heap, Listed, Reference, Storage, StorageAt,
+    Val, ValAt,
+};
+use std::alloc::{AllocError, Global};
+
+fn abstract_at(place: u8) -> AbstractHeapType
+    requires { place ≤ 11 }
+    ensures { abstract_index result ≡ place }
+{
+    match place {
+        0 => AbstractHeapType::Func,
+        1 => AbstractHeapType::Extern,
+        2 => AbstractHeapType::Any,
+        3 => AbstractHeapType::None,
+        4 => AbstractHeapType::NoExtern,
+        5 => AbstractHeapType::NoFunc,
+        6 => AbstractHeapType::Eq,
+        7 => AbstractHeapType::Struct,
+        8 => AbstractHeapType::Array,
+        9 => AbstractHeapType::I31,
+        10 => AbstractHeapType::Exn,
+        11 => AbstractHeapType::NoExn,
+        _ => unreachable!(),
+    }
+}
+
+fn val_at(place: u8) -> ValAt
+    requires small { place ≤ 30 }
+    requires nameless { is_named place ≡ false }
+    ensures { val_place result ≡ place }
+{
+    match place {
+        0 => Val::I32,
+        1 => Val::I64,
+        2 => Val::F32,
+        3 => Val::F64,
+        4 => Val::V128,
+        _ => {
+            let nullable = place > 17;
+            let first = if nullable { 18 } else { 5 };
+            Val::Ref(Reference {
+                nullable,
+                heap_type: Heap::Abstract(abstract_at(place - first)),
+            })
+        }
+    }
+}
+
+fn storage_at(place: u8) -> StorageAt
+    requires small { place ≤ 32 }
+    requires nameless { is_named place ≡ false }
+    ensures { storage_place result ≡ place }
+{
+    match place {
+        31 => Storage::I8,
+        32 => Storage::I16,
+        _ => Storage::Val(val_at(place)),
+    }
+}
+
+fn val_of(rank: u8) -> ValAt
+    requires { IsClosedRank val_rank rank }
+    ensures { val_rank result ≡ rank }
+{
+    val_at(rank / 2 - 1)
+}
+
+fn field_of(rank: u8) -> FieldAt
+    requires { IsClosedRank field_rank rank }
+    ensures { field_rank result ≡ rank }
+{
+    Field {
+        element_type: storage_at(rank / 2 - 1),
+        mutable: rank % 2 == 1,
+    }
+}
+
+fn vals_of(alloc: Global, ranks: &[u8]) -> Result<Vec<ValAt>, AllocError>
+    requires { All (IsClosedRank val_rank) ranks.now }
+    ensures { IfOk result (λ v. map val_rank v.items ≡ ranks.now) }
+{
+    let mut vals = Vec::with_capacity(alloc, ranks.len())?;
+    for rank in ranks {
+        vals.push(val_of(*rank))?;
+    }
+    Ok(vals)
+}
+
+fn fields_of(alloc: Global, ranks: &[u8]) -> Result<Vec<FieldAt>, AllocError>
+    requires { All (IsClosedRank field_rank) ranks.now }
+    ensures { IfOk result (λ v. map field_rank v.items ≡ ranks.now) }
+{
+    let mut fields = Vec::with_capacity(alloc, ranks.len())?;
+    for rank in ranks {
+        fields.push(field_of(*rank))?;
+    }
+    Ok(fields)
+}
+
+fn first_zero(ranks: &[u8]) -> Option<usize>
+    ensures { result ≡ position (λ n. n == 0) ranks.now }
+{
+    ranks.iter().position(|rank| *rank == 0)
+}
+
+// The ranks before the first 0, which is the rank of nothing.
+fn before_zero(ranks: &[u8]) -> &[u8]
+    ensures { result.now ≡ before_zero ranks.now }
+{
+    match first_zero(ranks) {
+        Some(at) => &ranks[..at],
+        None => ranks,
+    }
+}
+
+// The composite type of the types that this weight tells all of.
+fn comp_of(alloc: Global, weight: Weight) -> Result<CompAt, AllocError>
+    requires { (ty : ModuleType) × IsToldBy weight ty }
+    ensures { (ty : ModuleType) → IsToldBy weight ty → IfOk result (λ c. comp_composite c ≡ kind_composite ty.kind) }
+{
+    let (kind, first, second, third, fourth, fifth) = weight;
+    let ranks = [first, second, third, fourth, fifth];
+    match kind {
+        0 => Ok(CompAt::Function {
+            params: Listed::from_vec(vals_of(alloc, before_zero(&ranks))?),
+            results: Listed::from_vec(Vec::new(alloc)),
+        }),
+        1 => Ok(CompAt::Struct {
+            fields: Listed::from_vec(fields_of(alloc, before_zero(&ranks))?),
+        }),
+        _ => Ok(CompAt::Array {
+            field: field_of(first),
+        }),
+    }
+}
+
+// The record of the types that this weight tells all of.
+pub(super) fn told_entry(alloc: Global, weight: Weight) -> Result<EntryAt, AllocError>
+    requires { (ty : ModuleType) × IsToldBy weight ty }
+    ensures { (ty : ModuleType) → IsToldBy weight ty → IfOk result (λ e. entry_definition e ≡ type_definition ty) }
+{
+    Ok(EntryAt {
+        comp: comp_of(alloc, weight)?,
+        is_final: true,
+        supertype: None,
+    })
+}
