@@ -1,6 +1,6 @@
 -- What a weight tells all of: the ranks of a short list of items that name no type are those before the first 0, and no other list has them.
-use Rattle.std.proofs.Common.{◌≡◌, ℕ, zero, suc, ◌+◌, ◌*◌, ◌<◌, ◌≤◌, ◌&&◌, ◌==◌, Bool, true, false, not, cond, List, [], ◌∷◌, ◌++◌, length, map, is_none, Option, Some, None, All, refl, ap, sym, subst, ◌∙◌, arith}
-use Rattle.std.specs.List.{list_all, flat_map}
+use Rattle.std.proofs.Common.{◌≡◌, ℕ, zero, suc, ◌+◌, ◌*◌, ◌<◌, ◌≤◌, ◌&&◌, ◌==◌, Bool, true, false, not, cond, List, [], ◌∷◌, ◌++◌, length, drop, map, is_none, Option, Some, None, All, refl, ap, sym, subst, ◌∙◌, arith}
+use Rattle.std.specs.List.{list_all, prefix_len, flat_map}
 use Rattle.std.specs.declared.cmp.Ordering.{Ordering}
 use Rattle.std.specs.declared.cmp.Ordering.TheVariants.{Equal}
 use Rattle.std.specs.Ordering.{ordering_then}
@@ -18,12 +18,12 @@ use Rattle.walrus_types.specs.declared.ty.value.Storage.TheVariants as storage
 use Rattle.walrus_types.specs.declared.ty.value.Field.{Field}
 use Rattle.walrus_types.specs.Signature.{Signature}
 use Rattle.walrus_types.specs.Definition.{Composite, Function, Struct, Array, Definition, composite_cmp, composite_names, supertype_names, names_of}
-use Rattle.walrus_types.specs.Steps.Told.{is_short, is_told, ranks_in, is_closed, before_zero, IsClosedRank}
-use Rattle.walrus_types.specs.Steps.Weights.{Weight, rank, is_named, is_open, heap_place, val_place, storage_place, val_rank, field_rank, first_rank, after_first, ranks, kind_weight, type_weight}
+use Rattle.walrus_types.specs.Steps.Told.{is_short, is_told, ranks_in, is_closed, before, after, IsClosedRank}
+use Rattle.walrus_types.specs.Steps.Weights.{Weight, rank, is_named, is_open, heap_place, val_place, storage_place, val_rank, field_rank, marked_items, item_rank, first_rank, after_first, ranks, kind_weight, type_weight}
 use Rattle.walrus_types.specs.Types.{ModuleType, kind_composite, type_definition}
 use Rattle.walrus_types.specs.Value.{abstract_index, bool_index, heap_names, val_names, field_names, storage_names, val_cmp, field_cmp}
 use Rattle.walrus_types.proofs.Definitions.{definition_exact}
-use Rattle.walrus_types.proofs.Weights.{Tells, val_tells, field_tells, abstract_small, named_is_open, unnamed}
+use Rattle.walrus_types.proofs.Weights.{Tells, item_cmp, item_tells, val_tells, field_tells, abstract_small, named_is_open, unnamed}
 use Rattle.std.proofs.lemmas.List.Sums.{take_while-cons}
 
 none : {A : Type 0} (xs : List A) → (length xs == 0) ≡ true → xs ≡ []
@@ -113,8 +113,32 @@ val_closed v = ap not (rank_open (val_place v) false) ∙ val_named v
 field_closed : (f : Field ℕ) → not (is_open (field_rank f)) ≡ (length (field_names f) == 0)
 field_closed f = ap not (rank_open (storage_place f.element_type) f.mutable) ∙ storage_named f.element_type
 
-before_some : (n : ℕ) (ns : List ℕ) → 0 < n → before_zero (n ∷ ns) ≡ n ∷ before_zero ns
-before_some n ns h = take_while-cons (λ m. not (m == 0)) n ns ∙ ap (λ b. cond (not b) (n ∷ before_zero ns) []) (some n h)
+before_other : (k n : ℕ) (ns : List ℕ) → (n == k) ≡ false → before k (n ∷ ns) ≡ n ∷ before k ns
+before_other k n ns h = take_while-cons (λ m. not (m == k)) n ns ∙ ap (λ b. cond (not b) (n ∷ before k ns) []) h
+
+after_other : (k n : ℕ) (ns : List ℕ) → (n == k) ≡ false → after k (n ∷ ns) ≡ after k ns
+after_other k n ns h =
+    let count = prefix_len (λ m. not (m == k)) ns in
+    let next : (1 + count) + 1 ≡ suc (count + 1) = omega arith in
+    ap (λ b. drop (cond (not b) (1 + count) 0 + 1) (n ∷ ns)) h ∙ ap (λ m. drop m (n ∷ ns)) next
+
+-- parameters, the mark and results
+
+item_names : Option (Val ℕ) → List ℕ
+item_names None = []
+item_names (Some v) = val_names v
+
+item_closed : (x : Option (Val ℕ)) → not (is_open (item_rank x)) ≡ (length (item_names x) == 0)
+unfolding item_names
+item_closed None = refl
+item_closed (Some v) = val_closed v
+
+not_mark : (i : ℕ) → (rank i false == 1) ≡ false
+not_mark i = test (rank i false == 1) refl
+  where
+    test : (b : Bool) → (rank i false == 1) ≡ b → (rank i false == 1) ≡ false
+    test true e = let z : rank i false ≡ 1 = grind (arith, nat_tests, e) in absurd (omega (arith, z))
+    test false e = e
 
 -- the ranks of the first n
 abbrev walk : {A : Type 0} → (A → ℕ) → ℕ → List A → List ℕ
@@ -139,12 +163,12 @@ module _ {A : Type 0} (r : A → ℕ) (cmp : A → A → Ordering) (names : A �
   walk_closed (suc n) [] l = walk_closed n [] (omega arith)
   walk_closed (suc n) (x ∷ xs) l = closed_at n (is_open (r x)) xs (walk_closed n xs (omega (arith, l))) ∙ ap (λ b. b && names_none names xs) (closed x)
 
-  told_at : (n : ℕ) (x : A) (o : Bool) (xs : List A) → (not o && list_all (λ m. not (is_open m)) (walk r n (cond o [] xs))) ≡ true → (list_all (λ m. not (is_open m)) (walk r n xs) ≡ true → before_zero (walk r n xs) ≡ map r xs) → before_zero (r x ∷ walk r n (cond o [] xs)) ≡ r x ∷ map r xs
+  told_at : (n : ℕ) (x : A) (o : Bool) (xs : List A) → (not o && list_all (λ m. not (is_open m)) (walk r n (cond o [] xs))) ≡ true → (list_all (λ m. not (is_open m)) (walk r n xs) ≡ true → before 0 (walk r n xs) ≡ map r xs) → before 0 (r x ∷ walk r n (cond o [] xs)) ≡ r x ∷ map r xs
   told_at n x true xs h f = cc
-  told_at n x false xs h f = before_some (r x) (walk r n xs) (rank_some x) ∙ ap (λ ns. r x ∷ ns) (f h)
+  told_at n x false xs h f = before_other 0 (r x) (walk r n xs) (some (r x) (rank_some x)) ∙ ap (λ ns. r x ∷ ns) (f h)
 
   -- the ranks before the first 0 are those of all items
-  walk_told : (n : ℕ) (xs : List A) → length xs ≤ n → list_all (λ m. not (is_open m)) (walk r n xs) ≡ true → before_zero (walk r n xs) ≡ map r xs
+  walk_told : (n : ℕ) (xs : List A) → length xs ≤ n → list_all (λ m. not (is_open m)) (walk r n xs) ≡ true → before 0 (walk r n xs) ≡ map r xs
   walk_told zero [] l h = refl
   walk_told zero (x ∷ xs) l h = absurd (omega (arith, l))
   walk_told (suc n) [] l h = refl
@@ -153,15 +177,15 @@ module _ {A : Type 0} (r : A → ℕ) (cmp : A → A → Ordering) (names : A �
   ranks_closed : (k : ℕ) (xs : List A) → length xs ≤ 5 → is_closed (ranks k r xs) ≡ names_none names xs
   ranks_closed k xs l = walk_closed 5 xs l
 
-  ranks_told : (k : ℕ) (xs : List A) → length xs ≤ 5 → names_none names xs ≡ true → before_zero (ranks_in (ranks k r xs)) ≡ map r xs
+  ranks_told : (k : ℕ) (xs : List A) → length xs ≤ 5 → names_none names xs ≡ true → before 0 (ranks_in (ranks k r xs)) ≡ map r xs
   ranks_told k xs l h = walk_told 5 xs l (walk_closed 5 xs l ∙ h)
 
-  item_closed : (x : A) → (length (names x) == 0) ≡ true → is_open (r x) ≡ false
-  item_closed x h = is_false _ (closed x ∙ h)
+  no_name_closed : (x : A) → (length (names x) == 0) ≡ true → is_open (r x) ≡ false
+  no_name_closed x h = is_false _ (closed x ∙ h)
 
   all_closed : (xs : List A) → names_none names xs ≡ true → All (IsClosedRank r) (map r xs)
   all_closed [] h i d l = absurd (omega (arith, l))
-  all_closed (x ∷ xs) h zero d l = (x, refl, item_closed x (and_left _ _ h))
+  all_closed (x ∷ xs) h zero d l = (x, refl, no_name_closed x (and_left _ _ h))
   all_closed (x ∷ xs) h (suc i) d l = all_closed xs (and_right _ _ h) i d (omega (arith, l))
 
   same_ranks : (xs ys : List A) → names_none names ys ≡ true → map r xs ≡ map r ys → slice_cmp cmp xs ys ≡ Equal
@@ -171,7 +195,7 @@ module _ {A : Type 0} (r : A → ℕ) (cmp : A → A → Ordering) (names : A �
   same_ranks (x ∷ xs) (y ∷ ys) h e =
       let first : r x ≡ r y = cc in
       let rest : map r xs ≡ map r ys = cc in
-      ap (λ o. ordering_then o (slice_cmp cmp xs ys)) (tells.same x y first (ap is_open first ∙ item_closed y (and_left _ _ h))) ∙ same_ranks xs ys (and_right _ _ h) rest
+      ap (λ o. ordering_then o (slice_cmp cmp xs ys)) (tells.same x y first (ap is_open first ∙ no_name_closed y (and_left _ _ h))) ∙ same_ranks xs ys (and_right _ _ h) rest
 
 composite_exact : (c d : Composite) → composite_cmp c d ≡ Equal → c ≡ d
 composite_exact c d h = ap (λ (e : Definition). e.composite) (definition_exact (bare c) (bare d) (ap (λ o. ordering_then o Equal) h))
@@ -184,47 +208,105 @@ composite_exact c d h = ap (λ (e : Definition). e.composite) (definition_exact 
 abbrev nameless : CompositeType → Bool
 nameless k = length (composite_names (kind_composite k)) == 0
 
-params_short : (f : Signature) → is_short (Function f.params f.results) ≡ true → length f.params ≤ 5
-params_short f s = leb-true (length f.params) 5 (and_right (length f.results == 0) _ s)
+and_grouped : (a b c : Bool) → (a && (b && c)) ≡ ((a && b) && c)
+and_grouped true b c = refl
+and_grouped false b c = refl
 
-no_results : (f : Signature) → is_short (Function f.params f.results) ≡ true → f.results ≡ []
-no_results f s = none f.results (and_left _ _ s)
+values_length : (vs : List (Val ℕ)) → length (map Some vs) ≡ length vs
+values_length [] = refl
+values_length (v ∷ vs) = ap suc (values_length vs)
 
-params_nameless : (f : Signature) → is_short (Function f.params f.results) ≡ true → (length (composite_names (Function f.params f.results)) == 0) ≡ list_all (λ v. length (val_names v) == 0) f.params
-params_nameless f s =
-    ap (λ rs. length (flat_map val_names f.params ++ flat_map val_names rs) == 0) (no_results f s)
-    ∙ (empty_both (flat_map val_names f.params) [] ∙ (and_true (length (flat_map val_names f.params) == 0) ∙ empty_all val_names f.params))
+items_length : (ps rs : List (Val ℕ)) → length (marked_items ps true rs) ≡ length ps + (1 + length rs)
+items_length [] rs = omega (arith, values_length rs)
+items_length (p ∷ ps) rs = omega (arith, items_length ps rs)
+
+items_short : (ps rs : List (Val ℕ)) → is_short (Function ps rs) ≡ true → length (marked_items ps true rs) ≤ 5
+items_short ps rs s = omega (arith, items_length ps rs, leb-true (length ps + length rs) 4 s)
+
+values_named : (vs : List (Val ℕ)) → names_none item_names (map Some vs) ≡ names_none val_names vs
+unfolding item_names
+values_named [] = refl
+values_named (v ∷ vs) = ap (λ b. (length (val_names v) == 0) && b) (values_named vs)
+
+items_named : (ps rs : List (Val ℕ)) → names_none item_names (marked_items ps true rs) ≡ (names_none val_names ps && names_none val_names rs)
+unfolding item_names
+items_named [] rs = values_named rs
+items_named (p ∷ ps) rs = ap (λ b. (length (val_names p) == 0) && b) (items_named ps rs) ∙ and_grouped (length (val_names p) == 0) (names_none val_names ps) (names_none val_names rs)
+
+function_named : (ps rs : List (Val ℕ)) → (length (composite_names (Function ps rs)) == 0) ≡ (names_none val_names ps && names_none val_names rs)
+function_named ps rs =
+    empty_both (flat_map val_names ps) (flat_map val_names rs)
+    ∙ (ap (λ b. b && (length (flat_map val_names rs) == 0)) (empty_all val_names ps) ∙ ap (λ b. names_none val_names ps && b) (empty_all val_names rs))
+
+values_ranks : (vs : List (Val ℕ)) → map item_rank (map Some vs) ≡ map val_rank vs
+values_ranks [] = refl
+values_ranks (v ∷ vs) = ap (λ ns. val_rank v ∷ ns) (values_ranks vs)
+
+-- the ranks before the mark are those of the parameters, and those after it those of the results
+
+before_mark : (ps rs : List (Val ℕ)) → before 1 (map item_rank (marked_items ps true rs)) ≡ map val_rank ps
+before_mark [] rs = refl
+before_mark (p ∷ ps) rs = before_other 1 (val_rank p) (map item_rank (marked_items ps true rs)) (not_mark (val_place p)) ∙ ap (λ ns. val_rank p ∷ ns) (before_mark ps rs)
+
+after_mark : (ps rs : List (Val ℕ)) → after 1 (map item_rank (marked_items ps true rs)) ≡ map val_rank rs
+after_mark [] rs = values_ranks rs
+after_mark (p ∷ ps) rs = after_other 1 (val_rank p) (map item_rank (marked_items ps true rs)) (not_mark (val_place p)) ∙ after_mark ps rs
+
+module _ (f : Signature) (s : is_short (Function f.params f.results) ≡ true) (h : (length (composite_names (Function f.params f.results)) == 0) ≡ true) where
+  no_names : (names_none val_names f.params && names_none val_names f.results) ≡ true
+  no_names = sym (function_named f.params f.results) ∙ h
+
+  signature_ranks : before 0 (ranks_in (ranks 0 item_rank (marked_items f.params true f.results))) ≡ map item_rank (marked_items f.params true f.results)
+  signature_ranks = ranks_told item_rank item_cmp item_names item_tells item_closed 0 (marked_items f.params true f.results) (items_short f.params f.results s) (items_named f.params f.results ∙ no_names)
+
+  params_ranks : before 1 (before 0 (ranks_in (ranks 0 item_rank (marked_items f.params true f.results)))) ≡ map val_rank f.params
+  params_ranks = ap (before 1) signature_ranks ∙ before_mark f.params f.results
+
+  results_ranks : after 1 (before 0 (ranks_in (ranks 0 item_rank (marked_items f.params true f.results)))) ≡ map val_rank f.results
+  results_ranks = ap (after 1) signature_ranks ∙ after_mark f.params f.results
+
+  params_closed : All (IsClosedRank val_rank) (map val_rank f.params)
+  params_closed = all_closed val_rank val_cmp val_names val_tells val_closed f.params (and_left _ _ no_names)
+
+  results_closed : All (IsClosedRank val_rank) (map val_rank f.results)
+  results_closed = all_closed val_rank val_cmp val_names val_tells val_closed f.results (and_right _ _ no_names)
+
+  same_signature : (vs ws : List (Val ℕ)) → map val_rank vs ≡ map val_rank f.params → map val_rank ws ≡ map val_rank f.results → Function vs ws ≡ Function f.params f.results
+  same_signature vs ws d e =
+      let first = same_ranks val_rank val_cmp val_names val_tells val_closed vs f.params (and_left _ _ no_names) d in
+      let second = same_ranks val_rank val_cmp val_names val_tells val_closed ws f.results (and_right _ _ no_names) e in
+      composite_exact (Function vs ws) (Function f.params f.results) (ap (λ o. ordering_then o (slice_cmp val_cmp ws f.results)) first ∙ second)
 
 kind_closed : (k : CompositeType) → is_short (kind_composite k) ≡ true → is_closed (kind_weight k) ≡ nameless k
-kind_closed (kind.Function f) s = ranks_closed val_rank val_cmp val_names val_tells val_closed 0 f.params (params_short f s) ∙ sym (params_nameless f s)
+kind_closed (kind.Function f) s =
+    ranks_closed item_rank item_cmp item_names item_tells item_closed 0 (marked_items f.params true f.results) (items_short f.params f.results s)
+    ∙ (items_named f.params f.results ∙ sym (function_named f.params f.results))
 kind_closed (kind.Struct t) s = ranks_closed field_rank field_cmp field_names field_tells field_closed 1 t.fields (leb-true (length t.fields) 5 s) ∙ sym (empty_all field_names t.fields)
 kind_closed (kind.Array a) s = ranks_closed field_rank field_cmp field_names field_tells field_closed 2 (a.field ∷ []) (omega arith) ∙ and_true (length (field_names a.field) == 0)
 
-vals_asked : (k : CompositeType) → is_short (kind_composite k) ≡ true → nameless k ≡ true → (kind_weight k).0 ≡ 0 → All (IsClosedRank val_rank) (before_zero (ranks_in (kind_weight k)))
-vals_asked (kind.Function f) s h o =
-    let no_names = sym (params_nameless f s) ∙ h in
-    subst (λ (ns : List ℕ). All (IsClosedRank val_rank) ns) (sym (ranks_told val_rank val_cmp val_names val_tells val_closed 0 f.params (params_short f s) no_names)) (all_closed val_rank val_cmp val_names val_tells val_closed f.params no_names)
-vals_asked (kind.Struct t) s h o = absurd (omega (arith, o))
-vals_asked (kind.Array a) s h o = absurd (omega (arith, o))
+params_asked : (k : CompositeType) → is_short (kind_composite k) ≡ true → nameless k ≡ true → (kind_weight k).0 ≡ 0 → All (IsClosedRank val_rank) (before 1 (before 0 (ranks_in (kind_weight k))))
+params_asked (kind.Function f) s h o = subst (λ (ns : List ℕ). All (IsClosedRank val_rank) ns) (sym (params_ranks f s h)) (params_closed f s h)
+params_asked (kind.Struct t) s h o = absurd (omega (arith, o))
+params_asked (kind.Array a) s h o = absurd (omega (arith, o))
 
-vals_told : (k : CompositeType) (vs : List (Val ℕ)) → is_short (kind_composite k) ≡ true → nameless k ≡ true → (kind_weight k).0 ≡ 0 → map val_rank vs ≡ before_zero (ranks_in (kind_weight k)) → Function vs [] ≡ kind_composite k
-vals_told (kind.Function f) vs s h o e =
-    let no_names = sym (params_nameless f s) ∙ h in
-    let same = e ∙ ranks_told val_rank val_cmp val_names val_tells val_closed 0 f.params (params_short f s) no_names in
-    composite_exact (Function vs []) (Function f.params [])
-    (ap (λ p. ordering_then p Equal) (same_ranks val_rank val_cmp val_names val_tells val_closed vs f.params no_names same))
-    ∙ ap (Function f.params) (sym (no_results f s))
-vals_told (kind.Struct t) vs s h o e = absurd (omega (arith, o))
-vals_told (kind.Array a) vs s h o e = absurd (omega (arith, o))
+results_asked : (k : CompositeType) → is_short (kind_composite k) ≡ true → nameless k ≡ true → (kind_weight k).0 ≡ 0 → All (IsClosedRank val_rank) (after 1 (before 0 (ranks_in (kind_weight k))))
+results_asked (kind.Function f) s h o = subst (λ (ns : List ℕ). All (IsClosedRank val_rank) ns) (sym (results_ranks f s h)) (results_closed f s h)
+results_asked (kind.Struct t) s h o = absurd (omega (arith, o))
+results_asked (kind.Array a) s h o = absurd (omega (arith, o))
 
-fields_asked : (k : CompositeType) → is_short (kind_composite k) ≡ true → nameless k ≡ true → (kind_weight k).0 ≡ 1 → All (IsClosedRank field_rank) (before_zero (ranks_in (kind_weight k)))
+signature_told : (k : CompositeType) (vs ws : List (Val ℕ)) → is_short (kind_composite k) ≡ true → nameless k ≡ true → (kind_weight k).0 ≡ 0 → map val_rank vs ≡ before 1 (before 0 (ranks_in (kind_weight k))) → map val_rank ws ≡ after 1 (before 0 (ranks_in (kind_weight k))) → Function vs ws ≡ kind_composite k
+signature_told (kind.Function f) vs ws s h o d e = same_signature f s h vs ws (d ∙ params_ranks f s h) (e ∙ results_ranks f s h)
+signature_told (kind.Struct t) vs ws s h o d e = absurd (omega (arith, o))
+signature_told (kind.Array a) vs ws s h o d e = absurd (omega (arith, o))
+
+fields_asked : (k : CompositeType) → is_short (kind_composite k) ≡ true → nameless k ≡ true → (kind_weight k).0 ≡ 1 → All (IsClosedRank field_rank) (before 0 (ranks_in (kind_weight k)))
 fields_asked (kind.Function f) s h o = absurd (omega (arith, o))
 fields_asked (kind.Struct t) s h o =
     let no_names = sym (empty_all field_names t.fields) ∙ h in
     subst (λ (ns : List ℕ). All (IsClosedRank field_rank) ns) (sym (ranks_told field_rank field_cmp field_names field_tells field_closed 1 t.fields (leb-true (length t.fields) 5 s) no_names)) (all_closed field_rank field_cmp field_names field_tells field_closed t.fields no_names)
 fields_asked (kind.Array a) s h o = absurd (omega (arith, o))
 
-fields_told : (k : CompositeType) (fs : List (Field ℕ)) → is_short (kind_composite k) ≡ true → nameless k ≡ true → (kind_weight k).0 ≡ 1 → map field_rank fs ≡ before_zero (ranks_in (kind_weight k)) → Struct fs ≡ kind_composite k
+fields_told : (k : CompositeType) (fs : List (Field ℕ)) → is_short (kind_composite k) ≡ true → nameless k ≡ true → (kind_weight k).0 ≡ 1 → map field_rank fs ≡ before 0 (ranks_in (kind_weight k)) → Struct fs ≡ kind_composite k
 fields_told (kind.Function f) fs s h o e = absurd (omega (arith, o))
 fields_told (kind.Struct t) fs s h o e =
     let no_names = sym (empty_all field_names t.fields) ∙ h in
@@ -235,12 +317,12 @@ fields_told (kind.Array a) fs s h o e = absurd (omega (arith, o))
 field_asked : (k : CompositeType) → nameless k ≡ true → ¬ ((kind_weight k).0 ≡ 0) → ¬ ((kind_weight k).0 ≡ 1) → IsClosedRank field_rank (kind_weight k).1
 field_asked (kind.Function f) h o p = absurd (o refl)
 field_asked (kind.Struct t) h o p = absurd (p refl)
-field_asked (kind.Array a) h o p = (a.field, refl, item_closed field_rank field_cmp field_names field_tells field_closed a.field h)
+field_asked (kind.Array a) h o p = (a.field, refl, no_name_closed field_rank field_cmp field_names field_tells field_closed a.field h)
 
 field_told : (k : CompositeType) (f : Field ℕ) → nameless k ≡ true → ¬ ((kind_weight k).0 ≡ 0) → ¬ ((kind_weight k).0 ≡ 1) → field_rank f ≡ (kind_weight k).1 → Array f ≡ kind_composite k
 field_told (kind.Function g) f h o p e = absurd (o refl)
 field_told (kind.Struct t) f h o p e = absurd (p refl)
-field_told (kind.Array a) f h o p e = composite_exact (Array f) (Array a.field) (field_tells.same f a.field e (ap is_open e ∙ item_closed field_rank field_cmp field_names field_tells field_closed a.field h))
+field_told (kind.Array a) f h o p e = composite_exact (Array f) (Array a.field) (field_tells.same f a.field e (ap is_open e ∙ no_name_closed field_rank field_cmp field_names field_tells field_closed a.field h))
 
 -- the same for a type and its weight
 
@@ -270,17 +352,20 @@ module _ (t : ModuleType) (w : Weight) (e : w ≡ type_weight t) (h : is_told (t
   kind_not : (n : ℕ) → ¬ (w.0 ≡ n) → ¬ ((kind_weight t.kind).0 ≡ n)
   kind_not n o p = o (ap (λ (v : Weight). v.0) e ∙ p)
 
-  pub asks_vals : w.0 ≡ 0 → All (IsClosedRank val_rank) (before_zero (ranks_in w))
-  asks_vals o = subst (λ (v : Weight). All (IsClosedRank val_rank) (before_zero (ranks_in v))) (sym e) (vals_asked t.kind (told_short t h) (told_nameless t h) (kind_at 0 o))
+  pub asks_params : w.0 ≡ 0 → All (IsClosedRank val_rank) (before 1 (before 0 (ranks_in w)))
+  asks_params o = subst (λ (v : Weight). All (IsClosedRank val_rank) (before 1 (before 0 (ranks_in v)))) (sym e) (params_asked t.kind (told_short t h) (told_nameless t h) (kind_at 0 o))
 
-  pub tells_vals : (vs : List (Val ℕ)) → w.0 ≡ 0 → map val_rank vs ≡ before_zero (ranks_in w) → Function vs [] ≡ kind_composite t.kind
-  tells_vals vs o m = vals_told t.kind vs (told_short t h) (told_nameless t h) (kind_at 0 o) (m ∙ ap (λ v. before_zero (ranks_in v)) e)
+  pub asks_results : w.0 ≡ 0 → All (IsClosedRank val_rank) (after 1 (before 0 (ranks_in w)))
+  asks_results o = subst (λ (v : Weight). All (IsClosedRank val_rank) (after 1 (before 0 (ranks_in v)))) (sym e) (results_asked t.kind (told_short t h) (told_nameless t h) (kind_at 0 o))
 
-  pub asks_fields : w.0 ≡ 1 → All (IsClosedRank field_rank) (before_zero (ranks_in w))
-  asks_fields o = subst (λ (v : Weight). All (IsClosedRank field_rank) (before_zero (ranks_in v))) (sym e) (fields_asked t.kind (told_short t h) (told_nameless t h) (kind_at 1 o))
+  pub tells_signature : (vs ws : List (Val ℕ)) → w.0 ≡ 0 → map val_rank vs ≡ before 1 (before 0 (ranks_in w)) → map val_rank ws ≡ after 1 (before 0 (ranks_in w)) → Function vs ws ≡ kind_composite t.kind
+  tells_signature vs ws o m n = signature_told t.kind vs ws (told_short t h) (told_nameless t h) (kind_at 0 o) (m ∙ ap (λ v. before 1 (before 0 (ranks_in v))) e) (n ∙ ap (λ v. after 1 (before 0 (ranks_in v))) e)
 
-  pub tells_fields : (fs : List (Field ℕ)) → w.0 ≡ 1 → map field_rank fs ≡ before_zero (ranks_in w) → Struct fs ≡ kind_composite t.kind
-  tells_fields fs o m = fields_told t.kind fs (told_short t h) (told_nameless t h) (kind_at 1 o) (m ∙ ap (λ v. before_zero (ranks_in v)) e)
+  pub asks_fields : w.0 ≡ 1 → All (IsClosedRank field_rank) (before 0 (ranks_in w))
+  asks_fields o = subst (λ (v : Weight). All (IsClosedRank field_rank) (before 0 (ranks_in v))) (sym e) (fields_asked t.kind (told_short t h) (told_nameless t h) (kind_at 1 o))
+
+  pub tells_fields : (fs : List (Field ℕ)) → w.0 ≡ 1 → map field_rank fs ≡ before 0 (ranks_in w) → Struct fs ≡ kind_composite t.kind
+  tells_fields fs o m = fields_told t.kind fs (told_short t h) (told_nameless t h) (kind_at 1 o) (m ∙ ap (λ v. before 0 (ranks_in v)) e)
 
   pub asks_field : ¬ (w.0 ≡ 0) → ¬ (w.0 ≡ 1) → IsClosedRank field_rank w.1
   asks_field o p = subst (λ (v : Weight). IsClosedRank field_rank v.1) (sym e) (field_asked t.kind (told_nameless t h) (kind_not 0 o) (kind_not 1 p))

@@ -1,5 +1,5 @@
 -- Of two types the lighter is less.
-use Rattle.std.proofs.Common.{◌≡◌, ℕ, ◌+◌, ◌*◌, ◌<◌, ◌≤◌, inl, inr, ◌⊎◌, Bool, true, false, ◌==◌, cond, List, [], ◌∷◌, refl, ap, sym, ◌∙◌, arith}
+use Rattle.std.proofs.Common.{◌≡◌, ℕ, ◌+◌, ◌*◌, ◌<◌, ◌≤◌, inl, inr, ◌⊎◌, Bool, true, false, ◌==◌, cond, List, [], ◌∷◌, map, Option, Some, None, refl, ap, sym, ◌∙◌, arith}
 use Rattle.std.specs.declared.cmp.Ordering.{Ordering}
 use Rattle.std.specs.declared.cmp.Ordering.TheVariants.{Less, Equal, Greater}
 use Rattle.std.specs.Ordering.{nat_cmp, ordering_then, ordering_reverse}
@@ -20,7 +20,7 @@ use Rattle.walrus_types.specs.declared.ty.value.Storage.{Storage}
 use Rattle.walrus_types.specs.declared.ty.value.Storage.TheVariants as storage
 use Rattle.walrus_types.specs.declared.ty.value.Field.{Field}
 use Rattle.walrus_types.specs.Definition.{composite_cmp}
-use Rattle.walrus_types.specs.Steps.Weights.{Weight, weight_cmp, heap_place, val_place, storage_place, is_named, rank, is_open, val_rank, field_rank, first_rank, after_first, ranks, kind_weight, type_weight}
+use Rattle.walrus_types.specs.Steps.Weights.{Weight, weight_cmp, heap_place, val_place, storage_place, is_named, rank, is_open, val_rank, field_rank, marked_items, item_rank, first_rank, after_first, ranks, kind_weight, type_weight}
 use Rattle.walrus_types.specs.Types.{ModuleType, kind_composite}
 use Rattle.walrus_types.specs.Value.{abstract_index, heap_cmp, val_cmp, storage_cmp, field_cmp, bool_index, bool_cmp}
 use Rattle.walrus_types.specs.contracts.ty.TypeOrd.TheImpl.Laws as type_laws
@@ -336,6 +336,53 @@ field_tells = record {
     by_field f g (by_place h) = ap (λ o. ordering_then o (bool_cmp f.mutable g.mutable)) (storage_less f.element_type g.element_type h)
     by_field f g (by_mutability e t h) = ap (λ o. ordering_then o (bool_cmp f.mutable g.mutable)) (storage_tied f.element_type g.element_type e t) ∙ h
 
+-- the mark is less than each value
+abbrev pub item_cmp : Option (Val ℕ) → Option (Val ℕ) → Ordering
+item_cmp None None = Equal
+item_cmp None (Some w) = Less
+item_cmp (Some v) None = Greater
+item_cmp (Some v) (Some w) = val_cmp v w
+
+value_more : (i : ℕ) → nat_cmp (rank i false) 1 ≡ Greater
+value_more i = let more : 1 < rank i false = omega arith in grind (arith, nat_tests, more)
+
+pub item_tells : Tells item_rank item_cmp
+item_tells = record { some = some_item; less = less_item; same = same_item }
+  where
+    some_item : (x : Option (Val ℕ)) → nat_cmp (item_rank x) 0 ≡ Greater
+    some_item None = refl
+    some_item (Some v) = val_tells.some v
+
+    less_item : (x y : Option (Val ℕ)) → nat_cmp (item_rank x) (item_rank y) ≡ Less → item_cmp x y ≡ Less
+    less_item None None h = cc
+    less_item None (Some w) h = refl
+    less_item (Some v) None h = let k : Greater ≡ Less = sym (value_more (val_place v)) ∙ h in cc
+    less_item (Some v) (Some w) h = val_tells.less v w h
+
+    same_item : (x y : Option (Val ℕ)) → item_rank x ≡ item_rank y → is_open (item_rank x) ≡ false → item_cmp x y ≡ Equal
+    same_item None None e h = refl
+    same_item None (Some w) e h = let k : Greater ≡ Equal = sym (value_more (val_place w)) ∙ alike (val_rank w) 1 (sym e) in cc
+    same_item (Some v) None e h = let k : Greater ≡ Equal = sym (value_more (val_place v)) ∙ alike (val_rank v) 1 e in cc
+    same_item (Some v) (Some w) e h = val_tells.same v w e h
+
+values_cmp : (vs ws : List (Val ℕ)) → slice_cmp item_cmp (map Some vs) (map Some ws) ≡ slice_cmp val_cmp vs ws
+values_cmp [] [] = refl
+values_cmp [] (w ∷ ws) = refl
+values_cmp (v ∷ vs) [] = refl
+values_cmp (v ∷ vs) (w ∷ ws) = ap (ordering_then (val_cmp v w)) (values_cmp vs ws)
+
+then_twice : (o p q : Ordering) → ordering_then o (ordering_then p q) ≡ ordering_then (ordering_then o p) q
+then_twice Less p q = refl
+then_twice Equal p q = refl
+then_twice Greater p q = refl
+
+-- with a mark between parameters and results these compare as one list
+signatures_cmp : (ps qs rs ss : List (Val ℕ)) → slice_cmp item_cmp (marked_items ps true rs) (marked_items qs true ss) ≡ ordering_then (slice_cmp val_cmp ps qs) (slice_cmp val_cmp rs ss)
+signatures_cmp [] [] rs ss = values_cmp rs ss
+signatures_cmp [] (q ∷ qs) rs ss = refl
+signatures_cmp (p ∷ ps) [] rs ss = refl
+signatures_cmp (p ∷ ps) (q ∷ qs) rs ss = ap (ordering_then (val_cmp p q)) (signatures_cmp ps qs rs ss) ∙ then_twice (val_cmp p q) (slice_cmp val_cmp ps qs) (slice_cmp val_cmp rs ss)
+
 then_less : (o p : Ordering) → o ≡ Less → ordering_then o p ≡ Less
 then_less o p h = ap (λ q. ordering_then q p) h
 
@@ -349,7 +396,7 @@ array_less f g h = alone (field_cmp f g) h
     alone Greater h = cc
 
 kind_less : (c d : CompositeType) → weight_cmp (kind_weight c) (kind_weight d) ≡ Less → composite_cmp (kind_composite c) (kind_composite d) ≡ Less
-kind_less (kind.Function f) (kind.Function g) h = then_less _ _ (ranks_less val_rank val_cmp val_tells 0 f.params g.params h)
+kind_less (kind.Function f) (kind.Function g) h = sym (signatures_cmp f.params g.params f.results g.results) ∙ ranks_less item_rank item_cmp item_tells 0 (marked_items f.params true f.results) (marked_items g.params true g.results) h
 kind_less (kind.Function f) (kind.Struct t) h = refl
 kind_less (kind.Function f) (kind.Array b) h = refl
 kind_less (kind.Struct s) (kind.Function g) h = cc

@@ -1,14 +1,14 @@
 -- Types whose weight tells all of them, so that their records can be written without another look at them.
 -- Of this crate's own working; it serves the writing of a table as a type section. WebAssembly core specification, "Types", composite types and sub types.
-use Rattle.std.specs.Prelude.{◌≡◌, ℕ, ◌==◌, nat_le, Bool, true, false, not, ◌&&◌, List, [], ◌∷◌, length, is_none}
-use Rattle.std.specs.List.{list_all, before_first}
+use Rattle.std.specs.Prelude.{◌≡◌, ℕ, ◌+◌, ◌==◌, nat_le, Bool, true, false, not, ◌&&◌, List, [], ◌∷◌, length, is_none}
+use Rattle.std.specs.List.{list_all, before_first, after_first}
 use Rattle.walrus_types.specs.Definition.{Composite, Function, Struct, Array, Definition, names_of}
 use Rattle.walrus_types.specs.Types.{ModuleType, type_definition}
 use Rattle.walrus_types.specs.Steps.Weights.{Weight, is_open, type_weight}
 
--- whether it has at most five parameters or fields, and no results
+-- whether all of it is ranked: at most five fields, or at most four parameters and results and the mark between them
 abbrev pub is_short : Composite → Bool
-is_short (Function params results) = (length results == 0) && nat_le (length params) 5
+is_short (Function params results) = nat_le (length params + length results) 4
 is_short (Struct fields) = nat_le (length fields) 5
 is_short (Array field) = true
 
@@ -23,9 +23,13 @@ ranks_in w = w.1 ∷ w.2 ∷ w.3 ∷ w.4 ∷ w.5 ∷ []
 abbrev pub is_closed : Weight → Bool
 is_closed w = list_all (λ n. not (is_open n)) (ranks_in w)
 
--- those before the first 0, which is the rank of nothing
-abbrev pub before_zero : List ℕ → List ℕ
-before_zero ns = before_first (λ n. n == 0) ns
+-- those before the first of them that is k
+abbrev pub before : ℕ → List ℕ → List ℕ
+before k ns = before_first (λ n. n == k) ns
+
+-- those after it
+abbrev pub after : ℕ → List ℕ → List ℕ
+after k ns = after_first (λ n. n == k) ns
 
 -- n is the rank of something that names no type
 abbrev pub IsClosedRank : {A : Type 0} → (A → ℕ) → ℕ → Type 0

@@ -1,6 +1,6 @@
 -- A few small numbers for a type, by which most types can be told apart before their lists are looked at.
 -- Of this crate's own working; it serves the order of types, in which a table is written. WebAssembly core specification, "Types", composite types.
-use Rattle.std.specs.Prelude.{ℕ, ◌+◌, ◌*◌, ◌==◌, cond, Bool, true, false, List, [], ◌∷◌}
+use Rattle.std.specs.Prelude.{ℕ, ◌+◌, ◌*◌, ◌==◌, cond, Bool, true, false, List, [], ◌∷◌, ◌++◌, map, Option, Some, None}
 use Rattle.std.specs.declared.cmp.Ordering.{Ordering}
 use Rattle.std.specs.Ordering.{nat_cmp, ordering_then}
 use Rattle.walrus_types.specs.declared.ty.composite.CompositeType.{CompositeType}
@@ -60,6 +60,15 @@ val_rank v = rank (val_place v) false
 abbrev pub field_rank : Field ℕ → ℕ
 field_rank f = rank (storage_place f.element_type) f.mutable
 
+-- values, and if they are marked, behind a mark further values
+abbrev pub marked_items : List (Val ℕ) → Bool → List (Val ℕ) → List (Option (Val ℕ))
+marked_items vals is_marked further = map Some vals ++ cond is_marked (None ∷ map Some further) []
+
+-- the mark has a lesser rank than each value
+abbrev pub item_rank : Option (Val ℕ) → ℕ
+item_rank None = 1
+item_rank (Some v) = val_rank v
+
 -- the rank of the first; 0 where there is none
 abbrev pub first_rank : {A : Type 0} → (A → ℕ) → List A → ℕ
 first_rank r [] = 0
@@ -74,8 +83,9 @@ after_first r (x ∷ xs) = cond (is_open (r x)) [] xs
 abbrev pub ranks : {A : Type 0} → ℕ → (A → ℕ) → List A → Weight
 ranks k r xs = (k, first_rank r xs, first_rank r (after_first r xs), first_rank r (after_first r (after_first r xs)), first_rank r (after_first r (after_first r (after_first r xs))), first_rank r (after_first r (after_first r (after_first r (after_first r xs)))))
 
+-- of a function type the parameters, a mark and the results are ranked
 abbrev pub kind_weight : CompositeType → Weight
-kind_weight (kind.Function f) = ranks 0 val_rank f.params
+kind_weight (kind.Function f) = ranks 0 item_rank (marked_items f.params true f.results)
 kind_weight (kind.Struct s) = ranks 1 field_rank s.fields
 kind_weight (kind.Array a) = ranks 2 field_rank (a.field ∷ [])
 

@@ -2,7 +2,7 @@
 // To reach a type of the table costs more than all else that is done to write it, as the sorted types lie all over the memory.
 ghost use Rattle.std.specs.Prelude.{◌≡◌, ◌≤◌, ◌==◌, IfOk, All, map, position, false};
 ghost use Rattle.walrus_types.specs.Records.{comp_composite, entry_definition};
-ghost use Rattle.walrus_types.specs.Steps.Told.{IsClosedRank, IsToldBy, before_zero};
+ghost use Rattle.walrus_types.specs.Steps.Told.{IsClosedRank, IsToldBy, before, after};
 ghost use Rattle.walrus_types.specs.Steps.Weights.{is_named, val_place, storage_place, val_rank, field_rank};
 ghost use Rattle.walrus_types.specs.Types.{ModuleType, kind_composite, type_definition};
 ghost use Rattle.walrus_types.specs.Value.{abstract_index};
@@ -10,7 +10,7 @@ ghost use Rattle.walrus_types.specs.Value.{abstract_index};
 #[cfg(test)]
 mod tests;
 
-use super::weighed::Weight;
+use super::weighed::{MARK, Weight};
 use crate::{
     AbstractHeapType, CompAt, EntryAt, Field, FieldAt, Heap, Listed, Reference, Storage, StorageAt,
     Val, ValAt,
@@ -111,19 +111,29 @@ fn fields_of(alloc: Global, ranks: &[u8]) -> Result<Vec<FieldAt>, AllocError>
     Ok(fields)
 }
 
-fn first_zero(ranks: &[u8]) -> Option<usize>
-    ensures { result ≡ position (λ n. n == 0) ranks.now }
+fn first_of(rank: u8, ranks: &[u8]) -> Option<usize>
+    ensures { result ≡ position (λ n. n == rank) ranks.now }
 {
-    ranks.iter().position(|rank| *rank == 0)
+    ranks.iter().position(|other| *other == rank)
 }
 
-// The ranks before the first 0, which is the rank of nothing.
-fn before_zero(ranks: &[u8]) -> &[u8]
-    ensures { result.now ≡ before_zero ranks.now }
+// The ranks before the first that is this one.
+fn before(rank: u8, ranks: &[u8]) -> &[u8]
+    ensures { result.now ≡ before rank ranks.now }
 {
-    match first_zero(ranks) {
+    match first_of(rank, ranks) {
         Some(at) => &ranks[..at],
         None => ranks,
+    }
+}
+
+// The ranks after the first that is this one.
+fn after(rank: u8, ranks: &[u8]) -> &[u8]
+    ensures { result.now ≡ after rank ranks.now }
+{
+    match first_of(rank, ranks) {
+        Some(at) => &ranks[at + 1..],
+        None => &[],
     }
 }
 
@@ -133,14 +143,19 @@ fn comp_of(alloc: Global, weight: Weight) -> Result<CompAt, AllocError>
     ensures { (ty : ModuleType) → IsToldBy weight ty → IfOk result (λ c. comp_composite c ≡ kind_composite ty.kind) }
 {
     let (kind, first, second, third, fourth, fifth) = weight;
-    let ranks = [first, second, third, fourth, fifth];
+    let all = [first, second, third, fourth, fifth];
+    let ranks = before(0, &all);
     match kind {
-        0 => Ok(CompAt::Function {
-            params: Listed::from_vec(vals_of(alloc, before_zero(&ranks))?),
-            results: Listed::from_vec(Vec::new(alloc)),
-        }),
+        0 => {
+            let params = vals_of(alloc, before(MARK, ranks))?;
+            let results = vals_of(alloc, after(MARK, ranks))?;
+            Ok(CompAt::Function {
+                params: Listed::from_vec(params),
+                results: Listed::from_vec(results),
+            })
+        }
         1 => Ok(CompAt::Struct {
-            fields: Listed::from_vec(fields_of(alloc, before_zero(&ranks))?),
+            fields: Listed::from_vec(fields_of(alloc, ranks)?),
         }),
         _ => Ok(CompAt::Array {
             field: field_of(first),

@@ -1,29 +1,32 @@
 //! Types that are compared by a few small numbers first, and by their lists only where these are the same.
-ghost use Rattle.std.specs.Prelude.{◌≡◌, ◌≤◌, IfSome};
+ghost use Rattle.std.specs.Prelude.{◌≡◌, ◌≤◌, IfSome, true};
 ghost use Rattle.walrus_types.specs.contracts.ty.TypeEq.TheImpl.Laws as type_eq;
 ghost use Rattle.walrus_types.specs.contracts.ty.TypeOrd.TheImpl.Laws as type_ord;
 ghost use Rattle.walrus_types.specs.contracts.ty.TypePartialEq.TheImpl.Laws as type_partial_eq;
 ghost use Rattle.walrus_types.specs.contracts.ty.TypePartialOrd.TheImpl.Laws as type_partial_ord;
 ghost use Rattle.walrus_types.specs.Steps.Told.{is_short, is_closed, is_told, IsToldBy};
-ghost use Rattle.walrus_types.specs.Steps.Weights.{heap_place, val_place, storage_place, is_open, val_rank, field_rank, first_rank, after_first, ranks, type_weight};
+ghost use Rattle.walrus_types.specs.Steps.Weights.{heap_place, val_place, storage_place, is_open, val_rank, field_rank, marked_items, item_rank, first_rank, after_first, ranks, type_weight};
 ghost use Rattle.walrus_types.specs.Types.{kind_composite, type_definition};
 ghost use Rattle.walrus_types.specs.Value.{abstract_index};
 
 use crate::{
-    AbstractHeapType, CompositeType, FieldType, Heap, HeapType, Storage, StorageType, Type, Val,
-    ValType,
+    AbstractHeapType, CompositeType, FieldType, FunctionType, Heap, HeapType, Storage, StorageType,
+    Type, Val, ValType,
 };
 use std::cmp::Ordering;
 use std::marker::Model;
 use std::slice;
 
-// The kind of a type, and a number for each of its first five parameters or fields, less for a lesser one. Behind one that names a type all are 0.
+// The kind of a type, and a rank for each of its first five fields, or of its parameters, a mark and its results: less for a lesser one. Behind one that names a type all are 0.
 pub(super) type Weight = (u8, u8, u8, u8, u8, u8);
 
 // The ranks of a reference to a type and of a nullable one, which do not tell all of it.
 const NAMED: u8 = 36;
 
 const NAMED_OR_NULL: u8 = 62;
+
+// The rank of the mark between parameters and results, which is less than theirs.
+pub(super) const MARK: u8 = 1;
 
 fn place_of_abstract(heap: AbstractHeapType) -> u8
     ensures { result ≡ abstract_index heap }
@@ -107,20 +110,61 @@ fn rank_of_field(field: &FieldType) -> u8
     }
 }
 
-// The rank of the first, and what is left to look at.
-fn first_val(vals: &[ValType]) -> (u8, &[ValType])
-    ensures first { result.0 ≡ first_rank val_rank vals.now }
-    ensures after { result.1.now ≡ after_first val_rank vals.now }
-{
-    match vals {
-        [] => (0, vals),
-        [val, rest @ ..] => {
-            let rank = rank_of_val(val);
-            (rank, if is_open(rank) { &[] } else { rest })
+// What is left to look at of a function type: values, and if they are marked, behind a mark further values.
+#[derive(Drop)]
+struct Items<'a> {
+    vals: &'a [ValType],
+    is_marked: bool,
+    further: &'a [ValType],
+}
+
+impl<'a> Model for Items<'a> {
+    ghost use Rattle.std.specs.Prelude.{ℕ, List, Option};
+    ghost use Rattle.walrus_types.specs.declared.ty.value.Val.{Val};
+    ghost use Rattle.walrus_types.specs.Steps.Weights.{marked_items};
+
+    ghost Value = { List (Option (Val ℕ)) };
+
+    ghost view = { λ s. marked_items s.vals.now s.is_marked s.further.now };
+}
+
+impl<'a> Items<'a> {
+    fn new(vals: &'a [ValType], is_marked: bool, further: &'a [ValType]) -> Items<'a>
+        ensures { result ≡ marked_items vals.now is_marked further.now }
+    {
+        Items {
+            vals,
+            is_marked,
+            further,
+        }
+    }
+
+    // The rank of the first, and what is left to look at.
+    fn first(self) -> (u8, Items<'a>)
+        ensures first { result.0 ≡ first_rank item_rank self.entry }
+        ensures after { result.1 ≡ after_first item_rank self.entry }
+    {
+        match self.vals {
+            [] => {
+                if self.is_marked {
+                    (MARK, Items::new(self.further, false, &[]))
+                } else {
+                    (0, Items::new(&[], false, &[]))
+                }
+            }
+            [val, rest @ ..] => {
+                let rank = rank_of_val(val);
+                if is_open(rank) {
+                    (rank, Items::new(&[], false, &[]))
+                } else {
+                    (rank, Items::new(rest, self.is_marked, self.further))
+                }
+            }
         }
     }
 }
 
+// The rank of the first, and what is left to look at.
 fn first_field(fields: &[FieldType]) -> (u8, &[FieldType])
     ensures first { result.0 ≡ first_rank field_rank fields.now }
     ensures after { result.1.now ≡ after_first field_rank fields.now }
@@ -134,15 +178,15 @@ fn first_field(fields: &[FieldType]) -> (u8, &[FieldType])
     }
 }
 
-fn weight_of_vals(kind: u8, vals: &[ValType]) -> Weight
-    ensures { result ≡ ranks kind val_rank vals.now }
+fn weight_of_function(function: &FunctionType) -> Weight
+    ensures { result ≡ ranks 0 item_rank (marked_items function.now.params true function.now.results) }
 {
-    let (first, rest) = first_val(vals);
-    let (second, rest) = first_val(rest);
-    let (third, rest) = first_val(rest);
-    let (fourth, rest) = first_val(rest);
-    let (fifth, _) = first_val(rest);
-    (kind, first, second, third, fourth, fifth)
+    let (first, left) = Items::new(function.params(), true, function.results()).first();
+    let (second, left) = left.first();
+    let (third, left) = left.first();
+    let (fourth, left) = left.first();
+    let (fifth, _) = left.first();
+    (0, first, second, third, fourth, fifth)
 }
 
 fn weight_of_fields(kind: u8, fields: &[FieldType]) -> Weight
@@ -160,19 +204,19 @@ fn weight_of(ty: &Type) -> Weight
     ensures { result ≡ type_weight ty.now }
 {
     match &ty.kind {
-        CompositeType::Function(function) => weight_of_vals(0, function.params()),
+        CompositeType::Function(function) => weight_of_function(function),
         CompositeType::Struct(of) => weight_of_fields(1, of.fields.as_slice()),
         CompositeType::Array(of) => weight_of_fields(2, slice::from_ref(&of.field)),
     }
 }
 
-// Whether it has at most as many parameters or fields as a weight has ranks, and no results.
+// Whether a weight has a rank for each of its fields, or for its parameters, the mark and its results.
 fn is_short(kind: &CompositeType) -> bool
     ensures { result ≡ is_short (kind_composite kind.now) }
 {
     match kind {
         CompositeType::Function(function) => {
-            function.results().is_empty() && function.params().len() <= 5
+            function.params().len() + function.results().len() <= 4
         }
         CompositeType::Struct(of) => of.fields.as_slice().len() <= 5,
         CompositeType::Array(_) => true,

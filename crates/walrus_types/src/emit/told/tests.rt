@@ -55,16 +55,41 @@ fn an_array_is_told(rt: HostRuntime) -> Result<(), Fail> {
     Ok(())
 }
 
+fn params<N: Drop>(alloc: Global) -> Result<Vec<Val<N>>, AllocError> {
+    let mut params = Vec::new(alloc);
+    params.push(Val::V128)?;
+    params.push(abstract_reference(AbstractHeapType::Func))?;
+    Ok(params)
+}
+
+fn results<N: Drop>(alloc: Global) -> Result<Vec<Val<N>>, AllocError> {
+    let mut results = Vec::new(alloc);
+    results.push(abstract_reference(AbstractHeapType::Any))?;
+    results.push(Val::I32)?;
+    Ok(results)
+}
+
 #[test]
 fn a_function_is_told(rt: HostRuntime) -> Result<(), Fail> {
-    let params = vec![in rt.alloc(); Val::V128, abstract_reference(AbstractHeapType::Func)]?;
-    let kind = CompositeType::Function(FunctionType::new(params, Vec::new(rt.alloc())));
-    let params = vec![in rt.alloc(); Val::V128, abstract_reference(AbstractHeapType::Func)]?;
+    let alloc = rt.alloc();
+    let function = FunctionType::new(params(alloc)?, results(alloc)?);
     let wanted = final_entry(CompAt::Function {
-        params: Listed::from_vec(params),
-        results: Listed::from_vec(Vec::new(rt.alloc())),
+        params: Listed::from_vec(params(alloc)?),
+        results: Listed::from_vec(results(alloc)?),
     });
-    assert!(rt; entry_of(rt.alloc(), kind)? == wanted);
+    assert!(rt; entry_of(alloc, CompositeType::Function(function))? == wanted);
+    Ok(())
+}
+
+#[test]
+fn a_function_without_values_is_told(rt: HostRuntime) -> Result<(), Fail> {
+    let alloc = rt.alloc();
+    let function = FunctionType::new(Vec::new(alloc), Vec::new(alloc));
+    let wanted = final_entry(CompAt::Function {
+        params: Listed::from_vec(Vec::new(alloc)),
+        results: Listed::from_vec(Vec::new(alloc)),
+    });
+    assert!(rt; entry_of(alloc, CompositeType::Function(function))? == wanted);
     Ok(())
 }
 

@@ -1,29 +1,44 @@
-use Rattle.std.proofs.Common.{arith, All, List, [], ℕ, ◌∙◌, ap, sym, subst}
+use Rattle.std.proofs.Common.{arith, All, List, ℕ, ◌∙◌, ap, sym, subst}
 use Rattle.walrus_types.specs.Definition.{Function, Struct}
-use Rattle.walrus_types.specs.Steps.Told.{IsClosedRank}
+use Rattle.walrus_types.specs.Steps.Told.{IsClosedRank, before, after}
 use Rattle.walrus_types.specs.Steps.Weights.{val_rank, field_rank}
-use Rattle.walrus_types.proofs.Told.{asks_vals, tells_vals, asks_fields, tells_fields, asks_field, tells_field}
+use Rattle.walrus_types.proofs.Told.{asks_params, asks_results, tells_signature, asks_fields, tells_fields, asks_field, tells_field}
 use Rattle.walrus_types.proofs.emit.told.comp_of.Goals as goal
 
 pub vals_of-requires : goal.vals_of-requires
-vals_of-requires c = subst (λ (ns : List ℕ). All (IsClosedRank val_rank) ns) (sym c.before_zero.ensures) (asks_vals c.requires.0 c.args.weight c.requires.1.weight c.requires.1.told c.in-0.is)
+vals_of-requires c =
+    subst (λ (ns : List ℕ). All (IsClosedRank val_rank) ns) (sym (c.before-in-0.ensures ∙ ap (before 1) c.before-ranks.ensures))
+    (asks_params c.requires.0 c.args.weight c.requires.1.weight c.requires.1.told c.in-0.is)
+
+pub vals_of-requires-in-0 : goal.vals_of-requires-in-0
+vals_of-requires-in-0 c =
+    subst (λ (ns : List ℕ). All (IsClosedRank val_rank) ns) (sym (c.after.ensures ∙ ap (after 1) c.before-ranks.ensures))
+    (asks_results c.requires.0 c.args.weight c.requires.1.weight c.requires.1.told c.in-0.is)
 
 pub fields_of-requires : goal.fields_of-requires
-fields_of-requires c = subst (λ (ns : List ℕ). All (IsClosedRank field_rank) ns) (sym c.before_zero-in-1.ensures) (asks_fields c.requires.0 c.args.weight c.requires.1.weight c.requires.1.told c.in-1.is)
+fields_of-requires c =
+    subst (λ (ns : List ℕ). All (IsClosedRank field_rank) ns) (sym c.before-ranks.ensures)
+    (asks_fields c.requires.0 c.args.weight c.requires.1.weight c.requires.1.told c.in-1.is)
 
 pub field_of-requires : goal.field_of-requires
 field_of-requires c = asks_field c.requires.0 c.args.weight c.requires.1.weight c.requires.1.told (λ k. omega (arith, k)) (λ k. omega (arith, k))
 
-pub returns-in_ok-vals_of-in-0 : goal.returns-in_ok-vals_of-in-0
-returns-in_ok-vals_of-in-0 c = λ ty told.
-    (ap (Function c.from_vec.result) (c.from_vec-in-0.ensures ∙ c.new.ensures.items)
-    ∙ (ap (λ vs. Function vs []) c.from_vec.ensures
-    ∙ tells_vals ty c.args.weight told.weight told.told c.in_ok-vals_of-in-0.field-0.items c.in-0.is (c.in_ok-vals_of-in-0.ensures ∙ c.before_zero.ensures)))
+pub returns-in_ok-results-in-0 : goal.returns-in_ok-results-in-0
+returns-in_ok-results-in-0 c = λ ty told.
+    (ap (Function c.from_vec.result) c.from_vec-in-0.ensures
+    ∙ (ap (λ vs. Function vs c.in_ok-results-in-0.results.items) c.from_vec.ensures
+    ∙ tells_signature ty c.args.weight told.weight told.told
+    c.in_ok-params-in-0.params.items c.in_ok-results-in-0.results.items c.in-0.is
+    (c.in_ok-params-in-0.ensures ∙ (c.before-in-0.ensures ∙ ap (before 1) c.before-ranks.ensures))
+    (c.in_ok-results-in-0.ensures ∙ (c.after.ensures ∙ ap (after 1) c.before-ranks.ensures))))
 
 pub returns-in_ok-fields_of-in-1 : goal.returns-in_ok-fields_of-in-1
 returns-in_ok-fields_of-in-1 c = λ ty told.
     (ap Struct c.from_vec-in-1.ensures
-    ∙ tells_fields ty c.args.weight told.weight told.told c.in_ok-fields_of-in-1.field-0.items c.in-1.is (c.in_ok-fields_of-in-1.ensures ∙ c.before_zero-in-1.ensures))
+    ∙ tells_fields ty c.args.weight told.weight told.told
+    c.in_ok-fields_of-in-1.field-0.items c.in-1.is (c.in_ok-fields_of-in-1.ensures ∙ c.before-ranks.ensures))
 
 pub returns-in_default : goal.returns-in_default
-returns-in_default c = λ ty told. tells_field ty c.args.weight told.weight told.told c.field_of.result (λ k. omega (arith, k)) (λ k. omega (arith, k)) c.field_of.ensures
+returns-in_default c = λ ty told.
+    (tells_field ty c.args.weight told.weight told.told
+    c.field_of.result (λ k. omega (arith, k)) (λ k. omega (arith, k)) c.field_of.ensures)
