@@ -1,6 +1,6 @@
 //! Function bodies of WebAssembly modules as data: instructions, locals and constant expressions.
 //!
-//! - [`Instr`] is an instruction, with a struct for each of its 95 kinds. [`BinaryOp`], [`UnaryOp`] and [`TernaryOp`] are the operators, [`LoadKind`] and its kin say what memory accesses touch.
+//! - [`Instr`] is an instruction, with a struct for each of its 95 kinds, which becomes an `Instr` by `From`. [`BinaryOp`], [`UnaryOp`] and [`TernaryOp`] are the operators, [`LoadKind`] and its kin say what memory accesses touch.
 //! - [`InstrSeq`] is a sequence of instructions, each with an [`InstrLocId`]. Instructions that have sequences inside name them by [`InstrSeqId`], so a function's body is a list of sequences.
 //! - [`Local`] is a local of a function, [`Value`] what a constant gives.
 //!

@@ -1,14 +1,14 @@
 //! Atomic instructions on a memory that several threads share.
 //! Names and meaning are those of the threads proposal.
 ghost use Rattle.std.specs.Prelude.{◌≡◌};
+ghost use Rattle.walrus_ir.specs.declared.ir.instr.Instr.TheVariants as instr;
 ghost use Rattle.walrus_ir.specs.Atomics.{atomic_width};
 
-use crate::MemArg;
-use std::fmt;
+use crate::{Instr, MemArg};
 use walrus_types::MemoryId;
 
 /// What an atomic instruction does with the value in memory and the one that it takes.
-#[derive(Clone, Copy)]
+#[derive(Clone, Copy, Debug)]
 pub enum AtomicOp {
     Add,
     Sub,
@@ -16,13 +16,6 @@ pub enum AtomicOp {
     Or,
     Xor,
     Xchg,
-}
-
-/// `AtomicOp`, whichever it is.
-impl fmt::Debug for AtomicOp {
-    fn fmt<W: fmt::Write>(&self, f: &mut fmt::Formatter<W>) -> fmt::Result {
-        f.write_str("AtomicOp")
-    }
 }
 
 /// The type of an atomic instruction's values, and how many bits of memory it touches if that is less.
@@ -64,6 +57,14 @@ pub struct AtomicRmw {
     pub arg: MemArg,
 }
 
+impl From<AtomicRmw> for Instr {
+    ghost from_gives = { λ x i. i ≡ instr.AtomicRmw x };
+
+    fn from(x: AtomicRmw) -> Instr {
+        Instr::AtomicRmw(x)
+    }
+}
+
 /// `i32.atomic.rmw.cmpxchg` and its kin: writes a value where the one in memory is the expected one.
 #[derive(Clone, Copy, Debug)]
 pub struct Cmpxchg {
@@ -75,6 +76,14 @@ pub struct Cmpxchg {
     pub arg: MemArg,
 }
 
+impl From<Cmpxchg> for Instr {
+    ghost from_gives = { λ x i. i ≡ instr.Cmpxchg x };
+
+    fn from(x: Cmpxchg) -> Instr {
+        Instr::Cmpxchg(x)
+    }
+}
+
 /// `memory.atomic.notify`: wakes threads that wait at an address.
 #[derive(Clone, Copy, Debug)]
 pub struct AtomicNotify {
@@ -82,6 +91,14 @@ pub struct AtomicNotify {
     pub memory: MemoryId,
     /// Alignment and offset.
     pub arg: MemArg,
+}
+
+impl From<AtomicNotify> for Instr {
+    ghost from_gives = { λ x i. i ≡ instr.AtomicNotify x };
+
+    fn from(x: AtomicNotify) -> Instr {
+        Instr::AtomicNotify(x)
+    }
 }
 
 /// `memory.atomic.wait32` or `memory.atomic.wait64`: waits at an address.
@@ -95,6 +112,22 @@ pub struct AtomicWait {
     pub sixty_four: bool,
 }
 
+impl From<AtomicWait> for Instr {
+    ghost from_gives = { λ x i. i ≡ instr.AtomicWait x };
+
+    fn from(x: AtomicWait) -> Instr {
+        Instr::AtomicWait(x)
+    }
+}
+
 /// `atomic.fence`: orders memory accesses.
 #[derive(Clone, Copy, Debug)]
 pub struct AtomicFence {}
+
+impl From<AtomicFence> for Instr {
+    ghost from_gives = { λ x i. i ≡ instr.AtomicFence x };
+
+    fn from(x: AtomicFence) -> Instr {
+        Instr::AtomicFence(x)
+    }
+}

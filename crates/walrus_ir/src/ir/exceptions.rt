@@ -1,6 +1,9 @@
 //! Exceptions, in the form of the specification and in the older one.
 //! WebAssembly core specification, "Control Instructions"; `try` and `rethrow` are those of the older exception handling proposal.
-use crate::InstrSeqId;
+ghost use Rattle.std.specs.Prelude.{◌≡◌};
+ghost use Rattle.walrus_ir.specs.declared.ir.instr.Instr.TheVariants as instr;
+
+use crate::{Instr, InstrSeqId};
 use walrus_types::{Listed, TagId};
 
 /// A clause of `try_table`: for which exceptions it branches, where to, and with what.
@@ -36,6 +39,14 @@ pub struct TryTable {
     pub catches: Listed<TryTableCatch>,
 }
 
+impl From<TryTable> for Instr {
+    ghost from_gives = { λ x i. i ≡ instr.TryTable x };
+
+    fn from(x: TryTable) -> Instr {
+        Instr::TryTable(x)
+    }
+}
+
 /// `try`: runs a sequence, and on an exception what the first clause that takes it says.
 #[derive(Clone, Drop, Debug)]
 pub struct Try {
@@ -45,6 +56,14 @@ pub struct Try {
     pub catches: Listed<LegacyCatch>,
 }
 
+impl From<Try> for Instr {
+    ghost from_gives = { λ x i. i ≡ instr.Try x };
+
+    fn from(x: Try) -> Instr {
+        Instr::Try(x)
+    }
+}
+
 /// `throw`: throws an exception with the values taken.
 #[derive(Clone, Copy, Debug)]
 pub struct Throw {
@@ -52,13 +71,37 @@ pub struct Throw {
     pub tag: TagId,
 }
 
+impl From<Throw> for Instr {
+    ghost from_gives = { λ x i. i ≡ instr.Throw x };
+
+    fn from(x: Throw) -> Instr {
+        Instr::Throw(x)
+    }
+}
+
 /// `throw_ref`: takes a reference to an exception and throws that exception.
 #[derive(Clone, Copy, Debug)]
 pub struct ThrowRef {}
+
+impl From<ThrowRef> for Instr {
+    ghost from_gives = { λ x i. i ≡ instr.ThrowRef x };
+
+    fn from(x: ThrowRef) -> Instr {
+        Instr::ThrowRef(x)
+    }
+}
 
 /// `rethrow`: throws the exception that a clause of an older `try` has caught.
 #[derive(Clone, Copy, Debug)]
 pub struct Rethrow {
     /// How many labels out that clause is.
     pub relative_depth: u32,
+}
+
+impl From<Rethrow> for Instr {
+    ghost from_gives = { λ x i. i ≡ instr.Rethrow x };
+
+    fn from(x: Rethrow) -> Instr {
+        Instr::Rethrow(x)
+    }
 }

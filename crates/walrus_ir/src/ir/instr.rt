@@ -18,10 +18,9 @@ use crate::{
     TableGrow, TableInit, TableSet, TableSize, TernOp, Throw, ThrowRef, Try, TryTable, Unop,
     Unreachable, V128Bitselect,
 };
-use std::fmt;
 
 /// An instruction: for each kind a struct of the same name with its fields. `Drop` has `DropInstr`.
-#[derive(Drop)]
+#[derive(Debug, Drop)]
 pub enum Instr {
     // Control and branches.
     Block(Block),
@@ -159,62 +158,5 @@ impl Instr {
                 | Instr::ThrowRef(_)
                 | Instr::Rethrow(_)
         )
-    }
-}
-
-/// `Instr`, whichever it is.
-impl fmt::Debug for Instr {
-    fn fmt<W: fmt::Write>(&self, f: &mut fmt::Formatter<W>) -> fmt::Result {
-        f.write_str("Instr")
-    }
-}
-
-impl From<Block> for Instr {
-    ghost use Rattle.walrus_ir.specs.declared.ir.instr.Instr.TheVariants as instr;
-
-    ghost from_gives = { λ x i. i ≡ instr.Block x };
-
-    fn from(x: Block) -> Instr {
-        Instr::Block(x)
-    }
-}
-
-impl From<Loop> for Instr {
-    ghost use Rattle.walrus_ir.specs.declared.ir.instr.Instr.TheVariants as instr;
-
-    ghost from_gives = { λ x i. i ≡ instr.Loop x };
-
-    fn from(x: Loop) -> Instr {
-        Instr::Loop(x)
-    }
-}
-
-impl From<IfElse> for Instr {
-    ghost use Rattle.walrus_ir.specs.declared.ir.instr.Instr.TheVariants as instr;
-
-    ghost from_gives = { λ x i. i ≡ instr.IfElse x };
-
-    fn from(x: IfElse) -> Instr {
-        Instr::IfElse(x)
-    }
-}
-
-impl From<TryTable> for Instr {
-    ghost use Rattle.walrus_ir.specs.declared.ir.instr.Instr.TheVariants as instr;
-
-    ghost from_gives = { λ x i. i ≡ instr.TryTable x };
-
-    fn from(x: TryTable) -> Instr {
-        Instr::TryTable(x)
-    }
-}
-
-impl From<Try> for Instr {
-    ghost use Rattle.walrus_ir.specs.declared.ir.instr.Instr.TheVariants as instr;
-
-    ghost from_gives = { λ x i. i ≡ instr.Try x };
-
-    fn from(x: Try) -> Instr {
-        Instr::Try(x)
     }
 }

@@ -1,4 +1,4 @@
-//! That instructions with lists can be cloned, and what they print.
+//! That instructions with lists can be cloned.
 use super::*;
 
 fn make_table(alloc: Global) -> Result<Instr, Fail> {
@@ -75,14 +75,5 @@ fn a_sequence(rt: HostRuntime) -> Result<(), Fail> {
     assert_eq!(rt; copy.id().index(), 3);
     assert_eq!(rt; copy.instrs.len(), 1);
     assert!(rt; copy.end == InstrLocId::new(9));
-    Ok(())
-}
-
-#[test]
-fn big_enums_print_their_name(rt: HostRuntime) -> Result<(), Fail> {
-    let instr = Instr::Drop(DropInstr {});
-    assert_eq!(rt; format!(in rt.alloc(); "{instr:?}")?.as_str(), "Instr");
-    let op = BinaryOp::I32Add;
-    assert_eq!(rt; format!(in rt.alloc(); "{op:?}")?.as_str(), "BinaryOp");
     Ok(())
 }

@@ -1,4 +1,4 @@
-//! How many operators on three values there are.
+//! How many operators on three values there are, each with a printed name of its own.
 use super::*;
 
 // Products with a third vector added, or taken from it.
@@ -21,6 +21,12 @@ const CHOICES: [TernaryOp; 4] = [
 const SUMS: [TernaryOp; 1] = [TernaryOp::I32x4RelaxedDotI8x16I7x16AddS];
 
 #[test]
-fn there_are_9(rt: HostRuntime) {
-    assert_eq!(rt; PRODUCTS.len() + CHOICES.len() + SUMS.len(), 9);
+fn there_are_9(rt: HostRuntime) -> Result<(), Fail> {
+    let alloc = rt.alloc();
+    let mut seen = HashSet::new(alloc);
+    see(&rt, alloc, &mut seen, &PRODUCTS)?;
+    see(&rt, alloc, &mut seen, &CHOICES)?;
+    see(&rt, alloc, &mut seen, &SUMS)?;
+    assert_eq!(rt; seen.len(), 9);
+    Ok(())
 }

@@ -1,4 +1,4 @@
-//! How many operators on one value there are.
+//! How many operators on one value there are, each with a printed name of its own.
 use super::*;
 
 // Tests and bit counts of integers.
@@ -205,24 +205,27 @@ const RELAXED: [UnaryOp; 4] = [
 ];
 
 #[test]
-fn there_are_137(rt: HostRuntime) {
-    let count = INTEGER_BITS.len()
-        + FLOAT_ROUNDING.len()
-        + INTEGER_WIDTHS.len()
-        + TRAPPING_TRUNCATIONS.len()
-        + SATURATING_TRUNCATIONS.len()
-        + CONVERSIONS.len()
-        + FLOAT_WIDTHS.len()
-        + REINTERPRETATIONS.len()
-        + LANES.len()
-        + VECTOR_BITS.len()
-        + LANE_BITS.len()
-        + FLOAT_LANE_ROUNDING.len()
-        + PAIRWISE_SUMS.len()
-        + WIDENED_LANES.len()
-        + TRUNCATED_LANES.len()
-        + CONVERTED_LANES.len()
-        + FLOAT_LANE_WIDTHS.len()
-        + RELAXED.len();
-    assert_eq!(rt; count, 137);
+fn there_are_137(rt: HostRuntime) -> Result<(), Fail> {
+    let alloc = rt.alloc();
+    let mut seen = HashSet::new(alloc);
+    see(&rt, alloc, &mut seen, &INTEGER_BITS)?;
+    see(&rt, alloc, &mut seen, &FLOAT_ROUNDING)?;
+    see(&rt, alloc, &mut seen, &INTEGER_WIDTHS)?;
+    see(&rt, alloc, &mut seen, &TRAPPING_TRUNCATIONS)?;
+    see(&rt, alloc, &mut seen, &SATURATING_TRUNCATIONS)?;
+    see(&rt, alloc, &mut seen, &CONVERSIONS)?;
+    see(&rt, alloc, &mut seen, &FLOAT_WIDTHS)?;
+    see(&rt, alloc, &mut seen, &REINTERPRETATIONS)?;
+    see(&rt, alloc, &mut seen, &LANES)?;
+    see(&rt, alloc, &mut seen, &VECTOR_BITS)?;
+    see(&rt, alloc, &mut seen, &LANE_BITS)?;
+    see(&rt, alloc, &mut seen, &FLOAT_LANE_ROUNDING)?;
+    see(&rt, alloc, &mut seen, &PAIRWISE_SUMS)?;
+    see(&rt, alloc, &mut seen, &WIDENED_LANES)?;
+    see(&rt, alloc, &mut seen, &TRUNCATED_LANES)?;
+    see(&rt, alloc, &mut seen, &CONVERTED_LANES)?;
+    see(&rt, alloc, &mut seen, &FLOAT_LANE_WIDTHS)?;
+    see(&rt, alloc, &mut seen, &RELAXED)?;
+    assert_eq!(rt; seen.len(), 137);
+    Ok(())
 }
