@@ -109,7 +109,7 @@ fn a_table_of_branches(rt: HostRuntime) -> Result<(), Fail> {
         blocks: Listed::from_vec(targets),
         default: Id::from_index(6),
     };
-    let text = "BrTable(BrTable { blocks: Listed { items: [Id(4), Id(5)] }, default: Id(6) })";
+    let text = "BrTable(BrTable { blocks: [Id(4), Id(5)], default: Id(6) })";
     prints(&rt, alloc, &Instr::from(table), text)
 }
 
