@@ -1,6 +1,5 @@
-pub mod WordLemmas
-pub mod IndexLemmas
-pub mod EntryLemmas
-pub mod LineLemmas
-pub mod Astray
-pub mod ReadingLemmas
+pub mod Basics
+pub mod Lexing
+pub mod Parsing
+pub mod Gathering
+pub mod Failures

@@ -1,6 +1,5 @@
 pub mod Words
+pub mod Spacing
 pub mod Text
-pub mod Lines
-pub mod Sections
-pub mod Reading
-pub mod Stops
+pub mod Runs
+pub mod Steps

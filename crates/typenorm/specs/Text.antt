@@ -1,24 +1,25 @@
--- The text of a type section: a line of words for each definition, `rec` and `end` round each `Rec`.
-use Rattle.std.specs.Prelude.{ℕ, Bool, true, false, List, [], ◌∷◌, ◌++◌, map, Option, Some, None, codes, decimal, if◌then◌else◌}
-use Rattle.std.specs.Prelude.{◌≡◌, ◌<◌, ◌^◌, ◌⊎◌, ◌==◌, ◌||◌, ◌&&◌, nat_lt, length, slice_index}
+-- `section_lines`, the text of a type section: a line of words for each definition, `rec` and `end`
+-- round each `Rec`.
+-- The names of heap types are those of the text format: WebAssembly core specification, "Text
+-- Format", types.
+use Rattle.std.specs.Prelude.{ℕ, Bool, true, false, List, [], ◌∷◌, ◌++◌, map, Option, Some, None, codes, decimal, if◌then◌else◌, ◌≡◌, ◌<◌, ◌^◌}
 use Rattle.std.specs.List.{flat_map, AllByRecursion}
-use Rattle.walrus_types.specs.Value.{heap_names, val_names, storage_names, field_names}
-use Rattle.walrus_types.specs.Definition.{names_of, composite_names, supertype_names}
-use Rattle.walrus_types.specs.Records.{entry_definition, comp_composite}
-use Rattle.walrus_types.specs.declared.ty.value.AbstractHeapType.{AbstractHeapType}
-use Rattle.walrus_types.specs.declared.ty.value.AbstractHeapType.TheVariants as abstract
-use Rattle.walrus_types.specs.declared.ty.value.Heap.{Heap}
-use Rattle.walrus_types.specs.declared.ty.value.Heap.TheVariants as heap
-use Rattle.walrus_types.specs.declared.ty.value.Val.{Val}
-use Rattle.walrus_types.specs.declared.ty.value.Val.TheVariants as val
-use Rattle.walrus_types.specs.declared.ty.value.Storage.{Storage}
-use Rattle.walrus_types.specs.declared.ty.value.Storage.TheVariants as storage
-use Rattle.walrus_types.specs.declared.ty.value.Field.{Field}
-use Rattle.walrus_types.specs.declared.records.CompAt.{CompAt}
-use Rattle.walrus_types.specs.declared.records.CompAt.TheVariants as comp
-use Rattle.walrus_types.specs.declared.records.EntryAt.{EntryAt}
-use Rattle.walrus_types.specs.declared.records.GroupAt.{GroupAt}
-use Rattle.walrus_types.specs.declared.records.GroupAt.TheVariants as group
+use Rattle.walrus_ty.specs.Definition.{names_of}
+use Rattle.walrus_ty.specs.Records.{entry_definition}
+use Rattle.walrus_ty.specs.declared.ty.value.AbstractHeapType.{AbstractHeapType}
+use Rattle.walrus_ty.specs.declared.ty.value.AbstractHeapType.TheVariants as abstract
+use Rattle.walrus_ty.specs.declared.ty.value.Heap.{Heap}
+use Rattle.walrus_ty.specs.declared.ty.value.Heap.TheVariants as heap
+use Rattle.walrus_ty.specs.declared.ty.value.Val.{Val}
+use Rattle.walrus_ty.specs.declared.ty.value.Val.TheVariants as val
+use Rattle.walrus_ty.specs.declared.ty.value.Storage.{Storage}
+use Rattle.walrus_ty.specs.declared.ty.value.Storage.TheVariants as storage
+use Rattle.walrus_ty.specs.declared.ty.value.Field.{Field}
+use Rattle.walrus_ty.specs.declared.records.CompAt.{CompAt}
+use Rattle.walrus_ty.specs.declared.records.CompAt.TheVariants as comp
+use Rattle.walrus_ty.specs.declared.records.EntryAt.{EntryAt}
+use Rattle.walrus_ty.specs.declared.records.GroupAt.{GroupAt}
+use Rattle.walrus_ty.specs.declared.records.GroupAt.TheVariants as group
 use Rattle.typenorm.specs.Words.{text_of}
 
 -- the names of abstract heap types in the text format of WebAssembly
@@ -58,7 +59,8 @@ abbrev pub field_word : Field ℕ → List ℕ
 field_word f = (if f.mutable then codes "mut:" else []) ++ storage_word f.element_type
 
 abbrev pub composite_words : CompAt → List (List ℕ)
-composite_words (comp.Function params results) = codes "func" ∷ (map val_word params ++ codes "->" ∷ map val_word results)
+composite_words (comp.Function params results) =
+    codes "func" ∷ (map val_word params ++ codes "->" ∷ map val_word results)
 composite_words (comp.Struct fields) = codes "struct" ∷ map field_word fields
 composite_words (comp.Array field) = codes "array" ∷ field_word field ∷ []
 
@@ -100,58 +102,6 @@ AreIndices names = AllByRecursion (λ k. k < 2 ^ 32) names
 abbrev pub IsText : {X T : Type 0} → (X → T) → (X → Type 0) → T → Type 0
 IsText {X} text B t = (x : X) × B x × (t ≡ text x)
 
-abbrev pub IsIndexWord : List ℕ → Type 0
-IsIndexWord word = IsText decimal (λ k. k < 2 ^ 32) word
-
-abbrev pub IsNameWord : List ℕ → Type 0
-IsNameWord word = (name : AbstractHeapType) × (word ≡ name_word name)
-
-abbrev pub IsHeapWord : List ℕ → Type 0
-IsHeapWord word = IsText heap_word (λ h. AreIndices (heap_names h)) word
-
-abbrev pub IsValWord : List ℕ → Type 0
-IsValWord word = IsText val_word (λ v. AreIndices (val_names v)) word
-
-abbrev pub IsStorageWord : List ℕ → Type 0
-IsStorageWord word = IsText storage_word (λ s. AreIndices (storage_names s)) word
-
-abbrev pub IsFieldWord : List ℕ → Type 0
-IsFieldWord word = IsText field_word (λ f. AreIndices (field_names f)) word
-
-abbrev pub IsEntryLine : List (List ℕ) → Type 0
-IsEntryLine words = IsText entry_words (λ e. AreIndices (names_of (entry_definition e))) words
-
--- the word of a value type that is no reference
-abbrev pub IsPlainWord : List ℕ → Type 0
-IsPlainWord word = (word ≡ codes "i32") ⊎ ((word ≡ codes "i64") ⊎ ((word ≡ codes "f32") ⊎ ((word ≡ codes "f64") ⊎ (word ≡ codes "v128"))))
-
--- a sign or zeros stand before the digits
-abbrev pub other_form : List ℕ → Bool
-other_form word = (slice_index word 0 == 43) || ((slice_index word 0 == 48) && nat_lt 1 (length word))
-
--- the word of a storage type that is no value type
-abbrev pub IsPackedWord : List ℕ → Type 0
-IsPackedWord word = (word ≡ codes "i8") ⊎ (word ≡ codes "i16")
-
--- the first word, where there is one, has P
-abbrev pub BeginsWith : (List ℕ → Type 0) → List (List ℕ) → Type 0
-BeginsWith P [] = ⊥
-BeginsWith P (w ∷ ws) = P w
-
--- the words of a composite type
-abbrev pub IsCompositeLine : List (List ℕ) → Type 0
-IsCompositeLine words = IsText composite_words (λ c. AreIndices (composite_names (comp_composite c))) words
-
--- the words of a supertype and a composite type
-abbrev pub IsSubtypeLine : List (List ℕ) → Type 0
-IsSubtypeLine words = (supertype : Option ℕ) × AreIndices (supertype_names supertype) × (rest : List (List ℕ)) × IsCompositeLine rest × (words ≡ supertype_words supertype ++ rest)
-
-abbrev pub IsSupertypeWord : List ℕ → Type 0
-IsSupertypeWord word = IsText (λ k. codes "sub:" ++ decimal k) (λ k. k < 2 ^ 32) word
-
-abbrev pub IsArrayLine : List (List ℕ) → Type 0
-IsArrayLine words = IsText (λ f. codes "array" ∷ field_word f ∷ []) (λ f. AreIndices (field_names f)) words
-
 -- the numbers in a group can stand for types
 abbrev pub HasGroupIndices : GroupAt → Type 0
 HasGroupIndices (group.Single e) = AreIndices (names_of (entry_definition e))
@@ -164,7 +114,3 @@ HasSectionIndices groups = AllByRecursion HasGroupIndices groups
 -- the lines are those of a section whose numbers can stand for types
 abbrev pub IsSectionText : List (List (List ℕ)) → Type 0
 IsSectionText lines = IsText section_lines HasSectionIndices lines
-
--- however these lines go on, they are those of no section
-abbrev pub IsAstray : List (List (List ℕ)) → Type 0
-IsAstray lines = (more : List (List (List ℕ))) → ¬ IsSectionText (lines ++ more)

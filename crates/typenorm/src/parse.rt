@@ -1,4 +1,5 @@
-//! The text of a section's parts. Each call answers `None` exactly where its bytes are the text of no such part.
+//! The text of a section's parts. Each call answers `None` exactly where its bytes are the text of
+//! no such part.
 mod entry;
 mod line;
 mod value;

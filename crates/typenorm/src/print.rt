@@ -2,7 +2,7 @@
 ghost use Rattle.std.specs.Prelude.{◌++◌, ◌∷◌, [], map, decimal, OnOk};
 ghost use Rattle.std.specs.List.{flat_map};
 ghost use Rattle.std.specs.Io.KnownBytes.{Appends};
-ghost use Rattle.typenorm.specs.Words.{spaced, joined, text_of};
+ghost use Rattle.typenorm.specs.Words.{space_before_each, line_text, text_of};
 ghost use Rattle.typenorm.specs.Text.{name_word, heap_word, val_word, field_word, composite_words, entry_words, rec_lines, group_lines, map_words, output_text};
 
 use std::io;
@@ -11,7 +11,8 @@ use walrus_types::{AbstractHeapType, CompAt, EntryAt, FieldAt, GroupAt, HeapAt, 
 
 /// Writes the lines of the groups, and the line that says where each entry went.
 pub fn write_output<W: Write>(out: &mut W, groups: &[GroupAt], map: &[u32]) -> io::Result<()>
-    ensures { OnOk result (Appends (W.contents out.old) (W.contents out.new) (output_text groups.now map.now)) }
+    ensures { OnOk result (Appends (W.contents out.old) (W.contents out.new)
+        (output_text groups.now map.now)) }
 {
     for group in groups {
         write_group(out, group)?;
@@ -20,7 +21,8 @@ pub fn write_output<W: Write>(out: &mut W, groups: &[GroupAt], map: &[u32]) -> i
 }
 
 fn write_map<W: Write>(out: &mut W, map: &[u32]) -> io::Result<()>
-    ensures { OnOk result (Appends (W.contents out.old) (W.contents out.new) (joined (map_words map.now) ++ 10 ∷ [])) }
+    ensures { OnOk result (Appends (W.contents out.old) (W.contents out.new)
+        (line_text (map_words map.now) ++ 10 ∷ [])) }
 {
     out.write_all(b"map")?;
     for index in map {
@@ -30,7 +32,8 @@ fn write_map<W: Write>(out: &mut W, map: &[u32]) -> io::Result<()>
 }
 
 fn write_group<W: Write>(out: &mut W, group: &GroupAt) -> io::Result<()>
-    ensures { OnOk result (Appends (W.contents out.old) (W.contents out.new) (text_of (group_lines group.now))) }
+    ensures { OnOk result (Appends (W.contents out.old) (W.contents out.new)
+        (text_of (group_lines group.now))) }
 {
     match group {
         GroupAt::Single(entry) => write_entry(out, entry),
@@ -39,7 +42,8 @@ fn write_group<W: Write>(out: &mut W, group: &GroupAt) -> io::Result<()>
 }
 
 fn write_rec<W: Write>(out: &mut W, entries: &[EntryAt]) -> io::Result<()>
-    ensures { OnOk result (Appends (W.contents out.old) (W.contents out.new) (text_of (rec_lines entries.now))) }
+    ensures { OnOk result (Appends (W.contents out.old) (W.contents out.new)
+        (text_of (rec_lines entries.now))) }
 {
     out.write_all(b"rec\n")?;
     for entry in entries {
@@ -49,7 +53,8 @@ fn write_rec<W: Write>(out: &mut W, entries: &[EntryAt]) -> io::Result<()>
 }
 
 fn write_entry<W: Write>(out: &mut W, entry: &EntryAt) -> io::Result<()>
-    ensures { OnOk result (Appends (W.contents out.old) (W.contents out.new) (joined (entry_words entry.now) ++ 10 ∷ [])) }
+    ensures { OnOk result (Appends (W.contents out.old) (W.contents out.new)
+        (line_text (entry_words entry.now) ++ 10 ∷ [])) }
 {
     if !entry.is_final {
         out.write_all(b"open ")?;
@@ -62,7 +67,8 @@ fn write_entry<W: Write>(out: &mut W, entry: &EntryAt) -> io::Result<()>
 }
 
 fn write_composite<W: Write>(out: &mut W, comp: &CompAt) -> io::Result<()>
-    ensures { OnOk result (Appends (W.contents out.old) (W.contents out.new) (joined (composite_words comp.now))) }
+    ensures { OnOk result (Appends (W.contents out.old) (W.contents out.new)
+        (line_text (composite_words comp.now))) }
 {
     match comp {
         CompAt::Function { params, results } => {
@@ -83,7 +89,8 @@ fn write_composite<W: Write>(out: &mut W, comp: &CompAt) -> io::Result<()>
 }
 
 fn write_values<W: Write>(out: &mut W, values: &[ValAt]) -> io::Result<()>
-    ensures { OnOk result (Appends (W.contents out.old) (W.contents out.new) (spaced (map val_word values.now))) }
+    ensures { OnOk result (Appends (W.contents out.old) (W.contents out.new)
+        (space_before_each (map val_word values.now))) }
 {
     for value in values {
         out.write_all(b" ")?;
@@ -93,7 +100,8 @@ fn write_values<W: Write>(out: &mut W, values: &[ValAt]) -> io::Result<()>
 }
 
 fn write_fields<W: Write>(out: &mut W, fields: &[FieldAt]) -> io::Result<()>
-    ensures { OnOk result (Appends (W.contents out.old) (W.contents out.new) (spaced (map field_word fields.now))) }
+    ensures { OnOk result (Appends (W.contents out.old) (W.contents out.new)
+        (space_before_each (map field_word fields.now))) }
 {
     for field in fields {
         out.write_all(b" ")?;
@@ -103,7 +111,8 @@ fn write_fields<W: Write>(out: &mut W, fields: &[FieldAt]) -> io::Result<()>
 }
 
 fn write_field<W: Write>(out: &mut W, field: &FieldAt) -> io::Result<()>
-    ensures { OnOk result (Appends (W.contents out.old) (W.contents out.new) (field_word field.now)) }
+    ensures { OnOk result (Appends (W.contents out.old) (W.contents out.new)
+        (field_word field.now)) }
 {
     if field.mutable {
         out.write_all(b"mut:")?;
@@ -137,7 +146,8 @@ fn write_value<W: Write>(out: &mut W, value: &ValAt) -> io::Result<()>
 }
 
 fn write_heap_type<W: Write>(out: &mut W, heap_type: &HeapAt) -> io::Result<()>
-    ensures { OnOk result (Appends (W.contents out.old) (W.contents out.new) (heap_word heap_type.now)) }
+    ensures { OnOk result (Appends (W.contents out.old) (W.contents out.new)
+        (heap_word heap_type.now)) }
 {
     match heap_type {
         HeapAt::Abstract(name) => write_name(out, *name),

@@ -1,12 +1,14 @@
 //! A line as words: what stands between spaces. No other byte divides words.
 ghost use Rattle.std.specs.Prelude.{◌≡◌, ◌==◌, ◌∷◌, [], ◌<◌, ◌≤◌, length, not, IfSome, IfNone};
 ghost use Rattle.std.specs.List.{position, position_or_len};
-ghost use Rattle.typenorm.specs.Words.{has_items, words_of, words_before};
+ghost use Rattle.typenorm.specs.Words.{has_items, words_of};
+ghost use Rattle.typenorm.specs.Steps.Words.{word_count_before};
 
 /// The first word of a line, and what stands after it; `None` where the line has no word.
-#[tactic(auto, using(crate::proofs::WordLemmas::words_from_word, crate::proofs::WordLemmas::no_words))]
+#[tactic(auto, using(crate::proofs::Lexing::FirstWord::words_from_word, crate::proofs::Lexing::FirstWord::no_words))]
 pub fn next_word(line: &[u8]) -> Option<(&[u8], &[u8])>
-    ensures found { IfSome result (λ found. words_of line.now ≡ found.0.now ∷ words_of found.1.now) }
+    ensures found { IfSome result (λ found. words_of line.now ≡ found.0.now ∷
+        words_of found.1.now) }
     ensures shorter { IfSome result (λ found. length found.1.now < length line.now) }
     ensures none { IfNone result (words_of line.now ≡ []) }
 {
@@ -32,8 +34,8 @@ pub fn word_count(line: &[u8]) -> usize
 }
 
 /// How many words stand before the first that is `end`; all of them where none is.
-pub fn words_before(line: &[u8], end: &[u8]) -> usize
-    ensures { result ≡ words_before end.now (words_of line.now) }
+pub fn word_count_before(line: &[u8], end: &[u8]) -> usize
+    ensures { result ≡ word_count_before end.now (words_of line.now) }
 {
     let mut count = 0;
     let mut rest = line;
@@ -55,7 +57,7 @@ pub fn is_blank(line: &[u8]) -> bool
 }
 
 /// How many spaces the line begins with.
-#[tactic(auto, using(crate::proofs::WordLemmas::place_or_end))]
+#[tactic(auto, using(crate::proofs::Lexing::FirstWord::place_or_end))]
 fn spaces_len(line: &[u8]) -> usize
     ensures within { result ≤ length line.now }
     ensures value { result ≡ position_or_len (λ b. not (b == 32)) line.now }
@@ -70,7 +72,7 @@ fn word_start(line: &[u8]) -> Option<usize>
 }
 
 /// How many bytes stand before the first space; all where there is none.
-#[tactic(auto, using(crate::proofs::WordLemmas::place_or_end))]
+#[tactic(auto, using(crate::proofs::Lexing::FirstWord::place_or_end))]
 fn word_len(line: &[u8]) -> usize
     ensures within { result ≤ length line.now }
     ensures value { result ≡ position_or_len (λ b. b == 32) line.now }

@@ -1,12 +1,13 @@
 -- The new ids that a list of calls answers are the numbers from the count of slots on.
-use Rattle.std.proofs.Common.{◌≡◌, ℕ, zero, suc, ◌+◌, ◌<◌, ◌≤◌, List, [], ◌∷◌, ◌++◌, length, map, Some, None, All, nat_eq, false, refl, sym, ap, subst, ◌∙◌, arith, length-append, zero-add, add-zero}
+use Rattle.std.proofs.Common.{◌≡◌, ℕ, zero, suc, ◌+◌, ◌<◌, ◌≤◌, List, [], ◌∷◌, ◌++◌, length, map, Bool, Option, Some, None, Result, Ok, Err, IfOk, OnOk, OnErr, MatchOption, All, nat_eq, false, refl, sym, ap, subst, ◌∙◌, arith, length-append, zero-add, add-zero}
 use Rattle.std.proofs.lemmas.Bool.Decides.{nat_tests}
 use Rattle.std.proofs.lemmas.List.{length-map, length-set}
 use Rattle.std.proofs.lemmas.List.Elements.{All-from_recursion}
 use Rattle.std.specs.List.{IsDistinct, AllByRecursion}
 use Rattle.walrus_arena.specs.Arena.{Slots, without, without_all, range}
-use Rattle.walrus_arena.specs.Calls.{Call, slots_after, new_ids, all_new_ids, AnswersFreshIds}
-use Rattle.walrus_arena.specs.Calls.Call.{allocates, allocates_all, writes, deletes, deletes_all}
+use Rattle.walrus_arena.specs.Calls.{Call, Step, AreCalls, new_ids, AnswersFreshIds}
+use Rattle.walrus_arena.specs.Calls.Call.{allocates, allocates_all, writes, deletes, deletes_all, stays}
+use Rattle.walrus_arena.specs.Set.{Set, found_id, Adds, IsSame, Registers, Removes}
 use Rattle.walrus_arena.proofs.ArenaLemmas.{length-range}
 
 -- two runs of ids, the second where the first ends
@@ -18,7 +19,8 @@ range-append first (suc a) b =
     ap (range first) one_more ∙ ap (λ xs. first ∷ xs) (range-append (first + 1) a b ∙ ap (λ k. range (first + 1) a ++ range k b) later)
 
 -- each id of a run is at least the first
-range_from : (low first count : ℕ) → low ≤ first → AllByRecursion (λ id. low ≤ id) (range first count)
+range_from :
+    (low first count : ℕ) → low ≤ first → AllByRecursion (λ id. low ≤ id) (range first count)
 range_from low first zero below = tt
 range_from low first (suc count) below = (below, range_from low (first + 1) count (omega arith))
 
@@ -26,7 +28,9 @@ differ : (a b : ℕ) → a < b → nat_eq a b ≡ false
 differ a b below = grind (arith, nat_tests)
 
 -- an id below a run is none of it
-apart_from_run : (id first count : ℕ) → id < first → AllByRecursion (λ other. nat_eq id other ≡ false) (range first count)
+apart_from_run :
+    (id first count : ℕ) → id < first →
+    AllByRecursion (λ other. nat_eq id other ≡ false) (range first count)
 apart_from_run id first zero below = tt
 apart_from_run id first (suc count) below = (differ id first below, apart_from_run id (first + 1) count (omega arith))
 
@@ -45,36 +49,90 @@ module _ {T : Type 0} where
   length-without_all s [] = refl
   length-without_all s (id ∷ ids) = length-without_all (without s id) ids ∙ length-set s id None
 
-  -- the new ids of a call are a run from the count of slots on
-  run_of_call : (s : Slots T) (call : Call T) → new_ids s call ≡ range (length s) (length (new_ids s call))
-  run_of_call s (allocates value) = refl
-  run_of_call s (allocates_all values) = ap (range (length s)) (sym (length-range (length s) (length values)))
-  run_of_call s (writes id value) = refl
-  run_of_call s (deletes id) = refl
-  run_of_call s (deletes_all ids) = refl
+  -- the new ids of a call are a run from the count of slots on, and it adds as many slots
+  record IsRun (old new : Slots T) (ids : List ℕ) : Type 0 where
+    run : ids ≡ range (length old) (length ids)
+    grown : length new ≡ length old + length ids
 
-  -- a call adds as many slots as it answers new ids
-  grown_by_call : (s : Slots T) (call : Call T) → length (slots_after s call) ≡ length s + length (new_ids s call)
-  grown_by_call s (allocates value) = length-append s (Some value ∷ [])
-  grown_by_call s (allocates_all values) = omega (arith, length-append s (map Some values), length-map values (λ (v : T). Some v), length-range (length s) (length values))
-  grown_by_call s (writes id value) = omega (arith, length-set s id (Some value))
-  grown_by_call s (deletes id) = omega (arith, length-set s id None)
-  grown_by_call s (deletes_all ids) = omega (arith, length-without_all s ids)
+  no_ids : (old new : Slots T) (ids : List ℕ) → ids ≡ [] → length new ≡ length old → IsRun old new ids
+  no_ids old new ids none same =
+      let count : length ids ≡ 0 = ap length none in
+      record {
+        run = none ∙ sym (ap (range (length old)) count);
+        grown = omega (arith, same, count);
+      }
+
+  run_of_call : (old new : Slots T) (ids : List ℕ) → Call old new ids → IsRun old new ids
+  run_of_call old new ids (allocates value id one named put) =
+      let count : length ids ≡ 1 = ap length one in
+      record {
+        run = one ∙ ap (λ (k : ℕ). k ∷ []) named ∙ sym (ap (range (length old)) count);
+        grown = omega (arith, count, ap length put, length-append old (Some value ∷ []));
+      }
+  run_of_call old new ids (allocates_all values all put) =
+      let count : length ids ≡ length values = ap length all ∙ length-range (length old) (length values) in
+      record {
+        run = all ∙ sym (ap (range (length old)) count);
+        grown = omega (arith, count, ap length put, length-append old (map Some values), length-map values (λ (v : T). Some v));
+      }
+  run_of_call old new ids (writes id value none put) = no_ids old new ids none (ap length put ∙ length-set old id (Some value))
+  run_of_call old new ids (deletes id none put) = no_ids old new ids none (ap length put ∙ length-set old id None)
+  run_of_call old new ids (deletes_all dead none put) = no_ids old new ids none (ap length put ∙ length-without_all old dead)
+  run_of_call old new ids (stays none same) = no_ids old new ids none (ap length same)
 
   -- so are the new ids of a list of calls
-  run_of_calls : (s : Slots T) (calls : List (Call T)) → all_new_ids s calls ≡ range (length s) (length (all_new_ids s calls))
-  run_of_calls s [] = refl
-  run_of_calls s (call ∷ calls) =
-      let new = new_ids s call in
-      let rest = all_new_ids (slots_after s call) calls in
-      let at_rest : range (length s + length new) (length rest) ≡ rest = ap (λ k. range k (length rest)) (sym (grown_by_call s call)) ∙ sym (run_of_calls (slots_after s call) calls) in
-      sym (ap (range (length s)) (length-append new rest) ∙ range-append (length s) (length new) (length rest) ∙ both _ _ new rest (sym (run_of_call s call)) at_rest)
+  run_of_calls : (s : Slots T) (steps : List (Step T)) → AreCalls s steps → new_ids steps ≡ range (length s) (length (new_ids steps))
+  run_of_calls s [] calls = refl
+  run_of_calls s (step ∷ steps) calls =
+      let rest = new_ids steps in
+      let here = run_of_call s step.slots step.ids calls.0 in
+      let at_rest : range (length s + length step.ids) (length rest) ≡ rest = ap (λ k. range k (length rest)) (sym here.grown) ∙ sym (run_of_calls step.slots steps calls.1) in
+      sym (ap (range (length s)) (length-append step.ids rest) ∙ range-append (length s) (length step.ids) (length rest) ∙ both _ _ step.ids rest (sym here.run) at_rest)
 
-  pub fresh_ids : (s : Slots T) (calls : List (Call T)) → AnswersFreshIds s calls
-  fresh_ids s calls =
-      let ids = all_new_ids s calls in
-      let run = sym (run_of_calls s calls) in
+  pub fresh_ids : (s : Slots T) (steps : List (Step T)) → AreCalls s steps → AnswersFreshIds s steps
+  fresh_ids s steps calls =
+      let ids = new_ids steps in
+      let run = sym (run_of_calls s steps calls) in
       let fresh = All-from_recursion (λ (id : ℕ). length s ≤ id) _ (range_from (length s) (length s) (length ids) (omega arith)) in record {
         once = subst (IsDistinct nat_eq) run (distinct-range (length s) (length ids));
         fresh = subst (All (λ (id : ℕ). length s ≤ id)) run fresh;
       }
+
+-- what the contracts of the calls say, as calls
+module _ {T E : Type 0} where
+  pub allocated : (old new : Slots T) (value : T) (r : Result ℕ E) → IfOk r (λ id. id ≡ length old) → OnOk r (new ≡ old ++ Some value ∷ []) → IfOk r (λ id. Call old new (id ∷ []))
+  allocated old new value (Ok id) named put = allocates value id refl named put
+  allocated old new value (Err e) named put = tt
+
+  pub refused : {X : Type 0} (old new : Slots T) (r : Result X E) → OnErr r (new ≡ old) → OnErr r (Call old new [])
+  refused old new (Ok x) same = tt
+  refused old new (Err e) same = stays refl same
+
+  pub deleted : {X : Type 0} (old new : Slots T) (id : ℕ) (r : Result X E) → OnOk r (new ≡ without old id) → OnOk r (Call old new [])
+  deleted old new id (Ok x) put = deletes id refl put
+  deleted old new id (Err e) put = tt
+
+  pub deleted_all : {X : Type 0} (old new : Slots T) (dead : List ℕ) (r : Result X E) → OnOk r (new ≡ without_all old dead) → OnOk r (Call old new [])
+  deleted_all old new dead (Ok x) put = deletes_all dead refl put
+  deleted_all old new dead (Err e) put = tt
+
+module _ {T E : Type 0} (eq : T → T → Bool) (old new : Set T) where
+  pub inserted : (value : T) (r : Result ℕ E) → IfOk r (λ id. MatchOption (found_id eq old value) (Adds eq old new value id) (λ known. (id ≡ known) × IsSame eq old new)) → IfOk r (λ id. MatchOption (found_id eq old value) (Call old.slots new.slots (id ∷ [])) (λ _. Call old.slots new.slots []))
+  inserted value (Err e) said = tt
+  inserted value (Ok id) said = by_found (found_id eq old value) said
+    where
+      by_found : (o : Option ℕ) → MatchOption o (Adds eq old new value id) (λ known. (id ≡ known) × IsSame eq old new) → MatchOption o (Call old.slots new.slots (id ∷ [])) (λ _. Call old.slots new.slots [])
+      by_found None adds = allocates value id refl adds.named adds.slots
+      by_found (Some known) same = stays refl same.1.slots
+
+  pub set_refused : {X : Type 0} (r : Result X E) → OnErr r (IsSame eq old new) → OnErr r (Call old.slots new.slots [])
+  set_refused (Ok x) same = tt
+  set_refused (Err e) same = stays refl same.slots
+
+  pub registered : {X : Type 0} (id : ℕ) (value : T) (r : Result X E) → OnOk r (Registers eq old new id value) → OnOk r (Call old.slots new.slots [])
+  registered id value (Ok x) put = writes id value refl put.slots
+  registered id value (Err e) put = tt
+
+  pub removed : {X : Type 0} (id : ℕ) (r : Result X E) → OnOk r (Removes eq old new id) → OnOk r (Call old.slots new.slots [])
+  removed id (Ok x) gone = deletes id refl gone.slots
+  removed id (Err e) gone = tt

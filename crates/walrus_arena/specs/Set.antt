@@ -5,7 +5,7 @@ use Rattle.std.specs.Coded.{Coded, code_by, coded×, coded_ℕ, coded_list, code
 use Rattle.std.specs.Map.{lookup}
 use Rattle.walrus_arena.specs.Arena.{Slots, get, with_value, without}
 
--- the slots, and the entries of the map, whose order means nothing: `mapped` reads them
+-- the slots, and the entries of the map, whose order means nothing: `mapped_id` reads them
 pub record Set (T : Type 0) : Type 0 where
   pub slots : Slots T
   pub entries : List (T × ℕ)
@@ -31,25 +31,30 @@ holds test (Some value) = test value
 
 module _ {T : Type 0} (eq : T → T → Bool) where
   -- the id that the map has at the values equal to this one
-  abbrev pub mapped : Set T → T → Option ℕ
-  mapped s value = lookup (eq value) s.entries
+  abbrev pub mapped_id : Set T → T → Option ℕ
+  mapped_id s value = lookup (eq value) s.entries
 
   -- both map each value to the same id
   abbrev pub SameMap : Set T → Set T → Type 0
-  SameMap old new = (q : T) → mapped new q ≡ mapped old q
+  SameMap old new = (q : T) → mapped_id new q ≡ mapped_id old q
 
 module _ {T : Type 0} (eq : T → T → Bool) where
   -- the mapped id, if it is live and its item is equal to the value
-  abbrev pub found : Set T → T → Option ℕ
-  found s value = option_and_then (λ id. if holds (eq value) (get s.slots id) then Some id else None) (mapped eq s value)
+  abbrev pub found_id : Set T → T → Option ℕ
+  found_id s value =
+      option_and_then (λ id. if holds (eq value) (get s.slots id) then Some id else None)
+      (mapped_id eq s value)
 
   -- the new map has the id at the values equal to this one, and every other value keeps what it had
   abbrev pub Maps : Set T → Set T → T → ℕ → Type 0
-  Maps old new value id = (q : T) → mapped eq new q ≡ (if eq value q then Some id else mapped eq old q)
+  Maps old new value id =
+      (q : T) → mapped_id eq new q ≡ (if eq value q then Some id else mapped_id eq old q)
 
   -- q is equal to the item of the id, and the map has this very id there
   abbrev pub is_own_entry : Set T → ℕ → T → Bool
-  is_own_entry s id q = holds (λ item. eq item q && option_eq (λ a b. a == b) (mapped eq s item) (Some id)) (get s.slots id)
+  is_own_entry s id q =
+      holds (λ item. eq item q && option_eq (λ a b. a == b) (mapped_id eq s item) (Some id))
+      (get s.slots id)
 
 module _ {T : Type 0} (eq : T → T → Bool) (old new : Set T) where
   -- the same slots, and the same map
@@ -71,10 +76,13 @@ module _ {T : Type 0} (eq : T → T → Bool) (old new : Set T) where
   -- the slot died, and the map lost the entry of its item where that was the slot's own
   pub record Removes (id : ℕ) : Type 0 where
     pub slots : new.slots ≡ without old.slots id
-    pub map : (q : T) → mapped eq new q ≡ (if is_own_entry eq old id q then None else mapped eq old q)
+    pub map :
+        (q : T) → mapped_id eq new q ≡
+        (if is_own_entry eq old id q then None else mapped_id eq old q)
 
 module _ {T : Type 0} (eq : T → T → Bool) where
   -- `Removes` of each of these ids in order
   abbrev pub RemovesAll : Set T → List ℕ → Set T → Type 0
   RemovesAll old [] new = IsSame eq old new
-  RemovesAll old (id ∷ ids) new = (between : Set T) × Removes eq old between id × RemovesAll between ids new
+  RemovesAll old (id ∷ ids) new =
+      (between : Set T) × Removes eq old between id × RemovesAll between ids new

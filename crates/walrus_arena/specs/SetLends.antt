@@ -16,5 +16,9 @@ abbrev pub with_item : {T : Type 0} → Set T → ℕ → T → Set T
 with_item s id value = record s { slots = with_value s.slots id value }
 
 -- once the borrow r ends, the id has the last value written through r, and the map is as it was
-abbrev pub LendsSetItem : (T A : RattleType) → clone.Ghosts T.Denot → HashMembers T.Denot → alloc.Ghosts A.Denot → MutBor (Set T.Denot) → ℕ → MutBor T.Denot → Fml
-LendsSetItem T A c h a s id r = Lends (the_row T A c (record { eq = h.eq }) (record { hash_input = h.hash_input }) a) T s r (with_item s.now id)
+abbrev pub LendsSetItem :
+    (T A : RattleType) → clone.Ghosts T.Denot → HashMembers T.Denot → alloc.Ghosts A.Denot →
+    MutBor (Set T.Denot) → ℕ → MutBor T.Denot → Fml
+LendsSetItem T A c h a s id r =
+    Lends (the_row T A c (record { eq = h.eq }) (record { hash_input = h.hash_input }) a) T s r
+    (with_item s.now id)

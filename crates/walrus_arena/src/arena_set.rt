@@ -1,7 +1,7 @@
 //! A set of values in an arena: a value is found again by an equal one.
 ghost use Rattle.std.specs.Prelude.{◌≡◌, ◌∷◌, ◌++◌, [], length, IsTrue, ◌↔◌, IfOk, OnOk, OnErr, IsOk, IsSome, Some, None, MatchOption, ◌<◌, All, map, nat_eq, true};
 ghost use Rattle.walrus_arena.specs.Arena.{get, IsLive, items, range};
-ghost use Rattle.walrus_arena.specs.Set.{found, holds, Adds, Registers, Removes, IsSame, ClonesAreEqual, RemovesAll};
+ghost use Rattle.walrus_arena.specs.Set.{found_id, holds, Adds, Registers, Removes, IsSame, ClonesAreEqual, RemovesAll};
 ghost use Rattle.std.specs.Borrow.{sem};
 ghost use Rattle.std.specs.List.{IsDistinct};
 
@@ -12,9 +12,11 @@ use std::hash::{BuildHasherDefault, FoldHasher, Hash};
 use std::marker::Model;
 use std::ops::{Index, IndexMut};
 
-/// An arena of values with a map from values to ids, so that a value is found again by an equal one.
+/// An arena of values with a map from values to ids, so that a value is found again by an equal
+/// one.
 ///
-/// An item may be changed in place, through `[id]`. The map does not follow such a change; so a mapped id is used only while it is live and its item is equal to the value that was asked for.
+/// An item may be changed in place, through `[id]`. The map does not follow such a change; so a
+/// mapped id is used only while it is live and its item is equal to the value that was asked for.
 ///
 /// A contract sees the slots of the arena and the entries of the map.
 #[derive(Drop)]
@@ -68,9 +70,10 @@ impl<T: Clone + Eq + Hash, A: Allocator> ArenaSet<T, A> {
         self.arena.contains(id)
     }
 
-    /// The id that the value is mapped to, if that id is live and its item is equal to the value; else `None`.
+    /// The id that the value is mapped to, if that id is live and its item is equal to the value;
+    /// else `None`.
     pub fn find(&self, value: &T) -> Option<Id<T>>
-        ensures { result ≡ found T.eq self.now value.now }
+        ensures { result ≡ found_id T.eq self.now value.now }
     {
         let at = self.map.get(value)?.place();
         match self.arena.get(Id::from_index(at)) {
@@ -79,12 +82,16 @@ impl<T: Clone + Eq + Hash, A: Allocator> ArenaSet<T, A> {
         }
     }
 
-    /// The id that `find` answers, if it answers one. Else the value goes into a new slot, is mapped to its id, and this is the answer. After an `AllocError` slots and map are as they were.
+    /// The id that `find` answers, if it answers one. Else the value goes into a new slot, is
+    /// mapped to its id, and this is the answer. After an `AllocError` slots and map are as they
+    /// were.
     pub fn insert(&mut self, value: T) -> Result<Id<T>, AllocError>
     where
         A: Clone,
         requires { ClonesAreEqual T.is_clone T.eq }
-        ensures ok { IfOk result (λ id. MatchOption (found T.eq self.old value) (Adds T.eq self.old self.new value id) (λ known. (id ≡ known) × IsSame T.eq self.old self.new)) }
+        ensures ok { IfOk result
+            (λ id. MatchOption (found_id T.eq self.old value) (Adds T.eq self.old self.new value id)
+            (λ known. (id ≡ known) × IsSame T.eq self.old self.new)) }
         ensures item { IfOk result (λ id. holds (T.eq value) (get self.new.slots id) ≡ true) }
         ensures err { OnErr result (IsSame T.eq self.old self.new) }
     {
@@ -94,9 +101,12 @@ impl<T: Clone + Eq + Hash, A: Allocator> ArenaSet<T, A> {
         }
     }
 
-    /// Puts the value into a new slot, also where an equal one is there, and maps it to the id of this slot, whatever it was mapped to before. After an `AllocError` slots and map are as they were.
+    /// Puts the value into a new slot, also where an equal one is there, and maps it to the id of
+    /// this slot, whatever it was mapped to before. After an `AllocError` slots and map are as they
+    /// were.
     ///
-    /// It is `insert` without a look at what is there, for a value that `find` does not find. walrus has no such call.
+    /// It is `insert` without a look at what is there, for a value that `find` does not find.
+    /// walrus has no such call.
     pub fn alloc_and_register(&mut self, value: T) -> Result<Id<T>, AllocError>
     where
         A: Clone,
@@ -112,42 +122,51 @@ impl<T: Clone + Eq + Hash, A: Allocator> ArenaSet<T, A> {
         Ok(Id::from_index(at))
     }
 
-    /// Puts the value into a new slot, also where an equal one is there. The map stays. After an `AllocError` the set is as it was.
+    /// Puts the value into a new slot, also where an equal one is there. The map stays. After an
+    /// `AllocError` the set is as it was.
     pub fn alloc_unique(&mut self, value: T) -> Result<Id<T>, AllocError>
         ensures id { IfOk result (λ id. id ≡ length self.old.slots) }
-        ensures ok { OnOk result (self.new ≡ record self.old { slots = self.old.slots ++ Some value ∷ [] }) }
+        ensures ok { OnOk result
+            (self.new ≡ record self.old { slots = self.old.slots ++ Some value ∷ [] }) }
         ensures err { OnErr result (self.new ≡ self.old) }
     {
         self.arena.alloc(value)
     }
 
-    /// Uses up an id: a new slot that is dead from the start, whose value is deleted at once. The map stays. After an `AllocError` the set is as it was.
+    /// Uses up an id: a new slot that is dead from the start, whose value is deleted at once. The
+    /// map stays. After an `AllocError` the set is as it was.
     ///
     /// walrus has no such call.
     pub fn alloc_dead(&mut self, value: T) -> Result<Id<T>, AllocError>
     where
         T: Tombstone,
         ensures id { IfOk result (λ id. id ≡ length self.old.slots) }
-        ensures ok { OnOk result (self.new ≡ record self.old { slots = self.old.slots ++ None ∷ [] }) }
+        ensures ok { OnOk result
+            (self.new ≡ record self.old { slots = self.old.slots ++ None ∷ [] }) }
         ensures err { OnErr result (self.new ≡ self.old) }
     {
         let dead = self.arena.alloc(value)?.index();
-        self.arena.let_die(dead);
+        self.arena.mark_dead(dead);
         Ok(Id::from_index(dead))
     }
 
-    /// Puts the values into new slots, in order, and answers their ids. The map stays. All or none: after an `AllocError` the set is as it was.
+    /// Puts the values into new slots, in order, and answers their ids. The map stays. All or none:
+    /// after an `AllocError` the set is as it was.
     pub fn alloc_all(&mut self, values: Vec<T, A>) -> Result<Vec<Id<T>, A>, AllocError>
     where
         A: Copy,
-        ensures ids { IfOk result (λ ids. ids.items ≡ range (length self.old.slots) (length values.items)) }
-        ensures ok { OnOk result (self.new ≡ record self.old { slots = self.old.slots ++ map Some values.items }) }
+        ensures ids { IfOk result
+            (λ ids. ids.items ≡ range (length self.old.slots) (length values.items)) }
+        ensures ok { OnOk result
+            (self.new ≡ record self.old { slots = self.old.slots ++ map Some values.items }) }
         ensures err { OnErr result (self.new ≡ self.old) }
     {
         self.arena.alloc_all(values)
     }
 
-    /// Writes the value over the item of a live id, and maps it to this id, whatever it was mapped to before. What the old item was mapped to stays. After an `AllocError` slots and map are as they were.
+    /// Writes the value over the item of a live id, and maps it to this id, whatever it was mapped
+    /// to before. What the old item was mapped to stays. After an `AllocError` slots and map are as
+    /// they were.
     pub fn replace_and_register(&mut self, id: Id<T>, value: T) -> Result<(), AllocError>
     where
         A: Clone,
@@ -164,7 +183,9 @@ impl<T: Clone + Eq + Hash, A: Allocator> ArenaSet<T, A> {
         Ok(())
     }
 
-    /// Deletes the item of a live id. The entry of its present value leaves the map if it points at this very id; an entry that points elsewhere stays. It takes no memory, and always answers `Ok`.
+    /// Deletes the item of a live id. The entry of its present value leaves the map if it points at
+    /// this very id; an entry that points elsewhere stays. It takes no memory, and always answers
+    /// `Ok`.
     pub fn remove(&mut self, id: Id<T>) -> Result<(), AllocError>
     where
         T: Tombstone,
@@ -177,7 +198,8 @@ impl<T: Clone + Eq + Hash, A: Allocator> ArenaSet<T, A> {
         Ok(())
     }
 
-    /// `remove` of each of these distinct live ids, in order. It takes no memory, and always answers `Ok`.
+    /// `remove` of each of these distinct live ids, in order. It takes no memory, and always
+    /// answers `Ok`.
     pub fn remove_all(&mut self, ids: &[Id<T>]) -> Result<(), AllocError>
     where
         T: Tombstone,
@@ -208,7 +230,7 @@ impl<T: Clone + Eq + Hash, A: Allocator> ArenaSet<T, A> {
         if is_own {
             self.map.remove(item);
         }
-        self.arena.let_die(at);
+        self.arena.mark_dead(at);
     }
 }
 
@@ -231,7 +253,8 @@ impl<T: Clone + Eq + Hash, A: Allocator> IndexMut<Id<T>> for ArenaSet<T, A> {
 
     fn index_mut(&mut self, id: Id<T>) -> &mut T
         requires { IsLive self.old.slots id }
-        ensures* writes_back { sem 𝓛 (LendsSetItem T.row A.row T.Clone T.Hash A.Allocator self.entry id result) }
+        ensures* writes_back { sem 𝓛
+            (LendsSetItem T.row A.row T.Clone T.Hash A.Allocator self.entry id result) }
         ensures value { get self.old.slots id ≡ Some result.now }
     {
         &mut self.arena[id]

@@ -1,4 +1,5 @@
-//! The id of an item: its place in its arena. Ids are compared, ordered and hashed by this place alone.
+//! The id of an item: its place in its arena. Ids are compared, ordered and hashed by this place
+//! alone.
 ghost use Rattle.std.specs.Prelude.{◌≡◌, nat_eq};
 ghost use Rattle.std.proofs.Common.{rules};
 ghost use Rattle.std.specs.Cmp.{partial_order_from_own_ties};
@@ -13,13 +14,16 @@ use std::marker::{Model, PhantomData};
 
 /// The id of an item of an arena of `T`. It holds no `T`, so a `T` may hold ids of its own arena.
 ///
-/// An id does not tell which arena it is of: an id of another arena of the same item type is judged by its place alone.
+/// An id does not tell which arena it is of: an id of another arena of the same item type is judged
+/// by its place alone.
 pub type Id<T> = Key<*const T>;
 
-/// A place in an arena, with `P` for what stands there. A contract sees it as its number. See [`Id`].
+/// A place in an arena, with `P` for what stands there. A contract sees it as its number. See
+/// [`Id`].
 #[derive_where(Clone, Copy)]
 pub struct Key<P> {
-    // In bytes, which need no alignment: a type has ids five enums deep, and each of these would be padded to 8 bytes.
+    // In bytes, which need no alignment: a type has ids five enums deep, and each of these would be
+    // padded to 8 bytes.
     index: [u8; 8],
     of: PhantomData<P>,
 }
@@ -38,7 +42,11 @@ impl<P> Model for Key<P> {
 
     ghost inverse = { λ n. record { index = to_le_bytes w64 n; of = record {} } };
 
-    ghost inverse_ok = { λ a h i. record { index = le_bytes_8 a.index (from_le_bytes w64 a.index) h.0 h.1 refl i; of = a.of } };
+    ghost inverse_ok = { λ a h i.
+        record {
+          index = le_bytes_8 a.index (from_le_bytes w64 a.index) h.0 h.1 refl i;
+          of = a.of;
+        } };
 }
 
 impl<P> Key<P> {
@@ -84,7 +92,8 @@ impl<P> Eq for Key<P> {
 impl<P> PartialOrd for Key<P> {
     ghost partial_cmp = { as_partial_cmp nat_cmp };
 
-    ghost laws = { partial_order_from_own_ties (Prim.search (comparing, rules)) (Prim.search (comparing, rules)) };
+    ghost laws = { partial_order_from_own_ties (Prim.search (comparing, rules))
+        (Prim.search (comparing, rules)) };
 
     fn partial_cmp(&self, other: &Key<P>) -> Option<Ordering> {
         Some(self.cmp(other))

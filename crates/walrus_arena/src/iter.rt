@@ -5,7 +5,8 @@ use super::tombstone_arena::Slot;
 use crate::Id;
 use std::marker::Model;
 
-/// The live items of an arena with their ids, in the order of the ids. A contract sees it as the list of those that are left.
+/// The live items of an arena with their ids, in the order of the ids. A contract sees it as the
+/// list of those that are left.
 #[derive(Drop)]
 pub struct Iter<'a, T> {
     pub(crate) slots: &'a [Slot<T>],

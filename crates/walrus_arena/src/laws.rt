@@ -1,13 +1,18 @@
 //! Laws of arenas and sets, each the contract of a function that does nothing.
 ghost use Rattle.std.specs.Prelude.{◌≡◌, ◌↔◌, ℕ, List, Some, true};
 ghost use Rattle.walrus_arena.specs.Arena.{Slots, get, items};
-ghost use Rattle.walrus_arena.specs.Calls.{Call, AnswersFreshIds};
+ghost use Rattle.walrus_arena.specs.Calls.{Step, AreCalls, AnswersFreshIds};
 ghost use Rattle.walrus_arena.specs.Listing.{IsListing};
-ghost use Rattle.walrus_arena.specs.Set.{Set, found, mapped, holds};
+ghost use Rattle.walrus_arena.specs.Set.{Set, found_id, mapped_id, holds};
 
-/// No id is answered by two allocations: whatever calls are made on an arena or a set, one after another, each new slot has an id of its own, which no slot had before.
+pub mod calls;
+
+/// No id is answered by two allocations: whatever calls are made on an arena or a set, one after
+/// another, each new slot has an id of its own, which no slot had before.
+///
+/// A call is one step by what its contract says; [`calls`] has the calls with this as their clause.
 pub fn ids_are_given_out_once<T>()
-    ensures { (s : Slots T) (calls : List (Call T)) → AnswersFreshIds s calls }
+    ensures { (s : Slots T) (steps : List (Step T)) → AreCalls s steps → AnswersFreshIds s steps }
 {}
 
 /// `iter` gives the live items, each once, in the order of their ids.
@@ -15,7 +20,10 @@ pub fn iter_gives_the_live_items<T>()
     ensures { (s : Slots T) → IsListing s (items s) }
 {}
 
-/// `find` answers an id exactly where the value is mapped to it, it is live, and its item is equal to the value.
+/// `find` answers an id exactly where the value is mapped to it, it is live, and its item is equal
+/// to the value.
 pub fn find_gives_a_live_equal_item<T: Eq>()
-    ensures { (s : Set T) (value : T) (id : ℕ) → (found T.eq s value ≡ Some id) ↔ ((mapped T.eq s value ≡ Some id) × (holds (T.eq value) (get s.slots id) ≡ true)) }
+    ensures { (s : Set T) (value : T) (id : ℕ) →
+        (found_id T.eq s value ≡ Some id) ↔
+        ((mapped_id T.eq s value ≡ Some id) × (holds (T.eq value) (get s.slots id) ≡ true)) }
 {}

@@ -1,11 +1,14 @@
 //! Arenas whose items are named by ids, and sets of values over them: the lowest layer of walrus.
 //!
 //! - [`Id`] is the place of an item in its arena. Ids of different item types are different types.
-//! - [`TombstoneArena`] hands out ids for items. A deleted item leaves a dead slot behind, so an id is never handed out again.
-//! - [`ArenaSet`] is such an arena with a map from values to ids, so that an equal value is given the id that it has already.
+//! - [`TombstoneArena`] hands out ids for items. A deleted item leaves a dead slot behind, so an id
+//!   is never handed out again.
+//! - [`ArenaSet`] is such an arena with a map from values to ids, so that an equal value is given
+//!   the id that it has already.
 //! - [`IdHashMap`] and [`IdHashSet`] are std's map and set with ids as keys.
 //!
-//! Whatever grows answers a `Result`. A refused growth changes nothing, and the deletions take no memory at all.
+//! Whatever grows answers a `Result`. A refused growth changes nothing, and the deletions take no
+//! memory at all.
 //!
 //! # An interner of names
 //!

@@ -1,4 +1,5 @@
-//! What no contract says: that calls succeed with ample memory, that `on_delete` runs once, and worked rows.
+//! What no contract says: that calls succeed with ample memory, that `on_delete` runs once, and
+//! worked rows.
 use super::*;
 use std::alloc::{AllocError, Global};
 use std::process::Abort;

@@ -12,13 +12,16 @@ use std::ops::{Index, IndexMut};
 
 /// What happens to an item when it is deleted.
 pub trait Tombstone {
-    /// Gives back what the item holds, as memory. It runs once for a deletion, when the slot is dead already. The item must stay valid, since it is dropped with its arena; no call shows it any more.
+    /// Gives back what the item holds, as memory. It runs once for a deletion, when the slot is
+    /// dead already. The item must stay valid, since it is dropped with its arena; no call shows it
+    /// any more.
     fn on_delete(&mut self) {}
 }
 
 /// Items named by ids. A deleted item leaves a dead slot, so that no id is given out twice.
 ///
-/// A contract sees an arena as the list of its slots: `Some item` where a slot is live, and `None` where it is dead. An id is a place in this list.
+/// A contract sees an arena as the list of its slots: `Some item` where a slot is live, and `None`
+/// where it is dead. An id is a place in this list.
 #[derive(Drop)]
 pub struct TombstoneArena<T, A: Allocator = Global> {
     slots: Vec<Slot<T>, A>,
@@ -60,7 +63,8 @@ impl<T, A: Allocator> TombstoneArena<T, A> {
         }
     }
 
-    /// Puts `value` into a new slot at the end, and answers its id. After an `AllocError` the arena is as it was, and `value` is dropped.
+    /// Puts `value` into a new slot at the end, and answers its id. After an `AllocError` the arena
+    /// is as it was, and `value` is dropped.
     pub fn alloc(&mut self, value: T) -> Result<Id<T>, AllocError>
     where
         T: Drop,
@@ -77,14 +81,18 @@ impl<T, A: Allocator> TombstoneArena<T, A> {
         Ok(id)
     }
 
-    /// Puts the item that `make` makes of its own id into a new slot at the end, and answers the id. The room is taken before `make` runs: after an `AllocError` `make` did not run, and the arena is as it was.
+    /// Puts the item that `make` makes of its own id into a new slot at the end, and answers the
+    /// id. The room is taken before `make` runs: after an `AllocError` `make` did not run, and the
+    /// arena is as it was.
     pub fn alloc_with_id<F: FnOnce(Id<T>) -> T + Drop>(
         &mut self,
         make: F,
     ) -> Result<Id<T>, AllocError>
         requires { F.pre make (length self.old) }
         ensures id { IfOk result (λ id. id ≡ length self.old) }
-        ensures ok { OnOk result ((value : T) × F.post make (length self.old) value × (self.new ≡ self.old ++ Some value ∷ [])) }
+        ensures ok { OnOk result
+            ((value : T) × F.post make (length self.old) value ×
+            (self.new ≡ self.old ++ Some value ∷ [])) }
         ensures err { OnErr result (self.new ≡ self.old) }
     {
         self.slots.reserve(1)?;
@@ -98,7 +106,8 @@ impl<T, A: Allocator> TombstoneArena<T, A> {
         Ok(Id::from_index(at))
     }
 
-    /// Puts `values` into new slots at the end, in order, and answers their ids. All or none: after an `AllocError` the arena is as it was.
+    /// Puts `values` into new slots at the end, in order, and answers their ids. All or none: after
+    /// an `AllocError` the arena is as it was.
     pub fn alloc_all(&mut self, values: Vec<T, A>) -> Result<Vec<Id<T>, A>, AllocError>
     where
         T: Drop,
@@ -194,7 +203,8 @@ impl<T, A: Allocator> TombstoneArena<T, A> {
         Ok(all)
     }
 
-    /// Deletes the item of a live id: its slot dies, and its `on_delete` runs. It takes no memory, and always answers `Ok`.
+    /// Deletes the item of a live id: its slot dies, and its `on_delete` runs. It takes no memory,
+    /// and always answers `Ok`.
     pub fn delete(&mut self, id: Id<T>) -> Result<(), AllocError>
     where
         T: Tombstone,
@@ -203,11 +213,12 @@ impl<T, A: Allocator> TombstoneArena<T, A> {
         ensures err { OnErr result (self.new ≡ self.old) }
         ensures succeeds { IsOk result }
     {
-        self.let_die(id.index());
+        self.mark_dead(id.index());
         Ok(())
     }
 
-    /// `delete` of each of these distinct live ids, in order. It takes no memory, and always answers `Ok`.
+    /// `delete` of each of these distinct live ids, in order. It takes no memory, and always
+    /// answers `Ok`.
     pub fn delete_all(&mut self, ids: &[Id<T>]) -> Result<(), AllocError>
     where
         T: Tombstone,
@@ -218,13 +229,13 @@ impl<T, A: Allocator> TombstoneArena<T, A> {
         ensures succeeds { IsOk result }
     {
         for id in ids {
-            self.let_die(id.place());
+            self.mark_dead(id.place());
         }
         Ok(())
     }
 
-    // Lets the slot of a live id die, and tells its item.
-    pub(crate) fn let_die(&mut self, at: usize)
+    // Marks the slot of a live id as dead, and tells its item.
+    pub(crate) fn mark_dead(&mut self, at: usize)
     where
         T: Tombstone,
         requires { IsLive self.old at }
@@ -251,7 +262,8 @@ impl<T> Slot<T> {
     ghost use Rattle.walrus_arena.specs.Slot.{with_item};
 
     fn item_mut(&mut self) -> &mut T
-        ensures* writes_back { sem 𝓛 (Lends (the_row T.row) T.row self.entry result (with_item self.old)) }
+        ensures* writes_back { sem 𝓛
+            (Lends (the_row T.row) T.row self.entry result (with_item self.old)) }
         ensures value { result.now ≡ self.old.item }
     {
         &mut self.item

@@ -4,10 +4,10 @@ use Rattle.std.specs.List.{flat_map, find}
 use Rattle.std.specs.Option.{option_map, option_or, is_none}
 use Rattle.std.proofs.lemmas.List.{drop_more}
 use Rattle.std.proofs.lemmas.List.Folds.{find-append}
-use Rattle.walrus_types.specs.declared.error.NoIndex.{NoIndex}
-use Rattle.walrus_types.specs.declared.ty.value.Heap.{Heap}
-use Rattle.walrus_types.specs.declared.ty.value.Heap.TheVariants as heap
-use Rattle.walrus_types.specs.Value.{heap_renamed}
+use Rattle.walrus_ty.specs.declared.error.NoIndex.{NoIndex}
+use Rattle.walrus_ty.specs.declared.ty.value.Heap.{Heap}
+use Rattle.walrus_ty.specs.declared.ty.value.Heap.TheVariants as heap
+use Rattle.walrus_ty.specs.Value.{heap_renamed}
 use Rattle.walrus_ir.specs.declared.const_expr.ConstOp.{ConstOp}
 use Rattle.walrus_ir.specs.declared.const_expr.ConstOp.TheVariants as op
 use Rattle.walrus_ir.specs.declared.const_expr.ConstOpAt.{ConstOpAt}
@@ -23,7 +23,8 @@ ops_back [] = refl
 ops_back (only ∷ []) = one_back only
 ops_back (first ∷ second ∷ rest) = refl
 
-heap_both : (g f : ℕ → ℕ) (h : Heap ℕ) → heap_renamed g (heap_renamed f h) ≡ heap_renamed (λ k. g (f k)) h
+heap_both :
+    (g f : ℕ → ℕ) (h : Heap ℕ) → heap_renamed g (heap_renamed f h) ≡ heap_renamed (λ k. g (f k)) h
 heap_both g f (heap.Abstract a) = refl
 heap_both g f (heap.Concrete k) = refl
 heap_both g f (heap.Exact k) = refl
@@ -41,7 +42,12 @@ module _ (f g : Renaming) where
   both_ways ops = ap (map (op_written g)) (ops_back (map (op_read f) ops)) ∙ ops_both ops
 
 -- what one operation lacks is the first that all of them lack, where those before it lack nothing
-pub missing_here : (known : LookUp) (ops : List ConstOp) (i : ℕ) (o : ConstOp) (n : NoIndex) → i < length ops → o ≡ get_or ops i o → first_missing known (flat_map op_names (drop i ops)) ≡ first_missing known (flat_map op_names ops) → option_map no_index (first_missing known (op_names o)) ≡ Some n → option_map no_index (first_missing known (flat_map op_names ops)) ≡ Some n
+pub missing_here :
+    (known : LookUp) (ops : List ConstOp) (i : ℕ) (o : ConstOp) (n : NoIndex) → i < length ops →
+    o ≡ get_or ops i o → first_missing known (flat_map op_names (drop i ops)) ≡
+    first_missing known (flat_map op_names ops) →
+    option_map no_index (first_missing known (op_names o)) ≡ Some n →
+    option_map no_index (first_missing known (flat_map op_names ops)) ≡ Some n
 missing_here known ops i o n below is left here =
     let lacks : Name → Bool = λ name. is_none (look_up known name) in
     let rest : List Name = flat_map op_names (drop (i + 1) ops) in

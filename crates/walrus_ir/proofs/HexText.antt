@@ -13,7 +13,9 @@ last_digit n = hex_digit (n % 16)
 spelled_last : (k n : ℕ) (acc : List ℕ) → n < 16 → spelled (suc k) n acc ≡ last_digit n ∷ acc
 spelled_last k n acc h = ap (λ t. cond t (last_digit n ∷ acc) (spelled k (n / 16) (last_digit n ∷ acc))) (eq-eqb (n / 16) 0 (omega arith))
 
-spelled_next : (k n : ℕ) (acc : List ℕ) → 16 ≤ n → spelled (suc k) n acc ≡ spelled k (n / 16) (last_digit n ∷ acc)
+spelled_next :
+    (k n : ℕ) (acc : List ℕ) → 16 ≤ n →
+    spelled (suc k) n acc ≡ spelled k (n / 16) (last_digit n ∷ acc)
 spelled_next k n acc h = ap (λ t. cond t (last_digit n ∷ acc) (spelled k (n / 16) (last_digit n ∷ acc))) (ne_eqb (n / 16) 0 (λ e. omega arith))
 
 zero_end : List ℕ
@@ -61,7 +63,9 @@ module _ (width k n : ℕ) (acc : List ℕ) where
         same = ap (λ (text : List ℕ). replicate rest.zeros 48 ++ text) e ∙ rest.same ∙ sym (append_assoc (hex_digits width (n / 16)) end acc);
       }
 
-filled : (width k n : ℕ) (acc : List ℕ) → n < 16 ^ width → 0 < width → width ≤ k → IsFilled width n acc (spelled k n acc)
+filled :
+    (width k n : ℕ) (acc : List ℕ) → n < 16 ^ width → 0 < width → width ≤ k →
+    IsFilled width n acc (spelled k n acc)
 filled zero k n acc h some fits = absurd (omega arith)
 filled (suc width) zero n acc h some fits = absurd (omega arith)
 filled (suc zero) (suc k) n acc h some fits = filled_last zero k n acc (omega arith)
@@ -70,7 +74,10 @@ filled (suc (suc width)) (suc k) n acc h some fits = ⊎_elim
     (λ l. filled_next (suc width) k n acc l (filled (suc width) k (n / 16) (last_digit n ∷ acc) (omega arith) (omega arith) (omega arith)))
     (cases_lt n 16)
 
-zeros_before : (width : ℕ) (numeral : List ℕ) → padded_integral (format_spec 32 0 4 width (2 ^ 64 - 1)) false [] numeral ≡ replicate (width - length numeral) 48 ++ numeral
+zeros_before :
+    (width : ℕ) (numeral : List ℕ) →
+    padded_integral (format_spec 32 0 4 width (2 ^ 64 - 1)) false [] numeral ≡
+    replicate (width - length numeral) 48 ++ numeral
 unfolding padded_integral char_count
 zeros_before width numeral =
     let none : width - length numeral - 0 - 0 ≡ width - length numeral = omega arith in
@@ -81,7 +88,10 @@ unfolding digits
 spelled_digits n = refl
 
 -- a number filled up with zeros to a width that it does not pass
-pub padded_hex : (width n : ℕ) → n < 16 ^ width → 0 < width → width ≤ 64 → padded_integral (format_spec 32 0 4 width (2 ^ 64 - 1)) false [] (digits 16 false n) ≡ hex_digits width n
+pub padded_hex :
+    (width n : ℕ) → n < 16 ^ width → 0 < width → width ≤ 64 →
+    padded_integral (format_spec 32 0 4 width (2 ^ 64 - 1)) false [] (digits 16 false n) ≡
+    hex_digits width n
 padded_hex width n h some fits =
     let f = filled width 64 n [] h some fits in
     let count : width - length (spelled 64 n []) ≡ f.zeros = omega (arith, f.all) in
@@ -90,8 +100,12 @@ padded_hex width n h some fits =
     ∙ ap (λ zeros. replicate zeros 48 ++ spelled 64 n []) count
     ∙ f.same ∙ append-nil (hex_digits width n)
 
-pub hex_8 : (n : ℕ) → n < 2 ^ 32 → padded_integral (format_spec 32 0 4 8 (2 ^ 64 - 1)) false [] (digits 16 false n) ≡ hex_digits 8 n
+pub hex_8 :
+    (n : ℕ) → n < 2 ^ 32 → padded_integral (format_spec 32 0 4 8 (2 ^ 64 - 1)) false []
+    (digits 16 false n) ≡ hex_digits 8 n
 hex_8 n h = padded_hex 8 n (omega arith) (omega arith) (omega arith)
 
-pub hex_16 : (n : ℕ) → n < 2 ^ 64 → padded_integral (format_spec 32 0 4 16 (2 ^ 64 - 1)) false [] (digits 16 false n) ≡ hex_digits 16 n
+pub hex_16 :
+    (n : ℕ) → n < 2 ^ 64 → padded_integral (format_spec 32 0 4 16 (2 ^ 64 - 1)) false []
+    (digits 16 false n) ≡ hex_digits 16 n
 hex_16 n h = padded_hex 16 n (omega arith) (omega arith) (omega arith)

@@ -1,12 +1,13 @@
 -- The types of instruction sequences. WebAssembly core specification, "Instructions": block types.
 use Rattle.std.specs.Prelude.{ℕ, List, [], ◌∷◌, Option, Some, None, true, false}
-use Rattle.walrus_types.specs.declared.ty.value.Val.{Val}
-use Rattle.walrus_types.specs.Types.{ModuleType, nameless, function}
+use Rattle.walrus_ty.specs.declared.ty.value.Val.{Val}
+use Rattle.walrus_ty.specs.Types.{ModuleType, unnamed_type, function}
 use Rattle.walrus_types.specs.Table.{Table, next_id}
 use Rattle.walrus_ir.specs.declared.instr_seq_type.InstrSeqType.{InstrSeqType}
 use Rattle.walrus_ir.specs.declared.instr_seq_type.InstrSeqType.TheVariants.{Simple, MultiValue}
 
--- what a sequence leaves that takes nothing and leaves one value or nothing; none for all other sequences
+-- what a sequence leaves that takes nothing and leaves one value or nothing; none for all other
+-- sequences
 abbrev pub simple_result : List (Val ℕ) → List (Val ℕ) → Option (Option (Val ℕ))
 simple_result [] [] = Some None
 simple_result [] (of ∷ []) = Some (Some of)
@@ -15,7 +16,7 @@ simple_result (first ∷ rest) results = None
 
 -- the final function type without supertype, as it is added to the table
 abbrev pub new_function : Table → List (Val ℕ) → List (Val ℕ) → ModuleType
-new_function t params results = nameless (function params results) true None false (next_id t)
+new_function t params results = unnamed_type (function params results) true None false (next_id t)
 
 -- it has a function type, of whose id P holds
 abbrev pub IsMultiValue : InstrSeqType → (ℕ → Type 0) → Type 0

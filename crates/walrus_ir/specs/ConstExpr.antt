@@ -1,15 +1,16 @@
--- Constant expressions: what their operations name, how these are read and written, and the forms of expressions.
+-- Constant expressions: what their operations name, how these are read and written, and the forms
+-- of expressions.
 -- WebAssembly core specification, "Instructions": constant expressions.
 use Rattle.std.specs.Prelude.{ℕ, List, [], ◌∷◌, map, find, is_none, Option, Some, None, true, unwrap_or, slice_get}
-use Rattle.walrus_types.specs.declared.error.NoIndex.{NoIndex}
-use Rattle.walrus_types.specs.declared.error.NoIndex.TheVariants.{OfType, OfFunc, OfGlobal}
-use Rattle.walrus_types.specs.declared.indices.ids_to_indices.IdsToIndices.{IdsToIndices}
-use Rattle.walrus_types.specs.declared.ty.value.Heap.{Heap}
-use Rattle.walrus_types.specs.declared.ty.value.Reference.{Reference}
-use Rattle.walrus_types.specs.IdLists.{IdLists}
-use Rattle.walrus_types.specs.Indices.{type_indices, func_indices, global_indices}
-use Rattle.walrus_types.specs.Naming.{value_in}
-use Rattle.walrus_types.specs.Value.{heap_names, heap_renamed}
+use Rattle.walrus_ty.specs.declared.error.NoIndex.{NoIndex}
+use Rattle.walrus_ty.specs.declared.error.NoIndex.TheVariants.{OfType, OfFunc, OfGlobal}
+use Rattle.walrus_ty.specs.declared.indices.ids_to_indices.IdsToIndices.{IdsToIndices}
+use Rattle.walrus_ty.specs.declared.ty.value.Heap.{Heap}
+use Rattle.walrus_ty.specs.declared.ty.value.Reference.{Reference}
+use Rattle.walrus_ty.specs.IdLists.{IdLists}
+use Rattle.walrus_ty.specs.Indices.{type_indices, func_indices, global_indices}
+use Rattle.walrus_ty.specs.Lookups.{value_or_zero}
+use Rattle.walrus_ty.specs.Value.{heap_names, heap_renamed}
 use Rattle.walrus_ir.specs.declared.value.Value.{Value}
 use Rattle.walrus_ir.specs.declared.value.Value.TheVariants as value
 use Rattle.walrus_ir.specs.declared.const_expr.ConstExpr.{ConstExpr}
@@ -47,11 +48,17 @@ look_up known (OfGlobals k) = known.globals k
 
 -- the id that an index stands for
 abbrev pub ids_at : IdLists → LookUp
-ids_at m = record { types = slice_get m.types; funcs = slice_get m.funcs; globals = slice_get m.globals }
+ids_at m =
+    record { types = slice_get m.types; funcs = slice_get m.funcs; globals = slice_get m.globals }
 
 -- the index that an id has
 abbrev pub indices_of : IdsToIndices → LookUp
-indices_of x = record { types = (type_indices x).index; funcs = (func_indices x).index; globals = (global_indices x).index }
+indices_of x =
+    record {
+      types = (type_indices x).index;
+      funcs = (func_indices x).index;
+      globals = (global_indices x).index;
+    }
 
 -- the first of these names that is not known
 abbrev pub first_missing : LookUp → List Name → Option Name
@@ -65,11 +72,21 @@ pub record Renaming : Type 0 where
 
 -- what is known of each name in its place, and 0 where nothing is
 abbrev pub sent : LookUp → Renaming
-sent known = record { types = value_in known.types; funcs = value_in known.funcs; globals = value_in known.globals }
+sent known =
+    record {
+      types = value_or_zero known.types;
+      funcs = value_or_zero known.funcs;
+      globals = value_or_zero known.globals;
+    }
 
 -- each number sent through f and then through g
 abbrev pub after : Renaming → Renaming → Renaming
-after g f = record { types = λ k. g.types (f.types k); funcs = λ k. g.funcs (f.funcs k); globals = λ k. g.globals (f.globals k) }
+after g f =
+    record {
+      types = λ k. g.types (f.types k);
+      funcs = λ k. g.funcs (f.funcs k);
+      globals = λ k. g.globals (f.globals k);
+    }
 
 -- what an operation names, with indices and with ids
 
@@ -124,7 +141,8 @@ op_read f (at.ArrayNew k) = op.ArrayNew (f.types k)
 op_read f (at.ArrayNewDefault k) = op.ArrayNewDefault (f.types k)
 op_read f (at.ArrayNewFixed k len) = op.ArrayNewFixed (f.types k) len
 
--- an operation written with each name sent through the map; of a null reference the heap type is written alone
+-- an operation written with each name sent through the map; of a null reference the heap type is
+-- written alone
 abbrev pub op_written : Renaming → ConstOp → ConstOpAt
 op_written f (op.I32Const n) = at.I32Const n
 op_written f (op.I64Const n) = at.I64Const n

@@ -2,7 +2,7 @@
 use Rattle.std.specs.Prelude.{ℕ, Option, None}
 use Rattle.std.specs.declared.string.String.{String}
 use Rattle.std.specs.declared.alloc.Global.{Global}
-use Rattle.walrus_types.specs.declared.ty.value.Val.{Val}
+use Rattle.walrus_ty.specs.declared.ty.value.Val.{Val}
 
 pub record LocalVariable : Type 0 where
   pub id : ℕ
@@ -10,5 +10,5 @@ pub record LocalVariable : Type 0 where
   pub name : Option (String Global)
 
 -- a local without a name
-abbrev pub unnamed : ℕ → Val ℕ → LocalVariable
-unnamed id ty = record { id = id; ty = ty; name = None }
+abbrev pub unnamed_local : ℕ → Val ℕ → LocalVariable
+unnamed_local id ty = record { id = id; ty = ty; name = None }

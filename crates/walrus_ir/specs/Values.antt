@@ -13,7 +13,8 @@ abbrev pub hex_digits : ℕ → ℕ → List ℕ
 hex_digits zero n = []
 hex_digits (suc count) n = hex_digits count (n / 16) ++ hex_digit (n % 16) ∷ []
 
--- integers in decimal, a vector as an unsigned one; floats as `0x` and all their bits in hexadecimal
+-- integers in decimal, a vector as an unsigned one; floats as `0x` and all their bits in
+-- hexadecimal
 abbrev pub value_text : Value → List ℕ
 value_text (value.I32 n) = signed_decimal n
 value_text (value.I64 n) = signed_decimal n

@@ -2,13 +2,11 @@
 //! WebAssembly core specification, "Validation", constant expressions.
 ghost use Rattle.std.specs.Prelude.{◌≡◌, Some, None, IfOk, IfErr, OnOk, map, option_map};
 ghost use Rattle.std.specs.List.{flat_map};
-ghost use Rattle.walrus_types.specs.Naming.{IfUnknownIndex, IfNoIndex};
+ghost use Rattle.walrus_ty.specs.Lookups.{IfUnknownIndex, IfNoIndex};
 ghost use Rattle.walrus_ir.specs.ConstExpr.{expr_of, ops_of, constant, op_read, op_written, op_names, op_at_names, ids_at, indices_of, sent, first_missing, number_of, no_index};
 
 mod convert;
 pub mod laws;
-#[cfg(test)]
-mod tests;
 
 use crate::Value;
 use convert::{ops_from, ops_to, plain_form};
@@ -18,8 +16,8 @@ use walrus_types::{
     ToRecordError, TypeId,
 };
 
-/// A constant expression, as it gives a global its first value or says where a segment begins: one value or name, or
-/// a list of operations.
+/// A constant expression, as it gives a global its first value or says where a segment begins: one
+/// value or name, or a list of operations.
 #[derive(Clone, PartialEq, Eq, Debug, Drop)]
 pub enum ConstExpr {
     /// A constant.
@@ -61,8 +59,8 @@ pub enum ConstOp {
     ArrayNewFixed { ty: TypeId, len: u32 },
 }
 
-/// An operation of a constant expression as a module's section has it: it names types, functions and globals by index,
-/// and of a null reference it has the heap type alone.
+/// An operation of a constant expression as a module's section has it: it names types, functions
+/// and globals by index, and of a null reference it has the heap type alone.
 #[derive(Clone, Copy, PartialEq, Eq, Debug)]
 pub enum ConstOpAt {
     I32Const(i32),
@@ -90,19 +88,22 @@ pub enum ConstOpAt {
 }
 
 impl ConstExpr {
-    /// The constant expression of these operations. One operation alone that is a constant, `GlobalGet`, `RefNull` or
-    /// `RefFunc` gets the form of its own; all other lists, the empty one too, are `Extended`. The type of a null
-    /// reference is nullable. `UnknownIndex` has the first index that stands for nothing; `Memory` comes where room for
-    /// `Extended` was refused.
+    /// The constant expression of these operations. One operation alone that is a constant,
+    /// `GlobalGet`, `RefNull` or `RefFunc` gets the form of its own; all other lists, the empty one
+    /// too, are `Extended`. The type of a null reference is nullable. `UnknownIndex` has the first
+    /// index that stands for nothing; `Memory` comes where room for `Extended` was refused.
     pub fn eval(
         alloc: Global,
         ops: &[ConstOpAt],
         ids: &IndicesToIds,
     ) -> Result<ConstExpr, FromRecordError>
-        ensures value { IfOk result (λ x. x ≡ expr_of (map (op_read (sent (ids_at ids.now))) ops.now)) }
-        ensures complete { OnOk result (first_missing (ids_at ids.now) (flat_map op_at_names ops.now) ≡ None) }
+        ensures value { IfOk result
+            (λ x. x ≡ expr_of (map (op_read (sent (ids_at ids.now))) ops.now)) }
+        ensures complete { OnOk result
+            (first_missing (ids_at ids.now) (flat_map op_at_names ops.now) ≡ None) }
         ensures missing { IfErr result (λ e. IfUnknownIndex e (λ k.
-            option_map number_of (first_missing (ids_at ids.now) (flat_map op_at_names ops.now)) ≡ Some k)) }
+            option_map number_of (first_missing (ids_at ids.now) (flat_map op_at_names ops.now)) ≡
+            Some k)) }
     {
         if let [only] = ops {
             if let Some(plain) = plain_form(only, ids)? {
@@ -112,17 +113,20 @@ impl ConstExpr {
         Ok(ConstExpr::Extended(Listed::from_vec(ops_from(alloc, ops, ids)?)))
     }
 
-    /// The operations of this constant expression. `NoIndex` has the first id that has no index; `Memory` comes where
-    /// room was refused. Whether a null reference is nullable is not written.
+    /// The operations of this constant expression. `NoIndex` has the first id that has no index;
+    /// `Memory` comes where room was refused. Whether a null reference is nullable is not written.
     pub fn to_ops(
         &self,
         alloc: Global,
         indices: &IdsToIndices,
     ) -> Result<Vec<ConstOpAt>, ToRecordError>
-        ensures ops { IfOk result (λ x. x.items ≡ map (op_written (sent (indices_of indices.now))) (ops_of self.now)) }
-        ensures complete { OnOk result (first_missing (indices_of indices.now) (flat_map op_names (ops_of self.now)) ≡ None) }
+        ensures ops { IfOk result
+            (λ x. x.items ≡ map (op_written (sent (indices_of indices.now))) (ops_of self.now)) }
+        ensures complete { OnOk result
+            (first_missing (indices_of indices.now) (flat_map op_names (ops_of self.now)) ≡ None) }
         ensures missing { IfErr result (λ e. IfNoIndex e (λ n.
-            option_map no_index (first_missing (indices_of indices.now) (flat_map op_names (ops_of self.now))) ≡ Some n)) }
+            option_map no_index (first_missing (indices_of indices.now)
+            (flat_map op_names (ops_of self.now))) ≡ Some n)) }
     {
         match self {
             ConstExpr::Value(value) => ops_to(alloc, &[ConstOp::constant(*value)], indices),

@@ -4,14 +4,11 @@ ghost use Rattle.walrus_types.specs.Table.{FindsOrAdds, IsAnswer, IsSameTable, I
 ghost use Rattle.walrus_ir.specs.BlockTypes.{simple_result, new_function, IsMultiValue};
 ghost use Rattle.walrus_ir.specs.declared.instr_seq_type.InstrSeqType.TheVariants.{Simple, MultiValue};
 
-#[cfg(test)]
-mod tests;
-
 use std::alloc::AllocError;
 use walrus_types::{ModuleTypes, TypeId, ValType};
 
-/// The type of an instruction sequence: what it takes from the stack, and what it leaves there. `blocktype` in the
-/// WebAssembly core specification.
+/// The type of an instruction sequence: what it takes from the stack, and what it leaves there.
+/// `blocktype` in the WebAssembly core specification.
 #[derive(Clone, Copy, PartialEq, Eq, Debug)]
 pub enum InstrSeqType {
     /// It takes nothing, and leaves one value of this type or nothing.
@@ -21,20 +18,25 @@ pub enum InstrSeqType {
 }
 
 impl InstrSeqType {
-    /// The type of sequences that take `params` and leave `results`. Without `params` and with one result at most it is
-    /// `Simple`, and the table stays as it is. Else it is the id that `ModuleTypes::add` answers; after its refusal the
-    /// table is as it was.
+    /// The type of sequences that take `params` and leave `results`. Without `params` and with one
+    /// result at most it is `Simple`, and the table stays as it is. Else it is the id that
+    /// `ModuleTypes::add` answers; after its refusal the table is as it was.
     pub fn new(
         types: &mut ModuleTypes,
         params: &[ValType],
         results: &[ValType],
     ) -> Result<InstrSeqType, AllocError>
-        ensures simple { IfSome (simple_result params.now results.now) (λ of. result ≡ Ok (Simple of)) }
-        ensures unchanged { IfSome (simple_result params.now results.now) (λ of. types.new ≡ types.old) }
-        ensures answer { simple_result params.now results.now ≡ None → IfOk result (λ ty. IsMultiValue ty
+        ensures simple { IfSome (simple_result params.now results.now)
+            (λ of. result ≡ Ok (Simple of)) }
+        ensures unchanged { IfSome (simple_result params.now results.now)
+            (λ of. types.new ≡ types.old) }
+        ensures answer { simple_result params.now results.now ≡ None →
+            IfOk result (λ ty. IsMultiValue ty
             (λ id. IsAnswer types.new (new_function types.old params.now results.now) id)) }
-        ensures ok { simple_result params.now results.now ≡ None → IfOk result (λ ty. IsMultiValue ty
-            (λ id. FindsOrAdds types.old types.new (new_function types.old params.now results.now) id)) }
+        ensures ok { simple_result params.now results.now ≡ None →
+            IfOk result (λ ty. IsMultiValue ty
+            (λ id. FindsOrAdds types.old types.new
+            (new_function types.old params.now results.now) id)) }
         ensures err { OnErr result (IsSameTable types.old types.new) }
     {
         match simple(params, results) {
@@ -43,17 +45,20 @@ impl InstrSeqType {
         }
     }
 
-    /// The type of sequences that take `params` and leave `results`, if the table need not grow for it: the one that
-    /// `new` answers where it is `Simple`, or else the function type that `ModuleTypes::find` answers. It takes no memory.
+    /// The type of sequences that take `params` and leave `results`, if the table need not grow for
+    /// it: the one that `new` answers where it is `Simple`, or else the function type that
+    /// `ModuleTypes::find` answers. It takes no memory.
     pub fn existing(
         types: &ModuleTypes,
         params: &[ValType],
         results: &[ValType],
     ) -> Option<InstrSeqType>
-        ensures simple { IfSome (simple_result params.now results.now) (λ of. result ≡ Some (Simple of)) }
+        ensures simple { IfSome (simple_result params.now results.now)
+            (λ of. result ≡ Some (Simple of)) }
         ensures found { simple_result params.now results.now ≡ None → MatchOption result
             (IsFirst types.now (IsPlainFunction params.now results.now) None)
-            (λ ty. IsMultiValue ty (λ id. IsFirst types.now (IsPlainFunction params.now results.now) (Some id))) }
+            (λ ty. IsMultiValue ty (λ id.
+            IsFirst types.now (IsPlainFunction params.now results.now) (Some id))) }
     {
         match simple(params, results) {
             Some(ty) => Some(ty),

@@ -1,4 +1,5 @@
-//! Instructions as data: each instruction's struct, the operators and kinds that they hold, sequences of instructions, and where instructions stand in a binary.
+//! Instructions as data: each instruction's struct, the operators and kinds that they hold,
+//! sequences of instructions, and where instructions stand in a binary.
 pub mod aggregates;
 pub mod atomics;
 pub mod binary_op;

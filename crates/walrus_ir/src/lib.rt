@@ -1,10 +1,17 @@
 //! Function bodies of WebAssembly modules as data: instructions, locals and constant expressions.
 //!
-//! - [`Instr`] is an instruction, with a struct for each of its 95 kinds, which becomes an `Instr` by `From`. [`BinaryOp`], [`UnaryOp`] and [`TernaryOp`] are the operators, [`LoadKind`] and its kin say what memory accesses touch.
-//! - [`InstrSeq`] is a sequence of instructions, each with an [`InstrLocId`]. Instructions that have sequences inside name them by [`InstrSeqId`], so a function's body is a list of sequences.
+//! - [`Instr`] is an instruction, with a struct for each of its 95 kinds, which becomes an `Instr`
+//!   by `From`. [`BinaryOp`], [`UnaryOp`] and [`TernaryOp`] are the operators, [`LoadKind`] and its
+//!   kin say what memory accesses touch.
+//! - [`InstrSeq`] is a sequence of instructions, each with an [`InstrLocId`]. Instructions that
+//!   have sequences inside name them by [`InstrSeqId`], so a function's body is a list of
+//!   sequences.
 //! - [`Local`] is a local of a function, [`Value`] what a constant gives.
 //!
-//! Nothing here says what is valid: any instruction may stand anywhere. Names, and fields with their order, are those of walrus's `ir`, but for the struct [`DropInstr`] and the fields `data_id`, which are `Drop` and `data` there. The variants of [`Instr`] and [`UnaryOp`] are grouped by what they do.
+//! Nothing here says what is valid: any instruction may stand anywhere. Names, and fields with
+//! their order, are those of walrus's `ir`, but for the struct [`DropInstr`] and the fields
+//! `data_id`, which are `Drop` and `data` there. The variants of [`Instr`] and [`UnaryOp`] are
+//! grouped by what they do.
 //!
 //! # A branch
 //!
@@ -22,8 +29,6 @@ mod const_expr;
 mod instr_seq_type;
 mod ir;
 mod locals;
-#[cfg(test)]
-mod tests;
 mod value;
 
 pub use const_expr::ConstExpr;
@@ -148,21 +153,37 @@ pub use locals::LocalId;
 pub use locals::LocalsIter;
 pub use locals::ModuleLocals;
 pub use value::Value;
+pub use walrus_types::AbstractHeapType;
 pub use walrus_types::Data;
 pub use walrus_types::DataId;
 pub use walrus_types::Element;
 pub use walrus_types::ElementId;
+pub use walrus_types::FromRecordError;
 pub use walrus_types::Function;
 pub use walrus_types::FunctionId;
 pub use walrus_types::Global;
 pub use walrus_types::GlobalId;
+pub use walrus_types::Heap;
+pub use walrus_types::HeapAt;
+pub use walrus_types::HeapType;
 pub use walrus_types::Id;
+pub use walrus_types::IdsToIndices;
+pub use walrus_types::IndicesToIds;
+pub use walrus_types::Listed;
 pub use walrus_types::Memory;
 pub use walrus_types::MemoryId;
+pub use walrus_types::ModuleTypes;
+pub use walrus_types::NoIndex;
 pub use walrus_types::RecGroup;
 pub use walrus_types::RecGroupId;
+pub use walrus_types::RefType;
+pub use walrus_types::Reference;
 pub use walrus_types::Table;
 pub use walrus_types::TableId;
 pub use walrus_types::Tag;
 pub use walrus_types::TagId;
+pub use walrus_types::ToRecordError;
 pub use walrus_types::TypeId;
+pub use walrus_types::UnknownIndex;
+pub use walrus_types::Val;
+pub use walrus_types::ValType;

@@ -1,12 +1,10 @@
 //! The locals of functions.
 ghost use Rattle.std.specs.Prelude.{◌≡◌, ◌<◌, ◌↔◌, [], ◌∷◌, ◌++◌, length, slice_get, IsTrue, IfOk, OnOk, OnErr, Some};
 ghost use Rattle.std.specs.Borrow.{sem};
-ghost use Rattle.walrus_ir.specs.Locals.{unnamed};
+ghost use Rattle.walrus_ir.specs.Locals.{unnamed_local};
 ghost use Rattle.walrus_ir.specs.LocalLends.{LendsLocal};
 
 mod iter;
-#[cfg(test)]
-mod tests;
 
 pub use iter::LocalsIter;
 use std::alloc::{AllocError, Global};
@@ -38,7 +36,7 @@ impl Model for Local {
 impl Local {
     /// The local with this id and this type, and without a name.
     pub fn new(id: LocalId, ty: ValType) -> Local
-        ensures { result ≡ unnamed id ty }
+        ensures { result ≡ unnamed_local id ty }
     {
         Local { id, ty, name: None }
     }
@@ -58,7 +56,8 @@ impl Local {
     }
 }
 
-/// The locals of all functions of a module, seen as the list of them. An id is a place in this list.
+/// The locals of all functions of a module, seen as the list of them. An id is a place in this
+/// list.
 #[derive(Drop)]
 pub struct ModuleLocals {
     locals: Vec<Local>,
@@ -83,10 +82,11 @@ impl ModuleLocals {
         }
     }
 
-    /// Adds a local of this type without a name, and answers its id: the number of locals before. A refusal changes nothing.
+    /// Adds a local of this type without a name, and answers its id: the number of locals before. A
+    /// refusal changes nothing.
     pub fn add(&mut self, ty: ValType) -> Result<LocalId, AllocError>
         ensures id { IfOk result (λ id. id ≡ length self.old) }
-        ensures ok { OnOk result (self.new ≡ self.old ++ unnamed (length self.old) ty ∷ []) }
+        ensures ok { OnOk result (self.new ≡ self.old ++ unnamed_local (length self.old) ty ∷ []) }
         ensures err { OnErr result (self.new ≡ self.old) }
     {
         let id = Id::from_index(self.locals.len());
@@ -109,7 +109,8 @@ impl ModuleLocals {
         &self.locals[id.index()]
     }
 
-    /// The local with this id, for writing. A whole local that is written keeps the id that it brings, and stays at this place.
+    /// The local with this id, for writing. A whole local that is written keeps the id that it
+    /// brings, and stays at this place.
     pub fn get_mut(&mut self, id: LocalId) -> &mut Local
         requires { id < length self.old }
         ensures* writes_back { sem 𝓛 (LendsLocal self.entry id result) }

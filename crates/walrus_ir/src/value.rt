@@ -2,15 +2,13 @@
 ghost use Rattle.std.specs.Prelude.{Some};
 ghost use Rattle.walrus_ir.specs.Values.{value_text};
 
-#[cfg(test)]
-mod tests;
-
 use std::fmt;
 
-/// A constant of a number type or of the vector type. A float stands as its bits, so that two constants are equal where
-/// their bits are.
+/// A constant of a number type or of the vector type. A float stands as its bits, so that two
+/// constants are equal where their bits are.
 ///
-/// It prints as its number in decimal; a float prints as its bits, `0x` and eight or sixteen hexadecimal digits.
+/// It prints as its number in decimal; a float prints as its bits, `0x` and eight or sixteen
+/// hexadecimal digits.
 #[derive(Clone, Copy, PartialEq, Eq, Debug)]
 pub enum Value {
     I32(i32),

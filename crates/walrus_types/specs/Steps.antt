@@ -1,4 +1,5 @@
--- What private functions promise one another on the way to a public clause. No public clause and no law cites these modules:
+-- What private functions promise one another on the way to a public clause. No public clause and no
+-- law cites these modules:
 -- who wants to know what the crate promises can pass them over.
 pub mod TableIndex
 pub mod TableReads
@@ -6,7 +7,6 @@ pub mod FreeGroups
 pub mod PlacesInOrder
 pub mod Neighbours
 pub mod WrittenGroups
-pub mod Weights
-pub mod Told
-pub mod Checker
-pub mod SubTypes
+pub mod SortKeys
+pub mod LosslessKeys
+pub mod ReadSlots

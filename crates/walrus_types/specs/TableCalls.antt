@@ -1,37 +1,66 @@
 -- What calls may make of a table, one after the other.
 -- The specification has no table of types that changes: its calls are of this crate's own.
-use Rattle.std.specs.Prelude.{◌≡◌, ℕ, List, [], ◌∷◌, ◌++◌, length}
-use Rattle.std.specs.List.{range_with_len}
-use Rattle.walrus_types.specs.Types.{ModuleType}
-use Rattle.walrus_types.specs.TypesById.{IsLive}
-use Rattle.walrus_types.specs.Table.{Table, Member, next_id, IsTable, IsSameTable, AddsType, AddsGroup, Deletes, DeletesGroup}
+use Rattle.std.specs.Prelude.{◌≡◌, ℕ, Bool, List, [], ◌∷◌, ◌++◌, length, All, is_some, nat_eq, MatchBool, if◌then◌else◌}
+use Rattle.std.specs.List.{IsDistinct, range_with_len}
+use Rattle.walrus_ty.specs.Groups.{Section}
+use Rattle.walrus_ty.specs.Types.{ModuleType}
+use Rattle.walrus_types.specs.TypesById.{IsLive, found_id}
+use Rattle.walrus_types.specs.Table.{Table, Member, next_id, IsTable, IsSameTable, FindsOrAdds, AddsGroup, Deletes, DeletesAll, DeletesGroup}
+use Rattle.walrus_types.specs.ReaderState.{IsReadInto}
 use Rattle.walrus_types.specs.TableLends.{with_type}
 
 abbrev pub empty_table : Table
 empty_table = record { types = record { slots = []; entries = [] }; groups = [] }
 
--- what one call may make of the table old: nothing, a new type, a new group, a write of a live type, or a deletion
+-- what one call makes of the table old, as the clauses of the call say it
 pub data Call (old new : Table) : Type 0 where
-  Keeps : (same : IsSameTable old new) → Call old new
-  Adds : (ty : ModuleType) (id : ℕ) (adds : AddsType old new ty id) → Call old new
-  Groups : (members : List Member) (adds : AddsGroup old new members) → Call old new
-  Writes : (id : ℕ) (ty : ModuleType) (live : IsLive old.types.slots id) (writes : new ≡ with_type old id ty) → Call old new
-  Dies : (id : ℕ) (live : IsLive old.types.slots id) (deletes : Deletes old new id) → Call old new
-  Ends : (id : ℕ) (live : IsLive old.types.slots id) (deletes : DeletesGroup old new id) → Call old new
+  -- `add`, `add_struct`, `add_array`, `add_composite` or `add_entry_ty`, which answers `Ok` or an
+  -- error
+  Adds : (ty : ModuleType) (id : ℕ) (ok : FindsOrAdds old new ty id) → Call old new
+  AddFails : (err : IsSameTable old new) → Call old new
+  -- `add_rec_group`, which answers `Ok` or an error
+  AddsRec :
+      (count : ℕ) (members : List Member)
+      (ok : (length members ≡ count) × AddsGroup old new members) → Call old new
+  AddRecFails : (err : new ≡ old) → Call old new
+  -- `get_mut`, once its borrow ended with this type
+  Writes :
+      (id : ℕ) (ty : ModuleType) (live : IsLive old.types.slots id)
+      (writes : new ≡ with_type old id ty) → Call old new
+  -- `delete`
+  DeletesOne : (id : ℕ) (live : IsLive old.types.slots id) (ok : Deletes old new id) → Call old new
+  -- `delete_all`
+  DeletesMany :
+      (ids : List ℕ) (live : All (IsLive old.types.slots) ids) (distinct : IsDistinct nat_eq ids)
+      (ok : DeletesAll old ids new) → Call old new
+  -- `try_delete`, which answers this
+  TriesToDelete :
+      (id : ℕ) (deleted : Bool) (live : IsLive old.types.slots id)
+      (ok : MatchBool deleted (Deletes old new id) (new ≡ old)) → Call old new
+  -- `delete_entire_group`
+  DeletesWhole :
+      (id : ℕ) (live : IsLive old.types.slots id) (ok : DeletesGroup old new id) → Call old new
 
 -- the ids that the call gives to new types, in order
 abbrev pub new_ids : {old new : Table} → Call old new → List ℕ
-new_ids (Keeps same) = []
-new_ids (Adds ty id adds) = id ∷ []
-new_ids {old} (Groups members adds) = range_with_len (next_id old) (length members)
+new_ids {old} (Adds ty id ok) = if is_some (found_id old.types ty) then [] else id ∷ []
+new_ids (AddFails err) = []
+new_ids {old} (AddsRec count members ok) = range_with_len (next_id old) count
+new_ids (AddRecFails err) = []
 new_ids (Writes id ty live writes) = []
-new_ids (Dies id live deletes) = []
-new_ids (Ends id live deletes) = []
+new_ids (DeletesOne id live ok) = []
+new_ids (DeletesMany ids live distinct ok) = []
+new_ids (TriesToDelete id deleted live ok) = []
+new_ids (DeletesWhole id live ok) = []
 
--- calls that make the table of an empty one, with all ids that they gave to new types, in order
+-- calls that make the table of an empty one, or of one that a section was read into, with all ids
+-- that were given, in order
 pub data Calls : Table → List ℕ → Type 0 where
   Start : Calls empty_table []
-  Then : (old new : Table) (ids : List ℕ) (before : Calls old ids) (call : Call old new) → Calls new (ids ++ new_ids call)
+  Read : (s : Section) (t : Table) (ids : List ℕ) (read : IsReadInto s t ids)
+      (grouping : IsTable t) → Calls t (range_with_len 0 (next_id t))
+  Then : (old new : Table) (ids : List ℕ) (before : Calls old ids) (call : Call old new) →
+      Calls new (ids ++ new_ids call)
 
 -- whatever was called, each type is in one group, and the ids were given in order, each once
 pub record IsSound (t : Table) (ids : List ℕ) : Type 0 where

@@ -1,28 +1,20 @@
--- The types of a module by id, and at which id a type is found by its value. An id is never used again: that of a type that died keeps its place.
--- WebAssembly core specification, "Modules", types: a module has a list of types, and each is named by its place in it.
+-- The types of a module by id, and at which id a type is found by its value. An id is never used
+-- again: that of a type that died keeps its place.
+-- WebAssembly core specification, "Modules", types: a module has a list of types, and each is named
+-- by its place in it.
 -- The specification has no type that dies and no look-up by value; both are of this crate's own.
+use Rattle.walrus_ty.specs.SameTypes.{type_eq}
 use Rattle.std.specs.Prelude.{◌≡◌, ℕ, List, [], ◌∷◌, ◌++◌, length, Bool, false, ◌&&◌, ◌==◌, if◌then◌else◌, Option, Some, None, IsSome, option_and_then, slice_index_or, slice_set}
 use Rattle.std.specs.Option.{option_eq}
 use Rattle.std.specs.Map.{lookup}
-use Rattle.walrus_types.specs.contracts.ty.TypePartialEq.TheImpl.{ghosts}
-use Rattle.walrus_types.specs.Types.{ModuleType}
-
--- whether two types are equal: by composite, finality, supertype and the mark of a function entry
-unfoldable pub type_eq : ModuleType → ModuleType → Bool
-type_eq = ghosts.eq
-
--- both have the same composite, finality, supertype and mark of a function entry
-pub record IsSameType (a b : ModuleType) : Type 0 where
-  pub kind : a.kind ≡ b.kind
-  pub is_final : a.is_final ≡ b.is_final
-  pub supertype : a.supertype ≡ b.supertype
-  pub is_for_function_entry : a.is_for_function_entry ≡ b.is_for_function_entry
+use Rattle.walrus_ty.specs.Types.{ModuleType}
 
 -- at the place of each id its type, and `None` where none lives
 abbrev pub TypeSlots : Type 0
 TypeSlots = List (Option ModuleType)
 
--- the types by id, and a finite map from types to ids, of which only the look-up means something: `known_id`
+-- the types by id, and a finite map from types to ids, of which only the look-up means something:
+-- `known_id`
 pub record TypesById : Type 0 where
   pub slots : TypeSlots
   pub entries : List (ModuleType × ℕ)
@@ -45,12 +37,16 @@ abbrev pub known_id : TypesById → ModuleType → Option ℕ
 known_id t q = lookup (type_eq q) t.entries
 
 -- the noted id, if it is live and its type is equal to this one
-abbrev pub found : TypesById → ModuleType → Option ℕ
-found t q = option_and_then (λ id. if passes (type_eq q) (live_type t.slots id) then Some id else None) (known_id t q)
+abbrev pub found_id : TypesById → ModuleType → Option ℕ
+found_id t q =
+    option_and_then (λ id. if passes (type_eq q) (live_type t.slots id) then Some id else None)
+    (known_id t q)
 
 -- q is equal to the type of the id, and this very id is noted for that type
 abbrev pub is_known_as : TypesById → ℕ → ModuleType → Bool
-is_known_as t id q = passes (λ ty. type_eq ty q && option_eq (λ a b. a == b) (known_id t ty) (Some id)) (live_type t.slots id)
+is_known_as t id q =
+    passes (λ ty. type_eq ty q && option_eq (λ a b. a == b) (known_id t ty) (Some id))
+    (live_type t.slots id)
 
 module _ (old new : TypesById) where
   -- the same ids are noted for the same types
@@ -68,12 +64,15 @@ module _ (old new : TypesById) where
     pub slots : new.slots ≡ old.slots ++ Some ty ∷ []
     pub map : (q : ModuleType) → known_id new q ≡ (if type_eq ty q then Some id else known_id old q)
 
-  -- the type of the id died; where this very id was noted for the types equal to it, none is noted any more
+  -- the type of the id died; where this very id was noted for the types equal to it, none is noted
+  -- any more
   pub record Loses (id : ℕ) : Type 0 where
     pub slots : new.slots ≡ slice_set old.slots id None
-    pub map : (q : ModuleType) → known_id new q ≡ (if is_known_as old id q then None else known_id old q)
+    pub map :
+        (q : ModuleType) → known_id new q ≡ (if is_known_as old id q then None else known_id old q)
 
 -- the types of these ids died, one after the other
 abbrev pub LosesAll : TypesById → List ℕ → TypesById → Type 0
 LosesAll old [] new = IsUnchanged old new
-LosesAll old (id ∷ ids) new = (between : TypesById) × Loses old between id × LosesAll between ids new
+LosesAll old (id ∷ ids) new =
+    (between : TypesById) × Loses old between id × LosesAll between ids new

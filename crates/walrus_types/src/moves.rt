@@ -1,28 +1,31 @@
 //! Sections that are the same up to moves.
 ghost use Rattle.std.specs.Prelude.{◌≡◌, ◌⊎◌, ◌↔◌, IsTrue, IfErr, IfOk, OnOk};
-ghost use Rattle.walrus_types.specs.declared.error.ReadError.TheVariants as read;
-ghost use Rattle.walrus_types.specs.Fault.{IsFirstFault};
-ghost use Rattle.walrus_types.specs.Moves.{AreJoined};
-ghost use Rattle.walrus_types.specs.Records.{section_of};
-ghost use Rattle.walrus_types.specs.Section.{IsWellNamed};
+ghost use Rattle.walrus_sections.specs.declared.error.ReadError.TheVariants as read;
+ghost use Rattle.walrus_sections.specs.FirstError.{IsFirstError};
+ghost use Rattle.walrus_sections.specs.Moves.{AreJoined};
+ghost use Rattle.walrus_ty.specs.Records.{section_of};
+ghost use Rattle.walrus_sections.specs.Section.{IsWellNamed};
 
 use crate::laws::equal_outputs_by_moves;
 use crate::{GroupAt, ReadError, normalise};
 use std::alloc::Global;
 
-/// Whether a chain of moves leads from the one section to the other: an empty `Rec` goes in or out, a `Single` that repeats an
-/// earlier one goes in or out, neighbouring `Single`s that name nothing but themselves change places, and names move along.
+/// Whether a chain of moves leads from the one section to the other: an empty `Rec` goes in or out,
+/// a `Single` that repeats an earlier one goes in or out, neighbouring `Single`s that name nothing
+/// but themselves change places, and names move along.
 /// It is so exactly where the two have the same normal form.
 ///
-/// Where the first section can't be read, that is the answer, and else, where the second can't be; `Memory` comes only where
-/// memory was refused.
+/// Where the first section can't be read, that is the answer, and else, where the second can't be;
+/// `Memory` comes only where memory was refused.
 ///
 /// walrus has no such call.
 pub fn same_up_to_moves(alloc: Global, a: &[GroupAt], b: &[GroupAt]) -> Result<bool, ReadError>
-    ensures well_named { OnOk result (IsWellNamed (section_of a.now) × IsWellNamed (section_of b.now)) }
-    ensures joined { IfOk result (λ same. (IsTrue same ↔ AreJoined (section_of a.now) (section_of b.now))) }
-    ensures refused { IfErr result (λ e. (e ≡ read.Memory) ⊎ IsFirstFault (section_of a.now) e ⊎
-        (IsWellNamed (section_of a.now) × IsFirstFault (section_of b.now) e)) }
+    ensures well_named { OnOk result
+        (IsWellNamed (section_of a.now) × IsWellNamed (section_of b.now)) }
+    ensures joined { IfOk result
+        (λ same. (IsTrue same ↔ AreJoined (section_of a.now) (section_of b.now))) }
+    ensures refused { IfErr result (λ e. (e ≡ read.Memory) ⊎ IsFirstError (section_of a.now) e ⊎
+        (IsWellNamed (section_of a.now) × IsFirstError (section_of b.now) e)) }
 {
     equal_outputs_by_moves();
     let (first, _) = normalise(alloc, a)?;
@@ -35,6 +38,3 @@ fn same_records(first: &[GroupAt], second: &[GroupAt]) -> bool
 {
     first == second
 }
-
-#[cfg(test)]
-mod tests;

@@ -1,58 +1,64 @@
 //! The normal form of a type section.
 ghost use Rattle.std.specs.Prelude.{◌≡◌, ◌<◌, ◌≤◌, ◌^◌, ◌⊎◌, ◌↔◌, ℕ, List, suc, map, All, IsSome, IfOk, IfErr, OnOk};
 ghost use Rattle.std.specs.List.{swap};
-ghost use Rattle.walrus_types.specs.declared.error.ReadError.TheVariants as read;
-ghost use Rattle.walrus_types.specs.Fault.{IsFirstFault};
-ghost use Rattle.walrus_types.specs.Indices.{type_index};
-ghost use Rattle.walrus_types.specs.Moves.{IsRenumberedSwap};
-ghost use Rattle.walrus_types.specs.Naming.{value_in};
-ghost use Rattle.walrus_types.specs.NormalForm.{IsNormalForm, identity};
-ghost use Rattle.walrus_types.specs.Records.{section_of};
-ghost use Rattle.walrus_types.specs.Section.{Section, IsWellNamed};
-
-#[cfg(test)]
-mod tests;
+ghost use Rattle.walrus_sections.specs.declared.error.ReadError.TheVariants as read;
+ghost use Rattle.walrus_sections.specs.FirstError.{IsFirstError};
+ghost use Rattle.walrus_ty.specs.Indices.{type_index};
+ghost use Rattle.walrus_sections.specs.Moves.{IsRenumberedSwap};
+ghost use Rattle.walrus_ty.specs.Lookups.{value_or_zero};
+ghost use Rattle.walrus_sections.specs.NormalForm.{IsNormalForm, identity};
+ghost use Rattle.walrus_ty.specs.Records.{section_of};
+ghost use Rattle.walrus_ty.specs.Groups.{Section};
+ghost use Rattle.walrus_sections.specs.Section.{IsWellNamed};
 
 use crate::laws::{contents_tell_records, one_normal_form, second_round, swap_keeps_output};
 use crate::{EmitError, GroupAt, IdsToIndices, ReadError, TypeId, parse_types};
 use std::alloc::{AllocError, Global};
 
-/// The normal form of a section, with the index in it of each index of the section: the section is read into a table, which
-/// is then emitted.
+/// The normal form of a section, with the index in it of each index of the section: the section is
+/// read into a table, which is then emitted.
 ///
-/// `TooMany` and `BadIndex` come exactly where a group can't be read, for the first such group; `Memory` comes only where
-/// memory was refused.
+/// `TooMany` and `BadIndex` come exactly where a group can't be read, for the first such group;
+/// `Memory` comes only where memory was refused.
 pub fn normalise(alloc: Global, groups: &[GroupAt]) -> Result<(Vec<GroupAt>, Vec<u32>), ReadError>
     ensures well_named { OnOk result (IsWellNamed (section_of groups.now)) }
-    ensures normal { IfOk result (λ r. IsNormalForm (section_of groups.now) (section_of r.0.items) r.1.items) }
+    ensures normal { IfOk result
+        (λ r. IsNormalForm (section_of groups.now) (section_of r.0.items) r.1.items) }
 
     // It is the only normal form.
-    ensures only_section { IfOk result (λ r. (n : Section) (m : List ℕ) → IsNormalForm (section_of groups.now) n m →
+    ensures only_section { IfOk result
+        (λ r. (n : Section) (m : List ℕ) → IsNormalForm (section_of groups.now) n m →
         n ≡ section_of r.0.items) }
-    ensures only_map { IfOk result (λ r. (n : Section) (m : List ℕ) → IsNormalForm (section_of groups.now) n m →
+    ensures only_map { IfOk result
+        (λ r. (n : Section) (m : List ℕ) → IsNormalForm (section_of groups.now) n m →
         m ≡ r.1.items) }
 
     // A second round changes nothing.
     ensures again_well_named { IfOk result (λ r. IsWellNamed (section_of r.0.items)) }
     ensures again { IfOk result (λ r.
-        IsNormalForm (section_of r.0.items) (section_of r.0.items) (identity (section_of r.0.items))) }
+        IsNormalForm (section_of r.0.items) (section_of r.0.items)
+        (identity (section_of r.0.items))) }
 
     // A renumbered swap of neighbours keeps the section.
     ensures swapped_well_named { IfOk result (λ r. (t : Section) (i : ℕ) →
         IsRenumberedSwap (section_of groups.now) t i → IsWellNamed t) }
-    ensures swapped { IfOk result (λ r. (t : Section) (i : ℕ) → IsRenumberedSwap (section_of groups.now) t i →
+    ensures swapped { IfOk result
+        (λ r. (t : Section) (i : ℕ) → IsRenumberedSwap (section_of groups.now) t i →
         IsNormalForm t (section_of r.0.items) (swap r.1.items i (suc i))) }
 
     // A section that is its own normal form stays as it is.
     ensures stays { IfOk result (λ r.
-        IsNormalForm (section_of groups.now) (section_of groups.now) (identity (section_of groups.now)) →
+        IsNormalForm (section_of groups.now) (section_of groups.now)
+        (identity (section_of groups.now)) →
         r.0.items ≡ groups.now) }
     ensures stays_map { IfOk result (λ r.
-        IsNormalForm (section_of groups.now) (section_of groups.now) (identity (section_of groups.now)) →
+        IsNormalForm (section_of groups.now) (section_of groups.now)
+        (identity (section_of groups.now)) →
         r.1.items ≡ identity (section_of groups.now)) }
 
     // The first group that can't be read decides.
-    ensures refused { IfErr result (λ e. (e ≡ read.Memory) ⊎ IsFirstFault (section_of groups.now) e) }
+    ensures refused { IfErr result
+        (λ e. (e ≡ read.Memory) ⊎ IsFirstError (section_of groups.now) e) }
 {
     contents_tell_records();
     one_normal_form();
@@ -66,8 +72,10 @@ fn read_and_written(
     groups: &[GroupAt],
 ) -> Result<(Vec<GroupAt>, Vec<u32>), ReadError>
     ensures well_named { OnOk result (IsWellNamed (section_of groups.now)) }
-    ensures normal { IfOk result (λ r. IsNormalForm (section_of groups.now) (section_of r.0.items) r.1.items) }
-    ensures refused { IfErr result (λ e. (e ≡ read.Memory) ⊎ IsFirstFault (section_of groups.now) e) }
+    ensures normal { IfOk result
+        (λ r. IsNormalForm (section_of groups.now) (section_of r.0.items) r.1.items) }
+    ensures refused { IfErr result
+        (λ e. (e ≡ read.Memory) ⊎ IsFirstError (section_of groups.now) e) }
 {
     let (types, ids) = parse_types(alloc, groups)?;
     match types.emit() {
@@ -85,7 +93,7 @@ fn read_and_written(
 // The index of each of these ids.
 fn indices_of(alloc: Global, ids: &[TypeId], indices: &IdsToIndices) -> Result<Vec<u32>, AllocError>
     requires { All (λ id. IsSome (type_index indices.now id)) ids.now }
-    ensures { IfOk result (λ v. v.items ≡ map (value_in (type_index indices.now)) ids.now) }
+    ensures { IfOk result (λ v. v.items ≡ map (value_or_zero (type_index indices.now)) ids.now) }
 {
     let mut all = Vec::with_capacity(alloc, ids.len())?;
     for id in ids {
@@ -96,7 +104,7 @@ fn indices_of(alloc: Global, ids: &[TypeId], indices: &IdsToIndices) -> Result<V
 
 fn index_of(id: TypeId, indices: &IdsToIndices) -> u32
     requires { IsSome (type_index indices.now id) }
-    ensures { result ≡ value_in (type_index indices.now) id }
+    ensures { result ≡ value_or_zero (type_index indices.now) id }
 {
     match indices.get_type_index(id) {
         Ok(index) => index,

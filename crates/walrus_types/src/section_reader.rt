@@ -1,21 +1,16 @@
 //! Reading a type section into a table of types.
 ghost use Rattle.std.specs.Prelude.{◌≡◌, ◌+◌, ◌⊎◌, [], ◌∷◌, ◌++◌, List, length, map, IfOk, IfErr, OnOk, OnErr, MatchResult, None, Some};
-ghost use Rattle.walrus_types.specs.declared.error.ReadError.TheVariants as error;
-ghost use Rattle.walrus_types.specs.Definition.{renamed};
-ghost use Rattle.walrus_types.specs.Section.{Section, Single, Rec};
-ghost use Rattle.walrus_types.specs.NormalForm.{image};
-ghost use Rattle.walrus_types.specs.Records.{entry_definition, group_of, section_of};
-ghost use Rattle.walrus_types.specs.Fault.{fault_at, definitions_of, IsFirstFault};
+ghost use Rattle.walrus_sections.specs.declared.error.ReadError.TheVariants as error;
+ghost use Rattle.walrus_ty.specs.Definition.{renamed};
+ghost use Rattle.walrus_ty.specs.Groups.{Section, Single, Rec};
+ghost use Rattle.walrus_sections.specs.NormalForm.{image};
+ghost use Rattle.walrus_ty.specs.Records.{entry_definition, group_of, section_of};
+ghost use Rattle.walrus_sections.specs.FirstError.{group_error, definitions_of, IsFirstError};
 ghost use Rattle.walrus_types.specs.Table.{IsSameTable};
 ghost use Rattle.walrus_types.specs.Steps.TableReads.{ReadsSingle, ReadsRec, member_definition};
-ghost use Rattle.walrus_types.specs.Reading.{stored};
-ghost use Rattle.walrus_types.specs.Reader.{HasRead, IsSameReader};
+ghost use Rattle.walrus_types.specs.ReadResult.{type_of_definition};
+ghost use Rattle.walrus_types.specs.ReaderState.{IsReadInto, IsSameState};
 
-#[cfg(test)]
-mod tests;
-
-use crate::convert::SubType;
-use crate::fault::fault_of;
 use crate::{
     CompositeType, EntryAt, FromRecordError, GroupAt, IndicesToIds, ModuleTypes, ReadError, Type,
     TypeId,
@@ -23,12 +18,17 @@ use crate::{
 use std::alloc::Global;
 use std::marker::Model;
 use std::slice;
+use walrus_sections::first_error;
+use walrus_ty::SubType;
 
 /// Reads a type section into a table of types, one recursion group after the other.
 ///
-/// Each entry gets an id of its own, which is its index. An entry that stands alone and is equal to an earlier one that stands alone is sent to that one, and its own id is dead. The entries of a `Rec` are never sent elsewhere.
+/// Each entry gets an id of its own, which is its index. An entry that stands alone and is equal to
+/// an earlier one that stands alone is sent to that one, and its own id is dead. The entries of a
+/// `Rec` are never sent elsewhere.
 ///
-/// Only names are checked, not what else makes a section valid: a supertype may be final, come later in its group, or not match.
+/// Only names are checked, not what else makes a section valid: a supertype may be final, come
+/// later in its group, or not match.
 #[derive(Drop)]
 pub struct SectionReader {
     types: ModuleTypes,
@@ -36,9 +36,9 @@ pub struct SectionReader {
 }
 
 impl Model for SectionReader {
-    ghost use Rattle.walrus_types.specs.Reader.{Reader};
+    ghost use Rattle.walrus_types.specs.ReaderState.{ReaderState};
 
-    ghost Value = { Reader };
+    ghost Value = { ReaderState };
 
     ghost view = { λ r. record { table = r.types; ids = r.ids.types } };
 }
@@ -46,7 +46,7 @@ impl Model for SectionReader {
 impl SectionReader {
     /// A reader that has read the empty section. It takes no memory.
     pub fn new(alloc: Global) -> SectionReader
-        ensures { HasRead [] result.table result.ids }
+        ensures { IsReadInto [] result.table result.ids }
     {
         SectionReader {
             types: ModuleTypes::new(alloc),
@@ -56,16 +56,21 @@ impl SectionReader {
 
     /// Reads one more group.
     ///
-    /// `TooMany` comes where the group brings the number of entries to 2^32 or more. Else `BadIndex` comes where an entry of it names an index at or past the group's end: it has the first such entry and the first such index in it, the composite type from left to right before the supertype. `Memory` comes where there was no room. After an error the reader is as it was.
+    /// `TooMany` comes where the group brings the number of entries to 2^32 or more. Else
+    /// `BadIndex` comes where an entry of it names an index at or past the group's end: it has the
+    /// first such entry and the first such index in it, the composite type from left to right
+    /// before the supertype. `Memory` comes where there was no room. After an error the reader is
+    /// as it was.
     pub fn push_group(&mut self, group: &GroupAt) -> Result<(), ReadError>
-        ensures ok { (s : Section) → HasRead s self.old.table self.old.ids
-            → OnOk result (HasRead (s ++ group_of group.now ∷ []) self.new.table self.new.ids) }
-        ensures fault { MatchResult result
-            (λ _. fault_at (length self.old.ids) (definitions_of (group_of group.now)) ≡ None)
-            (λ e. (e ≡ error.Memory) ⊎ (fault_at (length self.old.ids) (definitions_of (group_of group.now)) ≡ Some e)) }
-        ensures err { OnErr result (IsSameReader self.old self.new) }
-        ensures kept { (s : Section) → HasRead s self.old.table self.old.ids
-            → OnErr result (HasRead s self.new.table self.new.ids) }
+        ensures ok { (s : Section) → IsReadInto s self.old.table self.old.ids
+            → OnOk result (IsReadInto (s ++ group_of group.now ∷ []) self.new.table self.new.ids) }
+        ensures refusal { MatchResult result
+            (λ _. group_error (length self.old.ids) (definitions_of (group_of group.now)) ≡ None)
+            (λ e. (e ≡ error.Memory) ⊎
+            (group_error (length self.old.ids) (definitions_of (group_of group.now)) ≡ Some e)) }
+        ensures err { OnErr result (IsSameState self.old self.new) }
+        ensures kept { (s : Section) → IsReadInto s self.old.table self.old.ids
+            → OnErr result (IsReadInto s self.new.table self.new.ids) }
     {
         match group {
             GroupAt::Single(entry) => self.push_single(entry),
@@ -73,7 +78,8 @@ impl SectionReader {
         }
     }
 
-    /// The table of the section that was read, and the id that each index stands for. It takes no memory.
+    /// The table of the section that was read, and the id that each index stands for. It takes no
+    /// memory.
     pub fn finish(self) -> (ModuleTypes, Vec<TypeId>)
         ensures types { result.0 ≡ self.table }
         ensures ids { result.1.items ≡ self.ids }
@@ -82,16 +88,18 @@ impl SectionReader {
     }
 
     fn push_single(&mut self, entry: &EntryAt) -> Result<(), ReadError>
-        ensures ok { (s : Section) → HasRead s self.old.table self.old.ids
-            → OnOk result (HasRead (s ++ Single (entry_definition entry.now) ∷ []) self.new.table self.new.ids) }
-        ensures fault { MatchResult result
-            (λ _. fault_at (length self.old.ids) (entry_definition entry.now ∷ []) ≡ None)
-            (λ e. (e ≡ error.Memory) ⊎ (fault_at (length self.old.ids) (entry_definition entry.now ∷ []) ≡ Some e)) }
-        ensures err { OnErr result (IsSameReader self.old self.new) }
+        ensures ok { (s : Section) → IsReadInto s self.old.table self.old.ids
+            → OnOk result (IsReadInto
+            (s ++ Single (entry_definition entry.now) ∷ []) self.new.table self.new.ids) }
+        ensures refusal { MatchResult result
+            (λ _. group_error (length self.old.ids) (entry_definition entry.now ∷ []) ≡ None)
+            (λ e. (e ≡ error.Memory) ⊎
+            (group_error (length self.old.ids) (entry_definition entry.now ∷ []) ≡ Some e)) }
+        ensures err { OnErr result (IsSameState self.old self.new) }
     {
         let index = self.ids.type_count();
-        if let Some(fault) = fault_of(slice::from_ref(entry), index) {
-            return Err(fault);
+        if let Some(refusal) = first_error(slice::from_ref(entry), index) {
+            return Err(refusal);
         }
         self.ids.push_type(TypeId::from_index(index))?;
         match read_single(&mut self.types, &self.ids, entry) {
@@ -108,16 +116,18 @@ impl SectionReader {
     }
 
     fn push_rec(&mut self, entries: &[EntryAt]) -> Result<(), ReadError>
-        ensures ok { (s : Section) → HasRead s self.old.table self.old.ids
-            → OnOk result (HasRead (s ++ Rec (map entry_definition entries.now) ∷ []) self.new.table self.new.ids) }
-        ensures fault { MatchResult result
-            (λ _. fault_at (length self.old.ids) (map entry_definition entries.now) ≡ None)
-            (λ e. (e ≡ error.Memory) ⊎ (fault_at (length self.old.ids) (map entry_definition entries.now) ≡ Some e)) }
-        ensures err { OnErr result (IsSameReader self.old self.new) }
+        ensures ok { (s : Section) → IsReadInto s self.old.table self.old.ids
+            → OnOk result (IsReadInto
+            (s ++ Rec (map entry_definition entries.now) ∷ []) self.new.table self.new.ids) }
+        ensures refusal { MatchResult result
+            (λ _. group_error (length self.old.ids) (map entry_definition entries.now) ≡ None)
+            (λ e. (e ≡ error.Memory) ⊎
+            (group_error (length self.old.ids) (map entry_definition entries.now) ≡ Some e)) }
+        ensures err { OnErr result (IsSameState self.old self.new) }
     {
         let first = self.ids.type_count();
-        if let Some(fault) = fault_of(entries, first) {
-            return Err(fault);
+        if let Some(refusal) = first_error(entries, first) {
+            return Err(refusal);
         }
         self.ids.push_types(first, entries.len())?;
         match read_rec(&mut self.types, &self.ids, entries) {
@@ -137,12 +147,16 @@ fn read_single(
     ids: &IndicesToIds,
     entry: &EntryAt,
 ) -> Result<TypeId, FromRecordError>
-    ensures ok { IfOk result (λ id. ReadsSingle types.old types.new (stored (renamed (image ids.now.types) (entry_definition entry.now)) (length types.old.types.slots)) id) }
+    ensures ok { IfOk result
+        (λ id. ReadsSingle types.old types.new
+        (type_of_definition (renamed (image ids.now.types) (entry_definition entry.now))
+        (length types.old.types.slots)) id) }
     ensures err { OnErr result (IsSameTable types.old types.new) }
 {
     let id = types.next_id();
-    let sub = SubType::from_record(types.allocator(), entry, ids)?;
-    let ty = Type::new_composite(id, sub.kind, sub.is_final, sub.supertype);
+    let alloc = types.allocator();
+    let sub = SubType::from_record(alloc, entry, ids)?;
+    let ty = Type::new(alloc, id, sub.kind, sub.is_final, sub.supertype);
     Ok(types.read_single(ty)?)
 }
 
@@ -152,7 +166,9 @@ fn read_rec(
     ids: &IndicesToIds,
     entries: &[EntryAt],
 ) -> Result<(), FromRecordError>
-    ensures ok { OnOk result (ReadsRec types.old types.new (map (renamed (image ids.now.types)) (map entry_definition entries.now))) }
+    ensures ok { OnOk result
+        (ReadsRec types.old types.new
+        (map (renamed (image ids.now.types)) (map entry_definition entries.now))) }
     ensures err { OnErr result (IsSameTable types.old types.new) }
 {
     let members = members(types.allocator(), entries, ids)?;
@@ -166,7 +182,8 @@ fn members(
     entries: &[EntryAt],
     ids: &IndicesToIds,
 ) -> Result<Vec<(CompositeType, bool, Option<TypeId>)>, FromRecordError>
-    ensures { IfOk result (λ members. map member_definition members.items ≡ map (renamed (image ids.now.types)) (map entry_definition entries.now)) }
+    ensures { IfOk result (λ members. map member_definition members.items ≡
+        map (renamed (image ids.now.types)) (map entry_definition entries.now)) }
 {
     let mut members = Vec::with_capacity(alloc, entries.len())?;
     for entry in entries {
@@ -183,8 +200,8 @@ pub fn parse_types(
     alloc: Global,
     groups: &[GroupAt],
 ) -> Result<(ModuleTypes, Vec<TypeId>), ReadError>
-    ensures ok { IfOk result (λ read. HasRead (section_of groups.now) read.0 read.1.items) }
-    ensures err { IfErr result (λ e. (e ≡ error.Memory) ⊎ IsFirstFault (section_of groups.now) e) }
+    ensures ok { IfOk result (λ read. IsReadInto (section_of groups.now) read.0 read.1.items) }
+    ensures err { IfErr result (λ e. (e ≡ error.Memory) ⊎ IsFirstError (section_of groups.now) e) }
 {
     let mut reader = SectionReader::new(alloc);
     for group in groups {

@@ -1,8 +1,8 @@
 //! The types of a module, and the recursion groups that they stand in.
-ghost use Rattle.std.specs.Prelude.{◌≡◌, ◌↔◌, [], IsTrue, IsSome, IsSomeAnd, Some, length, option_copied};
+ghost use Rattle.std.specs.Prelude.{◌≡◌, ◌↔◌, [], IfOk, IsTrue, IsSome, IsSomeAnd, Some, length, option_copied};
 ghost use Rattle.std.specs.Borrow.{sem};
 ghost use Rattle.walrus_types.specs.TypesById.{live_type, IsLive};
-ghost use Rattle.walrus_types.specs.Table.{IsTable, group_with, live_types, signature_at};
+ghost use Rattle.walrus_types.specs.Table.{IsTable, group_with, live_ids, live_types, signature_at};
 ghost use Rattle.walrus_types.specs.TableLends.{LendsType};
 
 mod add;
@@ -12,32 +12,19 @@ mod iter;
 mod laws;
 mod read;
 mod rec_group;
-#[cfg(test)]
-mod tests;
 
-use crate::{Listed, Type, TypeId, ValType};
+use crate::{Type, TypeId, ValType};
 pub use iter::TypesIter;
 pub use laws::every_table_is_sound;
-pub use rec_group::AddRecGroupError;
-use std::alloc::Global;
+pub use rec_group::{AddRecGroupError, RecGroup, RecGroupId};
+use std::alloc::{AllocError, Global};
 use std::marker::Model;
-use walrus_arena::{ArenaSet, Id};
-
-/// A recursion group: `rectype` in the WebAssembly core specification.
-#[derive(Clone, Debug, Drop)]
-pub struct RecGroup {
-    /// The ids of its types in order.
-    pub types: Listed<TypeId>,
-    /// Whether it was given as a group. A type that was given alone has a group without this mark.
-    pub is_explicit: bool,
-}
-
-/// The id of a recursion group: its place among the groups of its module.
-pub type RecGroupId = Id<RecGroup>;
+use walrus_arena::ArenaSet;
 
 /// The types of a module, each in one recursion group.
 ///
-/// A type that is added alone is the same as an equal one that was added alone before, and gets no second slot. The types of explicit groups are never shared.
+/// A type that is added alone is the same as an equal one that was added alone before, and gets no
+/// second slot. The types of explicit groups are never shared.
 #[derive(Drop)]
 pub struct ModuleTypes {
     types: ArenaSet<Type>,
@@ -101,10 +88,22 @@ impl ModuleTypes {
         }
     }
 
+    /// The live ids in order. With `get_mut` it goes over the types for writing, and with
+    /// `delete_all` it deletes many of them.
+    pub fn live_ids(&self) -> Result<Vec<TypeId>, AllocError>
+        ensures { IfOk result (λ all. all.items ≡ live_ids self.now) }
+    {
+        let mut all = Vec::new(self.allocator());
+        for (id, _) in self.types.iter() {
+            all.push(id)?;
+        }
+        Ok(all)
+    }
+
     /// All recursion groups in the order in which they came, those without types too.
     pub fn rec_groups(&self) -> &[RecGroup]
         ensures groups { result.now ≡ self.now.groups }
-        ensures grouped { IsTable self.now }
+        ensures grouping { IsTable self.now }
     {
         self.groups.as_slice()
     }
@@ -124,7 +123,9 @@ impl ModuleTypes {
         *self.groups.allocator()
     }
 
-    /// The type of a live id, for writing. A whole type that is written keeps the id that it brings, and the table goes on by slots: what was found before the write is still found at this id, as long as it is equal.
+    /// The type of a live id, for writing. A whole type that is written keeps the id that it
+    /// brings, and the table goes on by slots: what was found before the write is still found at
+    /// this id, as long as it is equal.
     pub fn get_mut(&mut self, id: TypeId) -> &mut Type
         requires { IsLive self.old.types.slots id }
         ensures* writes_back { sem 𝓛 (LendsType self.entry id result) }
@@ -152,7 +153,8 @@ impl ModuleTypes {
     /// The parameters and the results of a function type.
     pub fn params_results(&self, id: TypeId) -> (&[ValType], &[ValType])
         requires { IsSome (signature_at self.now id) }
-        ensures { IsSomeAnd (signature_at self.now id) (λ f. (result.0.now ≡ f.params) × (result.1.now ≡ f.results)) }
+        ensures { IsSomeAnd (signature_at self.now id)
+            (λ f. (result.0.now ≡ f.params) × (result.1.now ≡ f.results)) }
     {
         let ty = &self.types[id];
         (ty.params(), ty.results())

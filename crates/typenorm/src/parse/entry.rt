@@ -1,22 +1,25 @@
 //! Definitions, each a line of words.
 ghost use Rattle.std.specs.Prelude.{◌≡◌, ◌≢◌, ◌<◌, ◌^◌, ◌++◌, ◌∷◌, [], ℕ, List, length, map, codes, decimal, IfOk, IfSome, IfNone};
 ghost use Rattle.std.specs.List.{flat_map};
-ghost use Rattle.walrus_types.specs.Value.{val_names, field_names};
-ghost use Rattle.walrus_types.specs.Definition.{names_of, composite_names, supertype_names};
-ghost use Rattle.walrus_types.specs.Records.{comp_composite, entry_definition};
+ghost use Rattle.walrus_ty.specs.Value.{val_names, field_names};
+ghost use Rattle.walrus_ty.specs.Definition.{names_of, composite_names, supertype_names};
+ghost use Rattle.walrus_ty.specs.Records.{comp_composite, entry_definition};
 ghost use Rattle.typenorm.specs.Words.{words_of};
-ghost use Rattle.typenorm.specs.Text.{AreIndices, IsText, BeginsWith, IsSupertypeWord, IsArrayLine, IsValWord, IsFieldWord, IsCompositeLine, IsSubtypeLine, IsEntryLine, val_word, field_word, composite_words, supertype_words, open_words, entry_words};
+ghost use Rattle.typenorm.specs.Text.{AreIndices, IsText, val_word, field_word, composite_words, supertype_words, open_words, entry_words};
+ghost use Rattle.typenorm.specs.Steps.Parts.{BeginsWith, IsSupertypeWord, IsArrayLine, IsValWord, IsFieldWord, IsCompositeLine, IsSubtypeLine, IsEntryLine};
 
-use crate::parse::value::{after, field_type, index, value_type};
-use crate::words::{is_blank, next_word, word_count, words_before};
+use crate::parse::value::{after_prefix, field_type, type_index, value_type};
+use crate::words::{is_blank, next_word, word_count, word_count_before};
 use std::alloc::{AllocError, Global};
 use walrus_types::{CompAt, EntryAt, FieldAt, Listed, ValAt};
 
-/// A definition: `open` where it is not final, `sub:` and its supertype where it has one, then what it is made of.
-#[tactic(auto, using(crate::proofs::EntryLemmas::fits_both))]
+/// A definition: `open` where it is not final, `sub:` and its supertype where it has one, then what
+/// it is made of.
+#[tactic(auto, using(crate::proofs::Parsing::Entries::fits_both))]
 pub fn entry(alloc: Global, line: &[u8]) -> Result<Option<EntryAt>, AllocError>
     ensures found { IfOk result (λ found. IfSome found (λ e. words_of line.now ≡ entry_words e)) }
-    ensures fits { IfOk result (λ found. IfSome found (λ e. AreIndices (names_of (entry_definition e)))) }
+    ensures fits { IfOk result (λ found. IfSome found
+        (λ e. AreIndices (names_of (entry_definition e)))) }
     ensures none { IfOk result (λ found. IfNone found (¬ IsEntryLine (words_of line.now))) }
 {
     let (is_final, rest) = finality(line);
@@ -32,7 +35,7 @@ pub fn entry(alloc: Global, line: &[u8]) -> Result<Option<EntryAt>, AllocError>
 }
 
 /// Whether a definition is final, and the words that follow.
-#[tactic(auto, using(crate::proofs::EntryLemmas::after_open, crate::proofs::EntryLemmas::without_open))]
+#[tactic(auto, using(crate::proofs::Parsing::Entries::after_open, crate::proofs::Parsing::Entries::without_open))]
 fn finality(line: &[u8]) -> (bool, &[u8])
     ensures value { words_of line.now ≡ open_words result.0 ++ words_of result.1.now }
     ensures only { IsEntryLine (words_of line.now) → IsSubtypeLine (words_of result.1.now) }
@@ -44,7 +47,7 @@ fn finality(line: &[u8]) -> (bool, &[u8])
 }
 
 /// The supertype of a definition, and the words that follow.
-#[tactic(auto, using(crate::proofs::EntryLemmas::after_supertype, crate::proofs::EntryLemmas::without_supertype))]
+#[tactic(auto, using(crate::proofs::Parsing::Entries::after_supertype, crate::proofs::Parsing::Entries::without_supertype))]
 fn supertype(line: &[u8]) -> (Option<u32>, &[u8])
     ensures value { words_of line.now ≡ supertype_words result.0 ++ words_of result.1.now }
     ensures fits { AreIndices (supertype_names result.0) }
@@ -57,7 +60,8 @@ fn supertype(line: &[u8]) -> (Option<u32>, &[u8])
 }
 
 fn first_supertype(line: &[u8]) -> Option<(u32, &[u8])>
-    ensures found { IfSome result (λ found. words_of line.now ≡ (codes "sub:" ++ decimal found.0) ∷ words_of found.1.now) }
+    ensures found { IfSome result (λ found. words_of line.now ≡ (codes "sub:" ++ decimal found.0) ∷
+        words_of found.1.now) }
     ensures fits { IfSome result (λ found. found.0 < 2 ^ 32) }
     ensures none { IfNone result (¬ BeginsWith IsSupertypeWord (words_of line.now)) }
 {
@@ -71,7 +75,7 @@ fn supertype_index(word: &[u8]) -> Option<u32>
     ensures fits { IfSome result (λ k. k < 2 ^ 32) }
     ensures none { IfNone result (¬ IsSupertypeWord word.now) }
 {
-    index(after(word, b"sub:")?)
+    type_index(after_prefix(word, b"sub:")?)
 }
 
 /// What stands after this word, where the line begins with it.
@@ -83,10 +87,12 @@ pub fn after_word<'a>(line: &'a [u8], wanted: &[u8]) -> Option<&'a [u8]>
     if word == wanted { Some(rest) } else { None }
 }
 
-#[tactic(auto, using(crate::proofs::EntryLemmas::no_composite))]
+#[tactic(auto, using(crate::proofs::Parsing::Entries::no_composite))]
 fn composite(alloc: Global, line: &[u8]) -> Result<Option<CompAt>, AllocError>
-    ensures found { IfOk result (λ found. IfSome found (λ c. words_of line.now ≡ composite_words c)) }
-    ensures fits { IfOk result (λ found. IfSome found (λ c. AreIndices (composite_names (comp_composite c)))) }
+    ensures found { IfOk result (λ found.
+        IfSome found (λ c. words_of line.now ≡ composite_words c)) }
+    ensures fits { IfOk result (λ found. IfSome found
+        (λ c. AreIndices (composite_names (comp_composite c)))) }
     ensures none { IfOk result (λ found. IfNone found (¬ IsCompositeLine (words_of line.now))) }
 {
     if let Some(rest) = after_word(line, b"func") {
@@ -99,11 +105,14 @@ fn composite(alloc: Global, line: &[u8]) -> Result<Option<CompAt>, AllocError>
 }
 
 /// A function type, from the word after `func` on.
-#[tactic(auto, using(crate::proofs::EntryLemmas::no_arrow, crate::proofs::EntryLemmas::more_after_results, crate::proofs::EntryLemmas::fits_both))]
+#[tactic(auto, using(crate::proofs::Parsing::Entries::no_arrow, crate::proofs::Parsing::Entries::more_after_results, crate::proofs::Parsing::Entries::fits_both))]
 fn function(alloc: Global, line: &[u8]) -> Result<Option<CompAt>, AllocError>
-    ensures found { IfOk result (λ found. IfSome found (λ c. codes "func" ∷ words_of line.now ≡ composite_words c)) }
-    ensures fits { IfOk result (λ found. IfSome found (λ c. AreIndices (composite_names (comp_composite c)))) }
-    ensures none { IfOk result (λ found. IfNone found (¬ IsCompositeLine (codes "func" ∷ words_of line.now))) }
+    ensures found { IfOk result (λ found.
+        IfSome found (λ c. codes "func" ∷ words_of line.now ≡ composite_words c)) }
+    ensures fits { IfOk result (λ found. IfSome found
+        (λ c. AreIndices (composite_names (comp_composite c)))) }
+    ensures none { IfOk result (λ found. IfNone found
+        (¬ IsCompositeLine (codes "func" ∷ words_of line.now))) }
 {
     let (params, rest) = values(alloc, line)?;
     let Some(rest) = after_word(rest, b"->") else {
@@ -120,11 +129,14 @@ fn function(alloc: Global, line: &[u8]) -> Result<Option<CompAt>, AllocError>
 }
 
 /// A struct type, from the word after `struct` on.
-#[tactic(auto, using(crate::proofs::EntryLemmas::more_after_fields))]
+#[tactic(auto, using(crate::proofs::Parsing::Entries::more_after_fields))]
 fn structure(alloc: Global, line: &[u8]) -> Result<Option<CompAt>, AllocError>
-    ensures found { IfOk result (λ found. IfSome found (λ c. codes "struct" ∷ words_of line.now ≡ composite_words c)) }
-    ensures fits { IfOk result (λ found. IfSome found (λ c. AreIndices (composite_names (comp_composite c)))) }
-    ensures none { IfOk result (λ found. IfNone found (¬ IsCompositeLine (codes "struct" ∷ words_of line.now))) }
+    ensures found { IfOk result (λ found.
+        IfSome found (λ c. codes "struct" ∷ words_of line.now ≡ composite_words c)) }
+    ensures fits { IfOk result (λ found. IfSome found
+        (λ c. AreIndices (composite_names (comp_composite c)))) }
+    ensures none { IfOk result (λ found. IfNone found
+        (¬ IsCompositeLine (codes "struct" ∷ words_of line.now))) }
 {
     let (fields, rest) = fields(alloc, line)?;
     if !is_blank(rest) {
@@ -149,21 +161,23 @@ fn array(line: &[u8]) -> Option<CompAt>
 fn only_field(line: &[u8]) -> Option<FieldAt>
     ensures found { IfSome result (λ f. words_of line.now ≡ field_word f ∷ []) }
     ensures fits { IfSome result (λ f. AreIndices (field_names f)) }
-    ensures none { IfNone result (¬ IsText (λ f. field_word f ∷ []) (λ f. AreIndices (field_names f)) (words_of line.now)) }
+    ensures none { IfNone result (¬ IsText (λ f. field_word f ∷ [])
+        (λ f. AreIndices (field_names f)) (words_of line.now)) }
 {
     let (field, rest) = next_field(line)?;
     if is_blank(rest) { Some(field) } else { None }
 }
 
 /// The value types that a line begins with, and what stands after them.
-#[tactic(auto, using(crate::proofs::EntryLemmas::fits_more_values))]
+#[tactic(auto, using(crate::proofs::Parsing::Entries::fits_more_values))]
 fn values(alloc: Global, line: &[u8]) -> Result<(Vec<ValAt>, &[u8]), AllocError>
-    ensures read { IfOk result (λ read. words_of line.now ≡ map val_word read.0.items ++ words_of read.1.now) }
+    ensures read { IfOk result (λ read. words_of line.now ≡ map val_word read.0.items ++
+        words_of read.1.now) }
     ensures fits { IfOk result (λ read. AreIndices (flat_map val_names read.0.items)) }
     ensures stops { IfOk result (λ read. ¬ BeginsWith IsValWord (words_of read.1.now)) }
 {
     // Room for each word that can be a value, so that the list need not grow.
-    let mut values = Vec::with_capacity(alloc, words_before(line, b"->"))?;
+    let mut values = Vec::with_capacity(alloc, word_count_before(line, b"->"))?;
     let mut rest = line;
     while let Some((value, after)) = next_value(rest) {
         values.push(value)?;
@@ -173,7 +187,8 @@ fn values(alloc: Global, line: &[u8]) -> Result<(Vec<ValAt>, &[u8]), AllocError>
 }
 
 fn next_value(line: &[u8]) -> Option<(ValAt, &[u8])>
-    ensures found { IfSome result (λ found. words_of line.now ≡ val_word found.0 ∷ words_of found.1.now) }
+    ensures found { IfSome result (λ found. words_of line.now ≡ val_word found.0 ∷
+        words_of found.1.now) }
     ensures shorter { IfSome result (λ found. length found.1.now < length line.now) }
     ensures fits { IfSome result (λ found. AreIndices (val_names found.0)) }
     ensures none { IfNone result (¬ BeginsWith IsValWord (words_of line.now)) }
@@ -184,9 +199,10 @@ fn next_value(line: &[u8]) -> Option<(ValAt, &[u8])>
 }
 
 /// The fields that a line begins with, and what stands after them.
-#[tactic(auto, using(crate::proofs::EntryLemmas::fits_more_fields))]
+#[tactic(auto, using(crate::proofs::Parsing::Entries::fits_more_fields))]
 fn fields(alloc: Global, line: &[u8]) -> Result<(Vec<FieldAt>, &[u8]), AllocError>
-    ensures read { IfOk result (λ read. words_of line.now ≡ map field_word read.0.items ++ words_of read.1.now) }
+    ensures read { IfOk result (λ read. words_of line.now ≡ map field_word read.0.items ++
+        words_of read.1.now) }
     ensures fits { IfOk result (λ read. AreIndices (flat_map field_names read.0.items)) }
     ensures stops { IfOk result (λ read. ¬ BeginsWith IsFieldWord (words_of read.1.now)) }
 {
@@ -201,7 +217,8 @@ fn fields(alloc: Global, line: &[u8]) -> Result<(Vec<FieldAt>, &[u8]), AllocErro
 }
 
 fn next_field(line: &[u8]) -> Option<(FieldAt, &[u8])>
-    ensures found { IfSome result (λ found. words_of line.now ≡ field_word found.0 ∷ words_of found.1.now) }
+    ensures found { IfSome result (λ found. words_of line.now ≡ field_word found.0 ∷
+        words_of found.1.now) }
     ensures shorter { IfSome result (λ found. length found.1.now < length line.now) }
     ensures fits { IfSome result (λ found. AreIndices (field_names found.0)) }
     ensures none { IfNone result (¬ BeginsWith IsFieldWord (words_of line.now)) }

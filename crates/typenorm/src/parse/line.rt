@@ -1,7 +1,7 @@
 //! Lines of a section.
 ghost use Rattle.std.specs.Prelude.{◌≡◌, ◌≢◌, ◌∷◌, [], false, IsTrue, IfOk, IfSome, IfNone};
 ghost use Rattle.typenorm.specs.Words.{words_of};
-ghost use Rattle.typenorm.specs.Lines.{HasIndices, line_words, IsLine};
+ghost use Rattle.typenorm.specs.Steps.Lines.{HasIndices, line_words, IsLine};
 
 use crate::parse::entry::{after_word, entry};
 use crate::words::is_blank;
@@ -22,7 +22,7 @@ pub enum Line {
 }
 
 /// What a line says; `None` where it is no line of a section.
-#[tactic(auto, using(crate::proofs::EntryLemmas::blank_is))]
+#[tactic(auto, using(crate::proofs::Parsing::Entries::blank_is))]
 pub fn read_line(alloc: Global, line: &[u8]) -> Result<Option<Line>, AllocError>
     ensures found { IfOk result (λ found. IfSome found (λ l. words_of line.now ≡ line_words l)) }
     ensures fits { IfOk result (λ found. IfSome found HasIndices) }
@@ -44,7 +44,7 @@ pub fn read_line(alloc: Global, line: &[u8]) -> Result<Option<Line>, AllocError>
 }
 
 /// Whether the line is this word alone.
-#[tactic(auto, using(crate::proofs::EntryLemmas::blank_is))]
+#[tactic(auto, using(crate::proofs::Parsing::Entries::blank_is))]
 fn is_word(line: &[u8], wanted: &[u8]) -> bool
     ensures yes { IsTrue result → words_of line.now ≡ wanted.now ∷ [] }
     ensures no { result ≡ false → words_of line.now ≢ wanted.now ∷ [] }

@@ -1,12 +1,13 @@
 //! Heap types, value types and fields, each one word.
 ghost use Rattle.std.specs.Prelude.{◌≡◌, ◌≢◌, ◌<◌, ◌^◌, ◌++◌, ℕ, List, codes, decimal, IfSome, IfNone};
-ghost use Rattle.walrus_types.specs.Value.{heap_names, val_names, storage_names, field_names};
-ghost use Rattle.typenorm.specs.Text.{AreIndices, IsText, IsIndexWord, IsNameWord, IsPlainWord, IsPackedWord, other_form, IsHeapWord, IsValWord, IsStorageWord, IsFieldWord, name_word, heap_word, val_word, storage_word, field_word};
+ghost use Rattle.walrus_ty.specs.Value.{heap_names, val_names, storage_names, field_names};
+ghost use Rattle.typenorm.specs.Text.{AreIndices, IsText, name_word, heap_word, val_word, storage_word, field_word};
+ghost use Rattle.typenorm.specs.Steps.Parts.{IsIndexWord, IsNameWord, IsPlainWord, IsPackedWord, has_sign_or_leading_zero, IsHeapWord, IsValWord, IsStorageWord, IsFieldWord};
 
 use walrus_types::{AbstractHeapType, FieldAt, HeapAt, RefAt, StorageAt, ValAt};
 
 /// The number of a type: decimal, below 2^32, without a sign and without leading zeros.
-pub fn index(word: &[u8]) -> Option<u32>
+pub fn type_index(word: &[u8]) -> Option<u32>
     ensures found { IfSome result (λ k. word.now ≡ decimal k) }
     ensures fits { IfSome result (λ k. k < 2 ^ 32) }
     ensures none { IfNone result (¬ IsIndexWord word.now) }
@@ -19,15 +20,15 @@ fn number(text: &str) -> Option<u32>
     ensures fits { IfSome result (λ k. k < 2 ^ 32) }
     ensures none { IfNone result (¬ IsIndexWord text.now) }
 {
-    if has_other_form(text.as_bytes()) {
+    if has_sign_or_leading_zero(text.as_bytes()) {
         return None;
     }
     text.parse().ok()
 }
 
 /// Whether a sign or zeros stand before the digits.
-fn has_other_form(word: &[u8]) -> bool
-    ensures { result ≡ other_form word.now }
+fn has_sign_or_leading_zero(word: &[u8]) -> bool
+    ensures { result ≡ has_sign_or_leading_zero word.now }
 {
     let first = word.first().copied().unwrap_or(0);
     first == b'+' || first == b'0' && word.len() > 1
@@ -55,7 +56,8 @@ pub fn abstract_heap_type(word: &[u8]) -> Option<AbstractHeapType>
     }
 }
 
-/// A heap type: the name of an abstract one, or the number of a type, after `exact:` where no subtype is meant.
+/// A heap type: the name of an abstract one, or the number of a type, after `exact:` where no
+/// subtype is meant.
 pub fn heap_type(word: &[u8]) -> Option<HeapAt>
     ensures found { IfSome result (λ h. word.now ≡ heap_word h) }
     ensures fits { IfSome result (λ h. AreIndices (heap_names h)) }
@@ -64,7 +66,7 @@ pub fn heap_type(word: &[u8]) -> Option<HeapAt>
     if let Some(name) = abstract_heap_type(word) {
         return Some(HeapAt::Abstract(name));
     }
-    if let Some(number) = index(word) {
+    if let Some(number) = type_index(word) {
         return Some(HeapAt::Concrete(number));
     }
     let number = exact_index(word)?;
@@ -74,21 +76,22 @@ pub fn heap_type(word: &[u8]) -> Option<HeapAt>
 fn exact_index(word: &[u8]) -> Option<u32>
     ensures found { IfSome result (λ k. word.now ≡ codes "exact:" ++ decimal k) }
     ensures fits { IfSome result (λ k. k < 2 ^ 32) }
-    ensures none { IfNone result (¬ IsText (λ k. codes "exact:" ++ decimal k) (λ k. k < 2 ^ 32) word.now) }
+    ensures none { IfNone result (¬ IsText (λ k. codes "exact:" ++ decimal k) (λ k. k < 2 ^ 32)
+        word.now) }
 {
-    index(after(word, b"exact:")?)
+    type_index(after_prefix(word, b"exact:")?)
 }
 
 /// What stands after a prefix.
-pub fn after<'a>(word: &'a [u8], prefix: &[u8]) -> Option<&'a [u8]>
+pub fn after_prefix<'a>(word: &'a [u8], prefix: &[u8]) -> Option<&'a [u8]>
     ensures found { IfSome result (λ rest. word.now ≡ prefix.now ++ rest.now) }
     ensures none { IfNone result ((rest : List ℕ) → word.now ≢ prefix.now ++ rest) }
 {
     word.strip_prefix(prefix)
 }
 
-/// A value type: a number or vector type by its name, or a heap type after `null:` where the reference may be null and
-/// after `ref:` where it may not.
+/// A value type: a number or vector type by its name, or a heap type after `null:` where the
+/// reference may be null and after `ref:` where it may not.
 pub fn value_type(word: &[u8]) -> Option<ValAt>
     ensures found { IfSome result (λ v. word.now ≡ val_word v) }
     ensures fits { IfSome result (λ v. AreIndices (val_names v)) }
@@ -128,17 +131,19 @@ fn plain_value_type(word: &[u8]) -> Option<ValAt>
 fn after_null(word: &[u8]) -> Option<HeapAt>
     ensures found { IfSome result (λ h. word.now ≡ codes "null:" ++ heap_word h) }
     ensures fits { IfSome result (λ h. AreIndices (heap_names h)) }
-    ensures none { IfNone result (¬ IsText (λ h. codes "null:" ++ heap_word h) (λ h. AreIndices (heap_names h)) word.now) }
+    ensures none { IfNone result (¬ IsText (λ h. codes "null:" ++ heap_word h)
+        (λ h. AreIndices (heap_names h)) word.now) }
 {
-    heap_type(after(word, b"null:")?)
+    heap_type(after_prefix(word, b"null:")?)
 }
 
 fn after_ref(word: &[u8]) -> Option<HeapAt>
     ensures found { IfSome result (λ h. word.now ≡ codes "ref:" ++ heap_word h) }
     ensures fits { IfSome result (λ h. AreIndices (heap_names h)) }
-    ensures none { IfNone result (¬ IsText (λ h. codes "ref:" ++ heap_word h) (λ h. AreIndices (heap_names h)) word.now) }
+    ensures none { IfNone result (¬ IsText (λ h. codes "ref:" ++ heap_word h)
+        (λ h. AreIndices (heap_names h)) word.now) }
 {
-    heap_type(after(word, b"ref:")?)
+    heap_type(after_prefix(word, b"ref:")?)
 }
 
 /// A field: what it holds, after `mut:` where it can be written.
@@ -163,9 +168,10 @@ pub fn field_type(word: &[u8]) -> Option<FieldAt>
 fn after_mut(word: &[u8]) -> Option<StorageAt>
     ensures found { IfSome result (λ s. word.now ≡ codes "mut:" ++ storage_word s) }
     ensures fits { IfSome result (λ s. AreIndices (storage_names s)) }
-    ensures none { IfNone result (¬ IsText (λ s. codes "mut:" ++ storage_word s) (λ s. AreIndices (storage_names s)) word.now) }
+    ensures none { IfNone result (¬ IsText (λ s. codes "mut:" ++ storage_word s)
+        (λ s. AreIndices (storage_names s)) word.now) }
 {
-    storage_type(after(word, b"mut:")?)
+    storage_type(after_prefix(word, b"mut:")?)
 }
 
 fn storage_type(word: &[u8]) -> Option<StorageAt>

@@ -1,6 +1,7 @@
 //! Readers and writers that give or take little and then fail.
 use super::answer;
 use crate::run;
+use std::alloc::{AllocError, Global};
 use std::io;
 use std::io::{Error, ErrorKind, Read, Write};
 use std::test::Fail;
@@ -195,5 +196,34 @@ fn failed_write_of_a_line_on_error(rt: HostRuntime) -> Result<(), Fail> {
             }
         }
     }
+    Ok(())
+}
+
+// Room for what a run writes, so that writing takes no memory. A refusal is asked again.
+fn room(alloc: Global) -> Result<Vec<u8>, AllocError> {
+    let Ok(room) = Vec::with_capacity(alloc, 64) else {
+        return Vec::with_capacity(alloc, 64);
+    };
+    Ok(room)
+}
+
+// `rt try --test --fail-alloc N` refuses the N-th allocation.
+#[test]
+fn a_run_whose_memory_is_refused_prints_nothing(rt: HostRuntime) -> Result<(), Fail> {
+    let alloc = rt.alloc();
+    let mut out = room(alloc)?;
+    let mut err = room(alloc)?;
+    let mut reader = b"struct i32\nrec\nfunc i32 ->\nend\nfunc ->\nfunc ->".as_slice();
+    let status = run(alloc, &mut reader, &mut out, &mut err);
+    let (printed, told) = match status {
+        3 => ("", "out of memory\n"),
+        _ => (
+            "struct i32\nrec\nfunc i32 ->\nend\nfunc ->\nmap 0 1 2 2\n",
+            "",
+        ),
+    };
+    assert!(rt; status == 0 || status == 3);
+    assert_eq!(rt; out.as_slice(), printed.as_bytes());
+    assert_eq!(rt; err.as_slice(), told.as_bytes());
     Ok(())
 }

@@ -1,8 +1,8 @@
 //! Texts that are read and printed, and texts that are bad.
 use super::{answer, text_of};
+use crate::line_reader::read_section;
 use crate::parse::read_line;
 use crate::print::write_output;
-use crate::reading::read_section;
 use std::test::Fail;
 
 #[test]

@@ -49,8 +49,9 @@ fn items_are_read_by_id(rt: HostRuntime) -> Result<(), Fail> {
 #[test]
 fn items_are_written_by_id(rt: HostRuntime) -> Result<(), Fail> {
     let mut arena = three_items(rt.alloc())?;
-    if let Some(item) = arena.get_mut(Id::from_index(0)) {
-        item.note = 10;
+    match arena.get_mut(Id::from_index(0)) {
+        Some(item) => item.note = 10,
+        None => assert!(rt; false),
     }
     assert_eq!(rt; note_of(&arena, 0), Some(10));
     assert!(rt; arena.contains(Id::from_index(1)));

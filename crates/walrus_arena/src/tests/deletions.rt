@@ -1,4 +1,6 @@
 //! `on_delete` runs once for each deletion.
+ghost use Rattle.std.specs.Prelude.{◌≡◌};
+
 use super::*;
 use std::cell::Cell;
 use std::rc::Rc;
@@ -63,5 +65,84 @@ fn no_ids_delete_nothing(rt: HostRuntime) -> Result<(), Fail> {
     arena.delete_all(ids.as_slice())?;
     assert_eq!(rt; count.get(), 0);
     assert_eq!(rt; arena.len(), 2);
+    Ok(())
+}
+
+// A value of a set that counts how often it was told its deletion, in a cell that its clones share.
+#[derive(Drop)]
+#[derive_where(PartialEq, Eq, Hash)]
+struct ToldKey {
+    key: u32,
+    #[derive_where(skip)]
+    count: Rc<Cell<u32>>,
+}
+
+impl Clone for ToldKey {
+    ghost is_clone = { λ source copy. copy.key ≡ source.key };
+
+    fn clone(&self) -> Result<ToldKey, AllocError> {
+        Ok(ToldKey {
+            key: self.key,
+            count: self.count.clone()?,
+        })
+    }
+}
+
+impl Tombstone for ToldKey {
+    fn on_delete(&mut self) {
+        self.count.set(self.count.get().wrapping_add(1));
+    }
+}
+
+fn make_told(key: u32, count: &Rc<Cell<u32>>) -> Result<ToldKey, AllocError> {
+    Ok(ToldKey {
+        key,
+        count: count.clone()?,
+    })
+}
+
+// A set of two values that count in one cell.
+fn two_values(alloc: Global, count: &Rc<Cell<u32>>) -> Result<ArenaSet<ToldKey>, AllocError> {
+    let mut set = ArenaSet::new(alloc);
+    set.insert(make_told(1, count)?)?;
+    set.insert(make_told(2, count)?)?;
+    Ok(set)
+}
+
+#[test]
+fn remove_tells_its_item_once(rt: HostRuntime) -> Result<(), Fail> {
+    let count = Rc::new(rt.alloc(), Cell::new(0))?;
+    let mut set = two_values(rt.alloc(), &count)?;
+    assert!(rt; set.contains(Id::from_index(1)));
+    assert_eq!(rt; count.get(), 0);
+    set.remove(Id::from_index(1))?;
+    assert_eq!(rt; count.get(), 1);
+    drop(set);
+    assert_eq!(rt; count.get(), 1);
+    Ok(())
+}
+
+#[test]
+#[tactic(auto, using(crate::proofs::ArenaLemmas::distinct_pair))]
+fn remove_all_tells_each_item_once(rt: HostRuntime) -> Result<(), Fail> {
+    let count = Rc::new(rt.alloc(), Cell::new(0))?;
+    let mut set = two_values(rt.alloc(), &count)?;
+    let ids: [Id<ToldKey>; 2] = [Id::from_index(1), Id::from_index(0)];
+    assert!(rt; set.contains(ids[0]));
+    assert!(rt; set.contains(ids[1]));
+    set.remove_all(ids.as_slice())?;
+    assert_eq!(rt; count.get(), 2);
+    drop(set);
+    assert_eq!(rt; count.get(), 2);
+    Ok(())
+}
+
+#[test]
+fn a_value_of_a_dead_slot_is_told_once(rt: HostRuntime) -> Result<(), Fail> {
+    let count = Rc::new(rt.alloc(), Cell::new(0))?;
+    let mut set = two_values(rt.alloc(), &count)?;
+    let dead = set.alloc_dead(make_told(3, &count)?)?;
+    assert_eq!(rt; dead.index(), 2);
+    assert_eq!(rt; count.get(), 1);
     Ok(())
 }

@@ -1,4 +1,5 @@
-//! Refused growth: a refused call leaves the set as it was, and goes through when it is made again. `rt try --test --fail-alloc N` refuses the N-th allocation.
+//! Refused growth: a refused call leaves the set as it was, and goes through when it is made again.
+//! `rt try --test --fail-alloc N` refuses the N-th allocation.
 ghost use Rattle.std.specs.Prelude.{◌≡◌};
 
 use super::*;
@@ -97,7 +98,8 @@ fn two_values(alloc: Global) -> Result<Vec<Tagged>, AllocError> {
     Ok(values)
 }
 
-// The number of ids of two more values. After a refusal the set must be as it was, and the call is made again.
+// The number of ids of two more values. After a refusal the set must be as it was, and the call is
+// made again.
 fn add_two(
     rt: &impl Abort,
     set: &mut ArenaSet<Tagged>,
@@ -132,8 +134,9 @@ fn a_refused_alloc_with_id_makes_nothing(rt: HostRuntime) -> Result<(), Fail> {
     let mut arena = TombstoneArena::new(rt.alloc());
     for round in 0..20u32 {
         let ran = Cell::new(0u32);
-        if arena.alloc_with_id(|_| count_run(&ran, round)).is_err() {
-            assert_eq!(rt; ran.get(), 0);
+        let is_made = arena.alloc_with_id(|_| count_run(&ran, round)).is_ok();
+        assert_eq!(rt; ran.get(), u32::from(is_made));
+        if !is_made {
             arena.alloc_with_id(|_| count_run(&ran, round))?;
         }
         assert_eq!(rt; ran.get(), 1);
@@ -185,7 +188,8 @@ fn refused_live_ids_are_listed_when_asked_again(rt: HostRuntime) -> Result<(), F
     Ok(())
 }
 
-// Adds a value without mapping it. After a refusal the set must be as it was, and the call is made again.
+// Adds a value without mapping it. After a refusal the set must be as it was, and the call is made
+// again.
 fn add_unique(rt: &impl Abort, set: &mut ArenaSet<Tagged>, key: u32) -> Result<usize, AllocError> {
     let before = set.next_id().index();
     if let Ok(id) = set.alloc_unique(make_tagged(key, 0)) {
@@ -205,7 +209,8 @@ fn a_refused_alloc_unique_adds_nothing(rt: HostRuntime) -> Result<(), Fail> {
     Ok(())
 }
 
-// Writes a new key over the first item, whose key is `old`. After a refusal the set must be as it was, and the call is made again.
+// Writes a new key over the first item, whose key is `old`. After a refusal the set must be as it
+// was, and the call is made again.
 fn replace_first(
     rt: &impl Abort,
     set: &mut ArenaSet<Tagged>,

@@ -1,9 +1,9 @@
 //! Constant operations read with an id for each index, and written with an index for each id.
 ghost use Rattle.std.specs.Prelude.{◌≡◌, Some, None, IfOk, IfErr, OnOk, OnSome, map, option_map, [], ◌∷◌, ◌++◌};
 ghost use Rattle.std.specs.List.{flat_map};
-ghost use Rattle.walrus_types.specs.IdLists.{type_at};
-ghost use Rattle.walrus_types.specs.Naming.{value_in, IfUnknownIndex, IfNoIndex};
-ghost use Rattle.walrus_types.specs.Value.{heap_names};
+ghost use Rattle.walrus_ty.specs.IdLists.{type_at};
+ghost use Rattle.walrus_ty.specs.Lookups.{value_or_zero, IfUnknownIndex, IfNoIndex};
+ghost use Rattle.walrus_ty.specs.Value.{heap_names};
 ghost use Rattle.walrus_ir.specs.ConstExpr.{OfTypes, null_of, plain_form, op_read, op_written, op_names, op_at_names, ids_at, indices_of, sent, first_missing, number_of, no_index};
 
 use super::{ConstExpr, ConstOp, ConstOpAt};
@@ -22,9 +22,11 @@ pub(super) fn ops_from(
     ids: &IndicesToIds,
 ) -> Result<Vec<ConstOp>, FromRecordError>
     ensures ops { IfOk result (λ x. x.items ≡ map (op_read (sent (ids_at ids.now))) records.now) }
-    ensures complete { OnOk result (first_missing (ids_at ids.now) (flat_map op_at_names records.now) ≡ None) }
+    ensures complete { OnOk result
+        (first_missing (ids_at ids.now) (flat_map op_at_names records.now) ≡ None) }
     ensures missing { IfErr result (λ e. IfUnknownIndex e (λ k.
-        option_map number_of (first_missing (ids_at ids.now) (flat_map op_at_names records.now)) ≡ Some k)) }
+        option_map number_of (first_missing (ids_at ids.now) (flat_map op_at_names records.now)) ≡
+        Some k)) }
 {
     let mut ops = Ops {
         items: Vec::with_capacity(alloc, records.len())?,
@@ -53,8 +55,10 @@ impl Model for Ops {
 impl Ops {
     // Reads one more operation.
     fn read(&mut self, at: &ConstOpAt, ids: &IndicesToIds) -> Result<(), FromRecordError>
-        ensures op { OnOk result (self.new ≡ self.old ++ op_read (sent (ids_at ids.now)) at.now ∷ []) }
-        ensures complete { OnOk result (first_missing (ids_at ids.now) (op_at_names at.now) ≡ None) }
+        ensures op { OnOk result
+            (self.new ≡ self.old ++ op_read (sent (ids_at ids.now)) at.now ∷ []) }
+        ensures complete { OnOk result
+            (first_missing (ids_at ids.now) (op_at_names at.now) ≡ None) }
         ensures missing { IfErr result (λ e. IfUnknownIndex e (λ k.
             option_map number_of (first_missing (ids_at ids.now) (op_at_names at.now)) ≡ Some k)) }
     {
@@ -96,7 +100,8 @@ pub(super) fn plain_form(
     ids: &IndicesToIds,
 ) -> Result<Option<ConstExpr>, UnknownIndex>
     ensures form { IfOk result (λ x. x ≡ plain_form (op_read (sent (ids_at ids.now)) at.now)) }
-    ensures complete { IfOk result (λ x. OnSome x (first_missing (ids_at ids.now) (op_at_names at.now) ≡ None)) }
+    ensures complete { IfOk result
+        (λ x. OnSome x (first_missing (ids_at ids.now) (op_at_names at.now) ≡ None)) }
     ensures missing { IfErr result (λ e.
         option_map number_of (first_missing (ids_at ids.now) (op_at_names at.now)) ≡ Some e.0) }
 {
@@ -115,10 +120,13 @@ pub(super) fn plain_form(
 
 // The type of the null reference to this heap type.
 fn null_type(heap_type: &HeapAt, ids: &IndicesToIds) -> Result<RefType, UnknownIndex>
-    ensures renamed { IfOk result (λ x. x ≡ null_of (value_in (type_at ids.now)) heap_type.now) }
-    ensures complete { OnOk result (first_missing (ids_at ids.now) (map OfTypes (heap_names heap_type.now)) ≡ None) }
+    ensures renamed { IfOk result
+        (λ x. x ≡ null_of (value_or_zero (type_at ids.now)) heap_type.now) }
+    ensures complete { OnOk result
+        (first_missing (ids_at ids.now) (map OfTypes (heap_names heap_type.now)) ≡ None) }
     ensures missing { IfErr result (λ e.
-        option_map number_of (first_missing (ids_at ids.now) (map OfTypes (heap_names heap_type.now))) ≡ Some e.0) }
+        option_map number_of (first_missing (ids_at ids.now)
+        (map OfTypes (heap_names heap_type.now))) ≡ Some e.0) }
 {
     Ok(Reference {
         nullable: true,
@@ -132,10 +140,13 @@ pub(super) fn ops_to(
     ops: &[ConstOp],
     indices: &IdsToIndices,
 ) -> Result<Vec<ConstOpAt>, ToRecordError>
-    ensures records { IfOk result (λ x. x.items ≡ map (op_written (sent (indices_of indices.now))) ops.now) }
-    ensures complete { OnOk result (first_missing (indices_of indices.now) (flat_map op_names ops.now) ≡ None) }
+    ensures records { IfOk result
+        (λ x. x.items ≡ map (op_written (sent (indices_of indices.now))) ops.now) }
+    ensures complete { OnOk result
+        (first_missing (indices_of indices.now) (flat_map op_names ops.now) ≡ None) }
     ensures missing { IfErr result (λ e. IfNoIndex e (λ n.
-        option_map no_index (first_missing (indices_of indices.now) (flat_map op_names ops.now)) ≡ Some n)) }
+        option_map no_index (first_missing (indices_of indices.now) (flat_map op_names ops.now)) ≡
+        Some n)) }
 {
     let mut records = Vec::with_capacity(alloc, ops.len())?;
     for op in ops {
@@ -147,10 +158,13 @@ pub(super) fn ops_to(
 impl ConstOp {
     // The record of this operation.
     fn to_record(&self, indices: &IdsToIndices) -> Result<ConstOpAt, NoIndex>
-        ensures record { IfOk result (λ x. x ≡ op_written (sent (indices_of indices.now)) self.now) }
-        ensures complete { OnOk result (first_missing (indices_of indices.now) (op_names self.now) ≡ None) }
+        ensures record { IfOk result
+            (λ x. x ≡ op_written (sent (indices_of indices.now)) self.now) }
+        ensures complete { OnOk result
+            (first_missing (indices_of indices.now) (op_names self.now) ≡ None) }
         ensures missing { IfErr result (λ e.
-            option_map no_index (first_missing (indices_of indices.now) (op_names self.now)) ≡ Some e) }
+            option_map no_index (first_missing (indices_of indices.now) (op_names self.now)) ≡
+            Some e) }
     {
         Ok(match self {
             ConstOp::I32Const(n) => ConstOpAt::I32Const(*n),

@@ -18,7 +18,8 @@ pub enum AtomicOp {
     Xchg,
 }
 
-/// The type of an atomic instruction's values, and how many bits of memory it touches if that is less.
+/// The type of an atomic instruction's values, and how many bits of memory it touches if that is
+/// less.
 #[derive(Clone, Copy, Debug)]
 pub enum AtomicWidth {
     I32,
@@ -65,7 +66,8 @@ impl From<AtomicRmw> for Instr {
     }
 }
 
-/// `i32.atomic.rmw.cmpxchg` and its kin: writes a value where the one in memory is the expected one.
+/// `i32.atomic.rmw.cmpxchg` and its kin: writes a value where the one in memory is the expected
+/// one.
 #[derive(Clone, Copy, Debug)]
 pub struct Cmpxchg {
     /// The memory.

@@ -3,7 +3,8 @@
 
 /// An operator on two values.
 ///
-/// Names follow the text format: `I32DivS` is `i32.div_s`, `I8x16NarrowI16x8U` is `i8x16.narrow_i16x8_u`. An `idx` is the number of a lane.
+/// Names follow the text format: `I32DivS` is `i32.div_s`, `I8x16NarrowI16x8U` is
+/// `i8x16.narrow_i16x8_u`. An `idx` is the number of a lane.
 #[derive(Clone, Copy, Debug)]
 pub enum BinaryOp {
     // Comparisons of integers.

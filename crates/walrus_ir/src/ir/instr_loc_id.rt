@@ -11,9 +11,11 @@ use std::marker::Model;
 
 const NO_LOCATION: u32 = 0xffff_ffff;
 
-/// The place of an instruction in the binary that it was read from: a number below 0xffff_ffff, or the default one of instructions that were read from none.
+/// The place of an instruction in the binary that it was read from: a number below 0xffff_ffff, or
+/// the default one of instructions that were read from none.
 ///
-/// Locations are compared and ordered by their number. The default one has 0xffff_ffff, so it comes last.
+/// Locations are compared and ordered by their number. The default one has 0xffff_ffff, so it comes
+/// last.
 #[derive(Clone, Copy, Debug)]
 pub struct InstrLocId {
     number: u32,
@@ -81,7 +83,8 @@ impl Eq for InstrLocId {
 impl PartialOrd for InstrLocId {
     ghost partial_cmp = { as_partial_cmp nat_cmp };
 
-    ghost laws = { partial_order_from_own_ties (Prim.search (comparing, rules)) (Prim.search (comparing, rules)) };
+    ghost laws = { partial_order_from_own_ties (Prim.search (comparing, rules))
+        (Prim.search (comparing, rules)) };
 
     fn partial_cmp(&self, other: &InstrLocId) -> Option<Ordering> {
         Some(self.cmp(other))

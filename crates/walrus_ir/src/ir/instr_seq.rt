@@ -31,7 +31,8 @@ impl Model for InstrSeq {
 }
 
 impl InstrSeq {
-    /// The sequence with this id and type, without instructions, whose end has the default location. It takes no memory.
+    /// The sequence with this id and type, without instructions, whose end has the default
+    /// location. It takes no memory.
     pub fn new(alloc: Global, id: InstrSeqId, ty: InstrSeqType) -> InstrSeq
         ensures { result ≡ empty_sequence id ty }
     {

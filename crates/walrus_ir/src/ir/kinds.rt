@@ -1,5 +1,7 @@
-//! What loads and stores read and write, how many bytes of memory that is, and whether it is atomic.
-//! WebAssembly core specification, "Memory Instructions"; what is atomic is of the threads proposal.
+//! What loads and stores read and write, how many bytes of memory that is, and whether it is
+//! atomic.
+//! WebAssembly core specification, "Memory Instructions"; what is atomic is of the threads
+//! proposal.
 ghost use Rattle.std.specs.Prelude.{◌≡◌};
 ghost use Rattle.walrus_ir.specs.Loads.{extended_is_atomic, load_is_atomic, load_width};
 ghost use Rattle.walrus_ir.specs.Stores.{store_is_atomic, store_width};
@@ -117,7 +119,8 @@ impl StoreKind {
 
 /// What a vector load or store does. Those with a number work on the lane of that number.
 ///
-/// Names follow the text format: `Splat8` is `v128.load8_splat`, `V128Load8x8S` is `v128.load8x8_s`, `V128Store16Lane` is `v128.store16_lane`.
+/// Names follow the text format: `Splat8` is `v128.load8_splat`, `V128Load8x8S` is
+/// `v128.load8x8_s`, `V128Store16Lane` is `v128.store16_lane`.
 #[derive(Clone, Copy, Debug)]
 pub enum LoadSimdKind {
     // A vector of one value.

@@ -1,5 +1,6 @@
 //! Constants, operators, and what works on values of any type.
-//! WebAssembly core specification, "Numeric Instructions" and "Parametric Instructions"; those on 128 bits are of the wide arithmetic proposal.
+//! WebAssembly core specification, "Numeric Instructions" and "Parametric Instructions"; those on
+//! 128 bits are of the wide arithmetic proposal.
 ghost use Rattle.std.specs.Prelude.{◌≡◌};
 ghost use Rattle.walrus_ir.specs.declared.ir.instr.Instr.TheVariants as instr;
 
@@ -66,7 +67,8 @@ impl From<TernOp> for Instr {
     }
 }
 
-/// `select`: takes two values and an `i32`, and gives the first value where the number is not zero, else the second.
+/// `select`: takes two values and an `i32`, and gives the first value where the number is not zero,
+/// else the second.
 #[derive(Clone, Copy, Debug)]
 pub struct Select {
     /// The type of both values, where it is written.

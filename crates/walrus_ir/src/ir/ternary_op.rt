@@ -6,7 +6,8 @@
 /// Names follow the text format: `F32x4RelaxedMadd` is `f32x4.relaxed_madd`.
 #[derive(Clone, Copy, Debug)]
 pub enum TernaryOp {
-    // Products with a third vector added, or taken from it, whose rounding may differ between machines.
+    // Products with a third vector added, or taken from it, whose rounding may differ between
+    // machines.
     F32x4RelaxedMadd,
     F32x4RelaxedNmadd,
     F64x2RelaxedMadd,

@@ -3,7 +3,10 @@
 
 /// An operator on one value.
 ///
-/// Names follow the text format: `I32Clz` is `i32.clz`. In a conversion of numbers the sign stands before the type that it is of: `I32TruncSF64` is `i32.trunc_f64_s`, `I64TruncUSatF32` is `i64.trunc_sat_f32_u`. `I16x8WidenLowI8x16S` is `i16x8.extend_low_i8x16_s`. An `idx` is the number of a lane.
+/// Names follow the text format: `I32Clz` is `i32.clz`. In a conversion of numbers the sign stands
+/// before the type that it is of: `I32TruncSF64` is `i32.trunc_f64_s`, `I64TruncUSatF32` is
+/// `i64.trunc_sat_f32_u`. `I16x8WidenLowI8x16S` is `i16x8.extend_low_i8x16_s`. An `idx` is the
+/// number of a lane.
 #[derive(Clone, Copy, Debug)]
 pub enum UnaryOp {
     // Tests and bit counts of integers.

@@ -1,13 +1,14 @@
 -- Which groups of a table are free, and which are written, as tests.
--- Of this crate's own working; it serves the writing of a table as a type section. WebAssembly core specification, "Modules", types.
+-- Of this crate's own working; it serves the writing of a table as a type section. WebAssembly core
+-- specification, "Modules", types.
 use Rattle.std.specs.Prelude.{slice_index_or, ℕ, ◌==◌, ◌||◌, ◌&&◌, List, [], ◌∷◌, Bool, true, false, not, is_none, Option, Some, None, option_and_then}
 use Rattle.std.specs.List.{list_all, list_any}
-use Rattle.walrus_types.specs.Types.{ModuleType, type_definition}
-use Rattle.walrus_types.specs.Definition.{names_of}
-use Rattle.walrus_types.specs.declared.table.RecGroup.{RecGroup}
+use Rattle.walrus_ty.specs.Types.{ModuleType, type_definition}
+use Rattle.walrus_ty.specs.Definition.{names_of}
+use Rattle.walrus_types.specs.declared.table.rec_group.RecGroup.{RecGroup}
 use Rattle.walrus_types.specs.TypesById.{TypeSlots, live_type}
 use Rattle.walrus_types.specs.Table.{rec_group_at}
-use Rattle.walrus_types.specs.Emitted.{is_entry_at}
+use Rattle.walrus_types.specs.TableEmission.{is_entry_at}
 
 -- the name is the type's own, or that of no live type
 abbrev pub is_own_or_dead : TypeSlots → ℕ → ℕ → Bool
@@ -22,7 +23,8 @@ slot_names_none_other slots own (Some t) = names_none_other slots own (names_of 
 
 abbrev pub is_free_of : TypeSlots → Bool → List ℕ → Bool
 is_free_of slots is_explicit [] = true
-is_free_of slots is_explicit (i ∷ []) = not is_explicit && slot_names_none_other slots i (live_type slots i)
+is_free_of slots is_explicit (i ∷ []) =
+    not is_explicit && slot_names_none_other slots i (live_type slots i)
 is_free_of slots is_explicit (i ∷ j ∷ ids) = false
 
 -- the group is empty, or not explicit with one type that names no live type but itself

@@ -1,10 +1,11 @@
 -- What reading does to a table.
--- Of this crate's own working; it serves the reading of a type section. WebAssembly core specification, "Modules", types.
+-- Of this crate's own working; it serves the reading of a type section. WebAssembly core
+-- specification, "Modules", types.
 use Rattle.std.specs.Prelude.{◌≡◌, ℕ, List, [], ◌∷◌, ◌++◌, map, None, MatchOption}
-use Rattle.walrus_types.specs.Definition.{Definition}
-use Rattle.walrus_types.specs.TypesById.{KnowsSame, found}
+use Rattle.walrus_ty.specs.Definition.{Definition}
+use Rattle.walrus_types.specs.TypesById.{KnowsSame, found_id}
 use Rattle.walrus_types.specs.Table.{Table, Member, AddsType, AddsGroup}
-use Rattle.walrus_types.specs.Types.{ModuleType, kind_composite}
+use Rattle.walrus_ty.specs.Types.{ModuleType, kind_composite}
 
 -- the next id is used up: its slot is dead, and nothing else changes
 pub record UsesUpId (old new : Table) : Type 0 where
@@ -14,7 +15,9 @@ pub record UsesUpId (old new : Table) : Type 0 where
 
 -- what is found is answered and the next id is used up; where nothing is found the type is added
 abbrev pub ReadsSingle : Table → Table → ModuleType → ℕ → Type 0
-ReadsSingle old new ty id = MatchOption (found old.types ty) (AddsType old new ty id) (λ known. (id ≡ known) × UsesUpId old new)
+ReadsSingle old new ty id =
+    MatchOption (found_id old.types ty) (AddsType old new ty id)
+    (λ known. (id ≡ known) × UsesUpId old new)
 
 -- what is said of a new type of a group, as a definition
 abbrev pub member_definition : Member → Definition
@@ -22,4 +25,5 @@ member_definition m = record { composite = kind_composite m.0; is_final = m.1; s
 
 -- the types of a group with these definitions are added
 abbrev pub ReadsRec : Table → Table → List Definition → Type 0
-ReadsRec old new ds = (members : List Member) × AddsGroup old new members × (map member_definition members ≡ ds)
+ReadsRec old new ds =
+    (members : List Member) × AddsGroup old new members × (map member_definition members ≡ ds)

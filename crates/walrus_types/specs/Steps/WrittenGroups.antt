@@ -1,52 +1,57 @@
 -- Groups that are written one after the other, and the indices that their ids get.
--- Of this crate's own working; it serves the writing of a table as a type section. WebAssembly core specification, "Modules", types.
+-- Of this crate's own working; it serves the writing of a table as a type section. WebAssembly core
+-- specification, "Modules", types.
 use Rattle.std.specs.Prelude.{◌≡◌, ℕ, IsSomeAnd, Bool, true, false, [], ◌∷◌, ◌+◌, ◌<◌, ◌⊎◌, cond, List, length, map, take, slice_get, slice_index, Contains, Option, Some, None, unwrap_or}
 use Rattle.std.specs.List.{flat_map}
-use Rattle.walrus_types.specs.Definition.{Definition, names_of, renamed}
-use Rattle.walrus_types.specs.Section.{Group, Single, Rec}
-use Rattle.walrus_types.specs.ReadTable.{TypeGroup}
-use Rattle.walrus_types.specs.Records.{section_of}
-use Rattle.walrus_types.specs.declared.table.RecGroup.{RecGroup}
-use Rattle.walrus_types.specs.declared.records.GroupAt.{GroupAt}
+use Rattle.walrus_ty.specs.Definition.{Definition, names_of, renamed}
+use Rattle.walrus_ty.specs.Groups.{Group, Single, Rec}
+use Rattle.walrus_sections.specs.SlotMap.{TypeGroup}
+use Rattle.walrus_ty.specs.Records.{section_of}
+use Rattle.walrus_types.specs.declared.table.rec_group.RecGroup.{RecGroup}
+use Rattle.walrus_ty.specs.declared.records.GroupAt.{GroupAt}
 use Rattle.walrus_types.specs.declared.error.EmitError.{EmitError}
 use Rattle.walrus_types.specs.declared.error.EmitError.TheVariants as emit
-use Rattle.walrus_types.specs.declared.error.ToRecordError.{ToRecordError}
-use Rattle.walrus_types.specs.declared.error.ToRecordError.TheVariants as to_record
-use Rattle.walrus_types.specs.declared.error.NoIndex.TheVariants.{OfType, OfFunc, OfGlobal}
-use Rattle.walrus_types.specs.Indices.{Given, Indexes}
-use Rattle.walrus_types.specs.Naming.{first_missing}
-use Rattle.walrus_types.specs.Emission.{group_at, IsWritten}
-use Rattle.walrus_types.specs.Emission.{Stands}
+use Rattle.walrus_ty.specs.declared.error.ToRecordError.{ToRecordError}
+use Rattle.walrus_ty.specs.declared.error.ToRecordError.TheVariants as to_record
+use Rattle.walrus_ty.specs.declared.error.NoIndex.TheVariants.{OfType, OfFunc, OfGlobal}
+use Rattle.walrus_ty.specs.Indices.{IndexMap, Indexes}
+use Rattle.walrus_ty.specs.Lookups.{first_missing}
+use Rattle.walrus_sections.specs.Emission.{group_at, IsWritten}
+use Rattle.walrus_sections.specs.Emission.{IsWrittenBefore}
 use Rattle.walrus_types.specs.TypesById.{TypeSlots, live_type}
 use Rattle.walrus_types.specs.Table.{rec_group_at}
-use Rattle.walrus_types.specs.Steps.Told.{IsToldBy}
-use Rattle.walrus_types.specs.Steps.Weights.{Weight}
+use Rattle.walrus_types.specs.Steps.LosslessKeys.{IsLosslessKey}
+use Rattle.walrus_types.specs.Steps.SortKeys.{SortKey}
 
 -- the ids of these groups in order
 abbrev pub ids_in : List TypeGroup → List ℕ
 ids_in ws = flat_map (λ w. w.ids) ws
 
--- a group that is to be written, with the weight of its first type, where that tells all of the type
-pub record PickedGroup : Type 0 where
+-- a group that is to be written, with the key of its first type, where that is lossless
+pub record KeyedGroup : Type 0 where
   pub group : TypeGroup
-  pub told : Option Weight
+  pub lossless_key : Option SortKey
 
 -- their groups
-abbrev pub groups_of : List PickedGroup → List TypeGroup
+abbrev pub groups_of : List KeyedGroup → List TypeGroup
 groups_of ps = map (λ p. p.group) ps
 
--- where there is a weight, it tells all of the type of this id
-abbrev pub TellsType : TypeSlots → ℕ → Option Weight → Type 0
-TellsType slots id told = (w : Weight) → told ≡ Some w → IsSomeAnd (live_type slots id) (IsToldBy w)
+-- where there is a key, it is a lossless one of the type of this id
+abbrev pub DecodesToType : TypeSlots → ℕ → Option SortKey → Type 0
+DecodesToType slots id lossless_key =
+    (w : SortKey) → lossless_key ≡ Some w → IsSomeAnd (live_type slots id) (IsLosslessKey w)
 
--- where there is a weight, it tells all of the group's first type
-abbrev pub TellsFirst : TypeSlots → PickedGroup → Type 0
-TellsFirst slots p = TellsType slots (slice_index p.group.ids 0) p.told
+-- where there is a key, it is a lossless one of the group's first type
+abbrev pub DecodesToFirst : TypeSlots → KeyedGroup → Type 0
+DecodesToFirst slots p = DecodesToType slots (slice_index p.group.ids 0) p.lossless_key
 
--- for each group a weight that tells all of its first type, or none
-pub record AreTold (slots : TypeSlots) (groups : List RecGroup) (told : List (Option Weight)) : Type 0 where
-  pub as_many : length told ≡ length groups
-  pub each : (g : ℕ) (o : Option Weight) → slice_get told g ≡ Some o → TellsType slots (slice_index (rec_group_at groups g).types 0) o
+-- for each group a lossless key of its first type, or none
+pub record AreLosslessKeys (slots : TypeSlots) (groups : List RecGroup)
+    (keys : List (Option SortKey)) : Type 0 where
+  pub as_many : length keys ≡ length groups
+  pub each :
+      (g : ℕ) (o : Option SortKey) → slice_get keys g ≡ Some o →
+      DecodesToType slots (slice_index (rec_group_at groups g).types 0) o
 
 -- the groups at these places
 abbrev pub in_order : List TypeGroup → List ℕ → List TypeGroup
@@ -65,8 +70,10 @@ written_group d w = cond w.is_explicit (Rec (map d w.ids)) (Single (d (slice_ind
 abbrev pub indexed : (ℕ → Option ℕ) → (ℕ → Definition) → ℕ → Definition
 indexed index definition i = renamed (λ k. unwrap_or (index k) 0) (definition i)
 
--- the u-th id of the a-th group is i, and its t-th name k is none of the ids up to the end of this group
-pub record IsMissingIn (definition : ℕ → Definition) (ws : List TypeGroup) (a u t i k : ℕ) : Type 0 where
+-- the u-th id of the a-th group is i, and its t-th name k is none of the ids up to the end of this
+-- group
+pub record IsMissingIn (definition : ℕ → Definition) (ws : List TypeGroup)
+    (a u t i k : ℕ) : Type 0 where
   pub group : a < length ws
   pub member : slice_get (group_at ws a).ids u ≡ Some i
   pub name : slice_get (names_of (definition i)) t ≡ Some k
@@ -76,21 +83,29 @@ pub record IsMissingIn (definition : ℕ → Definition) (ws : List TypeGroup) (
 abbrev pub ComesBefore : ℕ → ℕ → ℕ → ℕ → ℕ → ℕ → Type 0
 ComesBefore a u t b v s = (a < b) ⊎ ((a ≡ b) × ((u < v) ⊎ ((u ≡ v) × (t < s))))
 
-pub record IsFirstMissingIn (definition : ℕ → Definition) (ws : List TypeGroup) (i k : ℕ) : Type 0 where
+pub record IsFirstMissingIn (definition : ℕ → Definition) (ws : List TypeGroup)
+    (i k : ℕ) : Type 0 where
   pub group : ℕ
   pub place : ℕ
   pub name : ℕ
   pub is : IsMissingIn definition ws group place name i k
-  pub first : (a u t j l : ℕ) → IsMissingIn definition ws a u t j l → ¬ (ComesBefore a u t group place name)
+  pub first :
+      (a u t j l : ℕ) → IsMissingIn definition ws a u t j l → ¬ (ComesBefore a u t group place name)
 
 -- the written groups, in the order in which they are written
-pub record IsWritingOrder (gs : List TypeGroup) (definition : ℕ → Definition) (is_entry : ℕ → Bool) (order : List ℕ) : Type 0 where
+pub record IsWritingOrder (gs : List TypeGroup) (definition : ℕ → Definition) (is_entry : ℕ → Bool)
+    (order : List ℕ) : Type 0 where
   pub written : (a : ℕ) → a < length order → IsWritten gs is_entry (slice_index order a)
-  pub onto : (g : ℕ) → IsWritten gs is_entry g → (a : ℕ) × (a < length order) × (slice_index order a ≡ g)
-  pub stands : (a b : ℕ) → a < b → b < length order → Stands gs definition (slice_index order a) (slice_index order b)
+  pub onto :
+      (g : ℕ) → IsWritten gs is_entry g → (a : ℕ) × (a < length order) × (slice_index order a ≡ g)
+  pub stands :
+      (a b : ℕ) → a < b → b < length order →
+      IsWrittenBefore gs definition (slice_index order a) (slice_index order b)
 
--- the groups are written one after the other: each id gets the next index, and each name has one by the end of its group
-pub record AreWritten (definition : ℕ → Definition) (ws : List TypeGroup) (out : List GroupAt) (x : Given) : Type 0 where
+-- the groups are written one after the other: each id gets the next index, and each name has one by
+-- the end of its group
+pub record AreWritten (definition : ℕ → Definition) (ws : List TypeGroup) (out : List GroupAt)
+    (x : IndexMap) : Type 0 where
   pub indexes : Indexes (ids_in ws) x
   pub section : section_of out ≡ map (written_group (indexed x.index definition)) ws
   pub complete : (a u t i k : ℕ) → ¬ (IsMissingIn definition ws a u t i k)
@@ -105,16 +120,21 @@ IsApart ids = (p q i : ℕ) → slice_get ids p ≡ Some i → slice_get ids q �
 
 -- each name in these types has an index
 abbrev pub AllIndexed : (ℕ → Option ℕ) → (ℕ → Definition) → List ℕ → Type 0
-AllIndexed index definition ids = (u i : ℕ) → slice_get ids u ≡ Some i → first_missing index (names_of (definition i)) ≡ None
+AllIndexed index definition ids =
+    (u i : ℕ) → slice_get ids u ≡ Some i → first_missing index (names_of (definition i)) ≡ None
 
 -- i is the first of these types that has a name without an index, and k is its first such name
-pub record IsFirstUnindexed (index : ℕ → Option ℕ) (definition : ℕ → Definition) (ids : List ℕ) (i k : ℕ) : Type 0 where
+pub record IsFirstUnindexed (index : ℕ → Option ℕ) (definition : ℕ → Definition) (ids : List ℕ)
+    (i k : ℕ) : Type 0 where
   pub place : ℕ
   pub member : slice_get ids place ≡ Some i
   pub name : first_missing index (names_of (definition i)) ≡ Some k
-  pub earlier : (v j : ℕ) → v < place → slice_get ids v ≡ Some j → first_missing index (names_of (definition j)) ≡ None
+  pub earlier :
+      (v j : ℕ) → v < place → slice_get ids v ≡ Some j →
+      first_missing index (names_of (definition j)) ≡ None
 
--- the error is that memory was refused, or that a type names one without an index, and then P holds of both ids
+-- the error is that memory was refused, or that a type names one without an index, and then P holds
+-- of both ids
 abbrev pub FailsBy : EmitError → (ℕ → ℕ → Type 0) → Type 0
 FailsBy (emit.NoIndex from to) P = P from to
 FailsBy emit.TooMany P = ⊥

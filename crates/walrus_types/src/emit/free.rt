@@ -2,77 +2,125 @@
 ghost use Rattle.std.specs.Prelude.{◌≡◌, IfOk, IfSome, IsSomeAnd, map, All};
 ghost use Rattle.std.specs.List.{list_all};
 ghost use Rattle.walrus_types.specs.TypesById.{IsLive};
-ghost use Rattle.walrus_types.specs.declared.table.RecGroup.{RecGroup};
-ghost use Rattle.walrus_types.specs.Definition.{composite_names, supertype_names, names_of};
+ghost use Rattle.walrus_types.specs.declared.table.rec_group.RecGroup.{RecGroup};
+ghost use Rattle.walrus_ty.specs.Definition.{composite_names, supertype_names, names_of};
 ghost use Rattle.walrus_types.specs.Steps.FreeGroups.{is_own_or_dead, names_none_other, is_free, head, is_written_group};
-ghost use Rattle.walrus_types.specs.Steps.Told.{IsToldBy};
-ghost use Rattle.walrus_types.specs.Steps.WrittenGroups.{AreTold};
-ghost use Rattle.walrus_types.specs.Types.{kind_composite, type_definition};
-ghost use Rattle.walrus_types.specs.Value.{heap_names, val_names, storage_names, field_names};
+ghost use Rattle.walrus_types.specs.Steps.LosslessKeys.{IsLosslessKey};
+ghost use Rattle.walrus_types.specs.Steps.WrittenGroups.{AreLosslessKeys};
+ghost use Rattle.walrus_ty.specs.Types.{kind_composite, type_definition};
+ghost use Rattle.walrus_ty.specs.Value.{heap_names, val_names, storage_names, field_names};
 
-use super::weighed::{Weighed, Weight};
+use super::sort_key::{KeyedType, SortKey};
 use crate::{
     CompositeType, FieldType, Heap, HeapType, ModuleTypes, RecGroup, Storage, StorageType, Type,
     TypeId, Val, ValType,
 };
 use std::alloc::{AllocError, Global};
 
-// The following say whether something names no live type but `own`.
-
-fn name_is_none_other(table: &ModuleTypes, own: TypeId, name: TypeId) -> bool
-    ensures { result ≡ is_own_or_dead table.now.types.slots own name }
-{
-    name == own || !table.contains(name)
+// What decides the place of each group: whether it is free, its first type, and whether it is
+// written; and the key of its first type, where that is lossless.
+#[derive(Drop)]
+pub(super) struct GroupInfo<'a> {
+    pub(super) free: Vec<bool>,
+    pub(super) heads: Vec<Option<KeyedType<'a>>>,
+    pub(super) written: Vec<bool>,
+    pub(super) lossless_keys: Vec<Option<SortKey>>,
 }
 
-fn heap_names_none_other(table: &ModuleTypes, own: TypeId, heap: &HeapType) -> bool
-    ensures { result ≡ names_none_other table.now.types.slots own (heap_names heap.now) }
+// One pass finds all of it, since it is reaching a type that costs.
+pub(super) fn classify_groups<'a>(
+    alloc: Global,
+    table: &'a ModuleTypes,
+    groups: &[RecGroup],
+) -> Result<GroupInfo<'a>, AllocError>
+    requires { All (λ (g : RecGroup). All (IsLive table.now.types.slots) g.types) groups.now }
+    ensures free { IfOk result
+        (λ s. s.free.items ≡ map (is_free table.now.types.slots) groups.now) }
+    ensures heads { IfOk result (λ s. s.heads.items ≡ map (head table.now.types.slots) groups.now) }
+    ensures written { IfOk result
+        (λ s. s.written.items ≡ map (is_written_group table.now.types.slots) groups.now) }
+    ensures lossless_keys { IfOk result
+        (λ s. AreLosslessKeys table.now.types.slots groups.now s.lossless_keys.items) }
 {
-    match heap {
-        Heap::Abstract(_) => true,
-        Heap::Concrete(name) => name_is_none_other(table, own, *name),
-        Heap::Exact(name) => name_is_none_other(table, own, *name),
+    let mut free = Vec::with_capacity(alloc, groups.len())?;
+    let mut heads = Vec::with_capacity(alloc, groups.len())?;
+    let mut written = Vec::with_capacity(alloc, groups.len())?;
+    let mut lossless_keys = Vec::with_capacity(alloc, groups.len())?;
+    for group in groups {
+        free.push(is_free_group(table, group))?;
+        let head = head_of(table, group);
+        lossless_keys.push(lossless_key_of(&head))?;
+        heads.push(head)?;
+        written.push(is_written_group(table, group))?;
+    }
+    Ok(GroupInfo {
+        free,
+        heads,
+        written,
+        lossless_keys,
+    })
+}
+
+// Whether some type of the group stands for more than the entry of a function.
+pub(super) fn is_written_group(table: &ModuleTypes, group: &RecGroup) -> bool
+    requires { All (IsLive table.now.types.slots) group.now.types }
+    ensures { result ≡ is_written_group table.now.types.slots group.now }
+{
+    for id in group.types.as_slice() {
+        if !table.get(*id).is_for_function_entry() {
+            return true;
+        }
+    }
+    false
+}
+
+fn head_of<'a>(table: &'a ModuleTypes, group: &RecGroup) -> Option<KeyedType<'a>>
+    requires { All (IsLive table.now.types.slots) group.now.types }
+    ensures { result ≡ head table.now.types.slots group.now }
+{
+    match group.types.as_slice() {
+        [] => None,
+        [id, ..] => Some(KeyedType::new(table.get(*id))),
     }
 }
 
-fn val_names_none_other(table: &ModuleTypes, own: TypeId, val: &ValType) -> bool
-    ensures { result ≡ names_none_other table.now.types.slots own (val_names val.now) }
+// The key of the head, where that is lossless.
+fn lossless_key_of(head: &Option<KeyedType<'_>>) -> Option<SortKey>
+    ensures { IfSome result (λ w. IsSomeAnd head.now (IsLosslessKey w)) }
 {
-    match val {
-        Val::I32 => true,
-        Val::I64 => true,
-        Val::F32 => true,
-        Val::F64 => true,
-        Val::V128 => true,
-        Val::Ref(reference) => heap_names_none_other(table, own, &reference.heap_type),
+    match head {
+        Some(ty) => ty.lossless_key(),
+        None => None,
     }
 }
 
-fn storage_names_none_other(table: &ModuleTypes, own: TypeId, storage: &StorageType) -> bool
-    ensures { result ≡ names_none_other table.now.types.slots own (storage_names storage.now) }
+// Whether the group is free: it has no types, or it isn't explicit and its one type names no live
+// type but itself.
+fn is_free_group(table: &ModuleTypes, group: &RecGroup) -> bool
+    requires { All (IsLive table.now.types.slots) group.now.types }
+    ensures { result ≡ is_free table.now.types.slots group.now }
 {
-    match storage {
-        Storage::Val(val) => val_names_none_other(table, own, val),
-        Storage::I8 => true,
-        Storage::I16 => true,
+    match group.types.as_slice() {
+        [] => true,
+        [id] => !group.is_explicit && type_names_none_other(table, *id, table.get(*id)),
+        _ => false,
     }
 }
 
-fn vals_name_none_other(table: &ModuleTypes, own: TypeId, vals: &[ValType]) -> bool
-    ensures { result ≡ list_all (λ v. names_none_other table.now.types.slots own (val_names v)) vals.now }
+// This one and those below say whether something names no live type but `own`.
+#[tactic(auto, using(crate::proofs::Emission::FreeNames::list_all_both))]
+fn type_names_none_other(table: &ModuleTypes, own: TypeId, ty: &Type) -> bool
+    ensures { result ≡ names_none_other table.now.types.slots own
+        (names_of (type_definition ty.now)) }
 {
-    vals.iter().all(|val| val_names_none_other(table, own, val))
+    composite_names_none_other(table, own, ty.kind())
+        && supertype_names_none_other(table, own, ty.supertype)
 }
 
-fn fields_name_none_other(table: &ModuleTypes, own: TypeId, fields: &[FieldType]) -> bool
-    ensures { result ≡ list_all (λ f. names_none_other table.now.types.slots own (field_names f)) fields.now }
-{
-    fields.iter().all(|field| storage_names_none_other(table, own, &field.element_type))
-}
-
-#[tactic(auto, using(crate::proofs::FreeNames::list_all_flat_map, crate::proofs::FreeNames::list_all_both))]
+#[tactic(auto, using(crate::proofs::Emission::FreeNames::list_all_flat_map, crate::proofs::Emission::FreeNames::list_all_both))]
 fn composite_names_none_other(table: &ModuleTypes, own: TypeId, kind: &CompositeType) -> bool
-    ensures { result ≡ names_none_other table.now.types.slots own (composite_names (kind_composite kind.now)) }
+    ensures { result ≡ names_none_other table.now.types.slots own
+        (composite_names (kind_composite kind.now)) }
 {
     match kind {
         CompositeType::Function(function) => {
@@ -93,96 +141,55 @@ fn supertype_names_none_other(table: &ModuleTypes, own: TypeId, supertype: Optio
     }
 }
 
-#[tactic(auto, using(crate::proofs::FreeNames::list_all_both))]
-fn type_names_none_other(table: &ModuleTypes, own: TypeId, ty: &Type) -> bool
-    ensures { result ≡ names_none_other table.now.types.slots own (names_of (type_definition ty.now)) }
+fn vals_name_none_other(table: &ModuleTypes, own: TypeId, vals: &[ValType]) -> bool
+    ensures { result ≡ list_all
+        (λ v. names_none_other table.now.types.slots own (val_names v)) vals.now }
 {
-    composite_names_none_other(table, own, &ty.kind)
-        && supertype_names_none_other(table, own, ty.supertype)
+    vals.iter().all(|val| val_names_none_other(table, own, val))
 }
 
-// Whether the group is free: it has no types, or it isn't explicit and its one type names no live type but itself.
-fn is_free_group(table: &ModuleTypes, group: &RecGroup) -> bool
-    requires { All (IsLive table.now.types.slots) group.now.types }
-    ensures { result ≡ is_free table.now.types.slots group.now }
+fn fields_name_none_other(table: &ModuleTypes, own: TypeId, fields: &[FieldType]) -> bool
+    ensures { result ≡ list_all
+        (λ f. names_none_other table.now.types.slots own (field_names f)) fields.now }
 {
-    match group.types.as_slice() {
-        [] => true,
-        [id] => !group.is_explicit && type_names_none_other(table, *id, table.get(*id)),
-        _ => false,
+    fields.iter().all(|field| storage_names_none_other(table, own, &field.element_type))
+}
+
+fn storage_names_none_other(table: &ModuleTypes, own: TypeId, storage: &StorageType) -> bool
+    ensures { result ≡ names_none_other table.now.types.slots own (storage_names storage.now) }
+{
+    match storage {
+        Storage::Val(val) => val_names_none_other(table, own, val),
+        Storage::I8 => true,
+        Storage::I16 => true,
     }
 }
 
-fn head_of<'a>(table: &'a ModuleTypes, group: &RecGroup) -> Option<Weighed<'a>>
-    requires { All (IsLive table.now.types.slots) group.now.types }
-    ensures { result ≡ head table.now.types.slots group.now }
+fn val_names_none_other(table: &ModuleTypes, own: TypeId, val: &ValType) -> bool
+    ensures { result ≡ names_none_other table.now.types.slots own (val_names val.now) }
 {
-    match group.types.as_slice() {
-        [] => None,
-        [id, ..] => Some(Weighed::new(table.get(*id))),
+    match val {
+        Val::I32 => true,
+        Val::I64 => true,
+        Val::F32 => true,
+        Val::F64 => true,
+        Val::V128 => true,
+        Val::Ref(reference) => heap_names_none_other(table, own, &reference.heap_type),
     }
 }
 
-// Whether some type of the group stands for more than the entry of a function.
-pub(super) fn is_written_group(table: &ModuleTypes, group: &RecGroup) -> bool
-    requires { All (IsLive table.now.types.slots) group.now.types }
-    ensures { result ≡ is_written_group table.now.types.slots group.now }
+fn heap_names_none_other(table: &ModuleTypes, own: TypeId, heap: &HeapType) -> bool
+    ensures { result ≡ names_none_other table.now.types.slots own (heap_names heap.now) }
 {
-    for id in group.types.as_slice() {
-        if !table.get(*id).is_for_function_entry() {
-            return true;
-        }
-    }
-    false
-}
-
-// The weight of the head, where that tells all of the type.
-fn told_of(head: &Option<Weighed<'_>>) -> Option<Weight>
-    ensures { IfSome result (λ w. IsSomeAnd head.now (IsToldBy w)) }
-{
-    match head {
-        Some(ty) => ty.told(),
-        None => None,
+    match heap {
+        Heap::Abstract(_) => true,
+        Heap::Concrete(name) => name_is_none_other(table, own, *name),
+        Heap::Exact(name) => name_is_none_other(table, own, *name),
     }
 }
 
-// What decides the place of each group: whether it is free, its first type, and whether it is written; and what its first
-// type is, where the weight tells it.
-#[derive(Drop)]
-pub(super) struct Survey<'a> {
-    pub(super) free: Vec<bool>,
-    pub(super) heads: Vec<Option<Weighed<'a>>>,
-    pub(super) written: Vec<bool>,
-    pub(super) told: Vec<Option<Weight>>,
-}
-
-// One pass tells all of it, since it is reaching a type that costs.
-pub(super) fn survey_of<'a>(
-    alloc: Global,
-    table: &'a ModuleTypes,
-    groups: &[RecGroup],
-) -> Result<Survey<'a>, AllocError>
-    requires { All (λ (g : RecGroup). All (IsLive table.now.types.slots) g.types) groups.now }
-    ensures free { IfOk result (λ s. s.free.items ≡ map (is_free table.now.types.slots) groups.now) }
-    ensures heads { IfOk result (λ s. s.heads.items ≡ map (head table.now.types.slots) groups.now) }
-    ensures written { IfOk result (λ s. s.written.items ≡ map (is_written_group table.now.types.slots) groups.now) }
-    ensures told { IfOk result (λ s. AreTold table.now.types.slots groups.now s.told.items) }
+fn name_is_none_other(table: &ModuleTypes, own: TypeId, name: TypeId) -> bool
+    ensures { result ≡ is_own_or_dead table.now.types.slots own name }
 {
-    let mut free = Vec::with_capacity(alloc, groups.len())?;
-    let mut heads = Vec::with_capacity(alloc, groups.len())?;
-    let mut written = Vec::with_capacity(alloc, groups.len())?;
-    let mut told = Vec::with_capacity(alloc, groups.len())?;
-    for group in groups {
-        free.push(is_free_group(table, group))?;
-        let head = head_of(table, group);
-        told.push(told_of(&head))?;
-        heads.push(head)?;
-        written.push(is_written_group(table, group))?;
-    }
-    Ok(Survey {
-        free,
-        heads,
-        written,
-        told,
-    })
+    name == own || !table.contains(name)
 }

@@ -1,9 +1,9 @@
 //! Adding types to a table.
 ghost use Rattle.std.specs.Prelude.{◌≡◌, [], IfOk, OnErr, Some, None, IfSome, true, false};
-ghost use Rattle.walrus_types.specs.TypesById.{found};
-ghost use Rattle.walrus_types.specs.Types.{nameless, function};
+ghost use Rattle.walrus_types.specs.TypesById.{found_id};
+ghost use Rattle.walrus_ty.specs.Types.{unnamed_type, function};
 ghost use Rattle.walrus_types.specs.Table.{FindsOrAdds, IsAnswer, AddsType, IsSameTable, next_id};
-ghost use Rattle.walrus_types.specs.declared.ty.composite.CompositeType.TheVariants as kind;
+ghost use Rattle.walrus_ty.specs.declared.ty.composite.CompositeType.TheVariants as kind;
 
 use super::{ModuleTypes, RecGroup};
 use crate::{
@@ -12,10 +12,17 @@ use crate::{
 use std::alloc::AllocError;
 
 impl ModuleTypes {
-    /// The id of the final function type with these parameters and results, and without supertype, as `add_composite` answers it.
+    /// The id of the final function type with these parameters and results, and without supertype,
+    /// as `add_composite` answers it.
     pub fn add(&mut self, params: &[ValType], results: &[ValType]) -> Result<TypeId, AllocError>
-        ensures answer { IfOk result (λ id. IsAnswer self.new (nameless (function params.now results.now) true None false (next_id self.old)) id) }
-        ensures ok { IfOk result (λ id. FindsOrAdds self.old self.new (nameless (function params.now results.now) true None false (next_id self.old)) id) }
+        ensures answer { IfOk result
+            (λ id. IsAnswer self.new
+            (unnamed_type (function params.now results.now) true None false (next_id self.old))
+            id) }
+        ensures ok { IfOk result
+            (λ id. FindsOrAdds self.old self.new
+            (unnamed_type (function params.now results.now) true None false (next_id self.old))
+            id) }
         ensures err { OnErr result (IsSameTable self.old self.new) }
     {
         let alloc = *self.groups.allocator();
@@ -23,10 +30,17 @@ impl ModuleTypes {
         self.add_composite(CompositeType::Function(ty), true, None)
     }
 
-    /// The id of the final struct type with these fields, and without supertype, as `add_composite` answers it.
+    /// The id of the final struct type with these fields, and without supertype, as `add_composite`
+    /// answers it.
     pub fn add_struct(&mut self, fields: Vec<FieldType>) -> Result<TypeId, AllocError>
-        ensures answer { IfOk result (λ id. IsAnswer self.new (nameless (kind.Struct (record { fields = fields.items })) true None false (next_id self.old)) id) }
-        ensures ok { IfOk result (λ id. FindsOrAdds self.old self.new (nameless (kind.Struct (record { fields = fields.items })) true None false (next_id self.old)) id) }
+        ensures answer { IfOk result
+            (λ id. IsAnswer self.new
+            (unnamed_type (kind.Struct (record { fields = fields.items })) true None false
+            (next_id self.old)) id) }
+        ensures ok { IfOk result
+            (λ id. FindsOrAdds self.old self.new
+            (unnamed_type (kind.Struct (record { fields = fields.items })) true None false
+            (next_id self.old)) id) }
         ensures err { OnErr result (IsSameTable self.old self.new) }
     {
         let ty = StructType {
@@ -35,10 +49,17 @@ impl ModuleTypes {
         self.add_composite(CompositeType::Struct(ty), true, None)
     }
 
-    /// The id of the final array type with these elements, and without supertype, as `add_composite` answers it.
+    /// The id of the final array type with these elements, and without supertype, as
+    /// `add_composite` answers it.
     pub fn add_array(&mut self, element: FieldType) -> Result<TypeId, AllocError>
-        ensures answer { IfOk result (λ id. IsAnswer self.new (nameless (kind.Array (record { field = element })) true None false (next_id self.old)) id) }
-        ensures ok { IfOk result (λ id. FindsOrAdds self.old self.new (nameless (kind.Array (record { field = element })) true None false (next_id self.old)) id) }
+        ensures answer { IfOk result
+            (λ id. IsAnswer self.new
+            (unnamed_type (kind.Array (record { field = element })) true None false
+            (next_id self.old)) id) }
+        ensures ok { IfOk result
+            (λ id. FindsOrAdds self.old self.new
+            (unnamed_type (kind.Array (record { field = element })) true None false
+            (next_id self.old)) id) }
         ensures err { OnErr result (IsSameTable self.old self.new) }
     {
         self.add_composite(
@@ -50,25 +71,38 @@ impl ModuleTypes {
 
     /// The id of the type with this composite, finality and supertype.
     ///
-    /// It is the id of an equal type that was added alone, where the table knows one, or else that of a new type without a name, in a group of its own at the end. After an `AllocError` the table has the same types and groups, finds the same, and no id is used up.
+    /// It is the id of an equal type that was added alone, where the table knows one, or else that
+    /// of a new type without a name, in a group of its own at the end. After an `AllocError` the
+    /// table has the same types and groups, finds the same, and no id is used up.
     pub fn add_composite(
         &mut self,
         comp: CompositeType,
         is_final: bool,
         supertype: Option<TypeId>,
     ) -> Result<TypeId, AllocError>
-        ensures answer { IfOk result (λ id. IsAnswer self.new (nameless comp is_final supertype false (next_id self.old)) id) }
-        ensures ok { IfOk result (λ id. FindsOrAdds self.old self.new (nameless comp is_final supertype false (next_id self.old)) id) }
+        ensures answer { IfOk result
+            (λ id. IsAnswer self.new
+            (unnamed_type comp is_final supertype false (next_id self.old)) id) }
+        ensures ok { IfOk result
+            (λ id. FindsOrAdds self.old self.new
+            (unnamed_type comp is_final supertype false (next_id self.old)) id) }
         ensures err { OnErr result (IsSameTable self.old self.new) }
     {
         let id = self.types.next_id();
-        self.insert(Type::new_composite(id, comp, is_final, supertype))
+        let alloc = self.allocator();
+        self.insert(Type::new(alloc, id, comp, is_final, supertype))
     }
 
-    /// The id of the type that stands for a function body with these results: a final function type without parameters and supertype, with the mark of a function entry. It is found or made as by `add_composite`.
+    /// The id of the type that stands for a function body with these results: a final function type
+    /// without parameters and supertype, with the mark of a function entry. It is found or made as
+    /// by `add_composite`.
     pub fn add_entry_ty(&mut self, results: &[ValType]) -> Result<TypeId, AllocError>
-        ensures answer { IfOk result (λ id. IsAnswer self.new (nameless (function [] results.now) true None true (next_id self.old)) id) }
-        ensures ok { IfOk result (λ id. FindsOrAdds self.old self.new (nameless (function [] results.now) true None true (next_id self.old)) id) }
+        ensures answer { IfOk result
+            (λ id. IsAnswer self.new
+            (unnamed_type (function [] results.now) true None true (next_id self.old)) id) }
+        ensures ok { IfOk result
+            (λ id. FindsOrAdds self.old self.new
+            (unnamed_type (function [] results.now) true None true (next_id self.old)) id) }
         ensures err { OnErr result (IsSameTable self.old self.new) }
     {
         let results = results.to_vec(*self.groups.allocator())?;
@@ -89,7 +123,7 @@ impl ModuleTypes {
     }
 
     pub(super) fn known(&self, ty: &Type) -> Option<TypeId>
-        ensures value { result ≡ found self.now.types ty.now }
+        ensures value { result ≡ found_id self.now.types ty.now }
         ensures answer { IfSome result (λ id. IsAnswer self.now ty.now id) }
     {
         self.types.find(ty)
@@ -97,7 +131,7 @@ impl ModuleTypes {
 
     // A type that isn't found gets a new slot, and a group of its own.
     pub(super) fn add_new(&mut self, ty: Type) -> Result<TypeId, AllocError>
-        requires { found self.old.types ty ≡ None }
+        requires { found_id self.old.types ty ≡ None }
         ensures answer { IfOk result (λ id. IsAnswer self.new ty id) }
         ensures ok { IfOk result (λ id. AddsType self.old self.new ty id) }
         ensures err { OnErr result (IsSameTable self.old self.new) }

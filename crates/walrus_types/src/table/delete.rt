@@ -1,7 +1,8 @@
 //! Deleting types from a table.
-ghost use Rattle.std.specs.Prelude.{◌≡◌, ◌↔◌, IsOk, IsTrue, IfOk, OnOk, MatchBool};
+ghost use Rattle.std.specs.Prelude.{◌≡◌, ◌↔◌, All, IsOk, IsTrue, IfOk, OnOk, MatchBool, nat_eq};
+ghost use Rattle.std.specs.List.{IsDistinct};
 ghost use Rattle.walrus_types.specs.TypesById.{IsLive};
-ghost use Rattle.walrus_types.specs.Table.{Deletes, DeletesGroup, IsNamedInGroup, IsOtherNamer};
+ghost use Rattle.walrus_types.specs.Table.{Deletes, DeletesAll, DeletesGroup, IsNamedInGroup, IsOtherNamer};
 
 use super::ModuleTypes;
 use crate::{Listed, TypeId};
@@ -23,13 +24,32 @@ impl ModuleTypes {
         self.types.remove(id)
     }
 
-    /// Deletes the type of a live id, unless another type of its group names it: then the answer is `false`, and nothing has changed. It takes no memory, and answers `Ok`.
+    /// `delete` of each of these distinct live ids, in order. It takes no memory, and answers `Ok`.
+    ///
+    /// It is for the caller to see that nothing that stays names one of them any more.
+    pub fn delete_all(&mut self, ids: &[TypeId]) -> Result<(), AllocError>
+        requires live { All (IsLive self.old.types.slots) ids.now }
+        requires distinct { IsDistinct nat_eq ids.now }
+        ensures ok { OnOk result (DeletesAll self.old ids.now self.new) }
+        ensures succeeds { IsOk result }
+    {
+        for id in ids {
+            self.delete(*id)?;
+        }
+        Ok(())
+    }
+
+    /// Deletes the type of a live id, unless another type of its group names it: then the answer is
+    /// `false`, and nothing has changed. It takes no memory, and answers `Ok`.
     ///
     /// A type that names itself is deleted. Names from outside the group are not looked at.
     pub fn try_delete(&mut self, id: TypeId) -> Result<bool, AllocError>
         requires { IsLive self.old.types.slots id }
-        ensures answer { IfOk result (λ deleted. MatchBool deleted (IsNamedInGroup self.old id → ⊥) (IsNamedInGroup self.old id)) }
-        ensures ok { IfOk result (λ deleted. MatchBool deleted (Deletes self.old self.new id) (self.new ≡ self.old)) }
+        ensures answer { IfOk result
+            (λ deleted. MatchBool deleted (IsNamedInGroup self.old id → ⊥)
+            (IsNamedInGroup self.old id)) }
+        ensures ok { IfOk result
+            (λ deleted. MatchBool deleted (Deletes self.old self.new id) (self.new ≡ self.old)) }
         ensures succeeds { IsOk result }
     {
         if self.is_named_in_group(id) {
@@ -39,7 +59,8 @@ impl ModuleTypes {
         Ok(true)
     }
 
-    /// Deletes all types of the group of a live id. The group stays, without types. It takes no memory, and answers `Ok`.
+    /// Deletes all types of the group of a live id. The group stays, without types. It takes no
+    /// memory, and answers `Ok`.
     pub fn delete_entire_group(&mut self, id: TypeId) -> Result<(), AllocError>
         requires { IsLive self.old.types.slots id }
         ensures ok { OnOk result (DeletesGroup self.old self.new id) }

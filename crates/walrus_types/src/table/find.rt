@@ -1,7 +1,7 @@
 //! Finding types in a table.
 ghost use Rattle.std.specs.Prelude.{◌≡◌, ◌↔◌, IsTrue, true, false, option_map, Some, [], length};
 ghost use Rattle.std.specs.String.{string_bytes};
-ghost use Rattle.walrus_types.specs.Types.{function};
+ghost use Rattle.walrus_ty.specs.Types.{function};
 ghost use Rattle.walrus_types.specs.Table.{IsFirst, IsPlainFunction, IsEntryType, IsNamed};
 
 use super::ModuleTypes;
@@ -14,20 +14,21 @@ impl ModuleTypes {
     {
         let mut left = self.types.iter();
         while let Some(item) = left.next() {
-            if item.1.has_name(name) {
+            if has_name(item.1, name) {
                 return Some(item.0);
             }
         }
         None
     }
 
-    /// The first live function type with these parameters and results, by id, whatever its finality and supertype. It is none that stands for a function body.
+    /// The first live function type with these parameters and results, by id, whatever its finality
+    /// and supertype. It is none that stands for a function body.
     pub fn find(&self, params: &[ValType], results: &[ValType]) -> Option<TypeId>
         ensures { IsFirst self.now (IsPlainFunction params.now results.now) result }
     {
         let mut left = self.types.iter();
         while let Some(item) = left.next() {
-            if item.1.is_plain_function(params, results) {
+            if is_plain_function(item.1, params, results) {
                 return Some(item.0);
             }
         }
@@ -40,7 +41,7 @@ impl ModuleTypes {
     {
         let mut left = self.types.iter();
         while let Some(item) = left.next() {
-            if item.1.is_entry_type(results) {
+            if is_entry_type(item.1, results) {
                 return Some(item.0);
             }
         }
@@ -48,37 +49,23 @@ impl ModuleTypes {
     }
 }
 
-impl Type {
-    fn has_name(&self, name: &str) -> bool
-        ensures { IsTrue result ↔ IsNamed name.now self.now }
-    {
-        match &self.name {
-            Some(own) => own.as_str() == name,
-            None => false,
-        }
-    }
-
-    fn is_plain_function(&self, params: &[ValType], results: &[ValType]) -> bool
-        ensures { IsTrue result ↔ IsPlainFunction params.now results.now self.now }
-    {
-        !self.is_for_function_entry() && self.kind().is_function_of(params, results)
-    }
-
-    fn is_entry_type(&self, results: &[ValType]) -> bool
-        ensures { IsTrue result ↔ IsEntryType results.now self.now }
-    {
-        self.is_for_function_entry() && self.kind().is_function_of(&[], results)
+fn has_name(ty: &Type, name: &str) -> bool
+    ensures { IsTrue result ↔ IsNamed name.now ty.now }
+{
+    match &ty.name {
+        Some(own) => own.as_str() == name,
+        None => false,
     }
 }
 
-impl CompositeType {
-    fn is_function_of(&self, params: &[ValType], results: &[ValType]) -> bool
-        ensures { IsTrue result ↔ (self.now ≡ function params.now results.now) }
-    {
-        match self {
-            CompositeType::Function(f) => f.params() == params && f.results() == results,
-            CompositeType::Struct(_) => false,
-            CompositeType::Array(_) => false,
-        }
-    }
+fn is_plain_function(ty: &Type, params: &[ValType], results: &[ValType]) -> bool
+    ensures { IsTrue result ↔ IsPlainFunction params.now results.now ty.now }
+{
+    !ty.is_for_function_entry() && ty.kind().is_function_of(params, results)
+}
+
+fn is_entry_type(ty: &Type, results: &[ValType]) -> bool
+    ensures { IsTrue result ↔ IsEntryType results.now ty.now }
+{
+    ty.is_for_function_entry() && ty.kind().is_function_of(&[], results)
 }

@@ -15,7 +15,8 @@ impl ModuleTypes {
         self.types.next_id()
     }
 
-    // The id of an equal type that was added alone, where the next id is used up, or else of this one as a new type.
+    // The id of an equal type that was added alone, where the next id is used up, or else of this
+    // one as a new type.
     pub(crate) fn read_single(&mut self, ty: Type) -> Result<TypeId, AllocError>
         ensures ok { IfOk result (λ id. ReadsSingle self.old self.new ty id) }
         ensures err { OnErr result (IsSameTable self.old self.new) }
@@ -37,7 +38,7 @@ impl ModuleTypes {
         let alloc = self.allocator();
         let nothing = FunctionType::new(Vec::new(alloc), Vec::new(alloc));
         let id = self.types.next_id();
-        let ty = Type::new_composite(id, CompositeType::Function(nothing), true, None);
+        let ty = Type::new(alloc, id, CompositeType::Function(nothing), true, None);
         self.group_of.reserve(1)?;
         self.types.alloc_dead(ty)?;
         self.group_of.push_reserved(0);

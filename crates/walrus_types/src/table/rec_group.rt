@@ -1,14 +1,27 @@
-//! Adding explicit recursion groups to a table.
+//! Recursion groups, and adding explicit ones to a table.
 ghost use Rattle.std.specs.Prelude.{◌≡◌, ◌≢◌, ◌+◌, ◌<◌, ◌≤◌, ◌^◌, ℕ, ◌++◌, length, replicate, vec_len, vec_capacity, IfOk, OnOk, OnErr, Ok, Err};
 ghost use Rattle.std.specs.Fn.{FnOnceReturnsAt, FnOnceTakesAt};
 ghost use Rattle.std.specs.List.{range_with_len};
-ghost use Rattle.walrus_types.specs.Table.{placed, AddsGroup, next_id, Builds};
+ghost use Rattle.walrus_types.specs.Table.{member_types, AddsGroup, next_id, Builds};
 ghost use Rattle.walrus_types.specs.declared.table.rec_group.AddRecGroupError.TheVariants.{Count};
 
-use super::{ModuleTypes, RecGroup};
+use super::ModuleTypes;
 use crate::{CompositeType, Listed, Type, TypeId};
 use std::alloc::AllocError;
 use thiserror::Error;
+use walrus_arena::Id;
+
+/// A recursion group: `rectype` in the WebAssembly core specification.
+#[derive(Clone, Debug, Drop)]
+pub struct RecGroup {
+    /// The ids of its types in order.
+    pub types: Listed<TypeId>,
+    /// Whether it was given as a group. A type that was given alone has a group without this mark.
+    pub is_explicit: bool,
+}
+
+/// The id of a recursion group: its place among the groups of its module.
+pub type RecGroupId = Id<RecGroup>;
 
 /// Why a recursion group was not added.
 #[derive(Clone, Copy, PartialEq, Eq, Debug, Error)]
@@ -35,17 +48,28 @@ impl From<AllocError> for AddRecGroupError {
 impl ModuleTypes {
     /// Adds an explicit recursion group of `count` types at the end, and answers their ids.
     ///
-    /// The types are made by `build`, which runs at most once, on a slice of exactly `count` ids: those that the types will have, in order. So the types can name each other, and `build` may index the slice at each place below `count`. Nothing more is asked of it than that it can be called with these ids. Each type gets its composite, finality and supertype from it, and no name. They are not shared: no later addition of an equal type answers one of them.
-    /// `Count` comes where `build` made another number of types than `count`. `Memory` comes where there was no room, or `build` said so. After an error the table is as it was, and no id is used up.
+    /// The types are made by `build`, which runs at most once, on a slice of exactly `count` ids:
+    /// those that the types will have, in order. So the types can name each other, and `build` may
+    /// index the slice at each place below `count`. Nothing more is asked of it than that it can be
+    /// called with these ids. Each type gets its composite, finality and supertype from it, and no
+    /// name. They are not shared: no later addition of an equal type answers one of them.
+    /// `Count` comes where `build` made another number of types than `count`. `Memory` comes where
+    /// there was no room, or `build` said so. After an error the table is as it was, and no id is
+    /// used up.
     pub fn add_rec_group<
         F: FnOnce(&[TypeId]) -> Result<Vec<(CompositeType, bool, Option<TypeId>)>, AllocError>
             + Drop,
     >(&mut self, count: usize, build: F) -> Result<Vec<TypeId>, AddRecGroupError>
         requires { FnOnceTakesAt F.FnOnce build (range_with_len (next_id self.old) count) }
         ensures ids { IfOk result (λ ids. ids.items ≡ range_with_len (next_id self.old) count) }
-        ensures ok { OnOk result (Builds (FnOnceReturnsAt F.FnOnce build) (range_with_len (next_id self.old) count) (λ members. (length members ≡ count) × AddsGroup self.old self.new members)) }
+        ensures ok { OnOk result
+            (Builds (FnOnceReturnsAt F.FnOnce build) (range_with_len (next_id self.old) count)
+            (λ members. (length members ≡ count) × AddsGroup self.old self.new members)) }
         ensures err { OnErr result (self.new ≡ self.old) }
-        ensures count { (wanted : ℕ) (got : ℕ) → result ≡ Err (Count wanted got) → (wanted ≡ count) × (got ≢ count) × Builds (FnOnceReturnsAt F.FnOnce build) (range_with_len (next_id self.old) count) (λ members. length members ≡ got) }
+        ensures count { (wanted : ℕ) (got : ℕ) → result ≡ Err (Count wanted got) →
+            (wanted ≡ count) × (got ≢ count) ×
+            Builds (FnOnceReturnsAt F.FnOnce build) (range_with_len (next_id self.old) count)
+            (λ members. length members ≡ got) }
     {
         let ids = self.next_ids(count)?;
         let members = build(ids.as_slice())?;
@@ -71,7 +95,8 @@ impl ModuleTypes {
         Ok(ids)
     }
 
-    // Gives each of these types a new slot, and all of them one explicit group at the end. None of them is found by value.
+    // Gives each of these types a new slot, and all of them one explicit group at the end. None of
+    // them is found by value.
     pub(crate) fn place_group(
         &mut self,
         members: Vec<(CompositeType, bool, Option<TypeId>)>,
@@ -99,12 +124,13 @@ fn named(
     members: Vec<(CompositeType, bool, Option<TypeId>)>,
 ) -> Result<Vec<Type>, AllocError>
     requires { first + vec_len members < 2 ^ 64 }
-    ensures { IfOk result (λ types. types.items ≡ placed first members.items) }
+    ensures { IfOk result (λ types. types.items ≡ member_types first members.items) }
 {
-    let mut types = Vec::with_capacity(*members.allocator(), members.len())?;
+    let alloc = *members.allocator();
+    let mut types = Vec::with_capacity(alloc, members.len())?;
     for (kind, is_final, supertype) in members {
         let id = TypeId::from_index(first + types.len());
-        types.push_reserved(Type::new_composite(id, kind, is_final, supertype));
+        types.push_reserved(Type::new(alloc, id, kind, is_final, supertype));
     }
     Ok(types)
 }

@@ -1,6 +1,6 @@
 use Rattle.std.proofs.Common.{◌≡◌, ◌<◌, ◌-◌, length, take, drop, ap, ◌∙◌, arith}
 use Rattle.std.proofs.lemmas.List.{take_rest}
-use Rattle.typenorm.proofs.WordLemmas.{words_from_word, no_words, word, spaces}
+use Rattle.typenorm.proofs.Lexing.FirstWord.{words_from_word, no_words, word, spaces}
 use Rattle.typenorm.proofs.words.next_word.Goals as goal
 
 pub returns-then-is_empty-clause-none : goal.returns-then-is_empty-clause-none

@@ -1,5 +1,5 @@
 use Rattle.walrus_types.specs.Steps.FreeGroups.{is_marked}
-use Rattle.walrus_types.proofs.WritingOrder.{kept_more, left_out}
+use Rattle.walrus_types.proofs.Emission.OrderFromSort.{kept_more, left_out}
 use Rattle.walrus_types.proofs.emit.marked_places.Goals as goal
 use Rattle.walrus_types.proofs.emit.marked_places.Goals.{then-marks-place+in_ok-push, else-marks-place}
 

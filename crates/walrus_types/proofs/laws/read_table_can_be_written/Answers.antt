@@ -1,4 +1,4 @@
-use Rattle.walrus_types.proofs.WrittenAgain.{never_missing}
+use Rattle.walrus_types.proofs.Emission.WrittenAgain.{never_missing}
 use Rattle.walrus_types.proofs.laws.read_table_can_be_written.Goals as goal
 
 pub returns : goal.returns

@@ -1,4 +1,4 @@
-use Rattle.walrus_types.proofs.WrittenAgain.{normal_again}
+use Rattle.walrus_types.proofs.Emission.WrittenAgain.{normal_again}
 use Rattle.walrus_types.proofs.laws.read_table_is_written.Goals as goal
 
 pub returns : goal.returns

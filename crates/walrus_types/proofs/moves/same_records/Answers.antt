@@ -1,4 +1,4 @@
-use Rattle.walrus_types.proofs.SameRecords.{records_equal}
+use Rattle.walrus_ty.proofs.Equality.Records.{records_equal}
 use Rattle.walrus_types.proofs.moves.same_records.Goals as goal
 
 pub returns : goal.returns

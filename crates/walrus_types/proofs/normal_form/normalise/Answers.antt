@@ -1,10 +1,12 @@
 use Rattle.std.proofs.Common.{Ok, Err, OnOk, IfOk, Result}
-use Rattle.walrus_types.specs.Records.{section_of}
-use Rattle.walrus_types.specs.Section.{IsWellNamed}
+use Rattle.walrus_ty.specs.Records.{section_of}
+use Rattle.walrus_sections.specs.Section.{IsWellNamed}
 use Rattle.walrus_types.proofs.normal_form.normalise.Goals as goal
 
 -- what holds of an answer where W and N hold
-if_ok_both : {A E : Type 0} (W : Type 0) (N P : A → Type 0) (r : Result A E) → OnOk r W → IfOk r N → (W → (x : A) → N x → P x) → IfOk r P
+if_ok_both :
+    {A E : Type 0} (W : Type 0) (N P : A → Type 0) (r : Result A E) → OnOk r W → IfOk r N →
+    (W → (x : A) → N x → P x) → IfOk r P
 if_ok_both W N P (Ok x) w n f = f w x n
 if_ok_both W N P (Err e) w n f = tt
 

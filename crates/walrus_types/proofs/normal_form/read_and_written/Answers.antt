@@ -1,12 +1,12 @@
 use Rattle.std.proofs.Common.{◌<◌, ◌≤◌, ◌^◌, ◌∙◌, ℕ, List, sym, ap, subst, arith, IsSome, length, get_or, map, Err}
-use Rattle.walrus_types.specs.Emitted.{is_entry_at, type_groups}
-use Rattle.walrus_types.specs.Refusal.{written_count}
-use Rattle.walrus_types.specs.Indices.{type_index, type_indices}
-use Rattle.walrus_types.specs.Naming.{value_in}
-use Rattle.walrus_types.specs.NormalForm.{IsNormalForm}
-use Rattle.walrus_types.specs.Records.{section_of}
-use Rattle.walrus_types.proofs.WrittenAgain.{normal_again, never_missing, each_indexed, sent_by_ids}
-use Rattle.walrus_types.proofs.WrittenFew.{written_few}
+use Rattle.walrus_types.specs.TableEmission.{is_entry_at, type_groups}
+use Rattle.walrus_sections.specs.Refusal.{written_count}
+use Rattle.walrus_ty.specs.Indices.{type_index, type_indices}
+use Rattle.walrus_ty.specs.Lookups.{value_or_zero}
+use Rattle.walrus_sections.specs.NormalForm.{IsNormalForm}
+use Rattle.walrus_ty.specs.Records.{section_of}
+use Rattle.walrus_types.proofs.Emission.WrittenAgain.{normal_again, never_missing, each_indexed, sent_by_ids}
+use Rattle.walrus_types.proofs.Emission.WrittenFew.{written_few}
 use Rattle.walrus_types.proofs.normal_form.read_and_written.Goals as goal
 
 pub indices_of-requires : goal.indices_of-requires
@@ -19,7 +19,7 @@ returns-in-Ok-clause-normal c =
     let s = section_of c.args.groups.now in
     let read = c.in_ok-types.ensures.ok in
     subst (IsNormalForm s (section_of c.in-Ok.section.items))
-    (sym (c.in_ok-map-in-Ok.ensures ∙ ap (map (value_in (type_index c.in-Ok.indices))) c.as_slice.ensures.value ∙ sent_by_ids s c.in_ok-types.types c.in_ok-types.ids.items read (value_in (type_index c.in-Ok.indices))))
+    (sym (c.in_ok-map-in-Ok.ensures ∙ ap (map (value_or_zero (type_index c.in-Ok.indices))) c.as_slice.ensures.value ∙ sent_by_ids s c.in_ok-types.types c.in_ok-types.ids.items read (value_or_zero (type_index c.in-Ok.indices))))
     (normal_again s c.in_ok-types.types c.in_ok-types.ids.items read c.in-Ok.section.items (type_indices c.in-Ok.indices) c.in-Ok.ensures.written)
 
 pub unreachable-requires : goal.unreachable-requires

@@ -1,7 +1,7 @@
 use Rattle.std.proofs.Common.{arith, ap, map, List, ◌∙◌}
 use Rattle.walrus_types.specs.Table.{Member}
 use Rattle.walrus_types.specs.Steps.TableReads.{member_definition}
-use Rattle.walrus_types.proofs.ReaderCalls.{members_more}
+use Rattle.walrus_types.proofs.Reading.ReaderCalls.{members_more}
 use Rattle.walrus_types.proofs.section_reader.members.Goals as goal
 
 pub loop-entry-preserved : goal.loop-entry-preserved

@@ -1,13 +1,13 @@
 use Rattle.std.proofs.Common.{◌≡◌, ◌⊎◌, subst, arith}
-use Rattle.walrus_types.specs.declared.error.ReadError.{ReadError}
-use Rattle.walrus_types.specs.declared.error.ReadError.TheVariants.{Memory}
-use Rattle.walrus_types.specs.Fault.{IsFirstFault}
-use Rattle.walrus_types.specs.Records.{section_of}
-use Rattle.walrus_types.proofs.ReaderCalls.{first_fault, if_err_from}
+use Rattle.walrus_sections.specs.declared.error.ReadError.{ReadError}
+use Rattle.walrus_sections.specs.declared.error.ReadError.TheVariants.{Memory}
+use Rattle.walrus_sections.specs.FirstError.{IsFirstError}
+use Rattle.walrus_ty.specs.Records.{section_of}
+use Rattle.walrus_types.proofs.Reading.ReaderCalls.{first_error, if_err_from}
 use Rattle.walrus_types.proofs.section_reader.parse_types.Goals as goal
 
 pub returns-in_err-push_group-clause-err : goal.returns-in_err-push_group-clause-err
 returns-in_err-push_group-clause-err c =
-    let P : ReadError → Type 0 = λ e. (e ≡ Memory) ⊎ IsFirstFault (section_of c.args.groups.now) e in
-    let fact : P c.in_err-push_group.field-0.0 = first_fault c.args.groups.now c.loop-group.group-index c.group-item.result c.loop-group.reader.table c.loop-group.reader.ids c.in_err-push_group.field-0.0 (omega arith) c.group-item.is c.loop-group.invariant c.in_err-push_group.ensures.fault in
+    let P : ReadError → Type 0 = λ e. (e ≡ Memory) ⊎ IsFirstError (section_of c.args.groups.now) e in
+    let fact : P c.in_err-push_group.field-0.0 = first_error c.args.groups.now c.loop-group.group-index c.group-item.result c.loop-group.reader.table c.loop-group.reader.ids c.in_err-push_group.field-0.0 (omega arith) c.group-item.is c.loop-group.invariant c.in_err-push_group.ensures.refusal in
     if_err_from P c.from_residual.result c.from_residual.ensures.1 (λ y q. (let back : c.in_err-push_group.field-0.0 ≡ y = cc in subst P back fact))

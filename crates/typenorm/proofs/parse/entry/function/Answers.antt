@@ -1,6 +1,6 @@
 use Rattle.std.proofs.Common.{sym, ◌∙◌}
 use Rattle.typenorm.specs.Words.{words_of}
-use Rattle.typenorm.proofs.EntryLemmas.{no_arrow, more_after_results, not_blank}
+use Rattle.typenorm.proofs.Parsing.Entries.{no_arrow, more_after_results, not_blank}
 use Rattle.typenorm.proofs.parse.entry.function.Goals as goal
 
 pub returns-in_default-clause-none : goal.returns-in_default-clause-none

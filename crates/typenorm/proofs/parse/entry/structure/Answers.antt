@@ -1,6 +1,6 @@
 use Rattle.std.proofs.Common.{sym, ◌∙◌}
 use Rattle.typenorm.specs.Words.{words_of}
-use Rattle.typenorm.proofs.EntryLemmas.{more_after_fields, not_blank}
+use Rattle.typenorm.proofs.Parsing.Entries.{more_after_fields, not_blank}
 use Rattle.typenorm.proofs.parse.entry.structure.Goals as goal
 
 pub returns-then-not-is_blank-clause-none : goal.returns-then-not-is_blank-clause-none

@@ -1,8 +1,8 @@
 use Rattle.std.proofs.Common.{◌≡◌, ◌++◌, length, map}
 use Rattle.typenorm.specs.Words.{words_of}
-use Rattle.std.specs.List.{flat_map}
-use Rattle.walrus_types.specs.Value.{val_names}
 use Rattle.typenorm.specs.Text.{AreIndices, val_word}
+use Rattle.std.specs.List.{flat_map}
+use Rattle.walrus_ty.specs.Value.{val_names}
 use Rattle.typenorm.proofs.parse.entry.values.Given as goal
 
 abbrev pub invariant-loop-value : goal.invariant-loop-value

@@ -1,6 +1,6 @@
 use Rattle.std.proofs.Common.{sym, ◌∙◌}
 use Rattle.typenorm.specs.Words.{words_of}
-use Rattle.typenorm.proofs.EntryLemmas.{not_alone}
+use Rattle.typenorm.proofs.Parsing.Entries.{not_alone}
 use Rattle.typenorm.proofs.parse.line.is_word.Goals as goal
 
 pub returns-clause-no : goal.returns-clause-no

@@ -1,8 +1,8 @@
 use Rattle.std.proofs.Common.{sym, ◌∙◌}
 use Rattle.typenorm.specs.Words.{words_of}
-use Rattle.typenorm.specs.Text.{IsEntryLine}
-use Rattle.typenorm.proofs.EntryLemmas.{not_blank}
-use Rattle.typenorm.proofs.LineLemmas.{no_line}
+use Rattle.typenorm.specs.Steps.Parts.{IsEntryLine}
+use Rattle.typenorm.proofs.Parsing.Entries.{not_blank}
+use Rattle.typenorm.proofs.Parsing.Lines.{no_line}
 use Rattle.typenorm.proofs.parse.line.read_line.Goals as goal
 
 pub returns-in_default-clause-none : goal.returns-in_default-clause-none

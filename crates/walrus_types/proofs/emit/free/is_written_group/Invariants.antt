@@ -1,6 +1,6 @@
 use Rattle.std.proofs.Common.{◌≡◌, drop, not}
 use Rattle.std.specs.List.{list_any}
-use Rattle.walrus_types.specs.Emitted.{is_entry_at}
+use Rattle.walrus_types.specs.TableEmission.{is_entry_at}
 use Rattle.walrus_types.proofs.emit.free.is_written_group.Given as goal
 
 abbrev pub invariant-loop-id : goal.invariant-loop-id

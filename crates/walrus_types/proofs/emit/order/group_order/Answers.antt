@@ -1,6 +1,6 @@
 use Rattle.std.proofs.Common.{refl}
 use Rattle.std.proofs.lemmas.Result.{IfOk-weaker}
-use Rattle.walrus_types.proofs.NeighboursInOrder.{group_order_from}
+use Rattle.walrus_types.proofs.Emission.NeighboursInOrder.{group_order_from}
 use Rattle.walrus_types.proofs.emit.order.group_order.Goals as goal
 
 pub returns : goal.returns

@@ -3,7 +3,7 @@ use Rattle.std.proofs.lemmas.Result.{IfOk-weaker}
 use Rattle.std.proofs.lemmas.Iterator.{YieldsList-from_slice, YieldsList-from_zip, items_from_collect}
 use Rattle.std.proofs.lemmas.Iterator.Consumers.{YieldsList-at, YieldsList-from_copied}
 use Rattle.std.proofs.lemmas.Iterator.Adapters.{YieldsList-from_vec}
-use Rattle.walrus_types.proofs.GroupKeys.{keys_from_zip}
+use Rattle.walrus_types.proofs.Emission.GroupKeys.{keys_from_zip}
 use Rattle.walrus_types.proofs.emit.order.keyed.Goals as goal
 
 pub returns : goal.returns

@@ -3,7 +3,7 @@ use Rattle.std.proofs.lemmas.Result.{IfOk-weaker}
 use Rattle.std.proofs.lemmas.Iterator.{YieldsList-from_map, items_from_collect}
 use Rattle.std.proofs.lemmas.Iterator.Consumers.{YieldsList-at, YieldsList-from_enumerate}
 use Rattle.std.proofs.lemmas.Iterator.Adapters.{YieldsList-from_vec}
-use Rattle.walrus_types.proofs.SortedPlaces.{with_places-enumerated}
+use Rattle.walrus_types.proofs.Emission.SortedPlaces.{with_places-enumerated}
 use Rattle.walrus_types.proofs.emit.order.paired.Goals as goal
 
 pub returns : goal.returns

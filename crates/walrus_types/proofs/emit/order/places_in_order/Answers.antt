@@ -1,7 +1,7 @@
 use Rattle.std.proofs.Common.{◌∙◌, ap, subst, sym, ℕ, List, map}
 use Rattle.std.proofs.lemmas.Result.{IfOk-weaker}
 use Rattle.walrus_types.specs.Steps.PlacesInOrder.{IsOrder}
-use Rattle.walrus_types.proofs.SortedPlaces.{order_from_sort}
+use Rattle.walrus_types.proofs.Emission.SortedPlaces.{order_from_sort}
 use Rattle.walrus_types.proofs.emit.order.places_in_order.Goals as goal
 
 pub returns : goal.returns

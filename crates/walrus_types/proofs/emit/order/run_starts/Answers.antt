@@ -1,7 +1,7 @@
 use Rattle.std.proofs.Common.{◌≡◌, length, arith, ◌∙◌, false, ap}
 use Rattle.std.proofs.lemmas.Option.{slice_get-get_or}
 use Rattle.std.specs.declared.option.Option.TheVariants.{Some}
-use Rattle.walrus_types.proofs.RunStarts.{keeps_free, keeps_anchor, starts_from_each}
+use Rattle.walrus_types.proofs.Emission.RunStarts.{keeps_free, keeps_anchor, starts_from_each}
 use Rattle.walrus_types.proofs.emit.order.run_starts.Goals as goal
 use Rattle.walrus_types.proofs.emit.order.run_starts.Goals.{then-is_free+in_ok-push, else-is_free+in_ok-push-2}
 

@@ -1,4 +1,4 @@
-use Rattle.walrus_types.proofs.RunStarts.{KeepsStarts}
+use Rattle.walrus_types.proofs.Emission.RunStarts.{KeepsStarts}
 use Rattle.walrus_types.proofs.emit.order.run_starts.Given as goal
 
 abbrev pub invariant-loop-group : goal.invariant-loop-group

@@ -1,12 +1,12 @@
 use Rattle.std.proofs.Common.{◌≡◌, arith, None}
 use Rattle.std.proofs.lemmas.Option.{slice_get_within}
-use Rattle.walrus_types.specs.Definition.{names_of}
-use Rattle.walrus_types.specs.Emitted.{definition_at}
-use Rattle.walrus_types.specs.Indices.{type_index}
-use Rattle.walrus_types.specs.Naming.{first_missing}
-use Rattle.walrus_types.specs.Records.{entry_definition}
+use Rattle.walrus_ty.specs.Definition.{names_of}
+use Rattle.walrus_types.specs.TableEmission.{definition_at}
+use Rattle.walrus_ty.specs.Indices.{type_index}
+use Rattle.walrus_ty.specs.Lookups.{first_missing}
+use Rattle.walrus_ty.specs.Records.{entry_definition}
 use Rattle.walrus_types.specs.Steps.WrittenGroups.{indexed}
-use Rattle.walrus_types.proofs.WrittenTypes.{done_more, each_more}
+use Rattle.walrus_types.proofs.Emission.WrittenEntries.{done_more, each_more}
 use Rattle.walrus_types.proofs.emit.write.entries_of.Goals as goal
 
 pub loop-id-preserved : goal.loop-id-preserved

@@ -1,14 +1,14 @@
 use Rattle.std.proofs.Common.{◌≡◌, ◌++◌, ℕ, ◌<◌, List, All, None, length, sym, ap, subst, arith, nat_eq}
 use Rattle.std.specs.List.{IsDistinct}
 use Rattle.std.proofs.lemmas.Result.{err_from_is_err_and}
-use Rattle.walrus_types.specs.Emission.{no_group}
-use Rattle.walrus_types.specs.Emitted.{definition_at}
-use Rattle.walrus_types.specs.ReadTable.{TypeGroup}
+use Rattle.walrus_sections.specs.Emission.{no_group}
+use Rattle.walrus_types.specs.TableEmission.{definition_at}
+use Rattle.walrus_sections.specs.SlotMap.{TypeGroup}
 use Rattle.walrus_types.specs.TypesById.{IsLive}
-use Rattle.walrus_types.specs.Indices.{Indexes, type_indices, func_indices, global_indices}
+use Rattle.walrus_ty.specs.Indices.{Indexes, type_indices, func_indices, global_indices}
 use Rattle.walrus_types.specs.Steps.WrittenGroups.{groups_of}
-use Rattle.walrus_types.proofs.ToldTypes.{groups_count, picked_here}
-use Rattle.walrus_types.proofs.WritingGroups.{FailsBy-weaker, advances, distinct, empty_same, filled_at, finishes, fresh, room, stops}
+use Rattle.walrus_types.proofs.Emission.DecodedTypes.{groups_count, pending_here}
+use Rattle.walrus_types.proofs.Emission.WriteLoop.{FailsBy-weaker, advances, distinct, empty_same, filled_at, finishes, fresh, room, stops}
 use Rattle.walrus_types.proofs.emit.write.write_groups.Goals as goal
 
 pub push_all_types-requires-clause-fresh : goal.push_all_types-requires-clause-fresh
@@ -19,7 +19,7 @@ push_all_types-requires-clause-fresh c =
     let j = c.loop-group.group-index in
     let p = c.group-item.result in
     let g = p.group in
-    let here = picked_here ps j p c.loop-group-test.true c.group-item.is in
+    let here = pending_here ps j p c.loop-group-test.true c.group-item.is in
     let below : j < length ws = omega (arith, c.loop-group-test.true, groups_count ps) in
     let x = type_indices c.loop-group.indices in
     let P : List ℕ → Type 0 = λ ids. All (λ i. x.index i ≡ None) ids in
@@ -33,7 +33,7 @@ push_all_types-requires-clause-distinct c =
     let j = c.loop-group.group-index in
     let p = c.group-item.result in
     let g = p.group in
-    let here = picked_here ps j p c.loop-group-test.true c.group-item.is in
+    let here = pending_here ps j p c.loop-group-test.true c.group-item.is in
     let below : j < length ws = omega (arith, c.loop-group-test.true, groups_count ps) in
     let x = type_indices c.loop-group.indices in
     let P : List ℕ → Type 0 = λ ids. IsDistinct nat_eq ids in
@@ -47,7 +47,7 @@ push_all_types-requires-clause-room c =
     let j = c.loop-group.group-index in
     let p = c.group-item.result in
     let g = p.group in
-    let here = picked_here ps j p c.loop-group-test.true c.group-item.is in
+    let here = pending_here ps j p c.loop-group-test.true c.group-item.is in
     let below : j < length ws = omega (arith, c.loop-group-test.true, groups_count ps) in
     let x = type_indices c.loop-group.indices in
     omega (arith, room def ws (filled_at ws c.requires.filled) j g below here c.loop-group.written.items x c.loop-group.invariant.written c.requires.few, ap length c.ids.ensures)
@@ -60,7 +60,7 @@ returns-in_err-record-clause-missing c =
     let j = c.loop-group.group-index in
     let p = c.group-item.result in
     let g = p.group in
-    let here = picked_here ps j p c.loop-group-test.true c.group-item.is in
+    let here = pending_here ps j p c.loop-group-test.true c.group-item.is in
     let below : j < length ws = omega (arith, c.loop-group-test.true, groups_count ps) in
     let x = type_indices c.loop-group.indices in
     let y = type_indices c.push_all_types.new.self in
@@ -76,7 +76,7 @@ loop-group-preserved c =
     let j = c.loop-group.group-index in
     let p = c.group-item.result in
     let g = p.group in
-    let here = picked_here ps j p c.loop-group-test.true c.group-item.is in
+    let here = pending_here ps j p c.loop-group-test.true c.group-item.is in
     let below : j < length ws = omega (arith, c.loop-group-test.true, groups_count ps) in
     let x = type_indices c.loop-group.indices in
     let y = type_indices c.push_all_types.new.self in
@@ -103,4 +103,4 @@ record_of-requires-clause-live c =
     let p = c.group-item.result in
     let below : j < length ws = omega (arith, c.loop-group-test.true, groups_count ps) in
     let P : TypeGroup → Type 0 = λ w. All (IsLive c.args.table.now.types.slots) w.ids in
-    subst P (picked_here ps j p c.loop-group-test.true c.group-item.is) (c.requires.live j no_group below)
+    subst P (pending_here ps j p c.loop-group-test.true c.group-item.is) (c.requires.live j no_group below)

@@ -1,7 +1,7 @@
-use Rattle.walrus_types.specs.Emitted.{definition_at}
-use Rattle.walrus_types.specs.Indices.{IsEmpty, type_indices, func_indices, global_indices}
+use Rattle.walrus_types.specs.TableEmission.{definition_at}
+use Rattle.walrus_ty.specs.Indices.{IsEmpty, type_indices, func_indices, global_indices}
 use Rattle.walrus_types.specs.Steps.WrittenGroups.{groups_of}
-use Rattle.walrus_types.proofs.WritingGroups.{IsProgress}
+use Rattle.walrus_types.proofs.Emission.WriteLoop.{IsProgress}
 use Rattle.walrus_types.proofs.emit.write.write_groups.Given as goal
 
 abbrev pub invariant-loop-group : goal.invariant-loop-group

@@ -1,4 +1,4 @@
-use Rattle.walrus_types.proofs.ReaderCalls.{read_kept}
+use Rattle.walrus_types.proofs.Reading.ReaderCalls.{read_kept}
 use Rattle.walrus_types.proofs.section_reader.SectionReader.push_group.Goals as goal
 
 pub returns-in-Single-clause-kept : goal.returns-in-Single-clause-kept

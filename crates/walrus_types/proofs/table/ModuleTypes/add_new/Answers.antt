@@ -1,10 +1,10 @@
 use Rattle.std.proofs.Common.{◌≡◌, ℕ, [], ◌∷◌, ◌∙◌, length, refl, sym, ap, arith}
 use Rattle.walrus_types.specs.Table.{Table, AddsType, IsSameTable}
-use Rattle.walrus_types.specs.TypesById.{type_eq}
-use Rattle.walrus_types.proofs.AddLemmas.{table_added, answer_new, on_err_holds}
-use Rattle.walrus_types.proofs.SameType.{clones_equal}
-use Rattle.walrus_types.proofs.TableLemmas.{indexed_same}
-use Rattle.walrus_types.proofs.SeenTypes.{seen, same_seen, adds_seen}
+use Rattle.walrus_ty.specs.SameTypes.{type_eq}
+use Rattle.walrus_types.proofs.Tables.NewType.{table_added, answer_new, on_err_holds}
+use Rattle.walrus_ty.proofs.Equality.Types.{clones_equal}
+use Rattle.walrus_types.proofs.Tables.Places.{indexed_same}
+use Rattle.walrus_types.proofs.Tables.TypeSet.{seen, same_seen, adds_seen}
 use Rattle.walrus_types.proofs.table.ModuleTypes.add_new.Goals as goal
 
 pub alloc_and_register-requires : goal.alloc_and_register-requires

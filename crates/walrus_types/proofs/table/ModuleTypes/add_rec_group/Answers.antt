@@ -1,5 +1,5 @@
 use Rattle.std.proofs.Common.{◌∙◌, sym, arith, rules}
-use Rattle.walrus_types.proofs.GroupLemmas.{count_parts}
+use Rattle.walrus_types.proofs.Tables.NewGroup.{count_parts}
 use Rattle.walrus_types.proofs.table.ModuleTypes.add_rec_group.Goals as goal
 
 pub returns-then-len-count-clause-count : goal.returns-then-len-count-clause-count

@@ -1,7 +1,7 @@
 use Rattle.std.proofs.Common.{ℕ, List, subst}
-use Rattle.walrus_types.specs.Types.{ModuleType}
+use Rattle.walrus_ty.specs.Types.{ModuleType}
 use Rattle.walrus_types.specs.Table.{IsNamed}
-use Rattle.walrus_types.proofs.FindLemmas.{HasPassed, reached, passed_all, some_is, not_both}
+use Rattle.walrus_types.proofs.Tables.Search.{HasPassed, reached, passed_all, some_is, not_both}
 use Rattle.walrus_types.proofs.table.ModuleTypes.by_name.Goals as goal
 
 pub returns-then-has_name : goal.returns-then-has_name

@@ -1,5 +1,5 @@
 use Rattle.walrus_types.specs.Table.{IsNamed}
-use Rattle.walrus_types.proofs.FindLemmas.{HasPassed}
+use Rattle.walrus_types.proofs.Tables.Search.{HasPassed}
 use Rattle.walrus_types.proofs.table.ModuleTypes.by_name.Given as goal
 
 abbrev pub invariant-loop-item : goal.invariant-loop-item

@@ -1,10 +1,10 @@
 use Rattle.std.proofs.lemmas.Result.{on_ok_weaker}
 use Rattle.walrus_arena.specs.Set.{Removes}
 use Rattle.walrus_types.specs.Table.{Table}
-use Rattle.walrus_types.specs.TypesById.{type_eq}
-use Rattle.walrus_types.proofs.TableLemmas.{home_of}
-use Rattle.walrus_types.proofs.ShrinkLemmas.{table_deleted, deletes_from, ok_holds}
-use Rattle.walrus_types.proofs.SeenTypes.{seen, removes_seen}
+use Rattle.walrus_ty.specs.SameTypes.{type_eq}
+use Rattle.walrus_types.proofs.Tables.Places.{home_of}
+use Rattle.walrus_types.proofs.Tables.DeadTypes.{table_deleted, deletes_from, ok_holds}
+use Rattle.walrus_types.proofs.Tables.TypeSet.{seen, removes_seen}
 use Rattle.walrus_types.proofs.table.ModuleTypes.delete.Goals as goal
 
 pub invariant_of-self : goal.invariant_of-self

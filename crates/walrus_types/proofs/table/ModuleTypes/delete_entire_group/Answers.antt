@@ -4,11 +4,11 @@ use Rattle.std.proofs.lemmas.Result.{on_ok_weaker}
 use Rattle.walrus_arena.specs.Arena.{IsLive}
 use Rattle.walrus_arena.specs.Set.{RemovesAll}
 use Rattle.walrus_types.specs.Table.{Table}
-use Rattle.walrus_types.specs.TypesById.{type_eq}
-use Rattle.walrus_types.proofs.TableLemmas.{home_of}
-use Rattle.walrus_types.proofs.ShrinkLemmas.{ok_holds}
-use Rattle.walrus_types.proofs.GroupEndLemmas.{all_live, members_once, distinct_from_once, ended_indexed, ended_deletes}
-use Rattle.walrus_types.proofs.SeenTypes.{seen, removes_all_seen}
+use Rattle.walrus_ty.specs.SameTypes.{type_eq}
+use Rattle.walrus_types.proofs.Tables.Places.{home_of}
+use Rattle.walrus_types.proofs.Tables.DeadTypes.{ok_holds}
+use Rattle.walrus_types.proofs.Tables.DeadGroup.{all_live, members_once, distinct_from_once, ended_indexed, ended_deletes}
+use Rattle.walrus_types.proofs.Tables.TypeSet.{seen, removes_all_seen}
 use Rattle.walrus_types.proofs.table.ModuleTypes.delete_entire_group.Goals as goal
 
 pub remove_all-requires-clause-live : goal.remove_all-requires-clause-live

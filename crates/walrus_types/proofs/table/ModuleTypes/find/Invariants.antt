@@ -1,5 +1,5 @@
 use Rattle.walrus_types.specs.Table.{IsPlainFunction}
-use Rattle.walrus_types.proofs.FindLemmas.{HasPassed}
+use Rattle.walrus_types.proofs.Tables.Search.{HasPassed}
 use Rattle.walrus_types.proofs.table.ModuleTypes.find.Given as goal
 
 abbrev pub invariant-loop-item : goal.invariant-loop-item

@@ -1,5 +1,5 @@
 use Rattle.walrus_types.specs.Table.{IsEntryType}
-use Rattle.walrus_types.proofs.FindLemmas.{HasPassed}
+use Rattle.walrus_types.proofs.Tables.Search.{HasPassed}
 use Rattle.walrus_types.proofs.table.ModuleTypes.find_for_function_entry.Given as goal
 
 abbrev pub invariant-loop-item : goal.invariant-loop-item

@@ -1,5 +1,5 @@
-use Rattle.walrus_types.proofs.NamedLemmas.{namer_test, self_test}
-use Rattle.walrus_types.proofs.SeenTypes.{seen}
+use Rattle.walrus_types.proofs.Tables.NamedInGroup.{namer_test, self_test}
+use Rattle.walrus_types.proofs.Tables.TypeSet.{seen}
 use Rattle.walrus_types.proofs.table.ModuleTypes.is_other_namer.Goals as goal
 
 pub returns-then-ne : goal.returns-then-ne

@@ -1,8 +1,8 @@
 use Rattle.std.proofs.Common.{◌∙◌}
 use Rattle.walrus_types.specs.Table.{Table}
-use Rattle.walrus_types.specs.TypesById.{type_eq}
-use Rattle.walrus_types.proofs.AddLemmas.{answer_found}
-use Rattle.walrus_types.proofs.SeenTypes.{seen, found_seen}
+use Rattle.walrus_ty.specs.SameTypes.{type_eq}
+use Rattle.walrus_types.proofs.Tables.NewType.{answer_found}
+use Rattle.walrus_types.proofs.Tables.TypeSet.{seen, found_seen}
 use Rattle.walrus_types.proofs.table.ModuleTypes.known.Goals as goal
 
 pub returns-clause-value : goal.returns-clause-value

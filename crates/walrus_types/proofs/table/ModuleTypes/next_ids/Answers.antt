@@ -1,6 +1,6 @@
 use Rattle.std.proofs.Common.{ℕ, List, ◌∙◌, ◌+◌, ap, ◌++◌, ◌∷◌, [], refl, arith}
 use Rattle.std.specs.List.{range_with_len}
-use Rattle.walrus_types.proofs.GroupLemmas.{range_push}
+use Rattle.walrus_types.proofs.Tables.NewGroup.{range_push}
 use Rattle.walrus_types.proofs.table.ModuleTypes.next_ids.Goals as goal
 
 pub loop-k-preserved : goal.loop-k-preserved

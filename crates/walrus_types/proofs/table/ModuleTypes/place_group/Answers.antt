@@ -1,18 +1,18 @@
 use Rattle.std.proofs.Common.{◌≡◌, ℕ, List, ◌++◌, ◌∷◌, [], ◌∙◌, length, map, Some, true, ap, arith}
 use Rattle.std.specs.List.{range_with_len}
 use Rattle.walrus_arena.specs.Set.{Set}
-use Rattle.walrus_types.specs.declared.table.RecGroup.{RecGroup}
-use Rattle.walrus_types.specs.Types.{ModuleType}
-use Rattle.walrus_types.specs.Table.{Table, AddsGroup, placed}
-use Rattle.walrus_types.proofs.GroupLemmas.{table_grouped, length-placed}
-use Rattle.walrus_types.proofs.SeenTypes.{seen, range_seen}
+use Rattle.walrus_types.specs.declared.table.rec_group.RecGroup.{RecGroup}
+use Rattle.walrus_ty.specs.Types.{ModuleType}
+use Rattle.walrus_types.specs.Table.{Table, AddsGroup, member_types}
+use Rattle.walrus_types.proofs.Tables.NewGroup.{table_grouped, length-placed}
+use Rattle.walrus_types.proofs.Tables.TypeSet.{seen, range_seen}
 use Rattle.walrus_types.proofs.table.ModuleTypes.place_group.Goals as goal
 
 added : (c : goal.After-push_reserved) → AddsGroup (record { types = seen c.self.inside.types; groups = c.self.inside.groups.items }) (record { types = seen c.alloc_all.new.self; groups = c.push_reserved.new.self.items }) c.args.members.items
 added c =
     let members = c.args.members.items in
-    let first : c.len.result ≡ length c.self.inside.types.slots = omega (arith, c.len.ensures, c.self.inside.group_of.ok, c.self.invariant.indexed) in
-    let types : c.in_ok-types.types.items ≡ placed (length c.self.inside.types.slots) c.args.members.items = c.in_ok-types.ensures ∙ ap (λ (n : ℕ). placed n c.args.members.items) first in
+    let first : c.len.result ≡ length c.self.inside.types.slots = omega (arith, c.len.ensures, c.self.inside.group_of.ok, c.self.invariant.one_each) in
+    let types : c.in_ok-types.types.items ≡ member_types (length c.self.inside.types.slots) c.args.members.items = c.in_ok-types.ensures ∙ ap (λ (n : ℕ). member_types n c.args.members.items) first in
     let many : length c.in_ok-types.types.items ≡ length c.args.members.items = ap length types ∙ length-placed (length c.self.inside.types.slots) c.args.members.items in
     let ids : c.from_vec.result ≡ range_with_len (length c.self.inside.types.slots) (length c.args.members.items) = c.from_vec.ensures ∙ (c.in_ok-ids.ensures.ids ∙ (range_seen (length c.self.inside.types.slots) (length c.in_ok-types.types.items) ∙ ap (range_with_len (length c.self.inside.types.slots)) many)) in
     let made : List ℕ → RecGroup = λ ns. record { types = ns; is_explicit = true } in

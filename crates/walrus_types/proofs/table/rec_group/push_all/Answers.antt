@@ -1,5 +1,5 @@
 use Rattle.std.proofs.Common.{ℕ, List, ◌∙◌, ◌+◌, ap, ◌++◌, ◌∷◌, [], refl, arith, replicate, append_assoc}
-use Rattle.walrus_types.proofs.GroupLemmas.{replicate_push}
+use Rattle.walrus_types.proofs.Tables.NewGroup.{replicate_push}
 use Rattle.walrus_types.proofs.table.rec_group.push_all.Goals as goal
 
 pub loop-preserved : goal.loop-preserved

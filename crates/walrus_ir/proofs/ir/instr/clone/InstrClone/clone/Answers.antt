@@ -7,3 +7,6 @@ returns-in_ok-clone-in-TryTable c = search (rules, same_from_all_zip)
 
 pub returns-in_ok-clone-in-Try : goal.returns-in_ok-clone-in-Try
 returns-in_ok-clone-in-Try c = search (rules, same_from_all_zip)
+
+pub returns-in-MemoryCopy : goal.returns-in-MemoryCopy
+returns-in-MemoryCopy c = search rules

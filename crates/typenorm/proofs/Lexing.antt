@@ -1,0 +1,3 @@
+-- Bytes as words and lines.
+pub mod FirstWord
+pub mod Spacing

@@ -1,9 +1,0 @@
-use Rattle.std.proofs.Common.{◌≡◌, ◌+◌, ◌≤◌, length}
-use Rattle.typenorm.specs.Words.{words_of, words_before}
-use Rattle.typenorm.proofs.words.words_before.Given as goal
-
-abbrev pub invariant-loop-word : goal.invariant-loop-word
-invariant-loop-word l = (words_before l.end (words_of l.line) ≡ l.count + words_before l.end (words_of l.rest)) × (l.count + length l.rest ≤ length l.line)
-
-abbrev pub decreases-loop-word : goal.decreases-loop-word
-decreases-loop-word l = length l.rest

@@ -1,0 +1,27 @@
+-- What a run does: `IsNormalised` where its text has a normal form, `IsIllNamedText` where it has
+-- none.
+use Rattle.std.specs.Prelude.{ℕ, List, Option, ◌≡◌}
+use Rattle.walrus_ty.specs.declared.records.GroupAt.{GroupAt}
+use Rattle.std.specs.Io.KnownBytes.{Appends}
+use Rattle.walrus_sections.specs.NormalForm.{IsNormalForm}
+use Rattle.walrus_ty.specs.Records.{section_of}
+use Rattle.walrus_sections.specs.Section.{IsWellNamed}
+use Rattle.typenorm.specs.Text.{section_lines, output_text, HasSectionIndices}
+
+-- the lines are those of a section whose numbers can stand for types, but that names what it may
+-- not, or has too many entries
+abbrev pub IsIllNamedText : List (List (List ℕ)) → Type 0
+IsIllNamedText lines =
+    (groups : List GroupAt) × HasSectionIndices groups × (lines ≡ section_lines groups) ×
+    ¬ IsWellNamed (section_of groups)
+
+-- the lines are those of a well-named section, and a writer gained the text of its normal form and
+-- the line of the map
+pub record IsNormalised (lines : List (List (List ℕ))) (old new : Option (List ℕ)) : Type 0 where
+  pub section : List GroupAt
+  pub read : lines ≡ section_lines section
+  pub well_named : IsWellNamed (section_of section)
+  pub output : List GroupAt
+  pub map : List ℕ
+  pub normal : IsNormalForm (section_of section) (section_of output) map
+  pub written : Appends old new (output_text output map)

@@ -1,0 +1,11 @@
+use Rattle.std.proofs.Common.{rules}
+use Rattle.walrus_arena.proofs.arena_set.ArenaSet.replace_and_register.Goals as goal
+
+pub returns-in_err-key-clause-err : goal.returns-in_err-key-clause-err
+returns-in_err-key-clause-err g c = search rules
+
+pub returns-in_err-reserve-clause-err : goal.returns-in_err-reserve-clause-err
+returns-in_err-reserve-clause-err g c = search rules
+
+pub returns-clause-ok : goal.returns-clause-ok
+returns-clause-ok g c = search rules

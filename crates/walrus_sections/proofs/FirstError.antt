@@ -1,0 +1,3 @@
+-- The first error of a section that cannot be read.
+pub mod Laws
+pub mod Search

@@ -1,0 +1,7 @@
+pub mod Verifying
+pub mod Sections
+pub mod NormalForms
+pub mod Emission
+pub mod FirstError
+pub mod Moves
+pub mod Reading

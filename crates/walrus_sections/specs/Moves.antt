@@ -1,0 +1,116 @@
+-- `Move`, `AreJoined` and `DescentTo`: changes of a section that keep its normal form, chains of
+-- them, and chains that lead down; and `IsRenumberedSwap`, the swap of two neighbouring `Single`s
+-- with the names sent along.
+-- WebAssembly core specification, "Modules", types: a definition is named by its index, so where it
+-- moves its names move along.
+use Rattle.std.specs.Prelude.{◌≡◌, ℕ, suc, ◌<◌, ◌≤◌, ◌-◌, ◌==◌, nat_lt, cond, [], ◌∷◌, ◌++◌, map, length, ◌⊎◌}
+use Rattle.std.specs.declared.cmp.Ordering.TheVariants.{Less}
+use Rattle.walrus_ty.specs.Definition.{Definition, Names, renamed, definition_cmp}
+use Rattle.walrus_ty.specs.Groups.{Group, Single, Rec, Section}
+use Rattle.walrus_sections.specs.Section.{IndexSpace, index_space, IsSingle, IsWellNamed}
+
+-- i and i + 1 exchanged
+abbrev pub exchange : ℕ → ℕ → ℕ
+exchange i k = cond (k == i) (suc i) (cond (k == suc i) i k)
+
+-- the index that k has once i is gone, where j stands for i
+abbrev pub skip : ℕ → ℕ → ℕ → ℕ
+skip i j k = cond (k == i) j (cond (nat_lt k i) k (k - 1))
+
+-- each name k replaced by m k
+abbrev pub renamed_group : (ℕ → ℕ) → Group → Group
+renamed_group m (Single d) = Single (renamed m d)
+renamed_group m (Rec ds) = Rec (map (renamed m) ds)
+
+-- r is s with the neighbouring `Single`s i and i + 1 exchanged, and each name i or i + 1 with them
+pub record IsExchanged (s r : Section) (i : ℕ) : Type 0 where
+  pub before : Section
+  pub first : Definition
+  pub second : Definition
+  pub after : Section
+  pub s_is : s ≡ before ++ Single first ∷ Single second ∷ after
+  pub r_is : r ≡ map (renamed_group (exchange i)) (before ++ Single second ∷ Single first ∷ after)
+  pub place : (index_space before).count ≡ i
+
+-- the renumbered swap: the two name no type at all
+pub record IsRenumberedSwap (s r : Section) (i : ℕ) : Type 0 where
+  pub exchanged : IsExchanged s r i
+  pub first_nameless : (k : ℕ) → ¬ (Names exchanged.first k)
+  pub second_nameless : (k : ℕ) → ¬ (Names exchanged.second k)
+
+-- an empty `Rec` goes out
+pub record DropsEmptyRec (s r : Section) : Type 0 where
+  pub before : Section
+  pub after : Section
+  pub s_is : s ≡ before ++ Rec [] ∷ after
+  pub r_is : r ≡ before ++ after
+
+-- the `Single` i goes out, which is the same as the earlier `Single` j; names of i become names of
+-- j, and later ones fall by one
+pub record DropsRepeat (s r : Section) (i j : ℕ) : Type 0 where
+  pub before : Section
+  pub dropped : Definition
+  pub after : Section
+  pub s_is : s ≡ before ++ Single dropped ∷ after
+  pub r_is : r ≡ map (renamed_group (skip i j)) (before ++ after)
+  pub place : (index_space before).count ≡ i
+  pub earlier : j < i
+  pub earlier_single : IsSingle (index_space s) j
+  pub equal : (index_space s).definition j ≡ dropped
+
+-- neighbouring `Single`s change places; each names no index but its own, and the exchange of the
+-- names keeps their order
+pub record SwapsNeighbours (s r : Section) (i : ℕ) : Type 0 where
+  pub exchanged : IsExchanged s r i
+  pub first_own : (k : ℕ) → Names exchanged.first k → k ≡ i
+  pub second_own : (k : ℕ) → Names exchanged.second k → k ≡ suc i
+  pub order :
+      definition_cmp exchanged.first exchanged.second ≡
+      definition_cmp (renamed (exchange i) exchanged.first) (renamed (exchange i) exchanged.second)
+
+-- one move leads from s to r
+pub data Move (s r : Section) : Type 0 where
+  drop_empty_rec : DropsEmptyRec s r → Move s r
+  drop_repeat : (i j : ℕ) → DropsRepeat s r i j → Move s r
+  swap_neighbours : (i : ℕ) → SwapsNeighbours s r i → Move s r
+
+-- moves and their reverses lead from a section to r, through well-named sections
+pub data ChainTo (r : Section) : Section → Type 0 where
+  stop : ChainTo r r
+  forth : (s q : Section) → Move s q → IsWellNamed q → ChainTo r q → ChainTo r s
+  back : (s q : Section) → Move q s → IsWellNamed q → ChainTo r q → ChainTo r s
+
+-- a chain of moves leads from a to b
+abbrev pub AreJoined : Section → Section → Type 0
+AreJoined a b = ChainTo b a
+
+-- i and j are out of order: from i to j there are only `Single`s that name no index but their own,
+-- and j is less than i
+pub record AreOutOfOrder (s : IndexSpace) (i j : ℕ) : Type 0 where
+  pub earlier : i < j
+  pub inside : j < s.count
+  pub singles : (a : ℕ) → i ≤ a → a ≤ j → IsSingle s a
+  pub own : (a : ℕ) → i ≤ a → a ≤ j → (k : ℕ) → Names (s.definition a) k → k ≡ a
+  pub less : definition_cmp (s.definition j) (s.definition i) ≡ Less
+
+-- r has fewer pairs out of order than s: each pair of r is sent to one of s, no two to one, and
+-- some pair of s is left
+pub record HasFewerOutOfOrder (s r : IndexSpace) : Type 0 where
+  pub embed : ℕ → ℕ
+  pub injective : (i j : ℕ) → embed i ≡ embed j → i ≡ j
+  pub preserves : (i j : ℕ) → AreOutOfOrder r i j → AreOutOfOrder s (embed i) (embed j)
+  pub first : ℕ
+  pub second : ℕ
+  pub extra : AreOutOfOrder s first second
+  pub unreached : (i j : ℕ) → AreOutOfOrder r i j → embed i ≡ first → ¬ (embed j ≡ second)
+
+-- r has fewer groups than s, or as many groups and fewer pairs out of order
+abbrev pub IsLower : Section → Section → Type 0
+IsLower s r =
+    (length r < length s) ⊎ ((length r ≡ length s) ×
+    HasFewerOutOfOrder (index_space s) (index_space r))
+
+-- moves lead from a section down to r, through well-named sections
+pub data DescentTo (r : Section) : Section → Type 0 where
+  arrived : DescentTo r r
+  down : (s q : Section) → Move s q → IsLower s q → IsWellNamed q → DescentTo r q → DescentTo r s

@@ -1,0 +1,20 @@
+//! The mathematics of type sections, over records alone: nothing here knows an arena or a table.
+//!
+//! A type section numbers its types by their order, so that two sections can define the same types
+//! and look different. Each section that can be read has one normal form, and one map from its
+//! indices to those of the normal form.
+//!
+//! - [`is_normal_form`] judges an answer by the definition of the normal form, slowly.
+//! - [`first_error`] says why a recursion group can't be read.
+//! - [`laws`] has the theorems: there is one normal form, a second round changes nothing, and moves
+//!   of three kinds lead to it.
+#![tactic(auto)]
+
+mod error;
+mod group_error;
+pub mod laws;
+mod verify;
+
+pub use error::ReadError;
+pub use group_error::first_error;
+pub use verify::is_normal_form;

@@ -1,0 +1,2 @@
+-- The indices that ids are given.
+pub mod NextIndex

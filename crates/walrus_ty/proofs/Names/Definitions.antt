@@ -1,0 +1,84 @@
+-- Renaming and the order of definitions.
+use Rattle.std.proofs.Common.{◌≡◌, ℕ, ◌<◌, ap, sym, ◌∙◌, inl, inr, ◌⊎◌, subst}
+use Rattle.std.specs.declared.cmp.Ordering.TheVariants.{Less, Equal}
+use Rattle.std.specs.Ordering.{nat_cmp}
+use Rattle.std.specs.Cmp.{IsTotalOrder}
+use Rattle.walrus_ty.specs.Definition.{Definition, Names, renamed, definition_cmp}
+use Rattle.walrus_ty.proofs.Spelling.Tokens as token
+use Rattle.walrus_ty.proofs.Spelling.Spelled.{spelled, renames, orders, told_if_named, named_if_told}
+use Rattle.walrus_ty.proofs.Spelling.Injective.{told}
+
+-- renamings that agree on the names
+pub renamed_agree :
+    (u v : ℕ → ℕ) (d : Definition) → ((k : ℕ) → Names d k → u k ≡ v k) → renamed u d ≡ renamed v d
+renamed_agree u v d h = told (renamed u d) (renamed v d)
+    (sym (renames u d) ∙ (token.retold_agree u v (spelled d) (λ k t. h k (named_if_told d k t)) ∙ renames v d))
+
+pub renamed_id : (d : Definition) → renamed (λ k. k) d ≡ d
+renamed_id d = told (renamed (λ k. k) d) d (sym (renames (λ k. k) d) ∙ token.retold_id (spelled d))
+
+pub renamed_twice :
+    (u v : ℕ → ℕ) (d : Definition) → renamed u (renamed v d) ≡ renamed (λ k. u (v k)) d
+renamed_twice u v d = told (renamed u (renamed v d)) (renamed (λ k. u (v k)) d)
+    (sym (renames u (renamed v d)) ∙ (ap (token.retold u) (sym (renames v d)) ∙ (token.retold_twice u v (spelled d) ∙ renames (λ k. u (v k)) d)))
+
+-- what a renamed definition names
+pub Names-renamed : (u : ℕ → ℕ) (d : Definition) (k : ℕ) → Names d k → Names (renamed u d) (u k)
+Names-renamed u d k h = named_if_told (renamed u d) (u k)
+    (subst (λ (w : token.Spelling). token.Tells w (u k)) (renames u d) (token.Tells-retold u (spelled d) k (told_if_named d k h)))
+
+pub named_before :
+    (u : ℕ → ℕ) (d : Definition) (k : ℕ) → Names (renamed u d) k → (l : ℕ) × Names d l × (u l ≡ k)
+named_before u d k h =
+    let r = token.named_before u (spelled d) k (subst (λ (w : token.Spelling). token.Tells w k) (sym (renames u d)) (told_if_named (renamed u d) k h)) in
+    (r.0, named_if_told d r.0 r.1, r.2)
+
+-- definitions that u makes equal are made equal by v, which equates what u does
+pub transfer :
+    (u v : ℕ → ℕ) (d e : Definition) → ((k l : ℕ) → Names d k → Names e l → u k ≡ u l → v k ≡ v l) →
+    renamed u d ≡ renamed u e → renamed v d ≡ renamed v e
+transfer u v d e h p = told (renamed v d) (renamed v e)
+    (sym (renames v d) ∙ (token.transfer u v (spelled d) (spelled e) (λ k l i j. h k l (named_if_told d k i) (named_if_told e l j))
+    (renames u d ∙ (ap spelled p ∙ sym (renames u e))) ∙ renames v e))
+
+-- the order of renamed definitions, by their spellings
+renamed_orders :
+    (u : ℕ → ℕ) (d e : Definition) →
+    definition_cmp (renamed u d) (renamed u e) ≡
+    token.spelling_cmp (token.retold u (spelled d)) (token.retold u (spelled e))
+renamed_orders u d e = sym (orders (renamed u d) (renamed u e)) ∙ (ap (λ w. token.spelling_cmp w (spelled (renamed u e))) (sym (renames u d)) ∙ ap (token.spelling_cmp (token.retold u (spelled d))) (sym (renames u e)))
+
+-- two renamings that order each name of d and each name of e alike order d and e alike
+pub cmp_agree :
+    (u v : ℕ → ℕ) (d e : Definition) →
+    ((k l : ℕ) → Names d k → Names e l → nat_cmp (u k) (u l) ≡ nat_cmp (v k) (v l)) →
+    definition_cmp (renamed u d) (renamed u e) ≡ definition_cmp (renamed v d) (renamed v e)
+cmp_agree u v d e h = renamed_orders u d e ∙ (token.cmp_agree u v (spelled d) (spelled e) (λ k l i j. h k l (named_if_told d k i) (named_if_told e l j)) ∙ sym (renamed_orders v d e))
+
+-- a renaming that sends each name of d below each name of e orders them as any other does, or puts
+-- d first
+pub cmp_or_less :
+    (u v : ℕ → ℕ) (d e : Definition) → ((k l : ℕ) → Names d k → Names e l → u k < u l) →
+    (definition_cmp (renamed u d) (renamed u e) ≡ definition_cmp (renamed v d) (renamed v e)) ⊎
+    (definition_cmp (renamed u d) (renamed u e) ≡ Less)
+cmp_or_less u v d e h = elim (token.cmp_or_less u v (spelled d) (spelled e) (λ k l i j. h k l (named_if_told d k i) (named_if_told e l j))) [
+  | inl x ↦ inl (renamed_orders u d e ∙ (x ∙ sym (renamed_orders v d e)))
+  | inr x ↦ inr (renamed_orders u d e ∙ x)
+]
+
+-- the order is total, and ties are the same
+pub definitions_total : IsTotalOrder definition_cmp
+definitions_total = let o = token.spellings_total in record {
+  antisymm = λ x y. rw (← orders x y, ← orders y x) (o.antisymm (spelled x) (spelled y));
+  trans = λ x y z h i. sym (orders x z) ∙ o.trans (spelled x) (spelled y) (spelled z) (orders x y ∙ h) (orders y z ∙ i);
+  congr = λ x y z h. sym (orders x z) ∙ (o.congr (spelled x) (spelled y) (spelled z) (orders x y ∙ h) ∙ orders y z);
+}
+
+pub definition_exact : (d e : Definition) → definition_cmp d e ≡ Equal → d ≡ e
+definition_exact d e h = told d e (token.spelling_exact (spelled d) (spelled e) (orders d e ∙ h))
+
+pub cmp_same : {a b c d : Definition} → a ≡ c → b ≡ d → definition_cmp a b ≡ definition_cmp c d
+cmp_same {b = b} {c = c} p q = ap (λ x. definition_cmp x b) p ∙ ap (definition_cmp c) q
+
+pub names_same : {d e : Definition} (k : ℕ) → d ≡ e → Names d k → Names e k
+names_same k p h = subst (λ (x : Definition). Names x k) p h

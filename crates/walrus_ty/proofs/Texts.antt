@@ -1,0 +1,2 @@
+-- The printed texts of types.
+pub mod ReadBack

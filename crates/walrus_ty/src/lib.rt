@@ -1,0 +1,31 @@
+//! Types of WebAssembly modules as data, and the records of a type section.
+//!
+//! - [`Type`] is a type of a module, which names others by id.
+//! - [`GroupAt`] and [`EntryAt`] are the records of a type section, which name types by index.
+//!   [`IndicesToIds`] and [`IdsToIndices`] lead from one to the other.
+//! - [`laws`] and [`record_laws`] have the theorems: how types and records compare, and that their
+//!   texts and contents tell them.
+#![tactic(auto)]
+
+mod convert;
+mod error;
+mod indices;
+pub mod laws;
+mod listed;
+pub mod record_laws;
+mod records;
+mod ty;
+
+pub use convert::SubType;
+pub use error::{FromRecordError, NoIndex, ToRecordError, UnknownIndex};
+pub use indices::{
+    Data, DataId, Element, ElementId, Function, FunctionId, Global, GlobalId, IdsToIndices,
+    IndicesToIds, Memory, MemoryId, Table, TableId, Tag, TagId, TypeId,
+};
+pub use listed::Listed;
+pub use records::{CompAt, EntryAt, FieldAt, GroupAt, HeapAt, RefAt, StorageAt, ValAt};
+pub use ty::{
+    AbstractHeapType, ArrayType, CompositeType, Field, FieldType, FunctionType, Heap, HeapType,
+    RefType, Reference, Storage, StorageType, StructType, Type, Val, ValType,
+};
+pub use walrus_arena::Id;

@@ -1,0 +1,172 @@
+-- What is written for a table obeys the rule on pairs of its groups.
+use Rattle.std.proofs.Common.{◌≡◌, ℕ, ◌+◌, ◌<◌, ◌≤◌, List, take, length, refl, sym, ap, subst, ◌∙◌, arith, Some, None, Option, IsSome, true, false, Bool, [], ◌∷◌, nat_eq, length-append, All, get_or}
+use Rattle.std.specs.List.{slice_get, slice_index, list_any}
+use Rattle.std.proofs.lemmas.Map.Steps.{length-le_from_distinct_below}
+use Rattle.walrus_types.proofs.Tables.Places.{any_has, live_below}
+use Rattle.walrus_types.proofs.Tables.DeadGroup.{distinct_from_once}
+use Rattle.walrus_types.proofs.Emission.WrittenFew.{written-cons}
+use Rattle.walrus_sections.specs.Refusal.{written_count}
+use Rattle.std.proofs.lemmas.List.{get_or_default, get_or-map, length-map}
+use Rattle.std.proofs.lemmas.Option.{slice_get-get_or}
+use Rattle.walrus_arena.specs.Arena.{IsLive}
+use Rattle.walrus_ty.specs.declared.records.GroupAt.{GroupAt}
+use Rattle.walrus_types.specs.declared.table.rec_group.RecGroup.{RecGroup}
+use Rattle.walrus_types.specs.declared.error.EmitError.{EmitError}
+use Rattle.walrus_types.specs.declared.error.EmitError.TheVariants as emit
+use Rattle.walrus_ty.specs.Definition.{Definition}
+use Rattle.walrus_ty.specs.Groups.{Section}
+use Rattle.walrus_sections.specs.SlotMap.{TypeGroup}
+use Rattle.walrus_sections.specs.Emission.{no_group, group_at, IsMember, IsEmission}
+use Rattle.walrus_ty.specs.Indices.{IndexMap}
+use Rattle.walrus_ty.specs.Lookups.{value_or_zero}
+use Rattle.walrus_types.specs.Table as table
+use Rattle.walrus_types.specs.Table.{Table, IsTable}
+use Rattle.walrus_types.specs.TableEmission.{contents, type_groups, definition_at, is_entry_at, written_types, IfNameMissing, IsWrittenId, IsEmitted, MissesFirst}
+use Rattle.walrus_types.specs.Steps.WrittenGroups.{AreWritten, FailsBy, IsApart, IsFirstMissingIn, IsWritingOrder, ids_in, in_order, written_in}
+use Rattle.walrus_types.proofs.Emission.IndexOfId.{Home, home, member_at}
+use Rattle.walrus_types.proofs.Emission.PairsOfGroups.{at_member, to_member, emission, none_missing, first_missing, placed_member}
+use Rattle.walrus_types.proofs.Emission.OrderFromSort.{live_member, single, same_member}
+
+module _ (t : Table) (known : IsTable t) (order : List ℕ) (ord : IsWritingOrder (type_groups t.groups) (definition_at t.types.slots) (is_entry_at t.types.slots) order) where
+  abbrev gs : List TypeGroup
+  gs = type_groups t.groups
+
+  abbrev def : ℕ → Definition
+  def = definition_at t.types.slots
+
+  at_zero : (k d : ℕ) → k < length order → get_or order k d ≡ slice_index order k
+  at_zero k d lt = get_or_default order k d 0 lt
+
+  some_member : (k : ℕ) → k < length order → (u : ℕ) × (i : ℕ) × IsMember gs (slice_index order k) u i
+  some_member k lt = let w : _ = ord.written k lt in (w.0, w.1, w.2)
+
+  pub within : All (λ g. g < length t.groups) order
+  within k d lt =
+      let m : _ = (some_member k lt).2 in
+      let many : length gs ≡ length t.groups = length-map t.groups _ in
+      subst (λ (n : ℕ). n < length t.groups) (sym (at_zero k d lt)) (omega (arith, m.group, many))
+
+  pub filled : All (λ g. 0 < length (group_at gs g).ids) order
+  filled k d lt =
+      let m : _ = (some_member k lt).2 in
+      subst (λ (n : ℕ). 0 < length (group_at gs n).ids) (sym (at_zero k d lt)) (omega (arith, m.place))
+
+  pub singles : All (λ (g : RecGroup). g.is_explicit ≡ false → length g.types ≤ 1) t.groups
+  singles k d lt = subst (λ (g : RecGroup). g.is_explicit ≡ false → length g.types ≤ 1) (get_or_default t.groups k table.no_rec_group d lt) (known.single k)
+
+  pub apart : IsApart (ids_in (in_order gs order))
+  apart p q i at_p at_q =
+      let h : Home (in_order gs order) p i = home (in_order gs order) p i at_p in
+      let k : Home (in_order gs order) q i = home (in_order gs order) q i at_q in
+      let m : _ = placed_member gs def (is_entry_at t.types.slots) order ord h.group h.place i h.is in
+      let n : _ = placed_member gs def (is_entry_at t.types.slots) order ord k.group k.place i k.is in
+      let same : _ = same_member t known (slice_index order h.group) h.place (slice_index order k.group) k.place i m.1 n.1 in
+      let groups_same : h.group ≡ k.group = m.2 k.group n.0 same.0 in
+      h.at ∙ (ap (λ (a : ℕ). length (ids_in (take a (in_order gs order))) + h.place) groups_same ∙ (ap (λ (u : ℕ). length (ids_in (take k.group (in_order gs order))) + u) same.1 ∙ sym k.at))
+
+  pub emitted : written_in gs order ≡ written_types t → (out : List GroupAt) (x : IndexMap) → AreWritten def (in_order gs order) out x → IsEmitted t out x
+  emitted many out x w = record {
+    count = w.indexes.count ∙ many;
+    section = subst (λ (n : Section). IsEmission gs def (is_entry_at t.types.slots) n (value_or_zero x.index)) (sym w.section) (emission gs def (is_entry_at t.types.slots) order ord (single t known) x w.indexes);
+    indexed = λ id. (from id, to id);
+    complete = none_missing gs def (is_entry_at t.types.slots) order ord w.complete;
+  }
+    where
+      from : (id : ℕ) → IsSome (x.index id) → IsWrittenId gs (is_entry_at t.types.slots) id
+      from id s =
+          let r : (p : ℕ) × (x.index id ≡ Some p) = found (x.index id) s in
+          let h : Home (in_order gs order) r.0 id = home (in_order gs order) r.0 id ((w.indexes.index id r.0).0 r.1) in
+          let m : _ = placed_member gs def (is_entry_at t.types.slots) order ord h.group h.place id h.is in
+          (slice_index order h.group, h.place, ord.written h.group m.0, m.1)
+        where
+          found : (o : Option ℕ) → IsSome o → (p : ℕ) × (o ≡ Some p)
+          found None h = let z : ⊥ = cc in absurd z
+          found (Some p) h = (p, refl)
+
+      to : (id : ℕ) → IsWrittenId gs (is_entry_at t.types.slots) id → IsSome (x.index id)
+      to id g =
+          let o : _ = ord.onto g.0 g.2 in
+          let at : slice_get (group_at (in_order gs order) o.0).ids g.1 ≡ Some id = ap (λ (y : TypeGroup). slice_get y.ids g.1) (get_or-map (group_at gs) order o.0 0 no_group o.1 ∙ ap (group_at gs) o.2) ∙ at_member gs g.0 g.1 id g.3 in
+          let e : x.index id ≡ Some (length (ids_in (take o.0 (in_order gs order))) + g.1) = (w.indexes.index id _).1 (member_at (in_order gs order) o.0 g.1 id at) in
+          rw e refl
+
+  pub misses : (e : EmitError) → FailsBy e (IsFirstMissingIn def (in_order gs order)) → FailsBy e (MissesFirst t)
+  misses (emit.NoIndex i k) h = first_missing gs def (is_entry_at t.types.slots) order ord i k h
+  misses emit.TooMany h = h
+  misses emit.Memory h = h
+
+-- each type of a group is live
+pub live_groups :
+    (t : Table) → IsTable t → All (λ (g : RecGroup). All (IsLive t.types.slots) g.types) t.groups
+live_groups t known k d lt u e in_u =
+    let same : table.rec_group_at t.groups k ≡ get_or t.groups k d = get_or_default t.groups k table.no_rec_group d lt in
+    let P : RecGroup → Type 0 = λ g. slice_get g.types u ≡ Some (get_or (get_or t.groups k d).types u e) in
+    known.live k u (get_or (get_or t.groups k d).types u e) (subst P (sym same) (slice_get-get_or (get_or t.groups k d).types u e in_u))
+
+-- the groups that are written, one by one
+module _ (t : Table) (known : IsTable t) (order : List ℕ) (ord : IsWritingOrder (type_groups t.groups) (definition_at t.types.slots) (is_entry_at t.types.slots) order) (k : ℕ) (d : TypeGroup) (lt : k < length (in_order (type_groups t.groups) order)) where
+  below : k < length order
+  below = omega (arith, lt, length-map order (group_at (type_groups t.groups)))
+
+  inside : get_or order k 0 < length t.groups
+  inside = within t known order ord k 0 below
+
+  here : get_or (in_order (type_groups t.groups) order) k d ≡ contents (get_or t.groups (get_or order k 0) table.no_rec_group)
+  here = get_or-map (group_at (type_groups t.groups)) order k 0 d below ∙ get_or-map contents t.groups (get_or order k 0) table.no_rec_group no_group inside
+
+  pub live_in_order : All (IsLive t.types.slots) (get_or (in_order (type_groups t.groups) order) k d).ids
+  live_in_order = subst (λ (g : TypeGroup). All (IsLive t.types.slots) g.ids) (sym here) (live_groups t known (get_or order k 0) table.no_rec_group inside)
+
+  pub filled_in_order : 0 < length (get_or (in_order (type_groups t.groups) order) k d).ids
+  filled_in_order = subst (λ (g : TypeGroup). 0 < length g.ids) (sym (get_or-map (group_at (type_groups t.groups)) order k 0 d below)) (filled t known order ord k 0 below)
+
+pub as_ordered :
+    (from to : List RecGroup) (places order : List ℕ) (out ws : List TypeGroup) → from ≡ to →
+    places ≡ order → out ≡ in_order (type_groups from) places → ws ≡ out →
+    ws ≡ in_order (type_groups to) order
+as_ordered from to places order out ws e f is same = same ∙ (is ∙ (ap (λ (gs : List RecGroup). in_order (type_groups gs) places) e ∙ ap (in_order (type_groups to)) f))
+
+pub carried :
+    {A B : Type 0} (P : A → B → Type 0) (a a' : A) (b b' : B) → a ≡ a' → b ≡ b' → P a b → P a' b'
+carried P a a' b b' e f h = subst (λ x. P x b') e (subst (P a) f h)
+
+pub names_missing : (P : ℕ → ℕ → Type 0) (e : EmitError) → FailsBy e P → IfNameMissing e P
+names_missing P (emit.NoIndex i k) h = h
+names_missing P emit.TooMany h = absurd h
+names_missing P emit.Memory h = tt
+
+pub not_too_many : (P : ℕ → ℕ → Type 0) (e : EmitError) → FailsBy e P → ¬ (e ≡ emit.TooMany)
+not_too_many P (emit.NoIndex i k) h f = cc
+not_too_many P emit.TooMany h f = h
+not_too_many P emit.Memory h f = cc
+
+-- no more types are written than the table has slots
+
+count_ids : (e : ℕ → Bool) (gs : List TypeGroup) → written_count e gs ≤ length (ids_in gs)
+count_ids e [] = omega arith
+count_ids e (g ∷ gs) = omega (arith, written-cons e g gs, count_ids e gs, length-append g.ids (ids_in gs))
+
+module _ (t : Table) (known : IsTable t) where
+  abbrev all_ids : List ℕ
+  all_ids = ids_in (type_groups t.groups)
+
+  all_apart : (p q i : ℕ) → slice_get all_ids p ≡ Some i → slice_get all_ids q ≡ Some i → p ≡ q
+  all_apart p q i at_p at_q =
+      let gs : List TypeGroup = type_groups t.groups in
+      let h : Home gs p i = home gs p i at_p in
+      let k : Home gs q i = home gs q i at_q in
+      let same : _ = same_member t known h.group h.place k.group k.place i (to_member gs h.group h.place i h.is) (to_member gs k.group k.place i k.is) in
+      h.at ∙ (ap (λ (a : ℕ). length (ids_in (take a gs)) + h.place) same.0 ∙ (ap (λ (u : ℕ). length (ids_in (take k.group gs)) + u) same.1 ∙ sym k.at))
+
+  all_below : (i : ℕ) → list_any (nat_eq i) all_ids ≡ true → i < length t.types.slots
+  all_below i h =
+      let gs : List TypeGroup = type_groups t.groups in
+      let at : _ = any_has all_ids i h in
+      let m : Home gs at.0 i = home gs at.0 i at.1 in
+      live_below t.types.slots i (live_member t known m.group m.place i (to_member gs m.group m.place i m.is))
+
+  pub few_written : written_types t ≤ length t.types.slots
+  few_written =
+      let ids_few : length all_ids ≤ length t.types.slots = length-le_from_distinct_below all_ids (length t.types.slots) (distinct_from_once all_ids all_apart) all_below in
+      let fewer : written_types t ≤ length all_ids = count_ids (is_entry_at t.types.slots) (type_groups t.groups) in
+      omega (arith, ids_few, fewer)

@@ -1,0 +1,493 @@
+-- The order in which groups are sorted is the order in which they are written.
+use Rattle.std.proofs.Common.{◌≡◌, ℕ, zero, suc, ◌+◌, ◌<◌, ◌≤◌, ◌==◌, ◌||◌, ◌&&◌, List, [], ◌∷◌, ◌++◌, map, take, length, refl, sym, ap, subst, ◌∙◌, arith, Some, None, Option, option_map, IsSome, Bool, true, false, cond, not, get_or, eqb-true, eq-eqb, inl, inr}
+use Rattle.std.specs.List.{slice_get, slice_index, list_all, list_any, filter, range_with_len}
+use Rattle.std.specs.List.Sorted.{IsPermutation}
+use Rattle.std.specs.Option.{is_none}
+use Rattle.std.specs.Ordering.{ordering_then}
+use Rattle.std.specs.declared.cmp.Ordering.{Ordering}
+use Rattle.std.specs.declared.cmp.Ordering.TheVariants.{Less, Equal, Greater}
+use Rattle.std.proofs.lemmas.List.{length-map, take_more, append-nil}
+use Rattle.std.proofs.lemmas.List.Elements.{filter-append}
+use Rattle.std.proofs.lemmas.Option.{slice_get-map, slice_get_within, slice_get-get_or, get_or_from_slice_get}
+use Rattle.std.proofs.lemmas.Bool.{cases_lt}
+use Rattle.std.proofs.Math.Path.{fun_ext}
+use Rattle.walrus_arena.specs.Arena.{Slots, get, IsLive}
+use Rattle.walrus_types.specs.declared.table.rec_group.RecGroup.{RecGroup}
+use Rattle.walrus_ty.specs.Definition.{Definition, Names, names_of, definition_cmp}
+use Rattle.walrus_ty.specs.Value.{bool_cmp}
+use Rattle.walrus_sections.specs.SlotMap.{TypeGroup}
+use Rattle.walrus_sections.specs.Emission as emission
+use Rattle.walrus_sections.specs.Emission.{IsMember, IsGrouped, IsWritten, IsFreeGroup, IsInversion}
+use Rattle.walrus_sections.specs.Emission.{IsWrittenBefore}
+use Rattle.walrus_types.specs.Steps.Neighbours.{IsTurnedRound, StandsBefore, OrdersNeighbours}
+use Rattle.walrus_ty.specs.Types.{ModuleType, type_definition}
+use Rattle.walrus_types.specs.Table as table
+use Rattle.walrus_types.specs.Table.{Table, IsTable}
+use Rattle.walrus_types.specs.TableEmission.{type_groups, slot_definition, definition_at, slot_is_entry, is_entry_at}
+use Rattle.walrus_types.specs.Steps.FreeGroups.{is_own_or_dead, slot_names_none_other, is_free_of, is_free, head, is_marked, is_written_at, is_written_group}
+use Rattle.walrus_types.specs.Steps.WrittenGroups.{IsWritingOrder, written_in}
+use Rattle.walrus_sections.specs.Refusal.{written_count}
+use Rattle.walrus_types.proofs.Emission.WrittenCount.{count_of_order}
+use Rattle.walrus_ty.proofs.Orders.Types.{type_cmp, type_is}
+use Rattle.walrus_types.proofs.Emission.PairsOfGroups.{at_member, to_member}
+use Rattle.walrus_ty.proofs.Basics.{some_inj, then_less}
+
+-- tests of all and of some elements
+
+all_at :
+    {X : Type 0} (p : X → Bool) (xs : List X) (u : ℕ) (x : X) → list_all p xs ≡ true →
+    slice_get xs u ≡ Some x → p x ≡ true
+all_at p [] u x h at = cc
+all_at p (y ∷ xs) zero x h at = ap p (sym (some_inj at)) ∙ left (p y) (list_all p xs) h
+  where
+    left : (a b : Bool) → (a && b) ≡ true → a ≡ true
+    left true b e = refl
+    left false b e = cc
+all_at p (y ∷ xs) (suc u) x h at = all_at p xs u x (right (p y) (list_all p xs) h) at
+  where
+    right : (a b : Bool) → (a && b) ≡ true → b ≡ true
+    right true b e = e
+    right false b e = cc
+
+all_from :
+    {X : Type 0} (p : X → Bool) (xs : List X) →
+    ((u : ℕ) (x : X) → slice_get xs u ≡ Some x → p x ≡ true) → list_all p xs ≡ true
+all_from p [] each = refl
+all_from p (y ∷ xs) each = both (p y) (list_all p xs) (each 0 y refl) (all_from p xs (λ u x h. each (suc u) x h))
+  where
+    both : (a b : Bool) → a ≡ true → b ≡ true → (a && b) ≡ true
+    both a b e f = rw (e, f) refl
+
+any_at :
+    {X : Type 0} (p : X → Bool) (xs : List X) → list_any p xs ≡ true →
+    (u : ℕ) × (x : X) × (slice_get xs u ≡ Some x) × (p x ≡ true)
+any_at p [] h = cc
+any_at {X = X} p (y ∷ xs) h = by (p y) refl h (λ f. any_at p xs f)
+  where
+    by : (b : Bool) → p y ≡ b → (b || list_any p xs) ≡ true → (list_any p xs ≡ true → (u : ℕ) × (x : X) × (slice_get xs u ≡ Some x) × (p x ≡ true)) → (u : ℕ) × (x : X) × (slice_get (y ∷ xs) u ≡ Some x) × (p x ≡ true)
+    by true e f rest = (0, y, refl, e)
+    by false e f rest = let r : _ = rest f in (suc r.0, r.1, r.2, r.3)
+
+any_from :
+    {X : Type 0} (p : X → Bool) (xs : List X) (u : ℕ) (x : X) → slice_get xs u ≡ Some x →
+    p x ≡ true → list_any p xs ≡ true
+any_from p [] u x at h = cc
+any_from p (y ∷ xs) zero x at h = let e : y ≡ x = some_inj at in let f : p y ≡ true = ap p e ∙ h in rw f refl
+any_from p (y ∷ xs) (suc u) x at h = by (p y) (any_from p xs u x at h)
+  where
+    by : (b : Bool) → list_any p xs ≡ true → (b || list_any p xs) ≡ true
+    by true f = refl
+    by false f = f
+
+-- lists that are filtered
+
+filter_at :
+    (p : ℕ → Bool) (xs : List ℕ) (a x : ℕ) → slice_get (filter p xs) a ≡ Some x →
+    (p x ≡ true) × (b : ℕ) × (slice_get xs b ≡ Some x)
+filter_at p [] a x h = cc
+filter_at p (y ∷ xs) a x h = by (p y) a refl (λ c f. filter_at p xs c x f) h
+  where
+    by : (b : Bool) (a : ℕ) → p y ≡ b → ((c : ℕ) → slice_get (filter p xs) c ≡ Some x → (p x ≡ true) × (b : ℕ) × (slice_get xs b ≡ Some x)) → slice_get (cond b (y ∷ filter p xs) (filter p xs)) a ≡ Some x → (p x ≡ true) × (b : ℕ) × (slice_get (y ∷ xs) b ≡ Some x)
+    by true zero e rest f = (ap p (sym (some_inj f)) ∙ e, 0, f)
+    by true (suc a) e rest f = let r : _ = rest a f in (r.0, suc r.1, r.2)
+    by false a e rest f = let r : _ = rest a f in (r.0, suc r.1, r.2)
+
+filter_onto :
+    (p : ℕ → Bool) (xs : List ℕ) (b x : ℕ) → slice_get xs b ≡ Some x → p x ≡ true →
+    (a : ℕ) × (slice_get (filter p xs) a ≡ Some x)
+filter_onto p [] b x at h = cc
+filter_onto p (y ∷ xs) zero x at h = let f : p y ≡ true = ap p (some_inj at) ∙ h in (0, rw f at)
+filter_onto p (y ∷ xs) (suc b) x at h = by (p y) (filter_onto p xs b x at h)
+  where
+    by : (c : Bool) → ((a : ℕ) × (slice_get (filter p xs) a ≡ Some x)) → (a : ℕ) × (slice_get (cond c (y ∷ filter p xs) (filter p xs)) a ≡ Some x)
+    by true r = (suc r.0, r.1)
+    by false r = r
+
+-- two that stand in this order in the filtered list do so in the whole
+record Pair (xs : List ℕ) (x y : ℕ) : Type 0 where
+  pub first : ℕ
+  pub second : ℕ
+  pub order : first < second
+  pub at_first : slice_get xs first ≡ Some x
+  pub at_second : slice_get xs second ≡ Some y
+
+pair_later : (z : ℕ) (xs : List ℕ) (x y : ℕ) → Pair xs x y → Pair (z ∷ xs) x y
+pair_later z xs x y r = record { first = suc r.first; second = suc r.second; order = omega (arith, r.order); at_first = r.at_first; at_second = r.at_second }
+
+filter_pair :
+    (p : ℕ → Bool) (xs : List ℕ) (a b x y : ℕ) → a < b → slice_get (filter p xs) a ≡ Some x →
+    slice_get (filter p xs) b ≡ Some y → Pair xs x y
+filter_pair p [] a b x y lt h k = cc
+filter_pair p (z ∷ xs) a b x y lt h k = by (p z) a b (λ c d l f g. filter_pair p xs c d x y l f g) lt h k
+  where
+    by : (c : Bool) (a b : ℕ) → ((c d : ℕ) → c < d → slice_get (filter p xs) c ≡ Some x → slice_get (filter p xs) d ≡ Some y → Pair xs x y) → a < b → slice_get (cond c (z ∷ filter p xs) (filter p xs)) a ≡ Some x → slice_get (cond c (z ∷ filter p xs) (filter p xs)) b ≡ Some y → Pair (z ∷ xs) x y
+    by true a zero rest lt f g = absurd (omega (arith, lt))
+    by true zero (suc b) rest lt f g = let r : _ = filter_at p xs b y g in record { first = 0; second = suc r.1; order = omega arith; at_first = f; at_second = r.2 }
+    by true (suc a) (suc b) rest lt f g = pair_later z xs x y (rest a b (omega (arith, lt)) f g)
+    by false a b rest lt f g = pair_later z xs x y (rest a b lt f g)
+
+-- the groups of the table, by ids
+
+ids_at :
+    (groups : List RecGroup) (g : ℕ) →
+    (emission.group_at (type_groups groups) g).ids ≡ (table.rec_group_at groups g).types
+ids_at [] g = refl
+ids_at (x ∷ groups) zero = refl
+ids_at (x ∷ groups) (suc g) = ids_at groups g
+
+explicit_at :
+    (groups : List RecGroup) (g : ℕ) → g < length groups →
+    (emission.group_at (type_groups groups) g).is_explicit ≡
+    (table.rec_group_at groups g).is_explicit
+explicit_at [] g h = absurd (omega (arith, h))
+explicit_at (x ∷ groups) zero h = refl
+explicit_at (x ∷ groups) (suc g) h = explicit_at groups g (omega (arith, h))
+
+-- a type that names no live type but its own
+
+own_or_dead :
+    (slots : Slots ModuleType) (i k : ℕ) → is_own_or_dead slots i k ≡ true → IsLive slots k → k ≡ i
+own_or_dead slots i k h live = by (k == i) (get slots k) refl h live
+  where
+    by : (b : Bool) (o : Option ModuleType) → (k == i) ≡ b → (b || is_none o) ≡ true → IsSome o → k ≡ i
+    by true o e f l = eqb-true k i e
+    by false None e f l = let z : ⊥ = cc in absurd z
+    by false (Some t) e f l = cc
+
+from_own_or_dead :
+    (slots : Slots ModuleType) (i k : ℕ) → (IsLive slots k → k ≡ i) →
+    is_own_or_dead slots i k ≡ true
+from_own_or_dead slots i k h = by (get slots k) h
+  where
+    by : (o : Option ModuleType) → (IsSome o → k ≡ i) → ((k == i) || is_none o) ≡ true
+    by None f = any (k == i)
+      where
+        any : (b : Bool) → (b || true) ≡ true
+        any true = refl
+        any false = refl
+    by (Some t) f = let e : (k == i) ≡ true = eq-eqb k i (f refl) in rw e refl
+
+no_names :
+    (o : Option ModuleType) (slots : Slots ModuleType) (i k : ℕ) →
+    slot_names_none_other slots i o ≡ true → Names (slot_definition o) k → IsLive slots k → k ≡ i
+no_names None slots i k h n live = absurd (omega (arith, n.1))
+no_names (Some t) slots i k h n live = own_or_dead slots i k (all_at (is_own_or_dead slots i) (names_of (type_definition t)) n.0 k h (slice_get-get_or (names_of (type_definition t)) n.0 k n.1 ∙ ap (λ (m : ℕ). Some m) n.2)) live
+
+from_names :
+    (o : Option ModuleType) (slots : Slots ModuleType) (i : ℕ) →
+    ((k : ℕ) → Names (slot_definition o) k → IsLive slots k → k ≡ i) →
+    slot_names_none_other slots i o ≡ true
+from_names None slots i h = refl
+from_names (Some t) slots i h = all_from (is_own_or_dead slots i) (names_of (type_definition t)) (λ u k at. from_own_or_dead slots i k (λ live. h k (u, slice_get_within (names_of (type_definition t)) u k at, get_or_from_slice_get (names_of (type_definition t)) u k k at) live))
+
+and_left : (a b : Bool) → (not a && b) ≡ true → a ≡ false
+and_left true b h = cc
+and_left false b h = refl
+
+and_right : (a b : Bool) → (not a && b) ≡ true → b ≡ true
+and_right true b h = cc
+and_right false b h = h
+
+-- what a free list of ids says
+record IsFreeList (slots : Slots ModuleType) (e : Bool) (ids : List ℕ) (u i : ℕ) : Type 0 where
+  pub implicit : e ≡ false
+  pub first : u ≡ 0
+  pub only : (v j : ℕ) → slice_get ids v ≡ Some j → j ≡ i
+  pub own : slot_names_none_other slots i (get slots i) ≡ true
+
+free_list :
+    (slots : Slots ModuleType) (e : Bool) (ids : List ℕ) (u i : ℕ) → is_free_of slots e ids ≡ true →
+    slice_get ids u ≡ Some i → IsFreeList slots e ids u i
+free_list slots e [] u i h at = cc
+free_list slots e (j ∷ []) zero i h at =
+    let same : j ≡ i = some_inj at in
+    record {
+      implicit = and_left e (slot_names_none_other slots j (get slots j)) h;
+      first = refl;
+      only = one;
+      own = subst (λ (n : ℕ). slot_names_none_other slots n (get slots n) ≡ true) same (and_right e (slot_names_none_other slots j (get slots j)) h);
+    }
+  where
+    one : (v k : ℕ) → slice_get (j ∷ []) v ≡ Some k → k ≡ i
+    one zero k f = sym (some_inj f) ∙ some_inj at
+    one (suc v) k f = cc
+free_list slots e (j ∷ []) (suc u) i h at = cc
+free_list slots e (j ∷ k ∷ ids) u i h at = cc
+
+from_free_list :
+    (slots : Slots ModuleType) (e : Bool) (ids : List ℕ) →
+    ((u i : ℕ) → slice_get ids u ≡ Some i →
+    (e ≡ false) × (slot_names_none_other slots i (get slots i) ≡ true)) →
+    (e ≡ false → length ids ≤ 1) → is_free_of slots e ids ≡ true
+from_free_list slots e [] each single = refl
+from_free_list slots e (j ∷ []) each single = let r : _ = each 0 j refl in let f : e ≡ false = r.0 in let own : slot_names_none_other slots j (get slots j) ≡ true = r.1 in rw (f, own) refl
+from_free_list slots e (j ∷ k ∷ ids) each single = let le : _ = single (each 0 j refl).0 in absurd (omega (arith, le))
+
+then_equal : (a : Ordering) → ordering_then a Equal ≡ Less → a ≡ Less
+then_equal Less h = refl
+then_equal Equal h = cc
+then_equal Greater h = cc
+
+module _ (t : Table) (is : IsTable t) where
+  abbrev slots : Slots ModuleType
+  slots = t.types.slots
+
+  abbrev groups : List RecGroup
+  groups = t.groups
+
+  abbrev gs : List TypeGroup
+  gs = type_groups groups
+
+  abbrev def : ℕ → Definition
+  def = definition_at slots
+
+  abbrev entry : ℕ → Bool
+  entry = is_entry_at slots
+
+  many : length gs ≡ length groups
+  many = length-map groups _
+
+  in_table : (g u i : ℕ) → IsMember gs g u i → table.IsIdAt groups g u i
+  in_table g u i m = ap (λ (ids : List ℕ). slice_get ids u) (sym (ids_at groups g)) ∙ at_member gs g u i m
+
+  from_table : (g u i : ℕ) → table.IsIdAt groups g u i → IsMember gs g u i
+  from_table g u i m = to_member gs g u i (ap (λ (ids : List ℕ). slice_get ids u) (ids_at groups g) ∙ m)
+
+  pub live_member : (g u i : ℕ) → IsMember gs g u i → IsLive slots i
+  live_member g u i m = is.live g u i (in_table g u i m)
+
+  live_grouped : (k : ℕ) → IsGrouped gs k → IsLive slots k
+  live_grouped k x = live_member x.0 x.1 k x.2
+
+  grouped_live : (k : ℕ) → IsLive slots k → IsGrouped gs k
+  grouped_live k l = let r : _ = is.grouping k l in (r.0, r.1, from_table r.0 r.1 k r.2)
+
+  in_groups : (g u i : ℕ) → IsMember gs g u i → g < length groups
+  in_groups g u i m = omega (arith, m.group, many)
+
+  pub single : (g : ℕ) → (emission.group_at gs g).is_explicit ≡ false → length (emission.group_at gs g).ids ≤ 1
+  single g e = elim (cases_lt g (length groups)) [
+    | inl x ↦ (let le : _ = is.single g (sym (explicit_at groups g x) ∙ e) in let same : _ = ap length (ids_at groups g) in omega (arith, le, same))
+    | inr x ↦ nothing (emission.group_at gs g).ids (λ i h. (let m : IsMember gs g 0 i = to_member gs g 0 i h in omega (arith, in_groups g 0 i m, x)))
+  ]
+    where
+      nothing : (ids : List ℕ) → ((i : ℕ) → slice_get ids 0 ≡ Some i → ⊥) → length ids ≤ 1
+      nothing [] f = omega arith
+      nothing (i ∷ ids) f = absurd (f i refl)
+
+  -- the test for free groups
+
+  abbrev free : List Bool
+  free = map (is_free slots) groups
+
+  test_at : (a : ℕ) → a < length groups → slice_get free a ≡ Some (is_free slots (table.rec_group_at groups a))
+  test_at a h = slice_get-map (is_free slots) groups a ∙ ap (option_map (is_free slots)) (slice_get-get_or groups a table.no_rec_group h)
+
+  free_group : (a u i : ℕ) → slice_get free a ≡ Some true → IsMember gs a u i → IsFreeGroup gs def a
+  free_group a u i h m =
+      let below : a < length groups = in_groups a u i m in
+      let yes : is_free slots (table.rec_group_at groups a) ≡ true = some_inj (sym (test_at a below) ∙ h) in
+      let l : _ = free_list slots (table.rec_group_at groups a).is_explicit (table.rec_group_at groups a).types u i yes (in_table a u i m) in
+      record {
+        implicit = explicit_at groups a below ∙ l.implicit;
+        own = λ v j mem k n x.
+            (let l' : _ = free_list slots (table.rec_group_at groups a).is_explicit (table.rec_group_at groups a).types v j yes (in_table a v j mem) in
+            no_names (get slots j) slots j k l'.own n (live_grouped k x));
+      }
+
+  from_free_group : (a : ℕ) → a < length groups → ((u i : ℕ) → IsMember gs a u i → IsFreeGroup gs def a) → slice_get free a ≡ Some true
+  from_free_group a below each =
+      test_at a below ∙ ap (λ (b : Bool). Some b) (from_free_list slots (table.rec_group_at groups a).is_explicit (table.rec_group_at groups a).types (λ u i at.
+      (let m : IsMember gs a u i = from_table a u i at in let f : IsFreeGroup gs def a = each u i m in
+      (sym (explicit_at groups a below) ∙ f.implicit, from_names (get slots i) slots i (λ k n live. f.own u i m k n (grouped_live k live))))) (is.single a))
+
+  only_member : (a u i v j : ℕ) → slice_get free a ≡ Some true → IsMember gs a u i → IsMember gs a v j → j ≡ i
+  only_member a u i v j h m m' =
+      let yes : is_free slots (table.rec_group_at groups a) ≡ true = some_inj (sym (test_at a (in_groups a u i m)) ∙ h) in
+      (free_list slots (table.rec_group_at groups a).is_explicit (table.rec_group_at groups a).types u i yes (in_table a u i m)).only v j (in_table a v j m')
+
+  -- the type that stands for a group
+
+  heads_at : (g i : ℕ) (x : ModuleType) → IsMember gs g 0 i → get slots i ≡ Some x → slice_get (map (head slots) groups) g ≡ Some (Some x)
+  heads_at g i x m at =
+      slice_get-map (head slots) groups g ∙ (ap (option_map (head slots)) (slice_get-get_or groups g table.no_rec_group (in_groups g 0 i m)) ∙ ap (λ (o : Option ModuleType). Some o) (first (table.rec_group_at groups g).types (in_table g 0 i m)))
+    where
+      first : (ids : List ℕ) → slice_get ids 0 ≡ Some i → head slots (record { types = ids; is_explicit = (table.rec_group_at groups g).is_explicit }) ≡ Some x
+      first [] h = cc
+      first (j ∷ ids) h = ap (get slots) (some_inj h) ∙ at
+
+  -- a written group has a first type
+  record Headed (g : ℕ) : Type 0 where
+    pub id : ℕ
+    pub type : ModuleType
+    pub member : IsMember gs g 0 id
+    pub at : get slots id ≡ Some type
+
+  live_type : (i : ℕ) → IsLive slots i → (x : ModuleType) × (get slots i ≡ Some x)
+  live_type i l = by (get slots i) l
+    where
+      by : (o : Option ModuleType) → IsSome o → (x : ModuleType) × (o ≡ Some x)
+      by None h = let z : ⊥ = cc in absurd z
+      by (Some x) h = (x, refl)
+
+  headed : (g : ℕ) → IsWritten gs entry g → Headed g
+  headed g w =
+      let m : IsMember gs g w.0 w.1 = w.2 in
+      let i : ℕ = get_or (emission.group_at gs g).ids 0 0 in
+      let some : 0 < length (emission.group_at gs g).ids = omega (arith, m.place) in
+      let m0 : IsMember gs g 0 i = to_member gs g 0 i (slice_get-get_or (emission.group_at gs g).ids 0 0 some) in
+      let x : _ = live_type i (live_member g 0 i m0) in
+      record { id = i; type = x.0; member = m0; at = x.1 }
+
+  -- a free group that is written has no mark of an entry
+  unmarked : (g : ℕ) (w : IsWritten gs entry g) (h : Headed g) → slice_get free g ≡ Some true → h.type.is_for_function_entry ≡ false
+  unmarked g w h f =
+      let same : w.1 ≡ h.id = only_member g 0 h.id w.0 w.1 f h.member w.2 in
+      ap slot_is_entry (sym h.at) ∙ (ap entry (sym same) ∙ w.3)
+
+  less_is : (i j : ℕ) (x y : ModuleType) → get slots i ≡ Some x → get slots j ≡ Some y → definition_cmp (def j) (def i) ≡ definition_cmp (type_definition y) (type_definition x)
+  less_is i j x y at_i at_j = rw (at_i, at_j) refl
+
+  turned_round : (g h : ℕ) (a : Headed g) (b : Headed h) → IsInversion gs def g h → IsTurnedRound type_cmp free g a.type h b.type
+  turned_round g h a b tr = record {
+    all_free = λ c low high. from_free_group c (omega (arith, high, in_groups h 0 b.id b.member)) (λ u i m. tr.free c low high u i m);
+    less = type_is b.type a.type ∙ then_less _ _ (sym (less_is a.id b.id a.type b.type a.at b.at) ∙ tr.less 0 a.id 0 b.id a.member b.member);
+  }
+
+  from_turned_round : (g h : ℕ) (w : IsWritten gs entry g) (w' : IsWritten gs entry h) (a : Headed g) (b : Headed h) → g < h → IsTurnedRound type_cmp free g a.type h b.type → IsInversion gs def g h
+  from_turned_round g h w w' a b lt tr =
+      let free_g : slice_get free g ≡ Some true = tr.all_free g (omega arith) (omega (arith, lt)) in
+      let free_h : slice_get free h ≡ Some true = tr.all_free h (omega (arith, lt)) (omega arith) in
+      let ea : a.type.is_for_function_entry ≡ false = unmarked g w a free_g in
+      let eb : b.type.is_for_function_entry ≡ false = unmarked h w' b free_h in
+      let both : ordering_then (definition_cmp (type_definition b.type) (type_definition a.type)) Equal ≡ Less = ap (λ (p : Bool). ordering_then (definition_cmp (type_definition b.type) (type_definition a.type)) (bool_cmp false p)) (sym ea) ∙ (ap (λ (p : Bool). ordering_then (definition_cmp (type_definition b.type) (type_definition a.type)) (bool_cmp p a.type.is_for_function_entry)) (sym eb) ∙ (sym (type_is b.type a.type) ∙ tr.less)) in
+      let less : definition_cmp (def b.id) (def a.id) ≡ Less = less_is a.id b.id a.type b.type a.at b.at ∙ then_equal _ both in
+      record {
+        free = λ c low high u i m. free_group c u i (tr.all_free c low high) m;
+        less = λ u i v j m m'.
+            (let e : i ≡ a.id = only_member g 0 a.id u i free_g a.member m in
+            let f : j ≡ b.id = only_member h 0 b.id v j free_h b.member m' in
+            ap (λ (n : ℕ). definition_cmp (def n) (def i)) f ∙ (ap (λ (n : ℕ). definition_cmp (def b.id) (def n)) e ∙ less));
+      }
+
+  stands_from : (g h : ℕ) (w : IsWritten gs entry g) (w' : IsWritten gs entry h) (a : Headed g) (b : Headed h) → StandsBefore type_cmp free g a.type h b.type → IsWrittenBefore gs def g h
+  stands_from g h w w' a b (inl x) = inl (x.0, λ tr. x.1 (turned_round g h a b tr))
+  stands_from g h w w' a b (inr x) = inr (x.0, from_turned_round h g w' w b a x.0 x.1)
+
+  -- the test for written groups
+
+  abbrev written : ℕ → Bool
+  written = is_written_at slots groups
+
+  is_written_from : (g : ℕ) → written g ≡ true → IsWritten gs entry g
+  is_written_from g h =
+      let r : _ = any_at (λ i. not (entry i)) (table.rec_group_at groups g).types h in
+      (r.0, r.1, from_table g r.0 r.1 r.2, flip (entry r.1) r.3)
+    where
+      flip : (b : Bool) → not b ≡ true → b ≡ false
+      flip true e = cc
+      flip false e = refl
+
+  is_written_to : (g : ℕ) → IsWritten gs entry g → written g ≡ true
+  is_written_to g w = any_from (λ i. not (entry i)) (table.rec_group_at groups g).types w.0 w.1 (in_table g w.0 w.1 w.2) (ap not w.3)
+
+  module _ (order : List ℕ) (sorts : OrdersNeighbours type_cmp free (map (head slots) groups) order) where
+    abbrev kept : List ℕ
+    kept = filter written order
+
+    heads_many : length (map (head slots) groups) ≡ length groups
+    heads_many = length-map groups (head slots)
+
+    at_kept : (a : ℕ) → a < length kept → slice_get kept a ≡ Some (slice_index kept a)
+    at_kept a h = slice_get-get_or kept a 0 h
+
+    index_of : (xs : List ℕ) (i x : ℕ) → slice_get xs i ≡ Some x → slice_index xs i ≡ x
+    index_of xs i x h = get_or_from_slice_get xs i x 0 h
+
+    written_kept : (a : ℕ) → a < length kept → IsWritten gs entry (slice_index kept a)
+    written_kept a h = is_written_from (slice_index kept a) (filter_at written order a (slice_index kept a) (at_kept a h)).0
+
+    onto_kept : (g : ℕ) → IsWritten gs entry g → (a : ℕ) × (a < length kept) × (slice_index kept a ≡ g)
+    onto_kept g w =
+        let below : g < length (map (head slots) groups) = omega (arith, in_groups g w.0 w.1 w.2, heads_many) in
+        let r : _ = sorts.onto g below in
+        let at : slice_get order r.0 ≡ Some g = slice_get-get_or order r.0 0 r.1.0 ∙ ap (λ (n : ℕ). Some n) r.1.1 in
+        let k : _ = filter_onto written order r.0 g at (is_written_to g w) in
+        (k.0, slice_get_within kept k.0 g k.1, index_of kept k.0 g k.1)
+
+    stands_kept : (a b : ℕ) → a < b → b < length kept → IsWrittenBefore gs def (slice_index kept a) (slice_index kept b)
+    stands_kept a b lt below =
+        let g : ℕ = slice_index kept a in
+        let h : ℕ = slice_index kept b in
+        let below_a : a < length kept = omega (arith, lt, below) in
+        let p : Pair order g h = filter_pair written order a b g h lt (at_kept a below_a) (at_kept b below) in
+        let w : IsWritten gs entry g = written_kept a below_a in
+        let w' : IsWritten gs entry h = written_kept b below in
+        let x : Headed g = headed g w in
+        let y : Headed h = headed h w' in
+        let is_g : slice_index order p.first ≡ g = index_of order p.first g p.at_first in
+        let is_h : slice_index order p.second ≡ h = index_of order p.second h p.at_second in
+        let s : _ = sorts.stands p.first p.second p.order (slice_get_within order p.second h p.at_second) x.type y.type (ap (slice_get (map (head slots) groups)) is_g ∙ heads_at g x.id x.type x.member x.at) (ap (slice_get (map (head slots) groups)) is_h ∙ heads_at h y.id y.type y.member y.at) in
+        stands_from g h w w' x y (rw (is_g, is_h) at s)
+
+    pub writing_order : IsWritingOrder gs def entry kept
+    writing_order = record { written = written_kept; onto = onto_kept; stands = stands_kept }
+
+  pub same_member : (g u h v i : ℕ) → IsMember gs g u i → IsMember gs h v i → (g ≡ h) × (u ≡ v)
+  same_member g u h v i m n = is.once g u h v i (in_table g u i m) (in_table h v i n)
+
+  pub written_tests : (g : ℕ) → written g ≡ list_any (λ i. not (entry i)) (emission.group_at gs g).ids
+  written_tests g = ap (list_any (λ i. not (entry i))) (sym (ids_at groups g))
+
+  pub group_count : length gs ≡ length groups
+  group_count = many
+
+-- the same of lists that are equal to those of the table
+module _ (t : Table) (known : IsTable t) (groups : List RecGroup) (same : groups ≡ t.groups) (free : List Bool) (free_is : free ≡ map (is_free t.types.slots) groups) (heads : List (Option ModuleType)) (heads_are : heads ≡ map (head t.types.slots) groups) (order : List ℕ) (sorts : OrdersNeighbours type_cmp free heads order) (kept : List ℕ) (kept_is : kept ≡ filter (is_written_at t.types.slots groups) order) where
+  sorts_table : OrdersNeighbours type_cmp (map (is_free t.types.slots) t.groups) (map (head t.types.slots) t.groups) order
+  sorts_table =
+      subst (λ (fs : List Bool). OrdersNeighbours type_cmp fs (map (head t.types.slots) t.groups) order) (free_is ∙ ap (map (is_free t.types.slots)) same)
+      (subst (λ (hs : List (Option ModuleType)). OrdersNeighbours type_cmp free hs order) (heads_are ∙ ap (map (head t.types.slots)) same) sorts)
+
+  kept_table : kept ≡ filter (is_written_at t.types.slots t.groups) order
+  kept_table = kept_is ∙ ap (λ (gs : List RecGroup). filter (is_written_at t.types.slots gs) order) same
+
+  pub order_from_sort : IsWritingOrder (type_groups t.groups) (definition_at t.types.slots) (is_entry_at t.types.slots) kept
+  order_from_sort = subst (λ (xs : List ℕ). IsWritingOrder (type_groups t.groups) (definition_at t.types.slots) (is_entry_at t.types.slots) xs) (sym kept_table) (writing_order t known order sorts_table)
+
+  pub count_from_sort : written_in (type_groups t.groups) kept ≡ written_count (is_entry_at t.types.slots) (type_groups t.groups)
+  count_from_sort =
+      let long : length (map (head t.types.slots) t.groups) ≡ length (type_groups t.groups) = length-map t.groups (head t.types.slots) ∙ sym (group_count t known) in
+      let perm : IsPermutation (range_with_len 0 (length (type_groups t.groups))) order = subst (λ (n : ℕ). IsPermutation (range_with_len 0 n) order) long sorts_table.permutation in
+      ap (written_in (type_groups t.groups)) kept_table ∙ count_of_order (is_entry_at t.types.slots) (type_groups t.groups) (is_written_at t.types.slots t.groups) (written_tests t known) order perm
+
+-- the next place that is kept, or left out
+
+more_kept :
+    (p : ℕ → Bool) (xs : List ℕ) (i : ℕ) → i < length xs →
+    filter p (take (i + 1) xs) ≡ filter p (take i xs) ++ filter p (slice_index xs i ∷ [])
+more_kept p xs i below = ap (filter p) (take_more xs i 0 below) ∙ filter-append p (take i xs) (slice_index xs i ∷ [])
+
+pub kept_more :
+    (p : ℕ → Bool) (xs : List ℕ) (i : ℕ) (ys : List ℕ) → i < length xs → ys ≡ filter p (take i xs) →
+    p (slice_index xs i) ≡ true → ys ++ slice_index xs i ∷ [] ≡ filter p (take (i + 1) xs)
+kept_more p xs i ys below is test = sym (more_kept p xs i below ∙ (ap (λ (b : Bool). filter p (take i xs) ++ cond b (slice_index xs i ∷ []) []) test ∙ ap (λ (zs : List ℕ). zs ++ slice_index xs i ∷ []) (sym is)))
+
+pub left_out :
+    (p : ℕ → Bool) (xs : List ℕ) (i : ℕ) (ys : List ℕ) → i < length xs → ys ≡ filter p (take i xs) →
+    p (slice_index xs i) ≡ false → ys ≡ filter p (take (i + 1) xs)
+left_out p xs i ys below is test = is ∙ sym (more_kept p xs i below ∙ (ap (λ (b : Bool). filter p (take i xs) ++ cond b (slice_index xs i ∷ []) []) test ∙ append-nil (filter p (take i xs))))
+
+-- the marks of the groups that are written
+pub marks_are :
+    (slots : Slots ModuleType) (groups : List RecGroup) (n : ℕ) →
+    is_marked (map (is_written_group slots) groups) n ≡ is_written_at slots groups n
+marks_are s [] n = refl
+marks_are s (g ∷ rest) zero = refl
+marks_are s (g ∷ rest) (suc n) = marks_are s rest n
+
+pub marked_are_written :
+    (slots : Slots ModuleType) (groups : List RecGroup) (marks : List Bool) (order : List ℕ) →
+    marks ≡ map (is_written_group slots) groups →
+    filter (is_marked marks) order ≡ filter (is_written_at slots groups) order
+marked_are_written slots groups marks order is = ap (λ (ms : List Bool). filter (is_marked ms) order) is ∙ ap (λ (p : ℕ → Bool). filter p order) (fun_ext (marks_are slots groups))

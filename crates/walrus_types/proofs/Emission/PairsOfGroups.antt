@@ -1,0 +1,319 @@
+-- Groups that are written in order obey the rule on pairs of groups.
+use Rattle.std.proofs.Common.{◌≡◌, ℕ, zero, suc, ◌+◌, ◌<◌, ◌≤◌, List, [], ◌∷◌, map, take, length, refl, sym, ap, subst, ◌∙◌, arith, Some, Option, Bool, true, false, length-append, unwrap_or, inl, inr, Contains}
+use Rattle.std.specs.List.{slice_get, slice_index}
+use Rattle.std.proofs.lemmas.List.{length-map, get_or-map}
+use Rattle.std.proofs.lemmas.List.Elements.{Contains-append_left, Contains-append_right, Contains-append_cases}
+use Rattle.std.proofs.lemmas.Option.{slice_get_within, slice_get-get_or, get_or_from_slice_get}
+use Rattle.std.proofs.lemmas.Bool.{cases_lt, cases_eq}
+use Rattle.walrus_ty.specs.Definition.{Definition, renamed}
+use Rattle.walrus_ty.specs.Groups.{Section}
+use Rattle.walrus_sections.specs.Section.{places_from, index_space, IsFilled}
+use Rattle.walrus_sections.specs.SlotMap.{TypeGroup}
+use Rattle.walrus_sections.specs.Emission.{no_group, group_at, IsMember, IsWritten, IsInversion, IsEmission}
+use Rattle.walrus_sections.specs.Emission.{IsWrittenBefore}
+use Rattle.walrus_sections.specs.Refusal.{HasIndexBy, IsMissing, Precedes, IsFirstMissing}
+use Rattle.walrus_ty.specs.Indices.{IndexMap, Indexes}
+use Rattle.walrus_types.specs.Steps.WrittenGroups.{ids_in, in_order, written_group, indexed, IsMissingIn, ComesBefore, IsFirstMissingIn, IsWritingOrder}
+use Rattle.walrus_types.proofs.Emission.IndexOfId as places
+use Rattle.walrus_types.proofs.Emission.IndexOfId.{IsTidy, AllTidy, recs, rec_position_of, home, member_at}
+use Rattle.walrus_ty.proofs.Basics.{some_inj}
+
+-- members, as places of a list of ids
+
+pub at_member :
+    (gs : List TypeGroup) (g u i : ℕ) → IsMember gs g u i → slice_get (group_at gs g).ids u ≡ Some i
+at_member gs g u i m = slice_get-get_or (group_at gs g).ids u 0 m.place ∙ ap (λ (n : ℕ). Some n) m.is
+
+in_list :
+    (gs : List TypeGroup) (g u i : ℕ) → slice_get (group_at gs g).ids u ≡ Some i → g < length gs
+in_list [] g u i h = cc
+in_list (w ∷ gs) zero u i h = omega arith
+in_list (w ∷ gs) (suc g) u i h = omega (arith, in_list gs g u i h)
+
+pub to_member :
+    (gs : List TypeGroup) (g u i : ℕ) → slice_get (group_at gs g).ids u ≡ Some i → IsMember gs g u i
+to_member gs g u i h = record {
+  group = in_list gs g u i h;
+  place = slice_get_within (group_at gs g).ids u i h;
+  is = get_or_from_slice_get (group_at gs g).ids u i 0 h;
+}
+
+-- what stands before in the list of groups stands before among the ids
+
+start_past :
+    (ws : List TypeGroup) (a b u i : ℕ) → a < b → slice_get (group_at ws a).ids u ≡ Some i →
+    length (ids_in (take a ws)) + u < length (ids_in (take b ws))
+start_past [] a b u i lt h = cc
+start_past (w ∷ ws) a zero u i lt h = absurd (omega (arith, lt))
+start_past (w ∷ ws) zero (suc b) u i lt h = omega (arith, slice_get_within w.ids u i h, length-append w.ids (ids_in (take b ws)))
+start_past (w ∷ ws) (suc a) (suc b) u i lt h = omega (arith, start_past ws a b u i (omega (arith, lt)) h, length-append w.ids (ids_in (take a ws)), length-append w.ids (ids_in (take b ws)))
+
+recs_cons :
+    (w : TypeGroup) (ws : List TypeGroup) → w.is_explicit ≡ true → recs (w ∷ ws) ≡ 1 + recs ws
+recs_cons w ws e = go w.is_explicit e refl
+  where
+    go : (b : Bool) → b ≡ true → w.is_explicit ≡ b → recs (w ∷ ws) ≡ 1 + recs ws
+    go true e f = rw f refl
+    go false e f = cc
+
+recs_past :
+    (ws : List TypeGroup) (a b : ℕ) → a < b → (group_at ws a).is_explicit ≡ true →
+    recs (take a ws) < recs (take b ws)
+recs_past [] a b lt h = cc
+recs_past (w ∷ ws) a zero lt h = absurd (omega (arith, lt))
+recs_past (w ∷ ws) zero (suc b) lt h = omega (arith, recs_cons w (take b ws) h)
+recs_past (w ∷ ws) (suc a) (suc b) lt h = omega (arith, recs_past ws a b (omega (arith, lt)) h)
+
+contains_up :
+    (ws : List TypeGroup) (n b v k : ℕ) → b < n → slice_get (group_at ws b).ids v ≡ Some k →
+    Contains (ids_in (take n ws)) k
+contains_up [] n b v k lt h = cc
+contains_up (w ∷ ws) zero b v k lt h = absurd (omega (arith, lt))
+contains_up (w ∷ ws) (suc n) zero v k lt h = Contains-append_left w.ids (ids_in (take n ws)) k (v, slice_get_within w.ids v k h, get_or_from_slice_get w.ids v k k h)
+contains_up (w ∷ ws) (suc n) (suc b) v k lt h = Contains-append_right w.ids (ids_in (take n ws)) k (contains_up ws n b v k (omega (arith, lt)) h)
+
+contains_down :
+    (ws : List TypeGroup) (n k : ℕ) → Contains (ids_in (take n ws)) k →
+    (b : ℕ) × (v : ℕ) × (b < n) × (slice_get (group_at ws b).ids v ≡ Some k)
+contains_down [] zero k c = absurd (omega (arith, c.1))
+contains_down [] (suc n) k c = absurd (omega (arith, c.1))
+contains_down (w ∷ ws) zero k c = absurd (omega (arith, c.1))
+contains_down (w ∷ ws) (suc n) k c = elim (Contains-append_cases w.ids (ids_in (take n ws)) k c) [
+  | inl x ↦ (0, x.0, omega arith, slice_get-get_or w.ids x.0 k x.1 ∙ ap (λ (m : ℕ). Some m) x.2)
+  | inr x ↦ (let r : _ = contains_down ws n k x in (suc r.0, r.1, omega (arith, r.2), r.3))
+]
+
+all_tidy : (ws : List TypeGroup) → ((a : ℕ) → a < length ws → IsTidy (group_at ws a)) → AllTidy ws
+all_tidy [] each = tt
+all_tidy (w ∷ ws) each = (each 0 (omega arith), all_tidy ws (λ a h. each (suc a) (omega (arith, h))))
+
+filled_all :
+    (d : ℕ → Definition) (ws : List TypeGroup) → AllTidy ws → IsFilled (map (written_group d) ws)
+filled_all d [] tidy = tt
+filled_all d (w ∷ ws) tidy = one w.is_explicit w.ids tidy.0.filled (filled_all d ws tidy.1)
+  where
+    one : (e : Bool) (ids : List ℕ) → 0 < length ids → IsFilled (map (written_group d) ws) → IsFilled (written_group d (record { ids = ids; is_explicit = e }) ∷ map (written_group d) ws)
+    one false ids some rest = rest
+    one true [] some rest = absurd (omega (arith, some))
+    one true (i ∷ ids) some rest = rest
+
+module _ (gs : List TypeGroup) (definition : ℕ → Definition) (is_entry : ℕ → Bool) (order : List ℕ) (ord : IsWritingOrder gs definition is_entry order) where
+  abbrev ws : List TypeGroup
+  ws = in_order gs order
+
+  at_place : (a : ℕ) → a < length order → group_at ws a ≡ group_at gs (slice_index order a)
+  at_place a below = get_or-map (group_at gs) order a 0 no_group below
+
+  as_many : length ws ≡ length order
+  as_many = length-map order (group_at gs)
+
+  -- where a written group stands in the order
+  place_of : (g : ℕ) → IsWritten gs is_entry g → ℕ
+  place_of g w = (ord.onto g w).0
+
+  place_below : (g : ℕ) (w : IsWritten gs is_entry g) → place_of g w < length order
+  unfolding place_of
+  place_below g w = (ord.onto g w).1
+
+  place_is : (g : ℕ) (w : IsWritten gs is_entry g) → slice_index order (place_of g w) ≡ g
+  unfolding place_of
+  place_is g w = (ord.onto g w).2
+
+  group_is : (g : ℕ) (w : IsWritten gs is_entry g) → group_at ws (place_of g w) ≡ group_at gs g
+  group_is g w = at_place (place_of g w) (place_below g w) ∙ ap (group_at gs) (place_is g w)
+
+  member_in : (g u i : ℕ) (w : IsWritten gs is_entry g) → IsMember gs g u i → slice_get (group_at ws (place_of g w)).ids u ≡ Some i
+  member_in g u i w m = ap (λ (x : TypeGroup). slice_get x.ids u) (group_is g w) ∙ at_member gs g u i m
+
+  member_from : (a u i : ℕ) → a < length order → slice_get (group_at ws a).ids u ≡ Some i → IsMember gs (slice_index order a) u i
+  member_from a u i below h = to_member gs (slice_index order a) u i (ap (λ (x : TypeGroup). slice_get x.ids u) (sym (at_place a below)) ∙ h)
+
+  stands_both : (g h : ℕ) → IsWrittenBefore gs definition g h → IsWrittenBefore gs definition h g → ⊥
+  stands_both g h (inl x) (inl y) = omega (arith, x.0, y.0)
+  stands_both g h (inl x) (inr y) = x.1 y.1
+  stands_both g h (inr x) (inl y) = y.1 x.1
+  stands_both g h (inr x) (inr y) = omega (arith, x.0, y.0)
+
+  stands_self : (g : ℕ) → IsWrittenBefore gs definition g g → ⊥
+  stands_self g (inl x) = omega (arith, x.0)
+  stands_self g (inr x) = omega (arith, x.0)
+
+  -- the order of places
+  before_from : (a b : ℕ) → a < length order → b < length order → IsWrittenBefore gs definition (slice_index order a) (slice_index order b) → a < b
+  before_from a b in_a in_b s = elim (cases_lt a b) [
+    | inl x ↦ x
+    | inr x ↦ (elim (cases_eq a b) [
+      | inl y ↦ absurd (stands_self (slice_index order b) (subst (λ (n : ℕ). IsWrittenBefore gs definition (slice_index order n) (slice_index order b)) y s))
+      | inr y ↦ absurd (stands_both (slice_index order a) (slice_index order b) s (ord.stands b a (omega (arith, x, y)) in_a))
+    ])
+  ]
+
+  same_from : (a b : ℕ) → a < length order → b < length order → slice_index order a ≡ slice_index order b → a ≡ b
+  same_from a b in_a in_b e = elim (cases_eq a b) [
+    | inl x ↦ x
+    | inr x ↦ (elim (cases_lt a b) [
+      | inl y ↦ absurd (stands_self (slice_index order b) (subst (λ (n : ℕ). IsWrittenBefore gs definition n (slice_index order b)) e (ord.stands a b y in_b)))
+      | inr y ↦ absurd (stands_self (slice_index order b) (subst (λ (n : ℕ). IsWrittenBefore gs definition (slice_index order b) n) e (ord.stands b a (omega (arith, x, y)) in_a)))
+    ])
+  ]
+
+  -- a member of a group in the order, and that the group stands there alone
+  pub placed_member : (a u i : ℕ) → slice_get (group_at ws a).ids u ≡ Some i → (a < length order) × IsMember gs (slice_index order a) u i × ((b : ℕ) → b < length order → slice_index order a ≡ slice_index order b → a ≡ b)
+  placed_member a u i h =
+      let below : a < length order = omega (arith, in_list ws a u i h, as_many) in
+      (below, member_from a u i below h, λ b in_b e. same_from a b below in_b e)
+
+  places_stand : (g h : ℕ) (w : IsWritten gs is_entry g) (w' : IsWritten gs is_entry h) → IsWrittenBefore gs definition g h → place_of g w < place_of h w'
+  places_stand g h w w' s = before_from (place_of g w) (place_of h w') (place_below g w) (place_below h w') (rw (place_is g w, place_is h w') s)
+
+  -- names that have no index
+
+  has_index : (a k : ℕ) → a < length order → HasIndexBy gs definition is_entry (slice_index order a) k → Contains (ids_in (take (a + 1) ws)) k
+  has_index a k below h =
+      let b : ℕ = place_of h.home h.written in
+      let le : b < a + 1 = elim h.by [
+        | inl e ↦ (let same : b ≡ a = same_from b a (place_below h.home h.written) below (place_is h.home h.written ∙ e) in omega (arith, same))
+        | inr s ↦ (let lt : b < a = before_from b a (place_below h.home h.written) below (subst (λ (n : ℕ). IsWrittenBefore gs definition n (slice_index order a)) (sym (place_is h.home h.written)) s) in omega (arith, lt))
+      ] in
+      contains_up ws (a + 1) b h.place k le (member_in h.home h.place k h.written h.member)
+
+  has_index_from : (a k : ℕ) → a < length order → Contains (ids_in (take (a + 1) ws)) k → HasIndexBy gs definition is_entry (slice_index order a) k
+  has_index_from a k below c =
+      let r : _ = contains_down ws (a + 1) k c in
+      let in_b : r.0 < length order = omega (arith, r.2, below) in
+      record {
+        home = slice_index order r.0;
+        place = r.1;
+        written = ord.written r.0 in_b;
+        member = member_from r.0 r.1 k in_b r.3;
+        by = elim (cases_lt r.0 a) [
+          | inl x ↦ inr (ord.stands r.0 a x below)
+          | inr x ↦ inl (let e : r.0 ≡ a = omega (arith, x, r.2) in ap (slice_index order) e)
+        ];
+      }
+
+  missing_in : (g u t i k : ℕ) (m : IsMissing gs definition is_entry g u t i k) → IsMissingIn definition ws (place_of g m.written) u t i k
+  missing_in g u t i k m = record {
+    group = omega (arith, place_below g m.written, as_many);
+    member = member_in g u i m.written m.member;
+    name = m.name;
+    missing = λ c. m.missing (subst (λ (n : ℕ). HasIndexBy gs definition is_entry n k) (place_is g m.written) (has_index_from (place_of g m.written) k (place_below g m.written) c));
+  }
+
+  missing_from : (a u t i k : ℕ) → IsMissingIn definition ws a u t i k → IsMissing gs definition is_entry (slice_index order a) u t i k
+  missing_from a u t i k m =
+      let below : a < length order = omega (arith, m.group, as_many) in
+      record {
+        written = ord.written a below;
+        member = member_from a u i below m.member;
+        name = m.name;
+        missing = λ h. m.missing (has_index a k below h);
+      }
+
+  pub none_missing : ((a u t i k : ℕ) → ¬ (IsMissingIn definition ws a u t i k)) → (g u t i k : ℕ) → ¬ (IsMissing gs definition is_entry g u t i k)
+  none_missing none g u t i k m = none (place_of g m.written) u t i k (missing_in g u t i k m)
+
+  precedes : (g u t b v s : ℕ) (w : IsWritten gs is_entry g) → b < length order → Precedes gs definition is_entry g u t (slice_index order b) v s → ComesBefore (place_of g w) u t b v s
+  precedes g u t b v s w below (inl x) = inl (before_from (place_of g w) b (place_below g w) below (subst (λ (n : ℕ). IsWrittenBefore gs definition n (slice_index order b)) (sym (place_is g w)) x))
+  precedes g u t b v s w below (inr x) = inr (same_from (place_of g w) b (place_below g w) below (place_is g w ∙ x.0), x.1)
+
+  pub first_missing : (i k : ℕ) → IsFirstMissingIn definition ws i k → IsFirstMissing gs definition is_entry i k
+  first_missing i k f =
+      let below : f.group < length order = omega (arith, f.is.group, as_many) in
+      record {
+        group = slice_index order f.group;
+        place = f.place;
+        name = f.name;
+        is = missing_from f.group f.place f.name i k f.is;
+        first = λ g u t j l m p. f.first (place_of g m.written) u t j l (missing_in g u t j l m) (precedes g u t f.group f.place f.name m.written below p);
+      }
+
+  -- the section
+
+  module _ (single : (g : ℕ) → (group_at gs g).is_explicit ≡ false → length (group_at gs g).ids ≤ 1) (x : IndexMap) (is : Indexes (ids_in ws) x) where
+    abbrev m : ℕ → ℕ
+    m i = unwrap_or (x.index i) 0
+
+    abbrev d : ℕ → Definition
+    d = indexed x.index definition
+
+    abbrev n : Section
+    n = map (written_group d) ws
+
+    abbrev start : ℕ → ℕ
+    start a = length (ids_in (take a ws))
+
+    tidy_at : (a : ℕ) → a < length ws → IsTidy (group_at ws a)
+    tidy_at a h =
+        let below : a < length order = omega (arith, h, as_many) in
+        let w : _ = ord.written a below in
+        let some : 0 < length (group_at gs (slice_index order a)).ids = omega (arith, w.2.place) in
+        rw (at_place a below) (record { filled = some; single = λ e. (let le : _ = single (slice_index order a) e in omega (arith, some, le)) })
+
+    tidy : AllTidy ws
+    tidy = all_tidy ws tidy_at
+
+    index_at : (a u i : ℕ) → slice_get (group_at ws a).ids u ≡ Some i → m i ≡ start a + u
+    index_at a u i h = ap (λ (o : Option ℕ). unwrap_or o 0) ((is.index i (start a + u)).1 (member_at ws a u i h))
+
+    stands_at : (a u i : ℕ) → slice_get (group_at ws a).ids u ≡ Some i → places.Stands (places_from 0 0 n) (start a + u) (d i) (rec_position_of (group_at ws a).is_explicit (0 + recs (take a ws)) u)
+    stands_at a u i h = places.stands d ws tidy 0 0 a u i h
+
+    -- what stands at the index of a member
+    module _ (g u i : ℕ) (w : IsWritten gs is_entry g) (mem : IsMember gs g u i) where
+      abbrev place : ℕ
+      place = place_of g w
+
+      at : m i ≡ start place + u
+      at = index_at place u i (member_in g u i w mem)
+
+      below_at : m i < (index_space n).count
+      below_at = let s : _ = stands_at place u i (member_in g u i w mem) in omega (arith, at, s.within)
+
+      same_at : (index_space n).definition (m i) ≡ renamed m (definition i)
+      same_at = ap (index_space n).definition at ∙ (stands_at place u i (member_in g u i w mem)).definition
+
+      rec_position_at : (e : Bool) → (group_at gs g).is_explicit ≡ e → (index_space n).rec_position (m i) ≡ rec_position_of e (0 + recs (take place ws)) u
+      rec_position_at e is_e = ap (index_space n).rec_position at ∙ ((stands_at place u i (member_in g u i w mem)).rec_position ∙ ap (λ (b : Bool). rec_position_of b (0 + recs (take place ws)) u) (ap (λ (y : TypeGroup). y.is_explicit) (group_is g w) ∙ is_e))
+
+      explicit_from : (k : ℕ) → (index_space n).rec_position (m i) ≡ Some (k, u) → (group_at gs g).is_explicit ≡ true
+      explicit_from k h = by (group_at gs g).is_explicit refl
+        where
+          by : (e : Bool) → (group_at gs g).is_explicit ≡ e → (group_at gs g).is_explicit ≡ true
+          by true f = f
+          by false f = let k' : ⊥ = (let z = sym (rec_position_at false f) ∙ h in cc) in absurd k'
+
+      number_from : (k : ℕ) → (index_space n).rec_position (m i) ≡ Some (k, u) → k ≡ 0 + recs (take place ws)
+      number_from k h = let e : Some (k, u) ≡ Some (0 + recs (take place ws), u) = sym h ∙ rec_position_at true (explicit_from k h) in ap (λ (y : ℕ × ℕ). y.0) (some_inj e)
+
+    -- of two members, the one whose group stands first has the lesser index
+    earlier : (g u i h v j : ℕ) (w : IsWritten gs is_entry g) (w' : IsWritten gs is_entry h) → IsMember gs g u i → IsMember gs h v j → IsWrittenBefore gs definition g h → m i < m j
+    earlier g u i h v j w w' mem mem' s =
+        let lt : place_of g w < place_of h w' = places_stand g h w w' s in
+        omega (arith, at g u i w mem, at h v j w' mem', start_past ws (place_of g w) (place_of h w') u i lt (member_in g u i w mem))
+
+    pub emission : IsEmission gs definition is_entry n m
+    emission = record {
+      below = λ g u i w mem. below_at g u i w mem;
+      onto = λ p h. (
+          let long : p < length (ids_in ws) = omega (arith, h, places.count d ws tidy 0 0) in
+          let i : ℕ = slice_index (ids_in ws) p in
+          let there : slice_get (ids_in ws) p ≡ Some i = slice_get-get_or (ids_in ws) p 0 long in
+          let r : places.Home ws p i = home ws p i there in
+          let in_a : r.group < length order = omega (arith, r.within, as_many) in
+          (slice_index order r.group, r.place, i, ord.written r.group in_a, member_from r.group r.place i in_a r.is, ap (λ (o : Option ℕ). unwrap_or o 0) ((is.index i p).1 there)));
+      same = λ g u i w mem. same_at g u i w mem;
+      filled = filled_all d ws tidy;
+      single = λ g u i w mem e. rec_position_at g u i w mem false e;
+      rec = λ g u i w mem e. (0 + recs (take (place_of g w) ws), rec_position_at g u i w mem true e);
+      whole = λ g u i v j k w mem mem' e f. rec_position_at g v j w mem' true e ∙ ap (λ (y : ℕ). Some (y, v)) (sym (number_from g u i w mem k f));
+      within = λ g u i v j w mem mem' lt. omega (arith, at g u i w mem, at g v j w mem', lt);
+      recs = λ g u i h v j k l lt w w' mem mem' e f. (
+          let ex : (group_at gs g).is_explicit ≡ true = explicit_from g u i w mem k e in
+          let not_turned : ¬ (IsInversion gs definition g h) = λ t. (let z = (t.free g (omega arith) (omega (arith, lt)) u i mem).implicit in let y = sym ex ∙ z in cc) in
+          let a_b : place_of g w < place_of h w' = places_stand g h w w' (inl (lt, not_turned)) in
+          let more : recs (take (place_of g w) ws) < recs (take (place_of h w') ws) = recs_past ws (place_of g w) (place_of h w') a_b (ap (λ (y : TypeGroup). y.is_explicit) (group_is g w) ∙ ex) in
+          omega (arith, number_from g u i w mem k e, number_from h v j w' mem' l f, more));
+      stands = λ g u i h v j lt w w' mem mem' nt. earlier g u i h v j w w' mem mem' (inl (lt, nt));
+      inversions = λ g u i h v j lt w w' mem mem' t. earlier h v j g u i w' w mem' mem (inr (lt, t));
+    }

@@ -1,4 +1,0 @@
-pub mod ByIndex
-pub mod Made
-pub mod Groups
-pub mod Emits

@@ -1,5 +1,0 @@
-pub mod Bare
-pub mod Indices
-pub mod Ids
-pub mod Records
-pub mod Types

@@ -1,0 +1,7 @@
+-- Reading a section into a table.
+pub mod NextGroup
+pub mod NextIndex
+pub mod Reader
+pub mod ReaderCalls
+pub mod Section
+pub mod UsedUpId

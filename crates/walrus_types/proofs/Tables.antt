@@ -1,0 +1,12 @@
+-- Tables of types: what stands where, and what each call does.
+pub mod Deletions
+pub mod Calls
+pub mod DeadGroup
+pub mod DeadTypes
+pub mod Growing
+pub mod NamedInGroup
+pub mod NewGroup
+pub mod NewType
+pub mod Places
+pub mod Search
+pub mod TypeSet

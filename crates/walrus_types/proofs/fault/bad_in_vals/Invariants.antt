@@ -1,7 +1,0 @@
-use Rattle.std.proofs.Common.{◌≡◌, drop, nat_le, find}
-use Rattle.std.specs.List.{flat_map}
-use Rattle.walrus_types.specs.Value.{val_names}
-use Rattle.walrus_types.proofs.fault.bad_in_vals.Given as goal
-
-abbrev pub invariant-loop-val : goal.invariant-loop-val
-invariant-loop-val l = find (nat_le l.end) (flat_map val_names l.vals) ≡ find (nat_le l.end) (flat_map val_names (drop l.val-index l.vals))

@@ -1,8 +1,0 @@
-use Rattle.walrus_types.proofs.laws.contents_tell_records.Goals as goal
-use Rattle.walrus_types.proofs.Contents.{same_entry, same_section}
-
-pub returns-clause-entry : goal.returns-clause-entry
-returns-clause-entry c = same_entry
-
-pub returns-clause-section : goal.returns-clause-section
-returns-clause-section c = same_section

@@ -1,8 +1,0 @@
-use Rattle.walrus_types.proofs.laws.swap_keeps_output.Goals as goal
-use Rattle.walrus_types.proofs.Moving.Turned.{normal_renumbered, renumbered_well_named}
-
-pub returns-clause-well_named : goal.returns-clause-well_named
-returns-clause-well_named c = renumbered_well_named
-
-pub returns-clause-output : goal.returns-clause-output
-returns-clause-output c = normal_renumbered
