@@ -1,0 +1,9 @@
+pub mod Beginning
+pub mod Body
+pub mod Building
+pub mod LocalLends
+pub mod Locals
+pub mod NestedForms
+pub mod Nesting
+pub mod Rows
+pub mod Steps

@@ -1,0 +1,124 @@
+-- Adding an instruction whose sequences are made by closures.
+use Rattle.std.specs.Prelude.{◌≡◌, ℕ, ◌⊎◌, ◌<◌, ◌≤◌, length, Result, Ok, Err}
+use Rattle.std.specs.Borrow.{MutBor}
+use Rattle.walrus_ir.specs.declared.instr_seq_type.InstrSeqType.{InstrSeqType}
+use Rattle.walrus_ir.specs.declared.ir.instr.Instr.{Instr}
+use Rattle.walrus_functions.specs.declared.function_builder.instr_seq_builder.InstrSeqBuilder.{InstrSeqBuilder}
+use Rattle.walrus_functions.specs.declared.error.BuildError.{BuildError}
+use Rattle.walrus_functions.specs.declared.error.BuildError.TheVariants.{NoParent, Position, Memory}
+use Rattle.walrus_functions.specs.Body.{Body, Knows, instrs_of, next_seq, with_new, with_instr, with_instr_at}
+use Rattle.walrus_functions.specs.Building.{seq_id, function_of, loan_of}
+
+-- what a closure asks of the builder that it is called on
+abbrev pub Pre : Type 1
+Pre = MutBor InstrSeqBuilder → Type 0
+
+-- a builder before a call of a closure on it, what the closure answers, and the builder after the
+-- call
+abbrev pub Post : Type 1
+Post = MutBor InstrSeqBuilder → Result (Unit {0}) BuildError → MutBor InstrSeqBuilder → Type 0
+
+-- the closure may be called on a builder of a new sequence of this type, which was added to f
+abbrev pub TakesNew : Pre → Body → InstrSeqType → Type 0
+TakesNew pre f ty =
+    (b : MutBor InstrSeqBuilder)
+    → seq_id b.now ≡ next_seq f → function_of b.now ≡ with_new f ty → pre b
+
+-- the builder after the call writes through the same `&mut`: the closure put no other builder in
+-- place of it
+abbrev pub KeepsFunction : Post → Type 0
+KeepsFunction post =
+    (b : MutBor InstrSeqBuilder) (r : Result (Unit {0}) BuildError) (c : MutBor InstrSeqBuilder)
+    → post b r c → loan_of c.now ≡ loan_of b.now
+
+-- a new sequence of this type was added to old, and the closure, called on a builder of it, may
+-- answer r and leave new
+pub record Fills (post : Post) (ty : InstrSeqType) (old : Body)
+    (r : Result (Unit {0}) BuildError) (new : Body) : Type 0 where
+  pub given : MutBor InstrSeqBuilder
+  pub left : MutBor InstrSeqBuilder
+  pub met : post given r left
+  pub id : seq_id given.now ≡ next_seq old
+  pub before : function_of given.now ≡ with_new old ty
+  pub after : function_of left.now ≡ new
+
+-- memory for the sequence was refused, and nothing changed; or the closure answered this error
+abbrev pub FailsToFill : Post → InstrSeqType → Body → BuildError → Body → Type 0
+FailsToFill post ty old e new = ((e ≡ Memory) × (new ≡ old)) ⊎ Fills post ty old (Err e) new
+
+-- the parent is known, and the instruction was added at its end
+abbrev pub Attaches : Body → ℕ → Instr → Body → Type 0
+Attaches old parent i new = Knows old parent × (new ≡ with_instr old parent i)
+
+-- the parent is not known, or memory was refused
+abbrev pub FailsToAttach : Body → ℕ → BuildError → Type 0
+FailsToAttach f parent e = ((e ≡ NoParent) × ¬ Knows f parent) ⊎ ((e ≡ Memory) × Knows f parent)
+
+-- the parent is known and has so many instructions, and the instruction was put behind them
+abbrev pub AttachesAt : Body → ℕ → ℕ → Instr → Body → Type 0
+AttachesAt old parent position i new =
+    Knows old parent × (position ≤ length (instrs_of old parent))
+    × (new ≡ with_instr_at old parent position i)
+
+-- the parent is not known, or it has fewer instructions, or memory was refused
+abbrev pub FailsToAttachAt : Body → ℕ → ℕ → BuildError → Type 0
+FailsToAttachAt f parent position e =
+    ((e ≡ NoParent) × ¬ Knows f parent)
+    ⊎ (((e ≡ Position) × Knows f parent × (length (instrs_of f parent) < position))
+    ⊎ ((e ≡ Memory) × Knows f parent × (position ≤ length (instrs_of f parent))))
+
+-- The forms over one new sequence: a closure fills it, and then the parent of this id, as it is by
+-- then, gains the instruction that `make` gives for the sequence's id. After a refusal what was
+-- made stays, and the parent gains nothing.
+
+abbrev pub Nests : Post → InstrSeqType → ℕ → (ℕ → Instr) → Body → Body → Type 0
+Nests post ty parent make old new =
+    (mid : Body) × Fills post ty old (Ok tt) mid
+    × Attaches mid parent (make (next_seq old)) new
+
+abbrev pub FailsToNest : Post → InstrSeqType → ℕ → Body → BuildError → Body → Type 0
+FailsToNest post ty parent old e new =
+    FailsToFill post ty old e new
+    ⊎ (Fills post ty old (Ok tt) new × FailsToAttach new parent e)
+
+abbrev pub NestsAt : Post → InstrSeqType → ℕ → ℕ → (ℕ → Instr) → Body → Body → Type 0
+NestsAt post ty parent position make old new =
+    (mid : Body) × Fills post ty old (Ok tt) mid
+    × AttachesAt mid parent position (make (next_seq old)) new
+
+abbrev pub FailsToNestAt : Post → InstrSeqType → ℕ → ℕ → Body → BuildError → Body → Type 0
+FailsToNestAt post ty parent position old e new =
+    FailsToFill post ty old e new
+    ⊎ (Fills post ty old (Ok tt) new × FailsToAttachAt new parent position e)
+
+-- The forms over two new sequences: the second is made and filled after the first.
+
+-- the second closure may be called on a builder of a new sequence, which was added to what the
+-- first may leave
+abbrev pub TakesSecond : Post → Pre → Body → InstrSeqType → Type 0
+TakesSecond post pre f ty = (mid : Body) → Fills post ty f (Ok tt) mid → TakesNew pre mid ty
+
+abbrev pub NestsBoth : Post → Post → InstrSeqType → ℕ → (ℕ → ℕ → Instr) → Body → Body → Type 0
+NestsBoth first second ty parent make old new =
+    (mid : Body) × (last : Body) × Fills first ty old (Ok tt) mid × Fills second ty mid (Ok tt) last
+    × Attaches last parent (make (next_seq old) (next_seq mid)) new
+
+abbrev pub FailsToNestBoth : Post → Post → InstrSeqType → ℕ → Body → BuildError → Body → Type 0
+FailsToNestBoth first second ty parent old e new =
+    FailsToFill first ty old e new
+    ⊎ ((mid : Body) × Fills first ty old (Ok tt) mid
+    × (FailsToFill second ty mid e new
+    ⊎ (Fills second ty mid (Ok tt) new × FailsToAttach new parent e)))
+
+abbrev pub NestsBothAt : Post → Post → InstrSeqType → ℕ → ℕ → (ℕ → ℕ → Instr) → Body → Body → Type 0
+NestsBothAt first second ty parent position make old new =
+    (mid : Body) × (last : Body) × Fills first ty old (Ok tt) mid × Fills second ty mid (Ok tt) last
+    × AttachesAt last parent position (make (next_seq old) (next_seq mid)) new
+
+abbrev pub FailsToNestBothAt : Post → Post → InstrSeqType → ℕ → ℕ → Body → BuildError → Body
+    → Type 0
+FailsToNestBothAt first second ty parent position old e new =
+    FailsToFill first ty old e new
+    ⊎ ((mid : Body) × Fills first ty old (Ok tt) mid
+    × (FailsToFill second ty mid e new
+    ⊎ (Fills second ty mid (Ok tt) new × FailsToAttachAt new parent position e)))

@@ -1,0 +1,17 @@
+-- What a function, its sequences and one sequence end as, where a private call returns a `&mut`
+-- into them.
+use Rattle.std.specs.Prelude.{ℕ, List, slice_set}
+use Rattle.std.specs.Borrow.{Lends, Fml, MutBor}
+use Rattle.walrus_ir.specs.contracts.ir.instr_seq.InstrSeq.{the_row as seq_row}
+use Rattle.walrus_ir.specs.Sequence.{Sequence}
+use Rattle.walrus_functions.specs.contracts.function_builder.FunctionBuilder.{the_row as fn_row}
+use Rattle.walrus_functions.specs.contracts.function_builder.sequences.Sequences.{the_row as seqs_row}
+use Rattle.walrus_functions.specs.Body.{Body, with_sequence}
+
+-- once the borrow r ends, the id has the last sequence written through r
+abbrev pub LendsAt : MutBor (List Sequence) → ℕ → MutBor Sequence → Fml
+LendsAt seqs id r = Lends seqs_row seq_row seqs r (slice_set seqs.now id)
+
+-- once the borrow r ends, the id has the last sequence written through r
+abbrev pub LendsSeq : MutBor Body → ℕ → MutBor Sequence → Fml
+LendsSeq f id r = Lends fn_row seq_row f r (with_sequence f.now id)

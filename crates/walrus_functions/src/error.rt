@@ -1,0 +1,31 @@
+//! Why a call of a builder is refused.
+ghost use Rattle.std.specs.Prelude.{◌≡◌};
+ghost use Rattle.walrus_functions.specs.declared.error.BuildError.TheVariants as build;
+
+use std::alloc::AllocError;
+use thiserror::Error;
+
+/// Why an instruction could not be added.
+///
+/// Closures that fill new sequences answer it too: theirs is passed on as it is.
+#[derive(Clone, Copy, PartialEq, Eq, Debug, Error)]
+pub enum BuildError {
+    /// The sequence that the instruction was to go into isn't known. Only calls that take closures
+    /// answer it: a closure can replace the function by one that has no such sequence.
+    #[error("unknown parent")]
+    NoParent,
+    /// The position is past the end of the sequence, as it is after the closures have run.
+    #[error("position past the end")]
+    Position,
+    /// Memory was refused.
+    #[error("out of memory")]
+    Memory,
+}
+
+impl From<AllocError> for BuildError {
+    ghost from_gives = { λ _ e. e ≡ build.Memory };
+
+    fn from(_: AllocError) -> BuildError {
+        BuildError::Memory
+    }
+}
