@@ -1,0 +1,4 @@
+pub mod Lists
+pub mod Nested
+pub mod Walks
+pub mod Collecting

@@ -1,0 +1,3 @@
+-- Lemmas on the nesting check.
+pub mod Exact
+pub mod SearchSteps

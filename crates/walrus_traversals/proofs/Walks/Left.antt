@@ -1,0 +1,202 @@
+-- what an in-order walk has left
+use Rattle.std.proofs.Common.{◌≡◌, ℕ, zero, suc, ◌+◌, ◌<◌, List, [], ◌∷◌, ◌++◌, length, reverse, map, drop, refl, sym, ap, ◌∙◌, subst, arith, add-one, append_assoc, append-nil, length-append, slice_get, Option, Some, None}
+use Rattle.std.specs.List.{flat_map, AllByRecursion, FoldsTo}
+use Rattle.std.proofs.lemmas.List.{reverse-append, reverse-reverse}
+use Rattle.std.proofs.lemmas.List.Concat.{flat_map-append}
+use Rattle.std.proofs.lemmas.List.Folds.{flat_map-map}
+use Rattle.walrus_ir.specs.Sequence.{Sequence}
+use Rattle.walrus_ir.specs.declared.ir.instr.Instr.{Instr}
+use Rattle.walrus_functions.specs.Body.{Body, sequence, Knows}
+use Rattle.walrus_traversals.specs.Events.{Event, AfterFirst, StartInstrSeq, EndInstrSeq, own_events, type_of, events_of_instrs, events_to, events}
+use Rattle.walrus_functions.specs.Nesting.{children}
+use Rattle.walrus_functions.specs.Nesting.{IsNested}
+use Rattle.walrus_traversals.specs.Steps.Walking.{reports, leaves, at_place, after_place, seq_of}
+use Rattle.walrus_traversals.specs.declared.traversals.stack.Work.{Work}
+use Rattle.walrus_traversals.specs.declared.traversals.stack.Work.TheVariants.{Enter, Resume}
+use Rattle.walrus_traversals.proofs.Walks.Folds.{FoldsTo-append, after_part, after_front}
+use Rattle.walrus_traversals.proofs.Walks.Levels.{Within, levels, All-append, All-front, All-back, All-weaker, All-items, flat_map-same, same_deeper, still_within, within_from_nested}
+
+-- the events that a piece of work gives, all that is inside it too
+abbrev pub work_events : Body → Work → List Event
+work_events f (Enter q) = events f q
+work_events f (Resume q k) = events_of_instrs (events_to f (length f.seqs)) (drop k (sequence f q).instrs) ++ EndInstrSeq (sequence f q) ∷ []
+
+abbrev pub IsSound : Body → Work → Type 0
+IsSound f w = Within f (levels f) (seq_of w)
+
+-- the events that are left, where the stack's last is done first
+abbrev pub left : Body → List Work → List Event
+left f ws = flat_map (work_events f) (reverse ws)
+
+pub left-append : (f : Body) (ws vs : List Work) → left f (ws ++ vs) ≡ left f vs ++ left f ws
+left-append f ws vs = ap (flat_map (work_events f)) (reverse-append ws vs) ∙ flat_map-append (work_events f) (reverse vs) (reverse ws)
+
+pub left-children :
+    (f : Body) (cs : List ℕ) → left f (reverse (map Enter cs)) ≡ flat_map (events f) cs
+left-children f cs = ap (flat_map (work_events f)) (reverse-reverse (map Enter cs)) ∙ flat_map-map (work_events f) Enter cs
+
+-- an item, if there is one, before a list
+abbrev pub front : {A : Type 0} → Option A → List A → List A
+front None xs = []
+front (Some x) xs = x ∷ xs
+
+pub drop_front :
+    {A : Type 0} (xs : List A) (k : ℕ) → drop k xs ≡ front (slice_get xs k) (drop (suc k) xs)
+drop_front [] zero = refl
+drop_front [] (suc k) = refl
+drop_front (x ∷ xs) zero = refl
+drop_front (x ∷ xs) (suc k) = drop_front xs k
+
+pub All-drop :
+    {X : Type 0} (P : X → Type 0) (k : ℕ) (xs : List X) → AllByRecursion P xs →
+    AllByRecursion P (drop k xs)
+All-drop P zero xs h = h
+All-drop P (suc k) [] h = tt
+All-drop P (suc k) (x ∷ xs) h = All-drop P k xs h.1
+
+pub All-reverse :
+    {X : Type 0} (P : X → Type 0) (xs : List X) → AllByRecursion P xs →
+    AllByRecursion P (reverse xs)
+All-reverse P [] h = tt
+All-reverse {X} P (x ∷ xs) h = let F : List X → Type 0 = λ l. AllByRecursion P l in subst F (sym (reverse-append (x ∷ []) xs)) (All-append P (reverse xs) (x ∷ []) (All-reverse P xs h.1) (h.0, tt))
+
+pub All-map :
+    {X Y : Type 0} (P : Y → Type 0) (g : X → Y) (xs : List X) → AllByRecursion (λ x. P (g x)) xs →
+    AllByRecursion P (map g xs)
+All-map P g [] h = tt
+All-map P g (x ∷ xs) h = (h.0, All-map P g xs h.1)
+
+-- what stands from a place on leads into sequences of one level less
+pub inside_from :
+    (f : Body) (q k : ℕ) → Within f (levels f) q →
+    AllByRecursion (λ x. AllByRecursion (Within f (length f.seqs)) (children x.0))
+    (drop k (sequence f q).instrs)
+unfolding Within
+inside_from f q k h = All-drop _ k (sequence f q).instrs (All-items (Within f (length f.seqs)) (λ x. children x.0) (sequence f q).instrs h.1)
+
+-- what is inside the instruction at a place, if there is one
+abbrev pub InsideAt : Body → Option (Instr × ℕ) → Type 0
+InsideAt f None = Unit {0}
+InsideAt f (Some x) = AllByRecursion (Within f (length f.seqs)) (children x.0)
+
+pub inside_front :
+    (f : Body) (o : Option (Instr × ℕ)) (rest : List (Instr × ℕ)) →
+    AllByRecursion (λ x. AllByRecursion (Within f (length f.seqs)) (children x.0)) (front o rest) →
+    InsideAt f o
+inside_front f None rest h = tt
+inside_front f (Some x) rest h = h.0
+
+pub inside_at :
+    (f : Body) (q k : ℕ) → Within f (levels f) q → InsideAt f (slice_get (sequence f q).instrs k)
+inside_at f q k h =
+    let F : List (Instr × ℕ) → Type 0 = λ l. AllByRecursion (λ x. AllByRecursion (Within f (length f.seqs)) (children x.0)) l in
+    inside_front f (slice_get (sequence f q).instrs k) (drop (suc k) (sequence f q).instrs) (subst F (drop_front (sequence f q).instrs k) (inside_from f q k h))
+
+regroup : {A : Type 0} (a b c e : List A) → ((a ++ b) ++ c) ++ e ≡ a ++ (b ++ (c ++ e))
+regroup a b c e = simp append_assoc
+
+-- from a place on: what is reported there, then what that leaves
+pub resume_parts :
+    (f : Body) (q k : ℕ) (o : Option (Instr × ℕ)) →
+    drop k (sequence f q).instrs ≡ front o (drop (k + 1) (sequence f q).instrs) → InsideAt f o →
+    work_events f (Resume q k) ≡ at_place (sequence f q) o ++ left f (after_place q k o)
+resume_parts f q k None e h = ap (λ l. events_of_instrs (events_to f (length f.seqs)) l ++ EndInstrSeq (sequence f q) ∷ []) e
+resume_parts f q k (Some x) e h =
+    let go = events_to f (length f.seqs) in
+    let end = EndInstrSeq (sequence f q) ∷ [] in
+    ap (λ l. events_of_instrs go l ++ end) e
+    ∙ regroup (own_events x) (flat_map go (children x.0)) (events_of_instrs go (drop (k + 1) (sequence f q).instrs)) end
+    ∙ ap (λ l. own_events x ++ l)
+    (sym (left-append f (Resume q (k + 1) ∷ []) (reverse (map Enter (children x.0)))
+    ∙ ap (λ l. l ++ left f (Resume q (k + 1) ∷ [])) (left-children f (children x.0) ∙ flat_map-same (Within f (length f.seqs)) (events f) go (children x.0) (same_deeper f (length f.seqs)) h)
+    ∙ ap (λ l. flat_map go (children x.0) ++ l) (append-nil (work_events f (Resume q (k + 1))))))
+
+-- the events of a piece of work: what it reports, then those of what it leaves
+pub work_parts :
+    (f : Body) (w : Work) → IsSound f w → work_events f w ≡ reports f w ++ left f (leaves f w)
+unfolding events_to
+work_parts f (Enter q) h =
+    ap (λ l. StartInstrSeq (sequence f q) ∷ l)
+    (append_assoc (type_of (sequence f q).ty) (events_of_instrs (events_to f (length f.seqs)) (sequence f q).instrs) (EndInstrSeq (sequence f q) ∷ [])
+    ∙ ap (λ l. type_of (sequence f q).ty ++ l) (sym (append-nil (work_events f (Resume q 0)))))
+work_parts f (Resume q k) h =
+    resume_parts f q k (slice_get (sequence f q).instrs k) (rw add-one (drop_front (sequence f q).instrs k)) (inside_at f q k h)
+
+-- what is left stays sound
+pub sound_place :
+    (f : Body) (q k : ℕ) (o : Option (Instr × ℕ)) → Within f (levels f) q → InsideAt f o →
+    AllByRecursion (IsSound f) (after_place q k o)
+sound_place f q k None h i = tt
+sound_place f q k (Some x) h i =
+    (h, All-reverse (IsSound f) (map Enter (children x.0)) (All-map (IsSound f) Enter (children x.0) (All-weaker _ _ (children x.0) (still_within f (length f.seqs)) i)))
+
+pub sound_leaves : (f : Body) (w : Work) → IsSound f w → AllByRecursion (IsSound f) (leaves f w)
+sound_leaves f (Enter q) h = (h, tt)
+sound_leaves f (Resume q k) h = sound_place f q k (slice_get (sequence f q).instrs k) h (inside_at f q k h)
+
+pub sound_knows : (f : Body) (w : Work) → IsSound f w → Knows f (seq_of w)
+unfolding Within
+sound_knows f w h = h.0
+
+-- each piece of work reports something
+pub place_long : (s : Sequence) (o : Option (Instr × ℕ)) → 0 < length (at_place s o)
+place_long s None = omega arith
+place_long s (Some x) = omega arith
+
+pub reports_long : (f : Body) (w : Work) → 0 < length (reports f w)
+reports_long f (Enter q) = omega arith
+reports_long f (Resume q k) = place_long (sequence f q) (slice_get (sequence f q).instrs k)
+
+-- a walk so far: what it reported, and that this and what is left are all events
+abbrev pub Trail :
+    {V : Type 0} → (V → Event → V → Type 0) → V → List Event → Body → V → List Work → Type 0
+Trail step o es f v ws = AllByRecursion (IsSound f) ws × ((done : List Event) × FoldsTo step o done v × (es ≡ done ++ left f ws))
+
+module _ {V : Type 0} (step : V → Event → V → Type 0) where
+  pub started : (v : V) (f : Body) (q : ℕ) (ws : List Work) → ws ≡ Enter q ∷ [] → IsNested f q → Trail step v (events f q) f v ws
+  started v f q ws e h =
+      let F : List Work → Type 0 = λ l. AllByRecursion (IsSound f) l in
+      (subst F (sym e) (within_from_nested f q h, tt), ([], refl, sym (ap (left f) e ∙ append-nil (events f q))))
+
+  pub next_sound : (o v : V) (es : List Event) (f : Body) (all ws : List Work) (w : Work) → all ≡ ws ++ w ∷ [] → Trail step o es f v all → AllByRecursion (IsSound f) ws × IsSound f w
+  next_sound o v es f all ws w e h =
+      let F : List Work → Type 0 = λ l. AllByRecursion (IsSound f) l in
+      let a = subst F e h.0 in
+      (All-front (IsSound f) ws (w ∷ []) a, (All-back (IsSound f) ws (w ∷ []) a).0)
+
+  pub next_knows : (o v : V) (es : List Event) (f : Body) (all ws : List Work) (w : Work) → all ≡ ws ++ w ∷ [] → Trail step o es f v all → Knows f (seq_of w)
+  next_knows o v es f all ws w e h = sound_knows f w (next_sound o v es f all ws w e h).1
+
+  -- what was left is what the last piece of work reports, then what is left after it
+  pub next_left : (f : Body) (all ws new : List Work) (w : Work) → all ≡ ws ++ w ∷ [] → IsSound f w → new ≡ ws ++ leaves f w → left f all ≡ reports f w ++ left f new
+  next_left f all ws new w e h n =
+      ap (left f) e ∙ left-append f ws (w ∷ [])
+      ∙ ap (λ l. l ++ left f ws) (append-nil (work_events f w) ∙ work_parts f w h)
+      ∙ append_assoc (reports f w) (left f (leaves f w)) (left f ws)
+      ∙ ap (λ l. reports f w ++ l) (sym (ap (left f) n ∙ left-append f ws (leaves f w)))
+
+  pub go_on : (o v u : V) (es : List Event) (f : Body) (all ws new : List Work) (w : Work) → all ≡ ws ++ w ∷ [] → Trail step o es f v all → FoldsTo step v (reports f w) u → new ≡ ws ++ leaves f w → Trail step o es f u new
+  go_on o v u es f all ws new w e h k n =
+      let F : List Work → Type 0 = λ l. AllByRecursion (IsSound f) l in
+      let s = next_sound o v es f all ws w e h in (
+        subst F (sym n) (All-append (IsSound f) ws (leaves f w) s.0 (sound_leaves f w s.1)),
+        (
+          h.1.0 ++ reports f w,
+          FoldsTo-append step o h.1.0 v (reports f w) u h.1.1 k,
+          h.1.2 ∙ ap (λ l. h.1.0 ++ l) (next_left f all ws new w e s.1 n) ∙ sym (append_assoc h.1.0 (reports f w) (left f new)),
+        ),
+      )
+
+  pub less_left : (o v : V) (es : List Event) (f : Body) (all ws new : List Work) (w : Work) → all ≡ ws ++ w ∷ [] → Trail step o es f v all → new ≡ ws ++ leaves f w → length (left f new) < length (left f all)
+  less_left o v es f all ws new w e h n =
+      let s = next_sound o v es f all ws w e h in
+      let k = ap (length {A = Event}) (next_left f all ws new w e s.1 n) ∙ length-append (reports f w) (left f new) in
+      let l = reports_long f w in
+      omega arith
+
+  pub cut_on : (o v u : V) (es : List Event) (f : Body) (all ws : List Work) (w : Work) → all ≡ ws ++ w ∷ [] → Trail step o es f v all → AfterFirst step v (reports f w) u → AfterFirst step o es u
+  cut_on o v u es f all ws w e h k =
+      let F : List Event → Type 0 = λ l. AfterFirst step o l u in
+      let s = next_sound o v es f all ws w e h in
+      subst F (sym (h.1.2 ∙ ap (λ l. h.1.0 ++ l) (next_left f all ws (ws ++ leaves f w) w e s.1 refl)))
+      (after_part step o v u h.1.0 (reports f w ++ left f (ws ++ leaves f w)) h.1.1 (after_front step v u (reports f w) (left f (ws ++ leaves f w)) k))

@@ -1,0 +1,4 @@
+pub mod Certificates
+pub mod Events
+pub mod Ids
+pub mod Steps
