@@ -1,0 +1,10 @@
+pub mod Bodies
+pub mod Eaches
+pub mod Stacks
+pub mod Sequences
+pub mod Keeping
+pub mod Members
+pub mod Depths
+pub mod Composing
+pub mod Counting
+pub mod Determined

@@ -1,0 +1,9 @@
+pub mod Hooks
+pub mod Extents
+pub mod Fields
+pub mod Premises
+pub mod Renaming
+pub mod Sequences
+pub mod Walks
+pub mod Counting
+pub mod Steps

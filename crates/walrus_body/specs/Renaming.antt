@@ -1,0 +1,26 @@
+-- What a visitor that renames types leaves at each hook.
+use Rattle.std.specs.Prelude.{ℕ, List, slice_index_or}
+use Rattle.walrus_ty.specs.Value.{heap_renamed}
+use Rattle.walrus_body.specs.Hooks.{Hook, Given, start_instr_seq, end_instr_seq, visit_instr, visit_instr_seq_id, visit_heap_type, visit_function_id, visit_type_id, visit_table_id, visit_local_id, visit_global_id, visit_value, visit_memory_id, visit_data_id, visit_element_id, visit_tag_id}
+
+-- the new id of a type: what stands at its place in the list, and past the end the id itself
+abbrev pub renamed : List ℕ → ℕ → ℕ
+renamed names id = slice_index_or names id id
+
+-- the ids of types are renamed, and so are those in heap types; nothing else changes
+abbrev pub renamed_at : List ℕ → (hook : Hook) → Given hook → Given hook
+renamed_at names visit_type_id id = renamed names id
+renamed_at names visit_heap_type ty = heap_renamed (renamed names) ty
+renamed_at names start_instr_seq x = x
+renamed_at names end_instr_seq x = x
+renamed_at names visit_instr x = x
+renamed_at names visit_instr_seq_id x = x
+renamed_at names visit_function_id x = x
+renamed_at names visit_table_id x = x
+renamed_at names visit_local_id x = x
+renamed_at names visit_global_id x = x
+renamed_at names visit_value x = x
+renamed_at names visit_memory_id x = x
+renamed_at names visit_data_id x = x
+renamed_at names visit_element_id x = x
+renamed_at names visit_tag_id x = x

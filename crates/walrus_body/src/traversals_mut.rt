@@ -1,0 +1,188 @@
+//! The walk that changes what it visits.
+ghost use Rattle.std.specs.Prelude.{◌≡◌, ◌∷◌, ◌++◌, OnOk, OnErr, reverse, map};
+ghost use Rattle.std.specs.List.{flat_map};
+ghost use Rattle.walrus_functions.specs.Body.{Knows};
+ghost use Rattle.walrus_functions.specs.Nesting.{children, handlers, IsNested};
+ghost use Rattle.walrus_body.specs.Extents.{Full, Partial, Each};
+ghost use Rattle.walrus_body.specs.Premises.{KeepsChildren};
+ghost use Rattle.walrus_body.specs.Sequences.{VisitsInstr, VisitsSequence};
+ghost use Rattle.walrus_body.specs.Steps.{SameNesting};
+ghost use Rattle.walrus_body.specs.Walks.{VisitsBlock, Walks, last_first};
+
+use crate::VisitorMut;
+use crate::fields_mut::{visit_fields, visit_type};
+use std::alloc::{AllocError, Global};
+use walrus_functions::LocalFunction;
+use walrus_ir::{Instr, InstrLocId, InstrSeq, InstrSeqId, LegacyCatch};
+use walrus_traversals::WalkError;
+
+/// Walks over the sequence `start` and all sequences below it, and changes them as the visitor
+/// does.
+///
+/// A whole sequence is visited first: its start, its type, each instruction with its fields and
+/// the tags of its clauses, its end. Then come its children as they then stand: those of the last
+/// instruction first, within one instruction in written order. Each hook is given what stands
+/// after the hooks before it. A sequence that is named twice is visited twice, the second time as
+/// the first left it.
+///
+/// The body has to be nested from `start`: unfolding it ends, and each sequence is known.
+///
+/// The walk ends with [`WalkError::Hook`] where a hook refuses, and with [`WalkError::Memory`]
+/// where memory for its stack is refused. Visitor and body are then as after a first part of the
+/// hook calls. The parameters of the function never change, nor does anything of its body but the
+/// sequences.
+pub fn dfs_pre_order_mut<V: VisitorMut>(
+    alloc: Global,
+    visitor: &mut V,
+    func: &mut LocalFunction,
+    start: InstrSeqId,
+) -> Result<(), WalkError<V::Error>>
+    requires { IsNested func.old.body start }
+    ensures ok { OnOk result (Walks V.step (visitor.old, func.old.body) start Full
+        (visitor.new, func.new.body)) }
+    ensures err { OnErr result (Walks V.step (visitor.old, func.old.body) start Partial
+        (visitor.new, func.new.body)) }
+    ensures args { func.new.args ≡ func.old.args }
+{
+    let mut stack = Vec::new(alloc);
+    if let Err(_) = stack.push(start) {
+        return Err(WalkError::Memory);
+    }
+    while let Some(seq) = stack.pop() {
+        if let Err(error) = visit_block(visitor, func, seq) {
+            return Err(WalkError::Hook(error));
+        }
+        if let Err(_) = push_children(&mut stack, func.block(seq)) {
+            return Err(WalkError::Memory);
+        }
+    }
+    Ok(())
+}
+
+// The hooks of a sequence of the function.
+fn visit_block<V: VisitorMut>(
+    visitor: &mut V,
+    func: &mut LocalFunction,
+    id: InstrSeqId,
+) -> Result<(), V::Error>
+    requires { Knows func.old.body id }
+    ensures ok { OnOk result (VisitsBlock V.step (visitor.old, func.old.body) id Full
+        (visitor.new, func.new.body)) }
+    ensures nesting { OnOk result (SameNesting func.old.body func.new.body) }
+    ensures err { OnErr result (VisitsBlock V.step (visitor.old, func.old.body) id Partial
+        (visitor.new, func.new.body)) }
+    ensures args { func.new.args ≡ func.old.args }
+{
+    visit_seq(visitor, func.block_mut(id))
+}
+
+// The hooks of a sequence.
+fn visit_seq<V: VisitorMut>(visitor: &mut V, seq: &mut InstrSeq) -> Result<(), V::Error>
+    ensures ok { OnOk result (VisitsSequence V.step visitor.old seq.old Full visitor.new seq.new) }
+    ensures nesting { OnOk result (KeepsChildren seq.old seq.new) }
+    ensures err { OnErr result (VisitsSequence V.step visitor.old seq.old Partial
+        visitor.new seq.new) }
+{
+    visitor.start_instr_seq_mut(seq)?;
+    visit_type(visitor, &mut seq.ty)?;
+    visit_instrs(visitor, &mut seq.instrs)?;
+    visitor.end_instr_seq_mut(seq)
+}
+
+// The hooks of instructions in turn.
+fn visit_instrs<V: VisitorMut>(
+    visitor: &mut V,
+    instrs: &mut Vec<(Instr, InstrLocId)>,
+) -> Result<(), V::Error>
+    ensures ok { OnOk result (Each (VisitsInstr V.step)
+        visitor.old instrs.old.items Full visitor.new instrs.new.items) }
+    ensures nesting { OnOk result (map (λ x. children x.0) instrs.new.items
+        ≡ map (λ x. children x.0) instrs.old.items) }
+    ensures err { OnErr result (Each (VisitsInstr V.step)
+        visitor.old instrs.old.items Partial visitor.new instrs.new.items) }
+{
+    for i in 0..instrs.len() {
+        let (instr, loc) = &mut instrs[i];
+        visit_instr(visitor, instr, loc)?;
+    }
+    Ok(())
+}
+
+// The hooks of an instruction: its own, then those of its fields and tags.
+fn visit_instr<V: VisitorMut>(
+    visitor: &mut V,
+    instr: &mut Instr,
+    loc: &mut InstrLocId,
+) -> Result<(), V::Error>
+    ensures ok { OnOk result (VisitsInstr V.step
+        visitor.old (instr.old, loc.old) Full visitor.new (instr.new, loc.new)) }
+    ensures nesting { OnOk result (children instr.new ≡ children instr.old) }
+    ensures err { OnErr result (VisitsInstr V.step
+        visitor.old (instr.old, loc.old) Partial visitor.new (instr.new, loc.new)) }
+{
+    visitor.visit_instr_mut(instr, loc)?;
+    visit_fields(visitor, instr)
+}
+
+// Puts the children onto the stack, so that they come off in the order of the walk.
+fn push_children(stack: &mut Vec<InstrSeqId>, seq: &InstrSeq) -> Result<(), AllocError>
+    ensures ok { OnOk result (reverse stack.new.items ≡ last_first seq.now
+        ++ reverse stack.old.items) }
+{
+    for (instr, _) in &seq.instrs {
+        push_children_of(stack, instr)?;
+    }
+    Ok(())
+}
+
+// The same of an instruction.
+fn push_children_of(stack: &mut Vec<InstrSeqId>, instr: &Instr) -> Result<(), AllocError>
+    ensures ok { OnOk result (reverse stack.new.items ≡ children instr.now
+        ++ reverse stack.old.items) }
+{
+    match instr {
+        Instr::Block(b) => push(stack, b.seq),
+        Instr::Loop(l) => push(stack, l.seq),
+        Instr::TryTable(t) => push(stack, t.seq),
+        Instr::IfElse(i) => {
+            push(stack, i.alternative)?;
+            push(stack, i.consequent)
+        }
+        Instr::Try(t) => {
+            push_handlers(stack, t.catches.as_slice())?;
+            push(stack, t.seq)
+        }
+        _ => Ok(()),
+    }
+}
+
+// The handlers of the clauses of an older `try`, the last first.
+fn push_handlers(stack: &mut Vec<InstrSeqId>, catches: &[LegacyCatch]) -> Result<(), AllocError>
+    ensures ok { OnOk result (reverse stack.new.items
+        ≡ flat_map handlers catches.now ++ reverse stack.old.items) }
+{
+    let mut i = catches.len();
+    while i > 0 {
+        i -= 1;
+        push_handler(stack, catches[i])?;
+    }
+    Ok(())
+}
+
+fn push_handler(stack: &mut Vec<InstrSeqId>, catch: LegacyCatch) -> Result<(), AllocError>
+    ensures ok { OnOk result (reverse stack.new.items ≡ handlers catch ++ reverse stack.old.items) }
+{
+    match catch {
+        LegacyCatch::Catch { handler, .. } | LegacyCatch::CatchAll { handler } => push(
+            stack, handler,
+        ),
+        LegacyCatch::Delegate { .. } => Ok(()),
+    }
+}
+
+fn push(stack: &mut Vec<InstrSeqId>, id: InstrSeqId) -> Result<(), AllocError>
+    ensures ok { OnOk result (reverse stack.new.items ≡ id ∷ reverse stack.old.items) }
+{
+    stack.push(id)?;
+    Ok(())
+}
