@@ -1,0 +1,16 @@
+//! The changing walk, on worked bodies.
+mod adder;
+mod functions;
+mod walks;
+
+use std::alloc::{AllocError, Global};
+use std::test::Fail;
+use walrus_functions::{BuildError, FunctionBuilder, LocalFunction};
+use walrus_ir::{Block, Instr, InstrLocId, InstrSeqId, InstrSeqType};
+use walrus_types::Id;
+
+const NOTHING: InstrSeqType = InstrSeqType::Simple(None);
+
+fn id<T>(index: usize) -> Id<T> {
+    Id::from_index(index)
+}

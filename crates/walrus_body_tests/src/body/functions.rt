@@ -1,0 +1,122 @@
+//! The functions of the worked walks.
+use super::*;
+use walrus_ir::{Const, DropInstr, IfElse, LegacyCatch, Try, Value};
+use walrus_types::Listed;
+
+// Adds a sequence with these instructions. Sequences have the ids 0, 1, and so on.
+fn add(
+    alloc: Global,
+    f: &mut FunctionBuilder,
+    instrs: Vec<Instr>,
+) -> Result<InstrSeqId, BuildError> {
+    let located = with_locations(alloc, instrs)?;
+    let mut b = f.dangling_instr_seq(NOTHING)?;
+    *b.instrs_mut() = located;
+    Ok(b.id())
+}
+
+fn with_locations(
+    alloc: Global,
+    instrs: Vec<Instr>,
+) -> Result<Vec<(Instr, InstrLocId)>, AllocError> {
+    let mut list = Vec::new(alloc);
+    for instr in instrs {
+        list.push((instr, InstrLocId::default()))?;
+    }
+    Ok(list)
+}
+
+fn number(n: i32) -> Instr {
+    Instr::from(Const {
+        value: Value::I32(n),
+    })
+}
+
+fn dropping() -> Instr {
+    Instr::from(DropInstr {})
+}
+
+fn block(index: usize) -> Instr {
+    Instr::from(Block { seq: id(index) })
+}
+
+// Sequence 0 is the entry, 1 the block, 2 and 3 its arms, 4 the body of the `Try`, 5 and 6 its
+// handlers.
+pub(super) fn test_function(alloc: Global) -> Result<LocalFunction, Fail> {
+    let mut f = FunctionBuilder::without_entry(alloc, id(0));
+    let handlers = vec![in alloc;
+        LegacyCatch::Catch {
+            tag: id(0),
+            handler: id(5),
+        },
+        LegacyCatch::CatchAll { handler: id(6) },
+    ]?;
+    let attempt = Instr::from(Try {
+        seq: id(4),
+        catches: Listed::from_vec(handlers),
+    });
+    let entry = vec![in alloc;
+        number(1),
+        dropping(),
+        block(1),
+        number(6),
+        dropping(),
+        attempt,
+        number(10),
+        dropping(),
+    ]?;
+    add(alloc, &mut f, entry)?;
+    let both = Instr::from(IfElse {
+        consequent: id(2),
+        alternative: id(3),
+    });
+    let inside = vec![in alloc; number(2), dropping(), both, number(5), dropping()]?;
+    add(alloc, &mut f, inside)?;
+    for n in [3, 4, 7, 8, 9] {
+        let instrs = vec![in alloc; number(n), dropping()]?;
+        add(alloc, &mut f, instrs)?;
+    }
+    Ok(f.local_func(Vec::new(alloc)))
+}
+
+// Two blocks of the entry name the sequence 1, which holds the constant 5.
+pub(super) fn shared(alloc: Global) -> Result<LocalFunction, Fail> {
+    let mut f = FunctionBuilder::without_entry(alloc, id(0));
+    add(alloc, &mut f, vec![in alloc; block(1), block(1)]?)?;
+    add(alloc, &mut f, vec![in alloc; number(5)]?)?;
+    Ok(f.local_func(Vec::new(alloc)))
+}
+
+// An entry without instructions.
+pub(super) fn empty_entry(alloc: Global) -> Result<LocalFunction, Fail> {
+    let mut f = FunctionBuilder::without_entry(alloc, id(0));
+    let entry = add(alloc, &mut f, Vec::new(alloc))?;
+    if !f.contains_seq(entry) {
+        return Err(Fail::new("the entry is unknown"));
+    }
+    f.set_entry(entry);
+    Ok(f.local_func(Vec::new(alloc)))
+}
+
+// So many sequences, each with one block of the next, and a last empty one.
+pub(super) fn chain(alloc: Global, count: usize) -> Result<LocalFunction, Fail> {
+    let mut f = FunctionBuilder::without_entry(alloc, id(0));
+    for index in 0..count {
+        add(alloc, &mut f, vec![in alloc; block(index + 1)]?)?;
+    }
+    add(alloc, &mut f, Vec::new(alloc))?;
+    Ok(f.local_func(Vec::new(alloc)))
+}
+
+// The instructions of a sequence.
+pub(super) fn instrs_of(
+    func: &LocalFunction,
+    index: usize,
+) -> Result<&[(Instr, InstrLocId)], Fail> {
+    let seq: InstrSeqId = id(index);
+    if func.contains_block(seq) {
+        Ok(func.block(seq).instrs.as_slice())
+    } else {
+        Err(Fail::new("an unknown sequence"))
+    }
+}

@@ -1,0 +1,168 @@
+//! Worked walks.
+use super::adder::{Adder, Full, HookCall};
+use super::functions::{chain, empty_entry, instrs_of, shared, test_function};
+use super::*;
+use walrus_body::dfs_pre_order_mut;
+use walrus_ir::{Const, Value};
+use walrus_traversals::{Nesting, WalkError, check_nesting};
+
+const ALL: usize = 1_000_000;
+
+fn adder(alloc: Global, limit: usize) -> Adder {
+    Adder {
+        calls: Vec::new(alloc),
+        limit,
+        at_start: false,
+        at_end: false,
+    }
+}
+
+// Walks from the sequence 0. It fails on a body that is not nested.
+fn walk(
+    alloc: Global,
+    visitor: &mut Adder,
+    func: &mut LocalFunction,
+) -> Result<Result<(), WalkError<Full>>, Fail> {
+    let start = id(0);
+    match check_nesting(alloc, func, start)? {
+        Nesting::Nested(_) => Ok(dfs_pre_order_mut(alloc, visitor, func, start)),
+        Nesting::Cycle { .. } => Err(Fail::new("a cycle")),
+        Nesting::Unknown(_) => Err(Fail::new("an unknown sequence")),
+    }
+}
+
+// The words of the worked rows: starts and ends, instructions and tags.
+fn words(alloc: Global, calls: &[HookCall]) -> Result<String, Fail> {
+    let mut text = String::new(alloc);
+    for call in calls {
+        add_word(alloc, &mut text, *call)?;
+    }
+    Ok(text)
+}
+
+fn add_word(alloc: Global, text: &mut String, call: HookCall) -> Result<(), Fail> {
+    let word = match call {
+        HookCall::Start => "start ",
+        HookCall::End => "end ",
+        HookCall::Number(n) => {
+            text.push_str(format!(in alloc; "{n} ")?.as_str())?;
+            return Ok(());
+        }
+        HookCall::Dropping => "drop ",
+        HookCall::Block => "block ",
+        HookCall::IfElse => "if-else ",
+        HookCall::Try => "try ",
+        HookCall::Tag => "tag ",
+        HookCall::Other => return Ok(()),
+    };
+    text.push_str(word)?;
+    Ok(())
+}
+
+const FIRST: &str =
+    "start 1 drop block 6 drop try tag 10 drop end start 7 drop end start 8 drop end start 9 drop end start 2 drop if-else 5 drop end start 3 drop end start 4 drop end ";
+
+const SECOND: &str =
+    "start 2 drop block 7 drop try tag 11 drop end start 8 drop end start 9 drop end start 10 drop end start 3 drop if-else 6 drop end start 4 drop end start 5 drop end ";
+
+#[test]
+fn children_of_the_last_instruction_come_first(rt: HostRuntime) -> Result<(), Fail> {
+    let alloc = rt.alloc();
+    let mut func = test_function(alloc)?;
+    let mut first = adder(alloc, ALL);
+    let answer = walk(alloc, &mut first, &mut func)?;
+    assert_eq!(rt; answer, Ok(()));
+    let text = words(alloc, first.calls.as_slice())?;
+    assert_eq!(rt; text.as_str(), FIRST);
+    let mut second = adder(alloc, ALL);
+    let answer = walk(alloc, &mut second, &mut func)?;
+    assert_eq!(rt; answer, Ok(()));
+    let text = words(alloc, second.calls.as_slice())?;
+    assert_eq!(rt; text.as_str(), SECOND);
+    Ok(())
+}
+
+// The constant at the head of sequence 1.
+fn constant(func: &LocalFunction) -> Result<i32, Fail> {
+    match instrs_of(func, 1)? {
+        [
+            (
+                Instr::Const(
+                    Const {
+                        value: Value::I32(n),
+                    },
+                ),
+                _,
+            ),
+            ..
+        ] => Ok(*n),
+        _ => Err(Fail::new("no constant")),
+    }
+}
+
+#[test]
+fn a_shared_sequence_is_changed_twice(rt: HostRuntime) -> Result<(), Fail> {
+    let alloc = rt.alloc();
+    let mut func = shared(alloc)?;
+    let mut visitor = adder(alloc, ALL);
+    let answer = walk(alloc, &mut visitor, &mut func)?;
+    assert_eq!(rt; answer, Ok(()));
+    assert_eq!(rt; constant(&func)?, 7);
+    Ok(())
+}
+
+// The entry has 6 hook calls: start, two blocks with one sequence id each, end. The shared
+// sequence has 4: start, constant, value, end.
+#[test]
+fn a_refused_hook_leaves_what_the_hooks_before_it_did(rt: HostRuntime) -> Result<(), Fail> {
+    let alloc = rt.alloc();
+    for (limit, left) in [(0, 5), (7, 5), (8, 6), (11, 6), (12, 7), (13, 7)] {
+        let mut func = shared(alloc)?;
+        let mut visitor = adder(alloc, limit);
+        let answer = walk(alloc, &mut visitor, &mut func)?;
+        assert_eq!(rt; answer, Err(WalkError::Hook(Full)));
+        assert_eq!(rt; visitor.calls.len(), limit);
+        assert_eq!(rt; constant(&func)?, left);
+    }
+    Ok(())
+}
+
+#[test]
+fn an_instruction_that_the_start_hook_adds_is_visited(rt: HostRuntime) -> Result<(), Fail> {
+    let alloc = rt.alloc();
+    let mut func = empty_entry(alloc)?;
+    let mut visitor = adder(alloc, ALL);
+    visitor.at_start = true;
+    let answer = walk(alloc, &mut visitor, &mut func)?;
+    assert_eq!(rt; answer, Ok(()));
+    let text = words(alloc, visitor.calls.as_slice())?;
+    assert_eq!(rt; text.as_str(), "start drop end ");
+    assert_eq!(rt; instrs_of(&func, 0)?.len(), 1);
+    Ok(())
+}
+
+#[test]
+fn an_instruction_that_the_end_hook_adds_is_not(rt: HostRuntime) -> Result<(), Fail> {
+    let alloc = rt.alloc();
+    let mut func = empty_entry(alloc)?;
+    let mut visitor = adder(alloc, ALL);
+    visitor.at_end = true;
+    let answer = walk(alloc, &mut visitor, &mut func)?;
+    assert_eq!(rt; answer, Ok(()));
+    let text = words(alloc, visitor.calls.as_slice())?;
+    assert_eq!(rt; text.as_str(), "start end ");
+    assert_eq!(rt; instrs_of(&func, 0)?.len(), 1);
+    Ok(())
+}
+
+#[test]
+fn a_body_of_ten_thousand_levels_is_walked(rt: HostRuntime) -> Result<(), Fail> {
+    let alloc = rt.alloc();
+    let mut func = chain(alloc, 10_000)?;
+    let mut visitor = adder(alloc, ALL);
+    let answer = walk(alloc, &mut visitor, &mut func)?;
+    assert_eq!(rt; answer, Ok(()));
+    // of each sequence a start and an end, and of each block the instruction and its sequence
+    assert_eq!(rt; visitor.calls.len(), 40_002);
+    Ok(())
+}

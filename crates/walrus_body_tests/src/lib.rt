@@ -1,0 +1,13 @@
+//! Tests of the nesting check and of the walks through the public calls of their crates, and large
+//! bodies.
+//!
+//! They stand in a crate of their own, since tests inside a crate have the gate prove that crate a
+//! second time.
+#![tactic(auto)]
+
+#[cfg(test)]
+mod body;
+#[cfg(test)]
+mod speed;
+#[cfg(test)]
+mod traversals;

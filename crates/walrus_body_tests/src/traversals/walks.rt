@@ -1,0 +1,266 @@
+//! Worked walks.
+use super::log::{Full, HookCall, walk};
+use super::*;
+use walrus_ir::{
+    BrOnCast, Const, DropInstr, IfElse, LegacyCatch, Select, Try, TryTable, TryTableCatch, Value,
+};
+use walrus_traversals::WalkError;
+use walrus_types::{AbstractHeapType, HeapType, Listed, ModuleTypes, RefType, ValType};
+
+const ALL: usize = 1_000_000;
+
+// The words of the worked rows: starts and ends, instructions and tags.
+fn words(alloc: Global, calls: &[HookCall]) -> Result<String, Fail> {
+    let mut text = String::new(alloc);
+    for call in calls {
+        add_word(alloc, &mut text, *call)?;
+    }
+    Ok(text)
+}
+
+fn add_word(alloc: Global, text: &mut String, call: HookCall) -> Result<(), Fail> {
+    let word = match call {
+        HookCall::Start(_) => "start ",
+        HookCall::End(_) => "end ",
+        HookCall::Number(n) => {
+            text.push_str(format!(in alloc; "{n} ")?.as_str())?;
+            return Ok(());
+        }
+        HookCall::Dropping => "drop ",
+        HookCall::Block => "block ",
+        HookCall::IfElse => "if-else ",
+        HookCall::TryTable => "try-table ",
+        HookCall::Try => "try ",
+        HookCall::Tag(_) => "tag ",
+        _ => return Ok(()),
+    };
+    text.push_str(word)?;
+    Ok(())
+}
+
+fn number(n: i32) -> Instr {
+    Instr::from(Const {
+        value: Value::I32(n),
+    })
+}
+
+fn dropping() -> Instr {
+    Instr::from(DropInstr {})
+}
+
+// Inner sequences have the type 0, the entry has the type 1.
+const INNER: usize = 0;
+
+const OUTER: usize = 1;
+
+fn typed(ty: usize) -> InstrSeqType {
+    InstrSeqType::MultiValue(id(ty))
+}
+
+// Sequence 0 is the entry, 1 the block, 2 and 3 its arms, 4 the body of the `Try`, 5 and 6 its
+// handlers.
+fn test_function(alloc: Global) -> Result<LocalFunction, Fail> {
+    let mut f = empty(alloc);
+    let handlers = vec![in alloc;
+        LegacyCatch::Catch {
+            tag: id(0),
+            handler: id(5),
+        },
+        LegacyCatch::CatchAll { handler: id(6) },
+    ]?;
+    let attempt = Instr::from(Try {
+        seq: id(4),
+        catches: Listed::from_vec(handlers),
+    });
+    let entry = vec![in alloc;
+        number(1),
+        dropping(),
+        block(1),
+        number(6),
+        dropping(),
+        attempt,
+        number(10),
+        dropping(),
+    ]?;
+    add(alloc, &mut f, typed(OUTER), entry)?;
+    let both = Instr::from(IfElse {
+        consequent: id(2),
+        alternative: id(3),
+    });
+    let inside = vec![in alloc; number(2), dropping(), both, number(5), dropping()]?;
+    add(alloc, &mut f, typed(INNER), inside)?;
+    for n in [3, 4, 7, 8, 9] {
+        let instrs = vec![in alloc; number(n), dropping()]?;
+        add(alloc, &mut f, typed(INNER), instrs)?;
+    }
+    Ok(f.local_func(Vec::new(alloc)))
+}
+
+const IN_ORDER: &str =
+    "start 1 drop block start 2 drop if-else start 3 drop end start 4 drop end 5 drop end 6 drop try tag start 7 drop end start 8 drop end start 9 drop end 10 drop end ";
+
+#[test]
+fn sequences_are_visited_in_order(rt: HostRuntime) -> Result<(), Fail> {
+    let alloc = rt.alloc();
+    let func = test_function(alloc)?;
+    let (log, answer) = walk(alloc, &func, ALL)?;
+    assert_eq!(rt; answer, Ok(()));
+    let text = words(alloc, log.calls.as_slice())?;
+    assert_eq!(rt; text.as_str(), IN_ORDER);
+    Ok(())
+}
+
+// Every hook call in turn is refused: the log is that of the whole walk, cut there.
+#[test]
+fn a_refusing_hook_cuts_the_walk(rt: HostRuntime) -> Result<(), Fail> {
+    let alloc = rt.alloc();
+    let func = test_function(alloc)?;
+    let (whole, answer) = walk(alloc, &func, ALL)?;
+    assert_eq!(rt; answer, Ok(()));
+    for limit in 0..whole.calls.len() {
+        let (log, answer) = walk(alloc, &func, limit)?;
+        assert_eq!(rt; answer, Err(WalkError::Hook(Full)));
+        assert!(rt; log.calls.as_slice() == &whole.calls[..limit]);
+    }
+    Ok(())
+}
+
+#[test]
+fn labels_of_a_try_table_are_not_entered(rt: HostRuntime) -> Result<(), Fail> {
+    let alloc = rt.alloc();
+    let mut f = empty(alloc);
+    let clauses = vec![in alloc;
+        TryTableCatch::Catch {
+            tag: id(0),
+            label: id(2),
+        },
+        TryTableCatch::CatchAll { label: id(3) },
+    ]?;
+    let table = Instr::from(TryTable {
+        seq: id(1),
+        catches: Listed::from_vec(clauses),
+    });
+    let entry = vec![in alloc; number(1), dropping(), table, number(99), dropping()]?;
+    add(alloc, &mut f, typed(OUTER), entry)?;
+    let inside = vec![in alloc; number(5), dropping()]?;
+    add(alloc, &mut f, typed(INNER), inside)?;
+    add(alloc, &mut f, typed(INNER), Vec::new(alloc))?;
+    add(alloc, &mut f, typed(INNER), Vec::new(alloc))?;
+    let func = f.local_func(Vec::new(alloc));
+    let (log, answer) = walk(alloc, &func, ALL)?;
+    assert_eq!(rt; answer, Ok(()));
+    let text = words(alloc, log.calls.as_slice())?;
+    assert_eq!(rt;
+        text.as_str(),
+        "start 1 drop try-table tag start 5 drop end 99 drop end "
+    );
+    Ok(())
+}
+
+#[test]
+fn fields_follow_their_instruction(rt: HostRuntime) -> Result<(), Fail> {
+    let alloc = rt.alloc();
+    let mut types = ModuleTypes::new(alloc);
+    let mut f = FunctionBuilder::new(alloc, &mut types, &[], &[])?;
+    let mut b = f.func_body();
+    b.call_indirect(id(0), id(1))?;
+    let func = f.local_func(Vec::new(alloc));
+    let (log, answer) = walk(alloc, &func, ALL)?;
+    assert_eq!(rt; answer, Ok(()));
+    let want = [
+        HookCall::Start(0),
+        HookCall::Ty(1),
+        HookCall::Other,
+        HookCall::Ty(0),
+        HookCall::Table(1),
+        HookCall::End(0),
+    ];
+    assert!(rt; log.calls.as_slice() == want.as_slice());
+    let (log, answer) = walk(alloc, &func, 3)?;
+    assert_eq!(rt; answer, Err(WalkError::Hook(Full)));
+    assert!(rt; log.calls.as_slice() == &want[..3]);
+    Ok(())
+}
+
+#[test]
+fn heap_types_are_reported_whole(rt: HostRuntime) -> Result<(), Fail> {
+    let alloc = rt.alloc();
+    let mut f = empty(alloc);
+    let cast = Instr::from(BrOnCast {
+        block: id(0),
+        from_nullable: true,
+        from_heap_type: HeapType::Abstract(AbstractHeapType::Any),
+        to_nullable: true,
+        to_heap_type: HeapType::Concrete(id(3)),
+    });
+    let funcref = ValType::Ref(RefType {
+        nullable: true,
+        heap_type: HeapType::Abstract(AbstractHeapType::Func),
+    });
+    let select = Instr::from(Select { ty: Some(funcref) });
+    let ty = InstrSeqType::Simple(Some(funcref));
+    add(alloc, &mut f, ty, vec![in alloc; cast, select]?)?;
+    let func = f.local_func(Vec::new(alloc));
+    let (log, answer) = walk(alloc, &func, ALL)?;
+    assert_eq!(rt; answer, Ok(()));
+    let want = [
+        HookCall::Start(0),
+        HookCall::AbstractHeap(AbstractHeapType::Func),
+        HookCall::Other,
+        HookCall::Seq(0),
+        HookCall::AbstractHeap(AbstractHeapType::Any),
+        HookCall::ConcreteHeap(3),
+        HookCall::Other,
+        HookCall::End(0),
+    ];
+    assert!(rt; log.calls.as_slice() == want.as_slice());
+    Ok(())
+}
+
+// A sequence that two blocks name is visited for each.
+#[test]
+fn a_shared_sequence_is_visited_each_time(rt: HostRuntime) -> Result<(), Fail> {
+    let alloc = rt.alloc();
+    let mut f = empty(alloc);
+    add(
+        alloc,
+        &mut f,
+        typed(OUTER),
+        vec![in alloc; block(1), block(1)]?,
+    )?;
+    add(alloc, &mut f, typed(INNER), vec![in alloc; number(5)]?)?;
+    let func = f.local_func(Vec::new(alloc));
+    let (log, answer) = walk(alloc, &func, ALL)?;
+    assert_eq!(rt; answer, Ok(()));
+    let text = words(alloc, log.calls.as_slice())?;
+    assert_eq!(rt;
+        text.as_str(),
+        "start block start 5 end block start 5 end end "
+    );
+    Ok(())
+}
+
+#[test]
+fn depth_of_a_walk_is_bounded_by_memory_alone(rt: HostRuntime) -> Result<(), Fail> {
+    let alloc = rt.alloc();
+    let func = chain(alloc, 10_000)?;
+    let (log, answer) = walk(alloc, &func, ALL)?;
+    assert_eq!(rt; answer, Ok(()));
+    let starts = log
+        .calls
+        .iter()
+        .filter(|call| matches!(call, HookCall::Start(_)))
+        .count();
+    assert_eq!(rt; starts, 10_001);
+    Ok(())
+}
+
+#[test]
+fn errors_print(rt: HostRuntime) -> Result<(), Fail> {
+    let alloc = rt.alloc();
+    let memory: WalkError<Full> = WalkError::Memory;
+    assert_eq!(rt; format!(in alloc; "{memory}")?.as_str(), "out of memory");
+    let hook = WalkError::Hook(Full);
+    assert_eq!(rt; format!(in alloc; "{hook}")?.as_str(), "full");
+    Ok(())
+}

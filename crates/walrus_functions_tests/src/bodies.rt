@@ -1,0 +1,69 @@
+//! Worked bodies.
+ghost use Rattle.std.specs.Prelude.{IfOk, IsSome};
+ghost use Rattle.std.specs.Borrow.{MutBor};
+ghost use Rattle.walrus_functions.specs.Building.{function_of, IsKnown};
+ghost use Rattle.walrus_functions.specs.declared.function_builder.instr_seq_builder.InstrSeqBuilder.{InstrSeqBuilder as Builder};
+
+mod builders;
+mod calls;
+mod examples;
+mod functions;
+mod nested;
+
+use std::alloc::{AllocError, Global};
+use std::process::Abort;
+use std::test::Fail;
+use walrus_functions::{
+    BuildError, FunctionBuilder, InstrSeqBuilder, LocalFunction, LocalFunctions,
+};
+use walrus_ir::{InstrSeq, InstrSeqType};
+use walrus_types::{Id, ModuleTypes};
+
+const NOTHING: InstrSeqType = InstrSeqType::Simple(None);
+
+// A function without parameters and results, over an empty table of types.
+fn begin(alloc: Global) -> Result<FunctionBuilder, AllocError>
+    ensures { IfOk result (λ f. IsSome f.entry) }
+{
+    let mut types = ModuleTypes::new(alloc);
+    FunctionBuilder::new(alloc, &mut types, &[], &[])
+}
+
+// What the closure, called on the entry of a new function, answers, and the text of the function
+// as it is then.
+fn builds<F: FnOnce(&mut InstrSeqBuilder<'_>) -> Result<(), BuildError>>(
+    rt: &impl Abort,
+    alloc: Global,
+    fill: F,
+    outcome: Result<(), BuildError>,
+    text: &str,
+) -> Result<(), Fail>
+    requires { (b : MutBor Builder) → IsKnown b.now → IsSome (function_of b.now).entry
+        → F.pre fill b }
+{
+    let mut f = begin(alloc)?;
+    let mut entry = f.func_body();
+    let answer = fill(&mut entry);
+    assert_eq!(rt; answer, outcome);
+    let func = f.local_func(Vec::new(alloc));
+    assert_eq!(rt; to_text(alloc, &func)?.as_str(), text);
+    Ok(())
+}
+
+// A line for each sequence: its id, and what each of its instructions prints.
+fn to_text(alloc: Global, func: &LocalFunction) -> Result<String, AllocError> {
+    let mut text = String::new(alloc);
+    for index in 0..func.block_count() {
+        write!(text, "{index}:")?;
+        write_instrs(&mut text, func.block(Id::from_index(index)))?;
+        text.push('\n')?;
+    }
+    Ok(text)
+}
+
+fn write_instrs(text: &mut String, seq: &InstrSeq) -> Result<(), AllocError> {
+    for (instr, _) in &seq.instrs {
+        write!(text, " {instr:?}")?;
+    }
+    Ok(())
+}

@@ -1,0 +1,34 @@
+//! Examples, with contracts that say which bodies they make.
+ghost use Rattle.std.specs.Prelude.{◌≡◌, OnOk, None};
+ghost use Rattle.walrus_ir.specs.declared.instr_seq_type.InstrSeqType.TheVariants.{Simple};
+ghost use Rattle.walrus_ir.specs.declared.ir.instr.Instr.TheVariants as instr;
+ghost use Rattle.walrus_functions.specs.Body.{next_seq, with_new, with_instr};
+ghost use Rattle.walrus_functions.specs.Building.{function_of, seq_id, IsKnown};
+
+use super::*;
+
+// Adds a block of a loop that branches to its own start.
+fn add_endless_loop(body: &mut InstrSeqBuilder<'_>) -> Result<(), BuildError>
+    requires { IsKnown body.old }
+    ensures known { OnOk result (IsKnown body.new) }
+    ensures made { OnOk result (
+        let outer = next_seq (function_of body.old) in
+        let with_outer = with_new (function_of body.old) (Simple None) in
+        let inner = next_seq with_outer in
+        let with_inner = with_new with_outer (Simple None) in
+        let filled = with_instr with_inner inner (instr.Br (record { block = inner })) in
+        let nested = with_instr filled outer (instr.Loop (record { seq = inner })) in
+        function_of body.new ≡
+        with_instr nested (seq_id body.old) (instr.Block (record { seq = outer }))) }
+{
+    body.block(NOTHING, |block| {
+        block.loop_(NOTHING, |again| again.br(again.id()))
+    })
+}
+
+#[test]
+fn a_loop_in_a_block(rt: HostRuntime) -> Result<(), Fail> {
+    let text = "0: Block(Block { seq: Id(1) })\n1: Loop(Loop { seq: Id(2) })\n\
+        2: Br(Br { block: Id(2) })\n";
+    builds(&rt, rt.alloc(), |b| add_endless_loop(b), Ok(()), text)
+}

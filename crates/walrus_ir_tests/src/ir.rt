@@ -1,0 +1,35 @@
+//! Instructions, locals and constant expressions: worked values beside the contracts, and what no
+//! contract says, such as how many operators there are, that clones succeed with ample memory, and
+//! printed texts.
+use std::alloc::Global;
+use std::collections::HashSet;
+use std::fmt;
+use std::process::Abort;
+use std::test::Fail;
+
+mod binary_ops;
+mod clones;
+mod const_expr;
+mod conversions;
+mod instr_seq_type;
+mod locals;
+mod locations;
+mod printed;
+mod reachability;
+mod ternary_ops;
+mod unary_ops;
+mod value;
+mod widths;
+
+/// Adds the printed names of operators to those seen. None of them may be there.
+fn see<T: fmt::Debug>(
+    rt: &impl Abort,
+    alloc: Global,
+    seen: &mut HashSet<String>,
+    ops: &[T],
+) -> Result<(), Fail> {
+    for op in ops {
+        assert!(rt; seen.insert(format!(in alloc; "{op:?}")?)?);
+    }
+    Ok(())
+}

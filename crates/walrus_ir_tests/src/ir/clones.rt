@@ -1,0 +1,84 @@
+//! That instructions with lists can be cloned.
+use std::alloc::Global;
+use std::test::Fail;
+use walrus_ir::{
+    BrTable, Id, Instr, InstrLocId, InstrSeq, InstrSeqId, InstrSeqType, LegacyCatch, Listed, Try,
+    TryTable, TryTableCatch,
+};
+
+fn make_table(alloc: Global) -> Result<Instr, Fail> {
+    Ok(Instr::BrTable(BrTable {
+        blocks: Listed::from_vec(vec![in alloc; Id::from_index(4), Id::from_index(5)]?),
+        default: Id::from_index(6),
+    }))
+}
+
+#[test]
+fn a_table_of_branches(rt: HostRuntime) -> Result<(), Fail> {
+    let copy = make_table(rt.alloc())?.clone()?;
+    let targets: [InstrSeqId; 2] = [Id::from_index(4), Id::from_index(5)];
+    if let Instr::BrTable(table) = &copy {
+        assert!(rt; table.blocks.as_slice() == targets.as_slice());
+        assert_eq!(rt; table.default.index(), 6);
+    }
+    assert!(rt; matches!(copy, Instr::BrTable(_)));
+    Ok(())
+}
+
+fn make_try(alloc: Global) -> Result<Instr, Fail> {
+    let clause = LegacyCatch::Delegate { relative_depth: 7 };
+    Ok(Instr::from(Try {
+        seq: Id::from_index(4),
+        catches: Listed::from_vec(vec![in alloc; clause]?),
+    }))
+}
+
+#[test]
+fn an_older_try(rt: HostRuntime) -> Result<(), Fail> {
+    let copy = make_try(rt.alloc())?.clone()?;
+    if let Instr::Try(t) = &copy {
+        assert_eq!(rt; t.seq.index(), 4);
+        assert!(rt;
+            matches!(
+                t.catches.as_slice(),
+                [LegacyCatch::Delegate { relative_depth: 7 }]
+            )
+        );
+    }
+    assert!(rt; matches!(copy, Instr::Try(_)));
+    Ok(())
+}
+
+fn make_try_table(alloc: Global) -> Result<Instr, Fail> {
+    let clause = TryTableCatch::CatchAll {
+        label: Id::from_index(7),
+    };
+    Ok(Instr::from(TryTable {
+        seq: Id::from_index(4),
+        catches: Listed::from_vec(vec![in alloc; clause]?),
+    }))
+}
+
+#[test]
+fn a_table_of_catches(rt: HostRuntime) -> Result<(), Fail> {
+    let copy = make_try_table(rt.alloc())?.clone()?;
+    if let Instr::TryTable(t) = &copy {
+        assert_eq!(rt; t.seq.index(), 4);
+        assert!(rt; matches!(t.catches.as_slice(), [TryTableCatch::CatchAll { label: _ }]));
+    }
+    assert!(rt; matches!(copy, Instr::TryTable(_)));
+    Ok(())
+}
+
+#[test]
+fn a_sequence(rt: HostRuntime) -> Result<(), Fail> {
+    let alloc = rt.alloc();
+    let mut seq = InstrSeq::new(alloc, Id::from_index(3), InstrSeqType::Simple(None));
+    seq.instrs.push((make_table(alloc)?, InstrLocId::new(8)))?;
+    seq.end = InstrLocId::new(9);
+    let copy = seq.clone()?;
+    assert_eq!(rt; copy.id().index(), 3);
+    assert_eq!(rt; copy.instrs.len(), 1);
+    assert!(rt; copy.end == InstrLocId::new(9));
+    Ok(())
+}

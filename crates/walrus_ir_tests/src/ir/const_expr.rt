@@ -1,0 +1,142 @@
+//! That expressions are read and written, in which form, and which name a refusal has.
+use std::alloc::{AllocError, Global};
+use std::test::Fail;
+use walrus_ir::{
+    ConstExpr, ConstOp, ConstOpAt, FromRecordError, Heap, Id, IdsToIndices, IndicesToIds, Listed,
+    NoIndex, Reference, ToRecordError, Value,
+};
+
+// Global index 0 stands for the global 5.
+fn one_global(alloc: Global) -> Result<IndicesToIds, AllocError> {
+    let mut ids = IndicesToIds::new(alloc);
+    ids.push_global(Id::from_index(5))?;
+    Ok(ids)
+}
+
+// Type indices 0 and 1 stand for the types 0 and 1.
+fn two_types(alloc: Global) -> Result<IndicesToIds, AllocError> {
+    let mut ids = IndicesToIds::new(alloc);
+    ids.push_type(Id::from_index(0))?;
+    ids.push_type(Id::from_index(1))?;
+    Ok(ids)
+}
+
+// The types 0 and 1 have the indices 0 and 1.
+fn two_type_indices(alloc: Global) -> Result<IdsToIndices, AllocError> {
+    let mut indices = IdsToIndices::new(alloc);
+    indices.push_type(Id::from_index(0))?;
+    indices.push_type(Id::from_index(1))?;
+    Ok(indices)
+}
+
+fn extended(expr: &ConstExpr) -> &[ConstOp] {
+    match expr {
+        ConstExpr::Extended(ops) => ops.as_slice(),
+        _ => &[],
+    }
+}
+
+#[test]
+fn a_lone_constant_is_a_value(rt: HostRuntime) -> Result<(), Fail> {
+    let ids = IndicesToIds::new(rt.alloc());
+    let expr = ConstExpr::eval(rt.alloc(), &[ConstOpAt::I32Const(7)], &ids)?;
+    assert!(rt; expr == ConstExpr::Value(Value::I32(7)));
+    let indices = IdsToIndices::new(rt.alloc());
+    let ops = expr.to_ops(rt.alloc(), &indices)?;
+    assert!(rt; ops.as_slice() == [ConstOpAt::I32Const(7)].as_slice());
+    Ok(())
+}
+
+#[test]
+fn all_other_lists_are_extended(rt: HostRuntime) -> Result<(), Fail> {
+    let alloc = rt.alloc();
+    let ids = IndicesToIds::new(alloc);
+    let expr = ConstExpr::eval(alloc, &[ConstOpAt::I32Add], &ids)?;
+    assert!(rt; extended(&expr) == [ConstOp::I32Add].as_slice());
+    let expr = ConstExpr::eval(alloc, &[], &ids)?;
+    assert!(rt; expr == ConstExpr::Extended(Listed::from_vec(Vec::new(alloc))));
+    let two = [ConstOpAt::I32Const(7), ConstOpAt::I32Const(8)];
+    let expr = ConstExpr::eval(alloc, &two, &ids)?;
+    assert!(rt; extended(&expr) == [ConstOp::I32Const(7), ConstOp::I32Const(8)].as_slice());
+    Ok(())
+}
+
+#[test]
+fn an_unknown_global_is_named(rt: HostRuntime) -> Result<(), Fail> {
+    let ids = IndicesToIds::new(rt.alloc());
+    let refused = ConstExpr::eval(rt.alloc(), &[ConstOpAt::GlobalGet(0)], &ids).err();
+    assert_eq!(rt; refused, Some(FromRecordError::UnknownIndex(0)));
+    Ok(())
+}
+
+#[test]
+fn a_sum_goes_through_both_maps(rt: HostRuntime) -> Result<(), Fail> {
+    let alloc = rt.alloc();
+    let sum = [
+        ConstOpAt::GlobalGet(0),
+        ConstOpAt::I32Const(4),
+        ConstOpAt::I32Add,
+    ];
+    let expr = ConstExpr::eval(alloc, &sum, &one_global(alloc)?)?;
+    assert_eq!(rt; extended(&expr).len(), 3);
+    let mut indices = IdsToIndices::new(alloc);
+    indices.push_global(Id::from_index(4))?;
+    indices.push_global(Id::from_index(5))?;
+    let ops = expr.to_ops(alloc, &indices)?;
+    let sent = [
+        ConstOpAt::GlobalGet(1),
+        ConstOpAt::I32Const(4),
+        ConstOpAt::I32Add,
+    ];
+    assert!(rt; ops.as_slice() == sent.as_slice());
+    Ok(())
+}
+
+#[test]
+fn an_unknown_type_is_named(rt: HostRuntime) -> Result<(), Fail> {
+    let ids = two_types(rt.alloc())?;
+    let refused = ConstExpr::eval(rt.alloc(), &[ConstOpAt::StructNew(3)], &ids).err();
+    assert_eq!(rt; refused, Some(FromRecordError::UnknownIndex(3)));
+    Ok(())
+}
+
+#[test]
+fn a_null_reference_is_read_as_nullable(rt: HostRuntime) -> Result<(), Fail> {
+    let alloc = rt.alloc();
+    let null = [ConstOpAt::RefNull(Heap::Concrete(1))];
+    let expr = ConstExpr::eval(alloc, &null, &two_types(alloc)?)?;
+    let ty = Reference {
+        nullable: true,
+        heap_type: Heap::Concrete(Id::from_index(1)),
+    };
+    assert!(rt; expr == ConstExpr::RefNull(ty));
+    let ops = expr.to_ops(alloc, &two_type_indices(alloc)?)?;
+    assert!(rt; ops.as_slice() == null.as_slice());
+    Ok(())
+}
+
+#[test]
+fn functions_are_named_by_index(rt: HostRuntime) -> Result<(), Fail> {
+    let alloc = rt.alloc();
+    let mut ids = IndicesToIds::new(alloc);
+    ids.push_func(Id::from_index(9))?;
+    let expr = ConstExpr::eval(alloc, &[ConstOpAt::RefFunc(0)], &ids)?;
+    assert!(rt; expr == ConstExpr::RefFunc(Id::from_index(9)));
+    let refused = expr.to_ops(alloc, &IdsToIndices::new(alloc)).err();
+    let missing = NoIndex::OfFunc(Id::from_index(9));
+    assert_eq!(rt; refused, Some(ToRecordError::NoIndex(missing)));
+    Ok(())
+}
+
+#[test]
+fn the_first_unknown_index_is_named(rt: HostRuntime) -> Result<(), Fail> {
+    let ids = two_types(rt.alloc())?;
+    let ops = [
+        ConstOpAt::StructNewDefault(1),
+        ConstOpAt::ArrayNewFixed { ty: 7, len: 2 },
+        ConstOpAt::RefFunc(6),
+    ];
+    let refused = ConstExpr::eval(rt.alloc(), &ops, &ids).err();
+    assert_eq!(rt; refused, Some(FromRecordError::UnknownIndex(7)));
+    Ok(())
+}

@@ -1,0 +1,50 @@
+//! Which types of sequences are simple, and which are in the table.
+use std::test::Fail;
+use walrus_ir::{Id, InstrSeqType, ModuleTypes, TypeId, Val, ValType};
+
+#[test]
+fn simple_types_leave_the_table_empty(rt: HostRuntime) -> Result<(), Fail> {
+    let mut types = ModuleTypes::new(rt.alloc());
+    let nothing = InstrSeqType::new(&mut types, &[], &[])?;
+    assert_eq!(rt; nothing, InstrSeqType::Simple(None));
+    let number = InstrSeqType::new(&mut types, &[], &[Val::I32])?;
+    assert_eq!(rt; number, InstrSeqType::Simple(Some(Val::I32)));
+    assert!(rt; types.iter().next().is_none());
+    Ok(())
+}
+
+#[test]
+fn simple_types_exist_without_a_table(rt: HostRuntime) -> Result<(), Fail> {
+    let types = ModuleTypes::new(rt.alloc());
+    let nothing = InstrSeqType::existing(&types, &[], &[]);
+    assert_eq!(rt; nothing, Some(InstrSeqType::Simple(None)));
+    let number = InstrSeqType::existing(&types, &[], &[Val::F64]);
+    assert_eq!(rt; number, Some(InstrSeqType::Simple(Some(Val::F64))));
+    Ok(())
+}
+
+#[test]
+fn other_types_exist_once_they_were_added(rt: HostRuntime) -> Result<(), Fail> {
+    let mut types = ModuleTypes::new(rt.alloc());
+    assert_eq!(rt; InstrSeqType::existing(&types, &[Val::I32], &[]), None);
+    let added = InstrSeqType::new(&mut types, &[Val::I32], &[])?;
+    assert_eq!(rt; added, InstrSeqType::MultiValue(Id::from_index(0)));
+    let known = InstrSeqType::existing(&types, &[Val::I32], &[]);
+    assert_eq!(rt; known, Some(added));
+    assert_eq!(rt; InstrSeqType::new(&mut types, &[Val::I32], &[])?, added);
+    Ok(())
+}
+
+#[test]
+fn types_are_made_of_their_parts(rt: HostRuntime) -> Result<(), Fail> {
+    let none: Option<ValType> = None;
+    assert_eq!(rt; InstrSeqType::from(none), InstrSeqType::Simple(None));
+    let number: ValType = Val::I64;
+    assert_eq!(rt;
+        InstrSeqType::from(number),
+        InstrSeqType::Simple(Some(Val::I64))
+    );
+    let id: TypeId = Id::from_index(3);
+    assert_eq!(rt; InstrSeqType::from(id), InstrSeqType::MultiValue(id));
+    Ok(())
+}

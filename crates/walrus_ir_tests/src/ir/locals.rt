@@ -1,0 +1,74 @@
+//! Adding locals, finding them again, and writing their names.
+use std::alloc::{AllocError, Global};
+use std::test::Fail;
+use walrus_ir::{Id, Local, LocalId, ModuleLocals, Val};
+
+// A list with a local of type `i32`, and then one of type `i64`.
+fn two(alloc: Global) -> Result<ModuleLocals, AllocError> {
+    let mut locals = ModuleLocals::new(alloc);
+    locals.add(Val::I32)?;
+    locals.add(Val::I64)?;
+    Ok(locals)
+}
+
+#[test]
+fn locals_get_the_next_ids(rt: HostRuntime) -> Result<(), Fail> {
+    let mut locals = ModuleLocals::new(rt.alloc());
+    let first = locals.add(Val::I32)?;
+    let second = locals.add(Val::I64)?;
+    assert_eq!(rt; first.index(), 0);
+    assert_eq!(rt; second.index(), 1);
+    let local = locals.get(second);
+    assert_eq!(rt; local.id(), second);
+    assert_eq!(rt; local.ty(), Val::I64);
+    assert!(rt; local.name.is_none());
+    Ok(())
+}
+
+#[test]
+fn only_what_was_added_is_there(rt: HostRuntime) -> Result<(), Fail> {
+    let locals = two(rt.alloc())?;
+    assert!(rt; locals.contains(Id::from_index(1)));
+    assert!(rt; !locals.contains(Id::from_index(2)));
+    assert!(rt; !ModuleLocals::new(rt.alloc()).contains(Id::from_index(0)));
+    Ok(())
+}
+
+// Whether there is a local at this place that has a name.
+fn has_name(locals: &ModuleLocals, place: usize) -> bool {
+    let id: LocalId = Id::from_index(place);
+    locals.contains(id) && locals.get(id).name.is_some()
+}
+
+#[test]
+fn a_written_name_stays(rt: HostRuntime) -> Result<(), Fail> {
+    let mut locals = ModuleLocals::new(rt.alloc());
+    let first = locals.add(Val::I32)?;
+    locals.get_mut(first).name = Some(String::from_str(rt.alloc(), "x")?);
+    locals.add(Val::I64)?;
+    assert!(rt; has_name(&locals, 0));
+    assert!(rt; !has_name(&locals, 1));
+    Ok(())
+}
+
+#[test]
+fn locals_come_in_order(rt: HostRuntime) -> Result<(), Fail> {
+    let locals = two(rt.alloc())?;
+    let mut left = locals.iter();
+    assert!(rt; left.next() == Some(&Local::new(Id::from_index(0), Val::I32)));
+    assert!(rt; left.next() == Some(&Local::new(Id::from_index(1), Val::I64)));
+    assert!(rt; left.next().is_none());
+    Ok(())
+}
+
+#[test]
+fn id_type_and_name_count(rt: HostRuntime) -> Result<(), Fail> {
+    let local = Local::new(Id::from_index(0), Val::I32);
+    assert!(rt; local != Local::new(Id::from_index(1), Val::I32));
+    assert!(rt; local != Local::new(Id::from_index(0), Val::I64));
+    let mut named = Local::new(Id::from_index(0), Val::I32);
+    assert!(rt; local == named);
+    named.name = Some(String::from_str(rt.alloc(), "x")?);
+    assert!(rt; local != named);
+    Ok(())
+}

@@ -1,0 +1,12 @@
+//! Tests of types, sections and instructions through the public calls of their crates.
+//!
+//! They stand in a crate of their own, since tests inside a crate have the gate prove that crate a
+//! second time.
+#![tactic(auto)]
+
+#[cfg(test)]
+mod ir;
+#[cfg(test)]
+mod sections;
+#[cfg(test)]
+mod ty;

@@ -1,0 +1,82 @@
+//! What a list answers, and that it can grow.
+use std::alloc::{AllocError, Global};
+use std::cmp::Ordering;
+use std::test::Fail;
+use walrus_ty::{Field, FieldType, Listed, Storage, StructType, Val};
+
+fn numbers(alloc: Global) -> Result<Listed<u32>, AllocError> {
+    Ok(Listed::from_vec(vec![in alloc; 3, 1, 4]?))
+}
+
+#[test]
+fn a_list_has_items_at_places(rt: HostRuntime) -> Result<(), Fail> {
+    let list = numbers(rt.alloc())?;
+    assert!(rt; list.len() == 3);
+    assert!(rt; !list.is_empty());
+    assert_eq!(rt; list[0], 3);
+    assert_eq!(rt; list[2], 4);
+    let none: Listed<u32> = Listed::from_vec(Vec::new(rt.alloc()));
+    assert_eq!(rt; none.len(), 0);
+    assert!(rt; none.is_empty());
+    Ok(())
+}
+
+#[test]
+fn a_list_gives_its_items_in_order(rt: HostRuntime) -> Result<(), Fail> {
+    let list = numbers(rt.alloc())?;
+    let mut seen = Vec::new(rt.alloc());
+    for item in list.iter() {
+        seen.push(*item)?;
+    }
+    assert_eq!(rt; seen.as_slice(), [3, 1, 4].as_slice());
+    Ok(())
+}
+
+#[test]
+fn a_list_grows_and_shrinks_at_the_end(rt: HostRuntime) -> Result<(), Fail> {
+    let mut list = numbers(rt.alloc())?;
+    list.push(5)?;
+    assert_eq!(rt; list.as_slice(), [3, 1, 4, 5].as_slice());
+    assert_eq!(rt; list.pop(), Some(5));
+    assert_eq!(rt; list.pop(), Some(4));
+    assert_eq!(rt; list.as_slice(), [3, 1].as_slice());
+    let mut none: Listed<u32> = Listed::from_vec(Vec::new(rt.alloc()));
+    assert_eq!(rt; none.pop(), None);
+    Ok(())
+}
+
+#[test]
+fn a_field_is_made_mutable_in_place(rt: HostRuntime) -> Result<(), Fail> {
+    let field: FieldType = Field {
+        element_type: Storage::Val(Val::I64),
+        mutable: false,
+    };
+    let mut made = StructType {
+        fields: Listed::from_vec(vec![in rt.alloc(); field, field]?),
+    };
+    assert!(rt; made.fields.len() == 2);
+    made.fields[1].mutable = true;
+    assert!(rt; made.fields.len() == 2);
+    assert!(rt; !made.fields[0].mutable);
+    assert!(rt; made.fields[1].mutable);
+    assert_eq!(rt; made.fields[1].element_type, Storage::Val(Val::I64));
+    made.fields[0] = Field {
+        element_type: Storage::I8,
+        mutable: false,
+    };
+    assert!(rt; made.fields.len() == 2);
+    assert_eq!(rt; made.fields[0].element_type, Storage::I8);
+    Ok(())
+}
+
+#[test]
+fn lists_compare_and_clone_by_their_items(rt: HostRuntime) -> Result<(), Fail> {
+    let list = numbers(rt.alloc())?;
+    let copy = list.clone()?;
+    assert!(rt; list == copy);
+    let shorter = Listed::from_vec(vec![in rt.alloc(); 3, 1]?);
+    assert!(rt; list != shorter);
+    assert!(rt; shorter.cmp(&list) == Ordering::Less);
+    assert!(rt; list.partial_cmp(&shorter) == Some(Ordering::Greater));
+    Ok(())
+}

@@ -1,0 +1,122 @@
+//! Which ids a type is made with, and in which order.
+use std::alloc::{AllocError, Global};
+use std::process::Abort;
+use std::test::Fail;
+use walrus_ty::{
+    ArrayType, CompositeType, Field, FieldType, FunctionType, Heap, HeapType, Id, Listed,
+    Reference, Storage, StructType, Type, TypeId, Val, ValType,
+};
+
+fn concrete(index: usize) -> ValType {
+    reference(Heap::Concrete(Id::from_index(index)))
+}
+
+fn reference(heap_type: HeapType) -> ValType {
+    Val::Ref(Reference {
+        nullable: true,
+        heap_type,
+    })
+}
+
+fn field(element: ValType) -> FieldType {
+    Field {
+        element_type: Storage::Val(element),
+        mutable: false,
+    }
+}
+
+fn ty(alloc: Global, kind: CompositeType, supertype: Option<TypeId>) -> Type {
+    Type::new(alloc, Id::from_index(9), kind, true, supertype)
+}
+
+// The places of the ids that the type is made with, after a 7 that is there before.
+fn referenced(alloc: Global, ty: &Type) -> Result<Vec<usize>, AllocError> {
+    let mut list = vec![in alloc; Id::from_index(7)]?;
+    ty.referenced_types(&mut list)?;
+    let mut places = Vec::new(alloc);
+    for id in &list {
+        places.push(id.index())?;
+    }
+    Ok(places)
+}
+
+#[test]
+fn the_supertype_comes_first_and_repeats_are_kept(rt: HostRuntime) -> Result<(), Fail> {
+    let alloc = rt.alloc();
+    let params = vec![in alloc; concrete(1), concrete(1)]?;
+    let results = vec![in alloc; reference(Heap::Exact(Id::from_index(0)))]?;
+    let kind = CompositeType::Function(FunctionType::new(params, results));
+    let made = ty(alloc, kind, Some(Id::from_index(2)));
+    assert_eq!(rt;
+        referenced(alloc, &made)?.as_slice(),
+        [7, 2, 1, 1, 0].as_slice()
+    );
+    Ok(())
+}
+
+#[test]
+fn fields_come_in_order(rt: HostRuntime) -> Result<(), Fail> {
+    let alloc = rt.alloc();
+    let fields = Listed::from_vec(vec![in alloc;
+        field(concrete(4)),
+        field(Val::I32),
+        field(concrete(3)),
+    ]?);
+    let made = ty(alloc, CompositeType::Struct(StructType { fields }), None);
+    assert_eq!(rt; referenced(alloc, &made)?.as_slice(), [7, 4, 3].as_slice());
+    let array = CompositeType::Array(ArrayType {
+        field: field(concrete(5)),
+    });
+    let made = ty(alloc, array, Some(Id::from_index(6)));
+    assert_eq!(rt; referenced(alloc, &made)?.as_slice(), [7, 6, 5].as_slice());
+    Ok(())
+}
+
+#[test]
+fn a_type_may_be_made_with_no_id(rt: HostRuntime) -> Result<(), Fail> {
+    let array = CompositeType::Array(ArrayType {
+        field: FieldType {
+            element_type: Storage::I8,
+            mutable: true,
+        },
+    });
+    let made = ty(rt.alloc(), array, None);
+    assert_eq!(rt; referenced(rt.alloc(), &made)?.as_slice(), [7].as_slice());
+    Ok(())
+}
+
+// A type that is made with the ids 2, 1 and 0. Its list is asked for again after a refusal.
+fn namer(alloc: Global) -> Result<Type, AllocError> {
+    let mut params = Vec::new(alloc);
+    if params.reserve(2).is_err() {
+        params.reserve(2)?;
+    }
+    params.push(concrete(1))?;
+    params.push(concrete(0))?;
+    let kind = CompositeType::Function(FunctionType::new(params, Vec::new(alloc)));
+    Ok(ty(alloc, kind, Some(Id::from_index(2))))
+}
+
+// Puts the ids at the end. After a refusal the list must be as it was, and the call is made again.
+fn put_again(rt: &impl Abort, ty: &Type, list: &mut Vec<TypeId>) -> Result<(), AllocError> {
+    let before = list.len();
+    if ty.referenced_types(list).is_ok() {
+        return Ok(());
+    }
+    assert_eq!(rt; list.len(), before);
+    ty.referenced_types(list)
+}
+
+// `rt try --test --fail-alloc N` refuses the N-th allocation.
+#[test]
+fn refused_ids_come_when_they_are_asked_for_again(rt: HostRuntime) -> Result<(), Fail> {
+    let made = namer(rt.alloc())?;
+    let mut list = Vec::new(rt.alloc());
+    for round in 0..5usize {
+        assert_eq!(rt; list.len(), 3 * round);
+        put_again(&rt, &made, &mut list)?;
+    }
+    assert_eq!(rt; list.len(), 15);
+    assert!(rt; list.last().is_some_and(|id| id.index() == 0));
+    Ok(())
+}

@@ -1,0 +1,59 @@
+//! Which types are named in value types.
+use std::test::Fail;
+use walrus_ty::{
+    AbstractHeapType, Field, FieldType, Heap, HeapType, Id, RefType, Reference, Storage,
+    StorageType, TypeId, Val, ValType,
+};
+
+#[test]
+fn a_heap_type_names_what_it_points_at(rt: HostRuntime) -> Result<(), Fail> {
+    let id: TypeId = Id::from_index(3);
+    assert_eq!(rt; HeapType::Concrete(id).type_id(), Some(id));
+    assert_eq!(rt; HeapType::Exact(id).type_id(), Some(id));
+    let func: HeapType = Heap::Abstract(AbstractHeapType::Func);
+    assert_eq!(rt; func.type_id(), None);
+    Ok(())
+}
+
+#[test]
+fn a_field_names_what_its_reference_points_at(rt: HostRuntime) -> Result<(), Fail> {
+    let id: TypeId = Id::from_index(3);
+    let reference: RefType = Reference {
+        nullable: false,
+        heap_type: Heap::Concrete(id),
+    };
+    assert_eq!(rt; reference.type_id(), Some(id));
+    let value: ValType = Val::Ref(reference);
+    assert_eq!(rt; value.type_id(), Some(id));
+    let storage: StorageType = Storage::Val(value);
+    assert_eq!(rt; storage.type_id(), Some(id));
+    let field: FieldType = Field {
+        element_type: storage,
+        mutable: true,
+    };
+    assert_eq!(rt; field.type_id(), Some(id));
+    assert_eq!(rt; ValType::V128.type_id(), None);
+    assert_eq!(rt; StorageType::I8.type_id(), None);
+    Ok(())
+}
+
+#[test]
+fn a_record_names_by_index(rt: HostRuntime) -> Result<(), Fail> {
+    let reference: Reference<u32> = Reference {
+        nullable: true,
+        heap_type: Heap::Exact(7),
+    };
+    let value: Val<u32> = Val::Ref(reference);
+    let field: Field<u32> = Field {
+        element_type: Storage::Val(value),
+        mutable: false,
+    };
+    assert_eq!(rt; field.name(), Some(7));
+    assert_eq!(rt; field.element_type.name(), Some(7));
+    assert_eq!(rt; value.name(), Some(7));
+    assert_eq!(rt; reference.name(), Some(7));
+    assert_eq!(rt; reference.heap_type.name(), Some(7));
+    let plain: Val<u32> = Val::F64;
+    assert_eq!(rt; plain.name(), None);
+    Ok(())
+}

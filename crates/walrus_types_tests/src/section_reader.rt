@@ -1,0 +1,173 @@
+//! That sections are read, what is read of them, and which refusal comes.
+use crate::fixtures::{Piece, Shape, entry, group, section, to};
+use Piece::{Many, One};
+use Shape::{Func, Struct};
+use std::alloc::{AllocError, Global};
+use std::process::Abort;
+use std::test::Fail;
+use walrus_types::{GroupAt, ReadError, RecGroup, SectionReader, TypeId, ValAt, parse_types};
+
+// Whether these are the ids of these indices.
+fn are(ids: &[TypeId], indices: &[usize]) -> bool {
+    ids.len() == indices.len()
+        && ids
+            .iter()
+            .zip(indices)
+            .all(|(id, index)| id.index() == *index)
+}
+
+// Whether the group has these members and this mark.
+fn is(group: &RecGroup, members: &[usize], is_explicit: bool) -> bool {
+    group.is_explicit == is_explicit && are(group.types.as_slice(), members)
+}
+
+fn is_refused(
+    rt: &impl Abort,
+    alloc: Global,
+    pieces: &[Piece<'_>],
+    wanted: ReadError,
+) -> Result<(), Fail> {
+    let groups = section(alloc, pieces)?;
+    let refused = parse_types(alloc, groups.as_slice()).err();
+    assert_eq!(rt; refused, Some(wanted));
+    Ok(())
+}
+
+// The group of this piece. It is asked for again after a refusal.
+fn group_again(alloc: Global, piece: Piece<'_>) -> Result<GroupAt, AllocError> {
+    match group(alloc, piece) {
+        Ok(made) => Ok(made),
+        Err(_) => group(alloc, piece),
+    }
+}
+
+// Pushes a group. After a refusal for memory the reader must be as it was, and the call is made
+// again.
+fn push_again(reader: &mut SectionReader, group: &GroupAt) -> Result<(), ReadError> {
+    match reader.push_group(group) {
+        Err(ReadError::Memory) => reader.push_group(group),
+        answer => answer,
+    }
+}
+
+// `rt try --test --fail-alloc N` refuses the N-th allocation.
+#[test]
+fn a_group_is_read_as_if_it_had_not_been_refused(rt: HostRuntime) -> Result<(), Fail> {
+    let alone = group_again(rt.alloc(), One(Func(&[])))?;
+    let rec = group_again(rt.alloc(), Many(&[Struct(&[to(0)])]))?;
+    let mut reader = SectionReader::new(rt.alloc());
+    for _ in 0..5u32 {
+        push_again(&mut reader, &alone)?;
+        push_again(&mut reader, &rec)?;
+    }
+    let (types, ids) = reader.finish();
+    assert!(rt; are(ids.as_slice(), &[0, 1, 0, 3, 0, 5, 0, 7, 0, 9]));
+    assert_eq!(rt; types.rec_groups().len(), 6);
+    assert!(rt; is(&types.rec_groups()[5], &[9], true));
+    Ok(())
+}
+
+#[test]
+fn a_refused_group_leaves_the_reader(rt: HostRuntime) -> Result<(), Fail> {
+    let alloc = rt.alloc();
+    let mut reader = SectionReader::new(alloc);
+    reader.push_group(&group(alloc, One(Func(&[])))?)?;
+    let refused = reader.push_group(&group(alloc, One(Struct(&[to(5)])))?);
+    let expected = ReadError::BadIndex {
+        entry: 1,
+        index: 5,
+        end: 2,
+    };
+    assert_eq!(rt; refused, Err(expected));
+    reader.push_group(&group(alloc, Many(&[Struct(&[to(1)])]))?)?;
+    let (types, ids) = reader.finish();
+    assert!(rt; are(ids.as_slice(), &[0, 1]));
+    let groups = types.rec_groups();
+    assert_eq!(rt; groups.len(), 2);
+    assert!(rt; is(&groups[0], &[0], false));
+    assert!(rt; is(&groups[1], &[1], true));
+    Ok(())
+}
+
+#[test]
+fn an_equal_entry_is_sent_to_the_first(rt: HostRuntime) -> Result<(), Fail> {
+    let alloc = rt.alloc();
+    let rec = Many(&[Struct(&[ValAt::I32])]);
+    let groups = section(alloc, &[One(Func(&[])), One(Func(&[])), rec])?;
+    let (types, ids) = parse_types(alloc, groups.as_slice())?;
+    assert!(rt; are(ids.as_slice(), &[0, 0, 2]));
+    assert!(rt; types.contains(TypeId::from_index(0)));
+    assert!(rt; !types.contains(TypeId::from_index(1)));
+    assert!(rt; types.contains(TypeId::from_index(2)));
+    Ok(())
+}
+
+#[test]
+fn an_empty_group_is_kept(rt: HostRuntime) -> Result<(), Fail> {
+    let alloc = rt.alloc();
+    let groups = section(alloc, &[Many(&[])])?;
+    let (types, ids) = parse_types(alloc, groups.as_slice())?;
+    assert_eq!(rt; ids.len(), 0);
+    assert_eq!(rt; types.rec_groups().len(), 1);
+    assert!(rt; is(&types.rec_groups()[0], &[], true));
+    Ok(())
+}
+
+#[test]
+fn names_may_point_forward_within_their_group(rt: HostRuntime) -> Result<(), Fail> {
+    let alloc = rt.alloc();
+    let rec = Many(&[Struct(&[to(1)]), Func(&[])]);
+    let groups = section(alloc, &[rec, One(Struct(&[to(2)]))])?;
+    let (_, ids) = parse_types(alloc, groups.as_slice())?;
+    assert!(rt; are(ids.as_slice(), &[0, 1, 2]));
+    Ok(())
+}
+
+#[test]
+fn an_index_past_its_group_is_refused(rt: HostRuntime) -> Result<(), Fail> {
+    let alone = ReadError::BadIndex {
+        entry: 0,
+        index: 1,
+        end: 1,
+    };
+    is_refused(&rt, rt.alloc(), &[One(Struct(&[to(1)]))], alone)?;
+    let in_rec = ReadError::BadIndex {
+        entry: 0,
+        index: 2,
+        end: 2,
+    };
+    let rec = Many(&[Struct(&[to(2)]), Func(&[])]);
+    is_refused(&rt, rt.alloc(), &[rec], in_rec)
+}
+
+#[test]
+fn a_field_is_refused_before_a_supertype(rt: HostRuntime) -> Result<(), Fail> {
+    let alloc = rt.alloc();
+    let mut both = entry(alloc, Struct(&[to(5)]))?;
+    both.supertype = Some(7);
+    let expected = ReadError::BadIndex {
+        entry: 0,
+        index: 5,
+        end: 1,
+    };
+    let refused = parse_types(alloc, &[GroupAt::Single(both)]).err();
+    assert_eq!(rt; refused, Some(expected));
+    Ok(())
+}
+
+#[test]
+fn refusals_print_what_is_wrong(rt: HostRuntime) -> Result<(), Fail> {
+    let alloc = rt.alloc();
+    let bad = ReadError::BadIndex {
+        entry: 0,
+        index: 1,
+        end: 1,
+    };
+    let text = format!(in alloc; "{}", bad)?;
+    assert_eq!(rt; text.as_str(), "entry 0 names 1, end 1");
+    let text = format!(in alloc; "{}", ReadError::TooMany)?;
+    assert_eq!(rt; text.as_str(), "too many entries");
+    let text = format!(in alloc; "{}", ReadError::Memory)?;
+    assert_eq!(rt; text.as_str(), "out of memory");
+    Ok(())
+}

@@ -1,0 +1,138 @@
+//! Explicit groups.
+use super::*;
+
+// A final type without supertype that names the type with this id.
+fn namer(
+    alloc: Global,
+    id: Option<&TypeId>,
+) -> Result<(CompositeType, bool, Option<TypeId>), AllocError> {
+    match id {
+        Some(id) => Ok(member(structure(alloc, &[reference(*id)])?)),
+        None => Ok(member(function(alloc))),
+    }
+}
+
+// Two types, of which each names the other.
+fn two_namers(
+    alloc: Global,
+    ids: &[TypeId],
+) -> Result<Vec<(CompositeType, bool, Option<TypeId>)>, AllocError> {
+    Ok(vec![in alloc; namer(alloc, ids.get(1))?, namer(alloc, ids.first())?]?)
+}
+
+#[test]
+fn the_types_of_a_group_may_name_each_other(rt: HostRuntime) -> Result<(), Fail> {
+    let alloc = rt.alloc();
+    let mut types = ModuleTypes::new(alloc);
+    types.add(&[], &[])?;
+    let ids = types.add_rec_group(2, |ids| two_namers(alloc, ids))?;
+    assert!(rt; are(ids.as_slice(), &[1, 2]));
+    let first = TypeId::from_index(1);
+    assert!(rt; types.contains(first));
+    let second = reference(TypeId::from_index(2));
+    assert!(rt; *types.get(first).kind() == structure(alloc, &[second])?);
+    assert_eq!(rt; types.get(first).id(), first);
+    Ok(())
+}
+
+#[test]
+fn a_group_knows_its_types(rt: HostRuntime) -> Result<(), Fail> {
+    let alloc = rt.alloc();
+    let mut types = ModuleTypes::new(alloc);
+    types.add(&[], &[])?;
+    types.add_rec_group(2, |ids| two_namers(alloc, ids))?;
+    let groups = types.rec_groups();
+    assert_eq!(rt; groups.len(), 2);
+    assert!(rt; !groups[0].is_explicit);
+    assert!(rt; are(groups[0].types.as_slice(), &[0]));
+    assert!(rt; groups[1].is_explicit);
+    assert!(rt; are(groups[1].types.as_slice(), &[1, 2]));
+    Ok(())
+}
+
+#[test]
+fn a_type_knows_its_group(rt: HostRuntime) -> Result<(), Fail> {
+    let alloc = rt.alloc();
+    let mut types = ModuleTypes::new(alloc);
+    types.add(&[], &[])?;
+    types.add_rec_group(2, |ids| two_namers(alloc, ids))?;
+    let group = types.rec_group_for_type(TypeId::from_index(2));
+    assert!(rt; group.is_some_and(|g| g.is_explicit && are(g.types.as_slice(), &[1, 2])));
+    let group = types.rec_group_for_type(TypeId::from_index(0));
+    assert!(rt; group.is_some_and(|g| !g.is_explicit && are(g.types.as_slice(), &[0])));
+    assert!(rt; types.rec_group_for_type(TypeId::from_index(3)).is_none());
+    Ok(())
+}
+
+#[test]
+fn a_group_is_built_from_the_ids_it_will_have(rt: HostRuntime) -> Result<(), Fail> {
+    let alloc = rt.alloc();
+    let mut types = ModuleTypes::new(alloc);
+    types.add(&[], &[])?;
+    let ids = types.add_rec_group(2, |ids| {
+        let (a, b) = (ids[0], ids[1]);
+        let first = structure(alloc, &[reference(b)])?;
+        let second = structure(alloc, &[reference(a)])?;
+        Ok(vec![in alloc; member(first), member(second)]?)
+    })?;
+    assert!(rt; are(ids.as_slice(), &[1, 2]));
+    let (a, b) = (TypeId::from_index(1), TypeId::from_index(2));
+    assert!(rt; types.contains(a));
+    assert!(rt; types.contains(b));
+    assert!(rt; *types.get(a).kind() == structure(alloc, &[reference(b)])?);
+    assert!(rt; *types.get(b).kind() == structure(alloc, &[reference(a)])?);
+    Ok(())
+}
+
+#[test]
+fn a_group_may_be_empty(rt: HostRuntime) -> Result<(), Fail> {
+    let alloc = rt.alloc();
+    let mut types = ModuleTypes::new(alloc);
+    let ids = types.add_rec_group(0, |_| Ok(Vec::new(alloc)))?;
+    assert!(rt; ids.is_empty());
+    assert_eq!(rt; types.rec_groups().len(), 1);
+    assert!(rt; types.rec_groups()[0].is_explicit);
+    assert!(rt; types.rec_groups()[0].types.as_slice().is_empty());
+    assert_eq!(rt; types.add(&[], &[])?.index(), 0);
+    Ok(())
+}
+
+#[test]
+fn a_group_that_was_not_built_uses_up_no_id(rt: HostRuntime) -> Result<(), Fail> {
+    let mut types = ModuleTypes::new(rt.alloc());
+    let refused = types.add_rec_group(1, |_| Err(AllocError)).err();
+    assert_eq!(rt; refused, Some(AddRecGroupError::Memory));
+    assert_eq!(rt; types.rec_groups().len(), 0);
+    assert_eq!(rt; types.add(&[], &[])?.index(), 0);
+    Ok(())
+}
+
+// Why a group of one type is refused where so many are asked for.
+fn refusal(alloc: Global, types: &mut ModuleTypes, count: usize) -> Option<AddRecGroupError> {
+    let added = types.add_rec_group(count, |_| Ok(vec![in alloc; member(function(alloc))]?));
+    added.err()
+}
+
+#[test]
+fn a_group_with_a_type_too_few_uses_up_no_id(rt: HostRuntime) -> Result<(), Fail> {
+    let mut types = ModuleTypes::new(rt.alloc());
+    let refused = refusal(rt.alloc(), &mut types, 2);
+    assert_eq!(rt;
+        refused,
+        Some(AddRecGroupError::Count { wanted: 2, got: 1 })
+    );
+    assert_eq!(rt; types.rec_groups().len(), 0);
+    assert_eq!(rt; types.add(&[], &[])?.index(), 0);
+    Ok(())
+}
+
+#[test]
+fn a_group_with_a_type_too_many_is_refused(rt: HostRuntime) {
+    let mut types = ModuleTypes::new(rt.alloc());
+    let refused = refusal(rt.alloc(), &mut types, 0);
+    assert_eq!(rt;
+        refused,
+        Some(AddRecGroupError::Count { wanted: 0, got: 1 })
+    );
+    assert_eq!(rt; types.rec_groups().len(), 0);
+}

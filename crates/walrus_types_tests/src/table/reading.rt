@@ -1,0 +1,64 @@
+//! What is read of a table and of its types.
+use super::*;
+
+#[test]
+fn a_new_table_has_no_types(rt: HostRuntime) {
+    let types = ModuleTypes::new(rt.alloc());
+    assert!(rt; !types.contains(TypeId::from_index(0)));
+    assert!(rt; types.iter().next().is_none());
+    assert!(rt; types.rec_groups().is_empty());
+    assert_eq!(rt; types.find(&[], &[]), None);
+}
+
+// Two parameters and one result.
+#[test]
+fn a_function_type_lends_its_lists(rt: HostRuntime) -> Result<(), Fail> {
+    let mut types = ModuleTypes::new(rt.alloc());
+    let id = types.add(&[Val::I32, Val::I64], &[Val::F32])?;
+    assert!(rt; types.contains(id));
+    if let CompositeType::Function(_) = types.get(id).kind() {
+        assert!(rt; types.params(id) == [Val::I32, Val::I64].as_slice());
+        assert!(rt; types.results(id) == [Val::F32].as_slice());
+        let (params, results) = types.params_results(id);
+        assert_eq!(rt; params.len(), 2);
+        assert_eq!(rt; results.len(), 1);
+        return Ok(());
+    }
+    unreachable!()
+}
+
+#[test]
+fn a_new_type_has_no_name(rt: HostRuntime) -> Result<(), Fail> {
+    let alloc = rt.alloc();
+    let mut types = ModuleTypes::new(alloc);
+    let id = types.add_composite(function(alloc), false, Some(TypeId::from_index(7)))?;
+    assert!(rt; types.contains(id));
+    let ty = types.get(id);
+    assert_eq!(rt; ty.id(), id);
+    assert!(rt; !ty.is_final);
+    assert_eq!(rt; ty.supertype, Some(TypeId::from_index(7)));
+    assert!(rt; ty.name.is_none());
+    assert!(rt; !ty.is_for_function_entry());
+    Ok(())
+}
+
+// The sum of the ids, each times ten for each type before it.
+fn ids_in_order(types: &ModuleTypes) -> usize {
+    let mut all = 0usize;
+    for ty in types.iter() {
+        all = all.wrapping_mul(10).wrapping_add(ty.id().index());
+    }
+    all
+}
+
+#[test]
+fn iter_goes_over_the_live_types(rt: HostRuntime) -> Result<(), Fail> {
+    let mut types = ModuleTypes::new(rt.alloc());
+    types.add(&[], &[])?;
+    types.add(&[Val::I32], &[])?;
+    types.add(&[Val::I64], &[])?;
+    assert_eq!(rt; ids_in_order(&types), 12);
+    delete(&rt, &mut types, 1)?;
+    assert_eq!(rt; ids_in_order(&types), 2);
+    Ok(())
+}
