@@ -3,7 +3,7 @@ use super::adder::{Adder, Full, HookCall};
 use super::functions::{chain, empty_entry, instrs_of, shared, test_function};
 use super::*;
 use walrus_body::dfs_pre_order_mut;
-use walrus_ir::{Const, Value};
+use walrus_ir::Value;
 use walrus_traversals::{Nesting, WalkError, check_nesting};
 
 const ALL: usize = 1_000_000;
@@ -85,17 +85,10 @@ fn children_of_the_last_instruction_come_first(rt: HostRuntime) -> Result<(), Fa
 // The constant at the head of sequence 1.
 fn constant(func: &LocalFunction) -> Result<i32, Fail> {
     match instrs_of(func, 1)? {
-        [
-            (
-                Instr::Const(
-                    Const {
-                        value: Value::I32(n),
-                    },
-                ),
-                _,
-            ),
-            ..
-        ] => Ok(*n),
+        [(Instr::Const(constant), _), ..] => match constant.value {
+            Value::I32(n) => Ok(n),
+            _ => Err(Fail::new("another constant")),
+        },
         _ => Err(Fail::new("no constant")),
     }
 }

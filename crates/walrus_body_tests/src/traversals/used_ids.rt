@@ -17,23 +17,32 @@ fn reference(index: usize) -> RefType {
 // Sequence 0 names sequence 1, in which the rest stands.
 fn body(alloc: Global) -> Result<LocalFunction, Fail> {
     let mut f = empty(alloc);
-    let clauses = vec![in alloc;
-        TryTableCatch::CatchRef {
-            tag: id(4),
-            label: id(0),
-        },
-    ]?;
-    let table = Instr::from(TryTable {
-        seq: id(1),
-        catches: Listed::from_vec(clauses),
-    });
+    let table = table_of_catches(alloc)?;
     add(
         alloc,
         &mut f,
         InstrSeqType::MultiValue(id(9)),
         vec![in alloc; table]?,
     )?;
-    let instrs = vec![in alloc;
+    add(alloc, &mut f, NOTHING, named_things(alloc)?)?;
+    Ok(f.local_func(Vec::new(alloc)))
+}
+
+fn table_of_catches(alloc: Global) -> Result<Instr, Fail> {
+    let clauses = vec![in alloc;
+        TryTableCatch::CatchRef {
+            tag: id(4),
+            label: id(0),
+        },
+    ]?;
+    Ok(Instr::from(TryTable {
+        seq: id(1),
+        catches: Listed::from_vec(clauses),
+    }))
+}
+
+fn named_things(alloc: Global) -> Result<Vec<Instr>, Fail> {
+    Ok(vec![in alloc;
         Instr::from(Call { func: id(5) }),
         Instr::from(CallIndirect {
             ty: id(6),
@@ -56,9 +65,7 @@ fn body(alloc: Global) -> Result<LocalFunction, Fail> {
         Instr::from(RefNull { ty: reference(90) }),
         Instr::from(BrIf { block: id(90) }),
         Instr::from(Throw { tag: id(12) }),
-    ]?;
-    add(alloc, &mut f, NOTHING, instrs)?;
-    Ok(f.local_func(Vec::new(alloc)))
+    ]?)
 }
 
 fn indices<T>(alloc: Global, ids: &[Id<T>]) -> Result<Vec<usize>, Fail> {

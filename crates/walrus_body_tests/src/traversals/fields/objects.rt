@@ -89,6 +89,12 @@ fn fields_of_arrays(rt: HostRuntime) -> Result<(), Fail> {
         Instr::from(ArrayNewFixed { ty: id(1), len: 90 }),
         "type 1",
     )?;
+    Ok(())
+}
+
+#[test]
+fn fields_of_arrays_of_segments(rt: HostRuntime) -> Result<(), Fail> {
+    let alloc = rt.alloc();
     shows(
         alloc,
         Instr::from(ArrayNewData {

@@ -34,6 +34,12 @@ fn fields_of_control(rt: HostRuntime) -> Result<(), Fail> {
         }),
         "",
     )?;
+    Ok(())
+}
+
+#[test]
+fn fields_of_branches_on_references(rt: HostRuntime) -> Result<(), Fail> {
+    let alloc = rt.alloc();
     shows(alloc, Instr::from(BrOnNull { block: id(1) }), "seq 1")?;
     shows(alloc, Instr::from(BrOnNonNull { block: id(1) }), "seq 1")?;
     shows(
@@ -158,6 +164,12 @@ fn fields_of_memories(rt: HostRuntime) -> Result<(), Fail> {
         }),
         "memory 1 memory 2",
     )?;
+    Ok(())
+}
+
+#[test]
+fn fields_of_loads_and_stores(rt: HostRuntime) -> Result<(), Fail> {
+    let alloc = rt.alloc();
     shows(
         alloc,
         Instr::from(Load {
