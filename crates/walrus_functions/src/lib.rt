@@ -27,23 +27,45 @@
 //!     let mut body = builder.func_body();
 //!     body.block(nothing, |block| {
 //!         let done = block.id();
-//!         block.loop_(nothing, |again| {
-//!             again.local_get(second)?;
-//!             again.unop(UnaryOp::I32Eqz)?;
-//!             again.br_if(done)?;
-//!             again.local_get(first)?;
-//!             again.i32_const(1)?;
-//!             again.binop(BinaryOp::I32Add)?;
-//!             again.local_set(first)?;
-//!             again.local_get(second)?;
-//!             again.i32_const(1)?;
-//!             again.binop(BinaryOp::I32Sub)?;
-//!             again.local_set(second)?;
-//!             again.br(again.id())
-//!         })
+//!         block.loop_(nothing, |again| count(again, done, first, second))
 //!     })?;
 //!     body.local_get(first)?;
 //!     Ok(builder)
+//! }
+//!
+//! // Leaves the block where the second number is zero. Else counts once, and begins again.
+//! fn count(
+//!     again: &mut InstrSeqBuilder<'_>,
+//!     done: InstrSeqId,
+//!     first: LocalId,
+//!     second: LocalId,
+//! ) -> Result<(), BuildError>
+//!     requires { IsKnown again.old }
+//!     ensures same { Stays again.old again.new }
+//!     ensures known { StayKnown (function_of again.old) (function_of again.new) }
+//! {
+//!     again.local_get(second)?;
+//!     again.unop(UnaryOp::I32Eqz)?;
+//!     again.br_if(done)?;
+//!     add_number(again, first, 1)?;
+//!     add_number(again, second, -1)?;
+//!     again.br(again.id())
+//! }
+//!
+//! // Adds a number to the local.
+//! fn add_number(
+//!     body: &mut InstrSeqBuilder<'_>,
+//!     local: LocalId,
+//!     number: i32,
+//! ) -> Result<(), BuildError>
+//!     requires { IsKnown body.old }
+//!     ensures same { Stays body.old body.new }
+//!     ensures known { StayKnown (function_of body.old) (function_of body.new) }
+//! {
+//!     body.local_get(local)?;
+//!     body.i32_const(number)?;
+//!     body.binop(BinaryOp::I32Add)?;
+//!     body.local_set(local)
 //! }
 //! ```
 #![tactic(auto)]

@@ -7,8 +7,10 @@ ghost use Rattle.walrus_functions.specs.declared.function_builder.instr_seq_buil
 mod builders;
 mod calls;
 mod examples;
+mod front_page;
 mod functions;
 mod nested;
+mod refusals;
 
 use std::alloc::{AllocError, Global};
 use std::process::Abort;
