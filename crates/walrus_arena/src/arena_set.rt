@@ -5,10 +5,10 @@ ghost use Rattle.walrus_arena.specs.Set.{found_id, holds, Adds, Registers, Remov
 ghost use Rattle.std.specs.Borrow.{sem};
 ghost use Rattle.std.specs.List.{IsDistinct};
 
-use crate::{Id, Iter, Tombstone, TombstoneArena};
+use crate::{HashKeys, Id, Iter, Tombstone, TombstoneArena};
 use std::alloc::{AllocError, Allocator, Global};
 use std::collections::HashMap;
-use std::hash::{BuildHasherDefault, FoldHasher, Hash};
+use std::hash::Hash;
 use std::marker::Model;
 use std::ops::{Index, IndexMut};
 
@@ -22,7 +22,7 @@ use std::ops::{Index, IndexMut};
 #[derive(Drop)]
 pub struct ArenaSet<T: Clone + Eq + Hash, A: Allocator = Global> {
     arena: TombstoneArena<T, A>,
-    map: HashMap<T, Id<T>, BuildHasherDefault<FoldHasher>, A>,
+    map: HashMap<T, Id<T>, HashKeys, A>,
 }
 
 impl<T: Clone + Eq + Hash, A: Allocator> Model for ArenaSet<T, A> {
@@ -36,8 +36,20 @@ impl<T: Clone + Eq + Hash, A: Allocator> Model for ArenaSet<T, A> {
 }
 
 impl<T: Clone + Eq + Hash, A: Allocator> ArenaSet<T, A> {
-    /// An empty set. It takes no memory.
+    /// An empty set whose hash has fixed keys. It takes no memory.
+    ///
+    /// Fixed keys are safe where the values are trusted: see [`HashKeys`].
     pub fn new(alloc: A) -> Self
+    where
+        A: Copy,
+        ensures slots { result.slots ≡ [] }
+        ensures map { result.entries ≡ [] }
+    {
+        ArenaSet::with_hash_keys(alloc, HashKeys::fixed())
+    }
+
+    /// An empty set whose hash has these keys. It takes no memory. No answer hangs on the keys.
+    pub fn with_hash_keys(alloc: A, keys: HashKeys) -> Self
     where
         A: Copy,
         ensures slots { result.slots ≡ [] }
@@ -45,7 +57,7 @@ impl<T: Clone + Eq + Hash, A: Allocator> ArenaSet<T, A> {
     {
         ArenaSet {
             arena: TombstoneArena::new(alloc),
-            map: HashMap::new(alloc),
+            map: HashMap::with_hasher(alloc, keys),
         }
     }
 

@@ -5,6 +5,7 @@
 //!   is never handed out again.
 //! - [`ArenaSet`] is such an arena with a map from values to ids, so that an equal value is given
 //!   the id that it has already.
+//! - [`HashKeys`] are the keys of its hash, random ones where the values are not trusted.
 //! - [`IdHashMap`] and [`IdHashSet`] are std's map and set with ids as keys.
 //!
 //! Whatever grows answers a `Result`. A refused growth changes nothing, and the deletions take no
@@ -36,6 +37,7 @@
 #![tactic(auto)]
 
 mod arena_set;
+mod hash_keys;
 mod id;
 mod iter;
 pub mod laws;
@@ -45,6 +47,7 @@ mod tests;
 mod tombstone_arena;
 
 pub use arena_set::ArenaSet;
+pub use hash_keys::HashKeys;
 pub use id::{Id, Key};
 pub use iter::Iter;
 pub use map::{IdHashMap, IdHashSet};

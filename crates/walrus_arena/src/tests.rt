@@ -9,6 +9,7 @@ mod arena;
 mod deletions;
 mod ids;
 mod interner;
+mod keys;
 mod refusals;
 mod set;
 

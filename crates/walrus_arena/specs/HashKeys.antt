@@ -1,0 +1,18 @@
+-- What the hash of a set begins with. Of no part of the WebAssembly specification.
+use Rattle.std.specs.Prelude.{ℕ, ◌++◌}
+use Rattle.std.specs.Hash as fed
+use Rattle.std.specs.Hash.FoldHasher as folding
+use Rattle.std.specs.List.{fold}
+use Rattle.std.specs.declared.hash.FoldHasher.{FoldHasher}
+
+-- keys are seen as the hasher that was fed them
+abbrev pub InitialHasher : Type 0
+InitialHasher = FoldHasher
+
+-- std's hasher, fed nothing
+abbrev pub fixed : InitialHasher
+fixed = folding.initial
+
+-- std's hasher, fed the one key and then the other
+abbrev pub keyed : ℕ → ℕ → InitialHasher
+keyed first second = fold folding.write folding.initial (fed.u64 first ++ fed.u64 second)
