@@ -22,9 +22,11 @@ use failure::{Failure, report};
 use line_reader::read_section;
 use print::write_output;
 use std::alloc::Global;
-use std::io::{BufWriter, Read, Write};
+use std::hash::{BuildHasher, RandomState};
+use std::io::{self, BufWriter, Read, Write};
 use std::process::ExitCode;
-use walrus_types::{GroupAt, ReadError, normalise};
+use std::random::RandomSource;
+use walrus_types::{GroupAt, HashKeys, ReadError, normalise};
 
 /// Reads a section from `reader`, and writes its normal form and the place of each entry in it to
 /// `out`.
@@ -34,8 +36,12 @@ use walrus_types::{GroupAt, ReadError, normalise};
 /// read or a write failed, or where 2^48 reads did not come to the end. One line on `err` tells
 /// each of 1 to 4. `out` gains nothing at 1 to 3, since all memory that a run takes is taken before
 /// it writes; at 4 it may have gained a part of the output.
+///
+/// The keys are those of the hash by which equal types are found. No answer hangs on them; where
+/// they can be foreseen, a text can be made that takes time with the square of its length.
 pub fn run<R: Read, W: Write, E: Write>(
     alloc: Global,
+    keys: HashKeys,
     reader: &mut R,
     out: &mut W,
     err: &mut E,
@@ -50,7 +56,7 @@ pub fn run<R: Read, W: Write, E: Write>(
     ensures range { result ≤ 4 }
     ensures unwritten { 0 < result → result < 4 → Keeps (W.contents out.old) (W.contents out.new) }
 {
-    match normalise_text(alloc, reader, out) {
+    match normalise_text(alloc, keys, reader, out) {
         Ok(()) => 0,
         Err(failure) => report(&failure, err),
     }
@@ -58,6 +64,7 @@ pub fn run<R: Read, W: Write, E: Write>(
 
 fn normalise_text<R: Read, W: Write>(
     alloc: Global,
+    keys: HashKeys,
     reader: &mut R,
     out: &mut W,
 ) -> Result<(), Failure>
@@ -69,7 +76,7 @@ fn normalise_text<R: Read, W: Write>(
         Keeps (W.contents out.old) (W.contents out.new)) }
 {
     let section = read_section(alloc, reader)?;
-    let (groups, map) = normalise(alloc, section.as_slice())?;
+    let (groups, map) = normalise(alloc, keys, section.as_slice())?;
     write_and_flush(out, groups.as_slice(), map.as_slice())
 }
 
@@ -88,11 +95,20 @@ fn write_and_flush<W: Write>(out: &mut W, groups: &[GroupAt], map: &[u32]) -> Re
     Ok(())
 }
 
+/// Keys that nobody who writes a text can foresee.
+fn random_keys(source: &impl RandomSource) -> io::Result<HashKeys> {
+    let random = RandomState::new(source)?;
+    Ok(HashKeys::new(random.hash_one(0u64), random.hash_one(1u64)))
+}
+
 fn main(rt: HostRuntime) -> ExitCode {
     let mut reader = rt.stdin();
     let mut err = rt.stderr();
+    let Ok(keys) = random_keys(&rt) else {
+        return ExitCode::from(report(&Failure::Stream, &mut err));
+    };
     let status = match BufWriter::new(rt.alloc(), rt.stdout()) {
-        Ok(mut out) => run(rt.alloc(), &mut reader, &mut out, &mut err),
+        Ok(mut out) => run(rt.alloc(), keys, &mut reader, &mut out, &mut err),
         Err(_) => report(&Failure::Memory, &mut err),
     };
     ExitCode::from(status)

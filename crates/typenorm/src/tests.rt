@@ -1,4 +1,5 @@
 //! What no clause says: whole runs on texts, the lines on standard error, and streams that fail.
+mod keys;
 mod reports;
 mod rows;
 mod short_texts;
@@ -7,6 +8,7 @@ mod texts;
 
 use crate::run;
 use std::alloc::{AllocError, Global};
+use walrus_types::HashKeys;
 
 /// What a run answered and wrote.
 #[derive(Drop)]
@@ -17,10 +19,15 @@ struct Outcome {
 }
 
 fn answer(alloc: Global, text: &[u8]) -> Outcome {
+    answer_by(alloc, HashKeys::fixed(), text)
+}
+
+/// What a run with these keys of the hash answered and wrote.
+fn answer_by(alloc: Global, keys: HashKeys, text: &[u8]) -> Outcome {
     let mut reader = text;
     let mut out = Vec::new(alloc);
     let mut err = Vec::new(alloc);
-    let status = run(alloc, &mut reader, &mut out, &mut err);
+    let status = run(alloc, keys, &mut reader, &mut out, &mut err);
     Outcome { status, out, err }
 }
 

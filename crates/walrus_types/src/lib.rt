@@ -27,7 +27,7 @@ pub use moves::same_up_to_moves;
 pub use normal_form::normalise;
 pub use section_reader::{SectionReader, parse_types};
 pub use table::{AddRecGroupError, ModuleTypes, RecGroup, RecGroupId, TypesIter};
-pub use walrus_arena::Id;
+pub use walrus_arena::{HashKeys, Id};
 pub use walrus_sections::{ReadError, is_normal_form};
 pub use walrus_ty::{
     AbstractHeapType, ArrayType, CompAt, CompositeType, Data, DataId, Element, ElementId, EntryAt,

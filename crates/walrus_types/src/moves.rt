@@ -7,7 +7,7 @@ ghost use Rattle.walrus_ty.specs.Records.{section_of};
 ghost use Rattle.walrus_sections.specs.Section.{IsWellNamed};
 
 use crate::laws::equal_outputs_by_moves;
-use crate::{GroupAt, ReadError, normalise};
+use crate::{GroupAt, HashKeys, ReadError, normalise};
 use std::alloc::Global;
 
 /// Whether a chain of moves leads from the one section to the other: an empty `Rec` goes in or out,
@@ -16,10 +16,15 @@ use std::alloc::Global;
 /// It is so exactly where the two have the same normal form.
 ///
 /// Where the first section can't be read, that is the answer, and else, where the second can't be;
-/// `Memory` comes only where memory was refused.
+/// `Memory` comes only where memory was refused. The keys are those of `normalise`.
 ///
 /// walrus has no such call.
-pub fn same_up_to_moves(alloc: Global, a: &[GroupAt], b: &[GroupAt]) -> Result<bool, ReadError>
+pub fn same_up_to_moves(
+    alloc: Global,
+    keys: HashKeys,
+    a: &[GroupAt],
+    b: &[GroupAt],
+) -> Result<bool, ReadError>
     ensures well_named { OnOk result
         (IsWellNamed (section_of a.now) × IsWellNamed (section_of b.now)) }
     ensures joined { IfOk result
@@ -28,8 +33,8 @@ pub fn same_up_to_moves(alloc: Global, a: &[GroupAt], b: &[GroupAt]) -> Result<b
         (IsWellNamed (section_of a.now) × IsFirstError (section_of b.now) e)) }
 {
     equal_outputs_by_moves();
-    let (first, _) = normalise(alloc, a)?;
-    let (second, _) = normalise(alloc, b)?;
+    let (first, _) = normalise(alloc, keys, a)?;
+    let (second, _) = normalise(alloc, keys, b)?;
     Ok(same_records(first.as_slice(), second.as_slice()))
 }
 

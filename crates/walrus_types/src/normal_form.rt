@@ -12,15 +12,20 @@ ghost use Rattle.walrus_ty.specs.Groups.{Section};
 ghost use Rattle.walrus_sections.specs.Section.{IsWellNamed};
 
 use crate::laws::{contents_tell_records, one_normal_form, second_round, swap_keeps_output};
-use crate::{EmitError, GroupAt, IdsToIndices, ReadError, TypeId, parse_types};
+use crate::{EmitError, GroupAt, HashKeys, IdsToIndices, ReadError, TypeId, parse_types};
 use std::alloc::{AllocError, Global};
 
 /// The normal form of a section, with the index in it of each index of the section: the section is
-/// read into a table, which is then emitted.
+/// read into a table, which is then emitted. The hash of the table has these keys, on which no
+/// answer hangs: fixed ones are safe where the section is trusted (see [`HashKeys`]).
 ///
 /// `TooMany` and `BadIndex` come exactly where a group can't be read, for the first such group;
 /// `Memory` comes only where memory was refused.
-pub fn normalise(alloc: Global, groups: &[GroupAt]) -> Result<(Vec<GroupAt>, Vec<u32>), ReadError>
+pub fn normalise(
+    alloc: Global,
+    keys: HashKeys,
+    groups: &[GroupAt],
+) -> Result<(Vec<GroupAt>, Vec<u32>), ReadError>
     ensures well_named { OnOk result (IsWellNamed (section_of groups.now)) }
     ensures normal { IfOk result
         (λ r. IsNormalForm (section_of groups.now) (section_of r.0.items) r.1.items) }
@@ -64,11 +69,12 @@ pub fn normalise(alloc: Global, groups: &[GroupAt]) -> Result<(Vec<GroupAt>, Vec
     one_normal_form();
     second_round();
     swap_keeps_output();
-    read_and_written(alloc, groups)
+    read_and_written(alloc, keys, groups)
 }
 
 fn read_and_written(
     alloc: Global,
+    keys: HashKeys,
     groups: &[GroupAt],
 ) -> Result<(Vec<GroupAt>, Vec<u32>), ReadError>
     ensures well_named { OnOk result (IsWellNamed (section_of groups.now)) }
@@ -77,7 +83,7 @@ fn read_and_written(
     ensures refused { IfErr result
         (λ e. (e ≡ read.Memory) ⊎ IsFirstError (section_of groups.now) e) }
 {
-    let (types, ids) = parse_types(alloc, groups)?;
+    let (types, ids) = parse_types(alloc, keys, groups)?;
     match types.emit() {
         Ok((section, indices)) => {
             let map = indices_of(alloc, ids.as_slice(), &indices)?;

@@ -12,8 +12,8 @@ ghost use Rattle.walrus_types.specs.ReadResult.{type_of_definition};
 ghost use Rattle.walrus_types.specs.ReaderState.{IsReadInto, IsSameState};
 
 use crate::{
-    CompositeType, EntryAt, FromRecordError, GroupAt, IndicesToIds, ModuleTypes, ReadError, Type,
-    TypeId,
+    CompositeType, EntryAt, FromRecordError, GroupAt, HashKeys, IndicesToIds, ModuleTypes,
+    ReadError, Type, TypeId,
 };
 use std::alloc::Global;
 use std::marker::Model;
@@ -44,12 +44,23 @@ impl Model for SectionReader {
 }
 
 impl SectionReader {
-    /// A reader that has read the empty section. It takes no memory.
+    /// A reader that has read the empty section, into a table whose hash has fixed keys. It takes
+    /// no memory.
+    ///
+    /// Fixed keys are safe where the section is trusted: see [`HashKeys`].
     pub fn new(alloc: Global) -> SectionReader
         ensures { IsReadInto [] result.table result.ids }
     {
+        SectionReader::with_hash_keys(alloc, HashKeys::fixed())
+    }
+
+    /// A reader that has read the empty section, into a table whose hash has these keys. It takes
+    /// no memory. No answer hangs on the keys.
+    pub fn with_hash_keys(alloc: Global, keys: HashKeys) -> SectionReader
+        ensures { IsReadInto [] result.table result.ids }
+    {
         SectionReader {
-            types: ModuleTypes::new(alloc),
+            types: ModuleTypes::with_hash_keys(alloc, keys),
             ids: IndicesToIds::new(alloc),
         }
     }
@@ -193,17 +204,19 @@ fn members(
     Ok(members)
 }
 
-/// Reads a whole section: the table of its types, and the id that each index stands for.
+/// Reads a whole section: the table of its types, and the id that each index stands for. The hash
+/// of the table has these keys: see [`HashKeys`].
 ///
 /// The first group that `SectionReader::push_group` refuses decides, with its error.
 pub fn parse_types(
     alloc: Global,
+    keys: HashKeys,
     groups: &[GroupAt],
 ) -> Result<(ModuleTypes, Vec<TypeId>), ReadError>
     ensures ok { IfOk result (λ read. IsReadInto (section_of groups.now) read.0 read.1.items) }
     ensures err { IfErr result (λ e. (e ≡ error.Memory) ⊎ IsFirstError (section_of groups.now) e) }
 {
-    let mut reader = SectionReader::new(alloc);
+    let mut reader = SectionReader::with_hash_keys(alloc, keys);
     for group in groups {
         reader.push_group(group)?;
     }

@@ -13,7 +13,7 @@ mod laws;
 mod read;
 mod rec_group;
 
-use crate::{Type, TypeId, ValType};
+use crate::{HashKeys, Type, TypeId, ValType};
 pub use iter::TypesIter;
 pub use laws::every_table_is_sound;
 pub use rec_group::{AddRecGroupError, RecGroup, RecGroupId};
@@ -53,12 +53,23 @@ impl Model for ModuleTypes {
 }
 
 impl ModuleTypes {
-    /// A table without types. It takes no memory.
+    /// A table without types, in which types are found by a hash with fixed keys. It takes no
+    /// memory.
+    ///
+    /// Fixed keys are safe where the types are trusted: see [`HashKeys`].
     pub fn new(alloc: Global) -> Self
         ensures { result ≡ record { types = record { slots = []; entries = [] }; groups = [] } }
     {
+        ModuleTypes::with_hash_keys(alloc, HashKeys::fixed())
+    }
+
+    /// A table without types, in which types are found by a hash with these keys. It takes no
+    /// memory. No answer hangs on the keys.
+    pub fn with_hash_keys(alloc: Global, keys: HashKeys) -> Self
+        ensures { result ≡ record { types = record { slots = []; entries = [] }; groups = [] } }
+    {
         ModuleTypes {
-            types: ArenaSet::new(alloc),
+            types: ArenaSet::with_hash_keys(alloc, keys),
             groups: Vec::new(alloc),
             group_of: Vec::new(alloc),
         }

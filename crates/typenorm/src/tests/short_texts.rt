@@ -4,7 +4,9 @@ use crate::normalise;
 use crate::print::write_output;
 use std::alloc::{AllocError, Global};
 use std::test::Fail;
-use walrus_types::{CompAt, EntryAt, FieldAt, GroupAt, HeapAt, Listed, RefAt, StorageAt, ValAt};
+use walrus_types::{
+    CompAt, EntryAt, FieldAt, GroupAt, HashKeys, HeapAt, Listed, RefAt, StorageAt, ValAt,
+};
 
 const LINES: [&str; 5] = ["rec", "end", "func ->", "struct null:1", ""];
 
@@ -65,7 +67,7 @@ fn agrees(alloc: Global, lines: &[&str]) -> Result<bool, AllocError> {
     let Some(section) = section(alloc, lines)? else {
         return Ok(told.status == 1);
     };
-    let Ok((groups, places)) = normalise(alloc, section.as_slice()) else {
+    let Ok((groups, places)) = normalise(alloc, HashKeys::fixed(), section.as_slice()) else {
         return Ok(told.status == 2);
     };
     let mut wanted: Vec<u8> = Vec::new(alloc);

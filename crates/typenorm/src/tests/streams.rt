@@ -5,6 +5,7 @@ use std::alloc::{AllocError, Global};
 use std::io;
 use std::io::{Error, ErrorKind, Read, Write};
 use std::test::Fail;
+use walrus_types::HashKeys;
 
 /// Gives one byte at a time, so many times, and then fails.
 #[derive(Drop)]
@@ -108,7 +109,7 @@ fn failed_read(rt: HostRuntime) -> Result<(), Fail> {
             };
             let mut out: Vec<u8> = Vec::new(alloc);
             let mut err: Vec<u8> = Vec::new(alloc);
-            let status = run(alloc, &mut reader, &mut out, &mut err);
+            let status = run(alloc, HashKeys::fixed(), &mut reader, &mut out, &mut err);
             if reads_left <= reads {
                 assert_eq!(rt; status, 4);
                 assert_eq!(rt; err.as_slice(), b"input or output failed\n".as_slice());
@@ -137,7 +138,7 @@ fn failed_write(rt: HostRuntime) -> Result<(), Fail> {
                 writes_left,
             };
             let mut err: Vec<u8> = Vec::new(alloc);
-            let status = run(alloc, &mut reader, &mut out, &mut err);
+            let status = run(alloc, HashKeys::fixed(), &mut reader, &mut out, &mut err);
             if out.bytes.len() < whole.out.len() {
                 assert_eq!(rt; status, 4);
                 assert_eq!(rt; err.as_slice(), b"input or output failed\n".as_slice());
@@ -161,7 +162,7 @@ fn failed_flush(rt: HostRuntime) -> Result<(), Fail> {
             bytes: Vec::new(alloc),
         };
         let mut err: Vec<u8> = Vec::new(alloc);
-        let status = run(alloc, &mut reader, &mut out, &mut err);
+        let status = run(alloc, HashKeys::fixed(), &mut reader, &mut out, &mut err);
         if whole.status == 0 {
             assert_eq!(rt; status, 4);
             assert_eq!(rt; err.as_slice(), b"input or output failed\n".as_slice());
@@ -188,7 +189,7 @@ fn failed_write_of_a_line_on_error(rt: HostRuntime) -> Result<(), Fail> {
                 bytes: Vec::new(alloc),
                 writes_left,
             };
-            let status = run(alloc, &mut reader, &mut out, &mut err);
+            let status = run(alloc, HashKeys::fixed(), &mut reader, &mut out, &mut err);
             if err.bytes.len() < whole.err.len() {
                 assert_eq!(rt; status, 4);
             } else {
@@ -214,7 +215,7 @@ fn a_run_whose_memory_is_refused_prints_nothing(rt: HostRuntime) -> Result<(), F
     let mut out = room(alloc)?;
     let mut err = room(alloc)?;
     let mut reader = b"struct i32\nrec\nfunc i32 ->\nend\nfunc ->\nfunc ->".as_slice();
-    let status = run(alloc, &mut reader, &mut out, &mut err);
+    let status = run(alloc, HashKeys::fixed(), &mut reader, &mut out, &mut err);
     let (printed, told) = match status {
         3 => ("", "out of memory\n"),
         _ => (
