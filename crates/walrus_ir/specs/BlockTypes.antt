@@ -1,6 +1,7 @@
 -- The types of instruction sequences. WebAssembly core specification, "Instructions": block types.
 use Rattle.std.specs.Prelude.{ℕ, List, [], ◌∷◌, Option, Some, None, true, false}
 use Rattle.walrus_ty.specs.declared.ty.value.Val.{Val}
+use Rattle.walrus_ty.specs.Value.{val_name}
 use Rattle.walrus_ty.specs.Types.{ModuleType, unnamed_type, function}
 use Rattle.walrus_types.specs.Table.{Table, next_id}
 use Rattle.walrus_ir.specs.declared.instr_seq_type.InstrSeqType.{InstrSeqType}
@@ -22,3 +23,9 @@ new_function t params results = unnamed_type (function params results) true None
 abbrev pub IsMultiValue : InstrSeqType → (ℕ → Type 0) → Type 0
 IsMultiValue (MultiValue id) P = P id
 IsMultiValue (Simple of) P = ⊥
+
+-- the type that it names: its function type, or the one that the value names which is left
+abbrev pub block_type_name : InstrSeqType → Option ℕ
+block_type_name (MultiValue id) = Some id
+block_type_name (Simple (Some of)) = val_name of
+block_type_name (Simple None) = None

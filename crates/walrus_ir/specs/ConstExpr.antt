@@ -1,6 +1,7 @@
 -- Constant expressions: what their operations name, how these are read and written, and the forms
 -- of expressions.
 -- WebAssembly core specification, "Instructions": constant expressions.
+use Rattle.std.specs.List.{flat_map}
 use Rattle.std.specs.Prelude.{ℕ, List, [], ◌∷◌, map, find, is_none, Option, Some, None, true, unwrap_or, slice_get}
 use Rattle.walrus_ty.specs.declared.error.NoIndex.{NoIndex}
 use Rattle.walrus_ty.specs.declared.error.NoIndex.TheVariants.{OfType, OfFunc, OfGlobal}
@@ -71,8 +72,8 @@ pub record Renaming : Type 0 where
   pub globals : ℕ → ℕ
 
 -- what is known of each name in its place, and 0 where nothing is
-abbrev pub sent : LookUp → Renaming
-sent known =
+abbrev pub renaming_of : LookUp → Renaming
+renaming_of known =
     record {
       types = value_or_zero known.types;
       funcs = value_or_zero known.funcs;
@@ -225,3 +226,23 @@ ops_of (expr.Global id) = op.GlobalGet id ∷ []
 ops_of (expr.RefNull ty) = op.RefNull ty ∷ []
 ops_of (expr.RefFunc id) = op.RefFunc id ∷ []
 ops_of (expr.Extended ops) = ops
+
+-- it is a list of operations
+abbrev pub IsExtended : ConstExpr → Type 0
+IsExtended (expr.Extended ops) = Unit {0}
+IsExtended other = ⊥
+
+-- the types among these names
+abbrev pub types_among : List Name → List ℕ
+types_among [] = []
+types_among (OfTypes k ∷ rest) = k ∷ types_among rest
+types_among (OfFuncs k ∷ rest) = types_among rest
+types_among (OfGlobals k ∷ rest) = types_among rest
+
+-- the types that an operation names
+abbrev pub op_types : ConstOp → List ℕ
+op_types o = types_among (op_names o)
+
+-- the types that an expression names, from left to right, each as often as it is named
+abbrev pub referenced_ids : ConstExpr → List ℕ
+referenced_ids x = flat_map op_types (ops_of x)

@@ -1,5 +1,5 @@
 -- What contracts see of the locals of functions.
-use Rattle.std.specs.Prelude.{ℕ, Option, None}
+use Rattle.std.specs.Prelude.{ℕ, suc, List, [], ◌∷◌, Option, None}
 use Rattle.std.specs.declared.string.String.{String}
 use Rattle.std.specs.declared.alloc.Global.{Global}
 use Rattle.walrus_ty.specs.declared.ty.value.Val.{Val}
@@ -12,3 +12,8 @@ pub record LocalVariable : Type 0 where
 -- a local without a name
 abbrev pub unnamed_local : ℕ → Val ℕ → LocalVariable
 unnamed_local id ty = record { id = id; ty = ty; name = None }
+
+-- locals of these types without names, whose ids are numbered from n
+abbrev pub unnamed_locals : ℕ → List (Val ℕ) → List LocalVariable
+unnamed_locals n [] = []
+unnamed_locals n (ty ∷ types) = unnamed_local n ty ∷ unnamed_locals (suc n) types

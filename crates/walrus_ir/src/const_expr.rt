@@ -3,10 +3,11 @@
 ghost use Rattle.std.specs.Prelude.{◌≡◌, Some, None, IfOk, IfErr, OnOk, map, option_map};
 ghost use Rattle.std.specs.List.{flat_map};
 ghost use Rattle.walrus_ty.specs.Lookups.{IfUnknownIndex, IfNoIndex};
-ghost use Rattle.walrus_ir.specs.ConstExpr.{expr_of, ops_of, constant, op_read, op_written, op_names, op_at_names, ids_at, indices_of, sent, first_missing, number_of, no_index};
+ghost use Rattle.walrus_ty.specs.declared.error.FromRecordError.TheVariants as from_record;
+ghost use Rattle.walrus_ir.specs.ConstExpr.{expr_of, ops_of, constant, IsExtended, op_read, op_written, op_names, op_at_names, ids_at, indices_of, renaming_of, first_missing, number_of, no_index};
 
 mod convert;
-pub mod laws;
+mod referenced;
 
 use crate::Value;
 use convert::{ops_from, ops_to, plain_form};
@@ -91,19 +92,22 @@ impl ConstExpr {
     /// The constant expression of these operations. One operation alone that is a constant,
     /// `GlobalGet`, `RefNull` or `RefFunc` gets the form of its own; all other lists, the empty one
     /// too, are `Extended`. The type of a null reference is nullable. `UnknownIndex` has the first
-    /// index that stands for nothing; `Memory` comes where room for `Extended` was refused.
+    /// index that stands for nothing; `Memory` comes where room for `Extended` was refused, and so
+    /// never for one operation that has a form of its own.
     pub fn eval(
         alloc: Global,
         ops: &[ConstOpAt],
         ids: &IndicesToIds,
     ) -> Result<ConstExpr, FromRecordError>
         ensures value { IfOk result
-            (λ x. x ≡ expr_of (map (op_read (sent (ids_at ids.now))) ops.now)) }
+            (λ x. x ≡ expr_of (map (op_read (renaming_of (ids_at ids.now))) ops.now)) }
         ensures complete { OnOk result
             (first_missing (ids_at ids.now) (flat_map op_at_names ops.now) ≡ None) }
         ensures missing { IfErr result (λ e. IfUnknownIndex e (λ k.
             option_map number_of (first_missing (ids_at ids.now) (flat_map op_at_names ops.now)) ≡
             Some k)) }
+        ensures memory { IfErr result (λ e. e ≡ from_record.Memory →
+            IsExtended (expr_of (map (op_read (renaming_of (ids_at ids.now))) ops.now))) }
     {
         if let [only] = ops {
             if let Some(plain) = plain_form(only, ids)? {
@@ -121,7 +125,8 @@ impl ConstExpr {
         indices: &IdsToIndices,
     ) -> Result<Vec<ConstOpAt>, ToRecordError>
         ensures ops { IfOk result
-            (λ x. x.items ≡ map (op_written (sent (indices_of indices.now))) (ops_of self.now)) }
+            (λ x. x.items ≡
+            map (op_written (renaming_of (indices_of indices.now))) (ops_of self.now)) }
         ensures complete { OnOk result
             (first_missing (indices_of indices.now) (flat_map op_names (ops_of self.now)) ≡ None) }
         ensures missing { IfErr result (λ e. IfNoIndex e (λ n.

@@ -1,7 +1,7 @@
 //! The types of instruction sequences.
 ghost use Rattle.std.specs.Prelude.{◌≡◌, Some, None, IfSome, IfOk, OnErr, Ok, MatchOption, option_map};
 ghost use Rattle.walrus_types.specs.Table.{FindsOrAdds, IsAnswer, IsSameTable, IsFirst, IsPlainFunction};
-ghost use Rattle.walrus_ir.specs.BlockTypes.{simple_result, new_function, IsMultiValue};
+ghost use Rattle.walrus_ir.specs.BlockTypes.{block_type_name, simple_result, new_function, IsMultiValue};
 ghost use Rattle.walrus_ir.specs.declared.instr_seq_type.InstrSeqType.TheVariants.{Simple, MultiValue};
 
 use std::alloc::AllocError;
@@ -66,6 +66,18 @@ impl InstrSeqType {
                 Some(id) => Some(InstrSeqType::MultiValue(id)),
                 None => None,
             },
+        }
+    }
+
+    /// The type of the module that it names: its function type, or the type that the one value
+    /// names which it leaves.
+    pub fn type_id(&self) -> Option<TypeId>
+        ensures { result ≡ block_type_name self.now }
+    {
+        match self {
+            InstrSeqType::Simple(None) => None,
+            InstrSeqType::Simple(Some(of)) => of.type_id(),
+            InstrSeqType::MultiValue(id) => Some(*id),
         }
     }
 }

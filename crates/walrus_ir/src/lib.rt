@@ -28,13 +28,13 @@
 mod const_expr;
 mod instr_seq_type;
 mod ir;
+pub mod laws;
 mod locals;
 mod value;
 
 pub use const_expr::ConstExpr;
 pub use const_expr::ConstOp;
 pub use const_expr::ConstOpAt;
-pub use const_expr::laws;
 pub use instr_seq_type::InstrSeqType;
 pub use ir::aggregates::ArrayCopy;
 pub use ir::aggregates::ArrayFill;

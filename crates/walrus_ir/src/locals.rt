@@ -1,7 +1,7 @@
 //! The locals of functions.
-ghost use Rattle.std.specs.Prelude.{◌≡◌, ◌<◌, ◌↔◌, [], ◌∷◌, ◌++◌, length, slice_get, IsTrue, IfOk, OnOk, OnErr, Some};
+ghost use Rattle.std.specs.Prelude.{◌≡◌, ◌<◌, ◌↔◌, [], ◌∷◌, ◌++◌, length, map, slice_get, IsTrue, IfOk, OnOk, OnErr, Some};
 ghost use Rattle.std.specs.Borrow.{sem};
-ghost use Rattle.walrus_ir.specs.Locals.{unnamed_local};
+ghost use Rattle.walrus_ir.specs.Locals.{unnamed_local, unnamed_locals};
 ghost use Rattle.walrus_ir.specs.LocalLends.{LendsLocal};
 
 mod iter;
@@ -92,6 +92,27 @@ impl ModuleLocals {
         let id = Id::from_index(self.locals.len());
         self.locals.push(Local::new(id, ty))?;
         Ok(id)
+    }
+
+    /// Adds a local without a name for each of these types, in order, and answers their ids. All or
+    /// none: a refusal changes nothing.
+    ///
+    /// walrus has no such call.
+    pub fn add_all(&mut self, types: &[ValType]) -> Result<Vec<LocalId>, AllocError>
+        ensures ids { IfOk result
+            (λ ids. ids.items ≡ map (λ l. l.id) (unnamed_locals (length self.old) types.now)) }
+        ensures ok { OnOk result
+            (self.new ≡ self.old ++ unnamed_locals (length self.old) types.now) }
+        ensures err { OnErr result (self.new ≡ self.old) }
+    {
+        let mut ids = Vec::with_capacity(*self.locals.allocator(), types.len())?;
+        self.locals.reserve(types.len())?;
+        for ty in types {
+            let id = Id::from_index(self.locals.len());
+            ids.push_reserved(id);
+            self.locals.push_reserved(Local::new(id, *ty));
+        }
+        Ok(ids)
     }
 
     /// Whether there is a local with this id.

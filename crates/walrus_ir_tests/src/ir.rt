@@ -16,6 +16,7 @@ mod locals;
 mod locations;
 mod printed;
 mod reachability;
+mod refusals;
 mod ternary_ops;
 mod unary_ops;
 mod value;

@@ -4,7 +4,7 @@ ghost use Rattle.std.specs.List.{flat_map};
 ghost use Rattle.walrus_ty.specs.IdLists.{type_at};
 ghost use Rattle.walrus_ty.specs.Lookups.{value_or_zero, IfUnknownIndex, IfNoIndex};
 ghost use Rattle.walrus_ty.specs.Value.{heap_names};
-ghost use Rattle.walrus_ir.specs.ConstExpr.{OfTypes, null_of, plain_form, op_read, op_written, op_names, op_at_names, ids_at, indices_of, sent, first_missing, number_of, no_index};
+ghost use Rattle.walrus_ir.specs.ConstExpr.{OfTypes, null_of, plain_form, op_read, op_written, op_names, op_at_names, ids_at, indices_of, renaming_of, first_missing, number_of, no_index};
 
 use super::{ConstExpr, ConstOp, ConstOpAt};
 use crate::Value;
@@ -21,7 +21,8 @@ pub(super) fn ops_from(
     records: &[ConstOpAt],
     ids: &IndicesToIds,
 ) -> Result<Vec<ConstOp>, FromRecordError>
-    ensures ops { IfOk result (λ x. x.items ≡ map (op_read (sent (ids_at ids.now))) records.now) }
+    ensures ops { IfOk result
+        (λ x. x.items ≡ map (op_read (renaming_of (ids_at ids.now))) records.now) }
     ensures complete { OnOk result
         (first_missing (ids_at ids.now) (flat_map op_at_names records.now) ≡ None) }
     ensures missing { IfErr result (λ e. IfUnknownIndex e (λ k.
@@ -56,7 +57,7 @@ impl Ops {
     // Reads one more operation.
     fn read(&mut self, at: &ConstOpAt, ids: &IndicesToIds) -> Result<(), FromRecordError>
         ensures op { OnOk result
-            (self.new ≡ self.old ++ op_read (sent (ids_at ids.now)) at.now ∷ []) }
+            (self.new ≡ self.old ++ op_read (renaming_of (ids_at ids.now)) at.now ∷ []) }
         ensures complete { OnOk result
             (first_missing (ids_at ids.now) (op_at_names at.now) ≡ None) }
         ensures missing { IfErr result (λ e. IfUnknownIndex e (λ k.
@@ -99,7 +100,8 @@ pub(super) fn plain_form(
     at: &ConstOpAt,
     ids: &IndicesToIds,
 ) -> Result<Option<ConstExpr>, UnknownIndex>
-    ensures form { IfOk result (λ x. x ≡ plain_form (op_read (sent (ids_at ids.now)) at.now)) }
+    ensures form { IfOk result
+        (λ x. x ≡ plain_form (op_read (renaming_of (ids_at ids.now)) at.now)) }
     ensures complete { IfOk result
         (λ x. OnSome x (first_missing (ids_at ids.now) (op_at_names at.now) ≡ None)) }
     ensures missing { IfErr result (λ e.
@@ -141,7 +143,7 @@ pub(super) fn ops_to(
     indices: &IdsToIndices,
 ) -> Result<Vec<ConstOpAt>, ToRecordError>
     ensures records { IfOk result
-        (λ x. x.items ≡ map (op_written (sent (indices_of indices.now))) ops.now) }
+        (λ x. x.items ≡ map (op_written (renaming_of (indices_of indices.now))) ops.now) }
     ensures complete { OnOk result
         (first_missing (indices_of indices.now) (flat_map op_names ops.now) ≡ None) }
     ensures missing { IfErr result (λ e. IfNoIndex e (λ n.
@@ -159,7 +161,7 @@ impl ConstOp {
     // The record of this operation.
     fn to_record(&self, indices: &IdsToIndices) -> Result<ConstOpAt, NoIndex>
         ensures record { IfOk result
-            (λ x. x ≡ op_written (sent (indices_of indices.now)) self.now) }
+            (λ x. x ≡ op_written (renaming_of (indices_of indices.now)) self.now) }
         ensures complete { OnOk result
             (first_missing (indices_of indices.now) (op_names self.now) ≡ None) }
         ensures missing { IfErr result (λ e.

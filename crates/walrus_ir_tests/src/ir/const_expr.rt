@@ -140,3 +140,30 @@ fn the_first_unknown_index_is_named(rt: HostRuntime) -> Result<(), Fail> {
     assert_eq!(rt; refused, Some(FromRecordError::UnknownIndex(7)));
     Ok(())
 }
+
+// An expression that names the type 3, a global, the type 1 and the type 3 again.
+fn of_two_types(alloc: Global) -> Result<ConstExpr, AllocError> {
+    let null = Reference {
+        nullable: true,
+        heap_type: Heap::Exact(Id::from_index(3)),
+    };
+    let len = 2;
+    let ty = Id::from_index(1);
+    let mut ops = Vec::with_capacity(alloc, 4)?;
+    ops.push_reserved(ConstOp::StructNew(Id::from_index(3)));
+    ops.push_reserved(ConstOp::GlobalGet(Id::from_index(4)));
+    ops.push_reserved(ConstOp::ArrayNewFixed { ty, len });
+    ops.push_reserved(ConstOp::RefNull(null));
+    Ok(ConstExpr::Extended(Listed::from_vec(ops)))
+}
+
+#[test]
+fn types_are_referenced_in_order(rt: HostRuntime) -> Result<(), Fail> {
+    let alloc = rt.alloc();
+    let mut list = vec![in alloc; Id::from_index(9)]?;
+    of_two_types(alloc)?.referenced_types(&mut list)?;
+    ConstExpr::RefFunc(Id::from_index(8)).referenced_types(&mut list)?;
+    let want = [9, 3, 1, 3].map(|index| Id::from_index(index));
+    assert!(rt; list.as_slice() == want.as_slice());
+    Ok(())
+}

@@ -1,6 +1,6 @@
 //! Which types of sequences are simple, and which are in the table.
 use std::test::Fail;
-use walrus_ir::{Id, InstrSeqType, ModuleTypes, TypeId, Val, ValType};
+use walrus_ir::{Heap, Id, InstrSeqType, ModuleTypes, Reference, TypeId, Val, ValType};
 
 #[test]
 fn simple_types_leave_the_table_empty(rt: HostRuntime) -> Result<(), Fail> {
@@ -47,4 +47,18 @@ fn types_are_made_of_their_parts(rt: HostRuntime) -> Result<(), Fail> {
     let id: TypeId = Id::from_index(3);
     assert_eq!(rt; InstrSeqType::from(id), InstrSeqType::MultiValue(id));
     Ok(())
+}
+
+#[test]
+fn a_type_names_one_type_at_most(rt: HostRuntime) {
+    let id: TypeId = Id::from_index(3);
+    let reference = Reference {
+        nullable: false,
+        heap_type: Heap::Concrete(id),
+    };
+    let of: ValType = Val::Ref(reference);
+    assert_eq!(rt; InstrSeqType::from(id).type_id(), Some(id));
+    assert_eq!(rt; InstrSeqType::from(of).type_id(), Some(id));
+    assert_eq!(rt; InstrSeqType::Simple(Some(Val::I32)).type_id(), None);
+    assert_eq!(rt; InstrSeqType::Simple(None).type_id(), None);
 }

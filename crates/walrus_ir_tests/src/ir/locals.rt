@@ -72,3 +72,19 @@ fn id_type_and_name_count(rt: HostRuntime) -> Result<(), Fail> {
     assert!(rt; local != named);
     Ok(())
 }
+
+#[test]
+fn many_locals_get_the_next_ids(rt: HostRuntime) -> Result<(), Fail> {
+    let mut locals = ModuleLocals::new(rt.alloc());
+    locals.add(Val::I32)?;
+    let ids = locals.add_all(&[Val::I64, Val::F32])?;
+    assert_eq!(rt; ids.len(), 2);
+    assert_eq!(rt; ids[0].index(), 1);
+    assert_eq!(rt; ids[1].index(), 2);
+    assert_eq!(rt;
+        locals.get(ids[1]),
+        &Local::new(Id::from_index(2), Val::F32)
+    );
+    assert!(rt; !locals.contains(Id::from_index(3)));
+    Ok(())
+}
