@@ -20,7 +20,7 @@ Same w y u z = (w ≡ u) × (y ≡ z)
 abbrev Unique : {V A : Type 0} → Visit V A → Type 0
 Unique {V} {A} P = (v : V) (x : A) (w : V) (y : A) (u : V) (z : A) → P v x Full w y → P v x Full u z → Same w y u z
 
-moved : {A B : Type 0} (F : A → B → Type 0) (a c : A) (b d : B) → a ≡ c → b ≡ d → F c d → F a b
+pub moved : {A B : Type 0} (F : A → B → Type 0) (a c : A) (b d : B) → a ≡ c → b ≡ d → F c d → F a b
 moved {A} {B} F a c b d e k h = subst (λ (x : A). F x b) (sym e) (subst (λ (y : B). F c y) (sym k) h)
 
 module _ {V : Type 0} where

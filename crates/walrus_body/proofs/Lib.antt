@@ -8,3 +8,7 @@ pub mod Depths
 pub mod Composing
 pub mod Counting
 pub mod Determined
+pub mod Mapping
+pub mod Unfoldings
+pub mod Mapped
+pub mod RenamedBodies

@@ -1,6 +1,8 @@
--- What a visitor that renames types leaves at each hook.
+-- What a visitor that renames types leaves at each hook, and of instructions and sequences.
 use Rattle.std.specs.Prelude.{ℕ, List, slice_index_or}
 use Rattle.walrus_ty.specs.Value.{heap_renamed}
+use Rattle.walrus_ir.specs.Sequence.{Sequence}
+use Rattle.walrus_body.specs.FieldMaps.{mapped_sequence}
 use Rattle.walrus_body.specs.Hooks.{Hook, Given, start_instr_seq, end_instr_seq, visit_instr, visit_instr_seq_id, visit_heap_type, visit_function_id, visit_type_id, visit_table_id, visit_local_id, visit_global_id, visit_value, visit_memory_id, visit_data_id, visit_element_id, visit_tag_id}
 
 -- the new id of a type: what stands at its place in the list, and past the end the id itself
@@ -24,3 +26,8 @@ renamed_at names visit_memory_id x = x
 renamed_at names visit_data_id x = x
 renamed_at names visit_element_id x = x
 renamed_at names visit_tag_id x = x
+
+-- a sequence with its type and the fields of its instructions renamed. Its id, the locations and
+-- its end stay
+abbrev pub renamed_sequence : List ℕ → Sequence → Sequence
+renamed_sequence names s = mapped_sequence (renamed_at names) s

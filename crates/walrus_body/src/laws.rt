@@ -1,12 +1,16 @@
-//! Laws of walks that change what they visit. Each function does nothing; its clause is a theorem,
+//! Laws of walks that change what they visit. Each function does nothing; its clauses are theorems,
 //! which a caller gets by calling it.
-ghost use Rattle.std.specs.Prelude.{◌≡◌, ℕ};
-ghost use Rattle.walrus_functions.specs.Body.{Body};
+ghost use Rattle.std.specs.Prelude.{◌≡◌, ◌↔◌, ℕ, List, Contains};
+ghost use Rattle.walrus_functions.specs.Body.{Body, sequence};
+ghost use Rattle.walrus_functions.specs.Nesting.{Reached};
 ghost use Rattle.walrus_body.specs.Counting.{CutWalk, IsFunction};
 ghost use Rattle.walrus_body.specs.Extents.{Full, Partial};
+ghost use Rattle.walrus_body.specs.FieldMaps.{FieldMap, MapsFields, IsMapped};
+ghost use Rattle.walrus_body.specs.Renaming.{renamed_at, renamed_sequence};
+ghost use Rattle.walrus_body.specs.Unfolding.{Unfolds, IsTree};
 ghost use Rattle.walrus_body.specs.Walks.{Walks};
 
-use crate::VisitorMut;
+use crate::{RenameTypes, VisitorMut};
 
 /// A walk that stops early makes a number of hook calls, and is the walk that is cut after so many.
 pub fn partial_walks_are_cut<V: VisitorMut>()
@@ -19,4 +23,49 @@ pub fn partial_walks_are_cut<V: VisitorMut>()
 pub fn full_walks_are_determined<V: VisitorMut>()
     ensures { IsFunction V.step → (s t u : V × Body) (id : ℕ) →
         Walks V.step s id Full t → Walks V.step s id Full u → t ≡ u }
+{}
+
+/// The unfolding of a body visits exactly the sequences that are reached, in an order and as often
+/// as the body determines.
+pub fn unfoldings_visit_what_is_reached()
+    ensures reached { (f : Body) (start : ℕ) (visits : List ℕ) → Unfolds f start visits →
+        (id : ℕ) → (Contains visits id ↔ Reached f start id) }
+    ensures determined { (f : Body) (start : ℕ) (visits others : List ℕ) →
+        Unfolds f start visits → Unfolds f start others → visits ≡ others }
+{}
+
+/// A full walk with a visitor that maps fields leaves the visitor as it was. Each sequence is mapped
+/// as often as the unfolding of the body visits it, and nothing else of the body changes.
+pub fn field_maps_map_the_body<V: VisitorMut>()
+    ensures visitor { (v : V) (f : FieldMap) → MapsFields V.step v f →
+        (s : Body) (t : V × Body) (start : ℕ) → Walks V.step (v, s) start Full t → t.0 ≡ v }
+    ensures body { (v : V) (f : FieldMap) → MapsFields V.step v f →
+        (s : Body) (t : V × Body) (start : ℕ) → Walks V.step (v, s) start Full t →
+        (visits : List ℕ) × Unfolds s start visits × IsMapped f visits s t.1 }
+{}
+
+/// What a full walk with [`RenameTypes`] leaves. The visitor keeps its names (`names`), and each
+/// sequence is renamed as often as the unfolding of the body visits it, and nothing else changes
+/// (`body`). So where no sequence stands in two, each that is reached is renamed once (`once`); and
+/// the others are as they were (`others`).
+///
+/// A caller of the walk has these of its own body:
+///
+/// ```
+/// dfs_pre_order_mut(alloc, &mut visitor, func, start)?;
+/// rename_types_renames_the_body();
+/// ```
+pub fn rename_types_renames_the_body()
+    ensures names { (names : List ℕ) (s : Body) (t : List ℕ × Body) (start : ℕ) →
+        Walks ⟦<RenameTypes as VisitorMut>⟧.step (names, s) start Full t → t.0 ≡ names }
+    ensures body { (names : List ℕ) (s : Body) (t : List ℕ × Body) (start : ℕ) →
+        Walks ⟦<RenameTypes as VisitorMut>⟧.step (names, s) start Full t →
+        (visits : List ℕ) × Unfolds s start visits × IsMapped (renamed_at names) visits s t.1 }
+    ensures once { (names : List ℕ) (s : Body) (t : List ℕ × Body) (start : ℕ) →
+        Walks ⟦<RenameTypes as VisitorMut>⟧.step (names, s) start Full t → IsTree s start →
+        (id : ℕ) → Reached s start id →
+        sequence t.1 id ≡ renamed_sequence names (sequence s id) }
+    ensures others { (names : List ℕ) (s : Body) (t : List ℕ × Body) (start : ℕ) →
+        Walks ⟦<RenameTypes as VisitorMut>⟧.step (names, s) start Full t →
+        (id : ℕ) → (Reached s start id → ⊥) → sequence t.1 id ≡ sequence s id }
 {}

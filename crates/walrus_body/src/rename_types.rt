@@ -18,7 +18,11 @@ use walrus_types::{Heap, HeapType};
 /// sequences. Not visited, and so not renamed, are the types in the reference types of `ref.null`
 /// and `select`, those of locals, and those in constant expressions.
 ///
-/// A sequence that is named twice is visited twice, and renamed twice.
+/// A walk that ends with `Ok` leaves each sequence that is reached from its start renamed as often
+/// as it is visited, and nothing else of the body changes: other sequences, ids of sequences,
+/// locations and all that is not a type stay. A sequence that is named twice is visited twice, and
+/// renamed twice; where no sequence stands in two instructions, each is renamed once.
+/// [`rename_types_renames_the_body`](crate::laws::rename_types_renames_the_body) is the law.
 ///
 /// ```
 /// // the types 0 and 1 change places
