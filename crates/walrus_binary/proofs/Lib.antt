@@ -1,0 +1,14 @@
+pub mod Basics
+pub mod Integers
+pub mod Lists
+pub mod Codes
+pub mod Values
+pub mod Composites
+pub mod Groups
+pub mod Faults
+pub mod FirstFaults
+pub mod Sections
+pub mod Shortest
+pub mod Least
+pub mod Textless
+pub mod Texts

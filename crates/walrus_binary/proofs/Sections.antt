@@ -1,0 +1,84 @@
+-- What the reading of a section says of its bytes.
+use Rattle.std.proofs.Common.{◌≡◌, ℕ, ◌+◌, ◌-◌, ◌<◌, ◌≤◌, List, [], ◌∷◌, ◌++◌, length, take, Result, Ok, Err, refl, sym, ap, subst, ◌∙◌, append_assoc, append-nil, length-append, take_at, arith}
+use Rattle.std.specs.Prelude.{IfSome}
+use Rattle.walrus_ty.specs.declared.records.GroupAt.{GroupAt}
+use Rattle.walrus_binary.specs.declared.error.Reason.{Reason}
+use Rattle.walrus_binary.specs.declared.error.Reason.TheVariants as reason
+use Rattle.walrus_binary.specs.declared.error.NotHeld.TheVariants as held
+use Rattle.walrus_binary.specs.declared.error.Fault.{Fault}
+use Rattle.walrus_binary.specs.Grammar.{IsRecType, IsTypes}
+use Rattle.walrus_binary.specs.Faults.{IsNoText, BeginsNoText, IsSeenThere, error_offset}
+use Rattle.walrus_binary.specs.Steps.Reading.{vec_at, group_at, types_at, IsSeenAtOnce}
+use Rattle.walrus_binary.specs.Steps.Refusals.{with_reason, refusal}
+use Rattle.walrus_binary.proofs.Basics.{rest_is}
+use Rattle.walrus_binary.proofs.Lists.{vec_complete}
+use Rattle.walrus_binary.proofs.Groups.{group_complete, types_again}
+use Rattle.walrus_binary.proofs.FirstFaults.{types_stop}
+
+abbrev read : List GroupAt → Result (List GroupAt) Fault
+read gs = Ok gs
+
+same_read : (a b : List GroupAt) → read a ≡ read b → a ≡ b
+same_read a b e = cc
+
+pub one_section : (bytes : List ℕ) (a b : List GroupAt) → IsTypes bytes a → IsTypes bytes b → a ≡ b
+one_section bytes a b h k = same_read a b (sym (types_again bytes a h) ∙ types_again bytes b k)
+
+pub no_longer_text : (bytes more : List ℕ) (a b : List GroupAt) → IsTypes bytes a → IsTypes (bytes ++ more) b → more ≡ []
+no_longer_text bytes more a b h k =
+    let short = vec_complete IsRecType group_at group_complete bytes a more h in
+    let long : vec_at group_at (bytes ++ more) ≡ Ok (b, []) = ap (vec_at group_at) (sym (append-nil (bytes ++ more))) ∙ vec_complete IsRecType group_at group_complete (bytes ++ more) b [] k in
+    rest_is a b more [] (sym short ∙ long)
+
+not_both : (x : Result (List GroupAt) Fault) (f : Fault) (gs : List GroupAt) → x ≡ Err f → x ≡ Ok gs → ⊥
+not_both x f gs e h = absurd cc
+
+pub no_text : (bytes : List ℕ) (f : Fault) → types_at bytes ≡ Err f → IsNoText bytes
+no_text bytes f e gs h = not_both (types_at bytes) f gs e (types_again bytes gs h)
+
+pub left_fits : (bytes : List ℕ) (f : Fault) → types_at bytes ≡ Err f → f.left ≤ length bytes
+left_fits bytes f e =
+    let s = types_stop bytes f e in
+    let long : length bytes ≡ length (s.front ++ s.left) = ap (λ (u : List ℕ). length u) s.parts in
+    omega (arith, s.place, long, length-append s.front s.left)
+
+-- the byte at which reading stopped
+abbrev Sees : List ℕ → Fault → Type 0
+Sees bytes f = IsSeenAtOnce f.reason → length bytes - f.left < length bytes → BeginsNoText (take (length bytes - f.left + 1) bytes)
+
+sees : (bytes front left : List ℕ) (f : Fault) → bytes ≡ front ++ left → f.left ≡ length left
+    → (IsSeenAtOnce f.reason → (b : ℕ) (rest other : List ℕ) (groups : List GroupAt) → left ≡ b ∷ rest → IsTypes (front ++ b ∷ other) groups → ⊥) → Sees bytes f
+sees bytes front [] f parts place stuck seen lt =
+    absurd (let k : f.left ≡ 0 = place in omega (arith, k, lt))
+sees bytes front (b ∷ left) f parts place stuck seen lt =
+    let long : length bytes ≡ length front + length (b ∷ left) = ap (λ (u : List ℕ). length u) parts ∙ length-append front (b ∷ left) in
+    let one : length bytes - f.left + 1 ≡ length (front ++ b ∷ []) = omega (arith, long, place, length-append front (b ∷ [])) in
+    let again : bytes ≡ (front ++ b ∷ []) ++ left = parts ∙ sym (append_assoc front (b ∷ []) left) in
+    let taken : take (length bytes - f.left + 1) bytes ≡ front ++ b ∷ [] =
+    rw one (ap (λ (u : List ℕ). take (length (front ++ b ∷ [])) u) again ∙ take_at (front ++ b ∷ []) left (length (front ++ b ∷ [])) refl) in
+    subst BeginsNoText (sym taken) (λ more gs t. stuck seen b left more gs refl (subst (λ (u : List ℕ). IsTypes u gs) (append_assoc front (b ∷ []) more) t))
+
+seen_at_once : (offset : ℕ) (r : Reason) → IsSeenThere (with_reason offset r) → IsSeenAtOnce r
+seen_at_once offset (reason.Expected e) h = tt
+seen_at_once offset (reason.NotHeld held.Supertypes) h = h
+seen_at_once offset (reason.NotHeld held.Shared) h = tt
+seen_at_once offset (reason.NotHeld held.Continuation) h = tt
+seen_at_once offset (reason.NotHeld held.Descriptor) h = tt
+
+-- what holds of a place, said of an error
+placed : (P : ℕ → Type 0) (offset : ℕ) (r : Reason) → P offset → IfSome (error_offset (with_reason offset r)) P
+placed P offset (reason.Expected e) h = h
+placed P offset (reason.NotHeld w) h = h
+
+pub refused : (bytes : List ℕ) (f : Fault) → types_at bytes ≡ Err f → IfSome (error_offset (refusal (length bytes) f)) (λ offset. IsNoText bytes)
+refused bytes f e = placed (λ offset. IsNoText bytes) (length bytes - f.left) f.reason (no_text bytes f e)
+
+pub lies_within : (bytes : List ℕ) (f : Fault) → types_at bytes ≡ Err f → IfSome (error_offset (refusal (length bytes) f)) (λ offset. offset ≤ length bytes)
+lies_within bytes f e = placed (λ offset. offset ≤ length bytes) (length bytes - f.left) f.reason (omega arith)
+
+pub stuck_there : (bytes : List ℕ) (f : Fault) → types_at bytes ≡ Err f →
+    IfSome (error_offset (refusal (length bytes) f)) (λ offset. IsSeenThere (refusal (length bytes) f) → offset < length bytes → BeginsNoText (take (offset + 1) bytes))
+stuck_there bytes f e =
+    let s = types_stop bytes f e in
+    placed (λ offset. IsSeenThere (refusal (length bytes) f) → offset < length bytes → BeginsNoText (take (offset + 1) bytes)) (length bytes - f.left) f.reason
+    (λ seen lt. sees bytes s.front s.left f s.parts s.place s.stuck (seen_at_once (length bytes - f.left) f.reason seen) lt)

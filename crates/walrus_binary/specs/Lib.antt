@@ -1,0 +1,4 @@
+pub mod Leb128
+pub mod Grammar
+pub mod Faults
+pub mod Steps

@@ -1,0 +1,214 @@
+-- Reading from left to right: the first fault, or a value and the bytes after it.
+use Rattle.std.specs.Prelude.{◌≡◌, ℕ, zero, suc, ◌+◌, ◌-◌, ◌*◌, ◌/◌, ◌^◌, Bool, true, false, List, [], ◌∷◌, length, Option, Some, None, Result, Ok, Err, nat_lt, nat_le, nat_eq, ◌&&◌, ◌||◌, cond}
+use Rattle.walrus_ty.specs.declared.ty.value.AbstractHeapType.{AbstractHeapType}
+use Rattle.walrus_ty.specs.declared.ty.value.AbstractHeapType.TheVariants as abstract
+use Rattle.walrus_ty.specs.declared.ty.value.Heap.{Heap}
+use Rattle.walrus_ty.specs.declared.ty.value.Heap.TheVariants as heap
+use Rattle.walrus_ty.specs.declared.ty.value.Reference.{Reference}
+use Rattle.walrus_ty.specs.declared.ty.value.Val.{Val}
+use Rattle.walrus_ty.specs.declared.ty.value.Val.TheVariants as val
+use Rattle.walrus_ty.specs.declared.ty.value.Storage.{Storage}
+use Rattle.walrus_ty.specs.declared.ty.value.Storage.TheVariants as storage
+use Rattle.walrus_ty.specs.declared.ty.value.Field.{Field}
+use Rattle.walrus_ty.specs.declared.records.CompAt.{CompAt}
+use Rattle.walrus_ty.specs.declared.records.CompAt.TheVariants as comp
+use Rattle.walrus_ty.specs.declared.records.EntryAt.{EntryAt}
+use Rattle.walrus_ty.specs.declared.records.GroupAt.{GroupAt}
+use Rattle.walrus_ty.specs.declared.records.GroupAt.TheVariants as group
+use Rattle.walrus_binary.specs.declared.error.Expected.{Expected}
+use Rattle.walrus_binary.specs.declared.error.Expected.TheVariants as expected
+use Rattle.walrus_binary.specs.declared.error.NotHeld.{NotHeld}
+use Rattle.walrus_binary.specs.declared.error.NotHeld.TheVariants as held
+use Rattle.walrus_binary.specs.declared.error.Reason.{Reason}
+use Rattle.walrus_binary.specs.declared.error.Reason.TheVariants as reason
+use Rattle.walrus_binary.specs.declared.error.Fault.{Fault}
+use Rattle.walrus_binary.specs.declared.error.ReadError.{ReadError}
+use Rattle.walrus_binary.specs.declared.error.ReadError.TheVariants as errors
+use Rattle.walrus_binary.specs.Grammar.{reference}
+
+infixl 10 ◌>>=◌
+abbrev pub ◌>>=◌ : {A B : Type 0} → Result A Fault → (A → Result B Fault) → Result B Fault
+(Ok x) >>= f = f x
+(Err e) >>= f = Err e
+
+-- What a function answered, seen by view, is what reading gives, unless memory was refused.
+abbrev pub Fails : {Y : Type 0} → ReadError → Result Y Fault → Type 0
+Fails errors.Memory read = Unit {0}
+Fails (errors.Fault f) read = read ≡ Err f
+
+abbrev pub Gives : {X Y : Type 0} → (X → Y) → Result X ReadError → Result Y Fault → Type 0
+Gives view (Ok x) read = read ≡ Ok (view x)
+Gives view (Err e) read = Fails e read
+
+abbrev pub wanted : {A : Type 0} → List ℕ → Expected → Result A Fault
+wanted bytes e = Err (record { left = length bytes; reason = reason.Expected e })
+
+abbrev pub unheld : {A : Type 0} → List ℕ → NotHeld → Result A Fault
+unheld bytes e = Err (record { left = length bytes; reason = reason.NotHeld e })
+
+-- What is wrong is seen by the first byte that can't stand there. Only how many supertypes there are
+-- is known behind it.
+abbrev pub IsSeenAtOnce : Reason → Type 0
+IsSeenAtOnce (reason.Expected e) = Unit {0}
+IsSeenAtOnce (reason.NotHeld held.Supertypes) = ⊥
+IsSeenAtOnce (reason.NotHeld held.Shared) = Unit {0}
+IsSeenAtOnce (reason.NotHeld held.Continuation) = Unit {0}
+IsSeenAtOnce (reason.NotHeld held.Descriptor) = Unit {0}
+
+-- ---- integers
+
+unfoldable pub integer_at : ℕ → ℕ → List ℕ → Result (ℕ × List ℕ) Fault
+integer_at end limit [] = wanted [] expected.Integer
+integer_at end limit (b ∷ bytes) =
+    cond (nat_lt b 0x80)
+    (cond (nat_lt b end && nat_lt b limit) (Ok (b, bytes)) (wanted (b ∷ bytes) expected.Integer))
+    (cond (nat_lt b 0x100 && nat_lt 0x80 limit)
+    (integer_at end (limit / 0x80) bytes >>= (λ high. Ok (high.0 * 0x80 + (b - 0x80), high.1)))
+    (wanted (b ∷ bytes) expected.Integer))
+
+abbrev pub u32_at : List ℕ → Result (ℕ × List ℕ) Fault
+u32_at = integer_at 0x80 (2 ^ 32)
+
+abbrev pub s33_at : List ℕ → Result (ℕ × List ℕ) Fault
+s33_at = integer_at 0x40 (2 ^ 32)
+
+-- ---- lists
+
+unfoldable pub items_at : {A : Type 0} → (List ℕ → Result (A × List ℕ) Fault) → ℕ → List ℕ → Result (List A × List ℕ) Fault
+items_at at zero bytes = Ok ([], bytes)
+items_at at (suc n) bytes = at bytes >>= (λ x. items_at at n x.1 >>= (λ xs. Ok (x.0 ∷ xs.0, xs.1)))
+
+unfoldable pub vec_at : {A : Type 0} → (List ℕ → Result (A × List ℕ) Fault) → List ℕ → Result (List A × List ℕ) Fault
+vec_at at bytes = u32_at bytes >>= (λ n. items_at at n.0 n.1)
+
+-- ---- heap types, reference types and value types
+
+unfoldable pub heap_type_of : ℕ → Option AbstractHeapType
+heap_type_of b =
+    cond (nat_eq b 0x74) (Some abstract.NoExn)
+    (cond (nat_eq b 0x73) (Some abstract.NoFunc)
+    (cond (nat_eq b 0x72) (Some abstract.NoExtern)
+    (cond (nat_eq b 0x71) (Some abstract.None)
+    (cond (nat_eq b 0x70) (Some abstract.Func)
+    (cond (nat_eq b 0x6F) (Some abstract.Extern)
+    (cond (nat_eq b 0x6E) (Some abstract.Any)
+    (cond (nat_eq b 0x6D) (Some abstract.Eq)
+    (cond (nat_eq b 0x6C) (Some abstract.I31)
+    (cond (nat_eq b 0x6B) (Some abstract.Struct)
+    (cond (nat_eq b 0x6A) (Some abstract.Array)
+    (cond (nat_eq b 0x69) (Some abstract.Exn) None)))))))))))
+
+-- an index, or what is wrong with a first byte that stands for no abstract heap type
+unfoldable pub index_at : ℕ → List ℕ → Result (Heap ℕ × List ℕ) Fault
+index_at b bytes =
+    cond (nat_lt b 0x40 || nat_le 0x80 b)
+    (s33_at bytes >>= (λ k. Ok (heap.Concrete k.0, k.1)))
+    (cond (nat_eq b 0x65) (unheld bytes held.Shared)
+    (cond (nat_eq b 0x68 || nat_eq b 0x75) (unheld bytes held.Continuation)
+    (wanted bytes expected.HeapType)))
+
+abbrev pub abstract_or : ℕ → List ℕ → Option AbstractHeapType → Result (Heap ℕ × List ℕ) Fault
+abstract_or b bytes (Some a) = Ok (heap.Abstract a, bytes)
+abstract_or b bytes None = index_at b (b ∷ bytes)
+
+unfoldable pub heap_at : List ℕ → Result (Heap ℕ × List ℕ) Fault
+heap_at [] = wanted [] expected.HeapType
+heap_at (b ∷ bytes) =
+    cond (nat_eq b 0x62)
+    (u32_at bytes >>= (λ k. Ok (heap.Exact k.0, k.1)))
+    (abstract_or b bytes (heap_type_of b))
+
+-- a reference type by its abbreviation, or what is wrong with its first byte
+abbrev pub abbreviated_or : ℕ → List ℕ → Option AbstractHeapType → Result (Reference ℕ × List ℕ) Fault
+abbreviated_or b bytes (Some a) = Ok (reference true (heap.Abstract a), bytes)
+abbreviated_or b bytes None =
+    cond (nat_eq b 0x68 || nat_eq b 0x75) (unheld (b ∷ bytes) held.Continuation)
+    (wanted (b ∷ bytes) expected.ValType)
+
+unfoldable pub reference_at : List ℕ → Result (Reference ℕ × List ℕ) Fault
+reference_at [] = wanted [] expected.ValType
+reference_at (b ∷ bytes) =
+    cond (nat_eq b 0x63) (heap_at bytes >>= (λ h. Ok (reference true h.0, h.1)))
+    (cond (nat_eq b 0x64) (heap_at bytes >>= (λ h. Ok (reference false h.0, h.1)))
+    (abbreviated_or b bytes (heap_type_of b)))
+
+unfoldable pub val_at : List ℕ → Result (Val ℕ × List ℕ) Fault
+val_at [] = wanted [] expected.ValType
+val_at (b ∷ bytes) =
+    cond (nat_eq b 0x7F) (Ok (val.I32, bytes))
+    (cond (nat_eq b 0x7E) (Ok (val.I64, bytes))
+    (cond (nat_eq b 0x7D) (Ok (val.F32, bytes))
+    (cond (nat_eq b 0x7C) (Ok (val.F64, bytes))
+    (cond (nat_eq b 0x7B) (Ok (val.V128, bytes))
+    (reference_at (b ∷ bytes) >>= (λ r. Ok (val.Ref r.0, r.1)))))))
+
+-- ---- fields and composite types
+
+unfoldable pub storage_at : List ℕ → Result (Storage ℕ × List ℕ) Fault
+storage_at [] = wanted [] expected.StorageType
+storage_at (b ∷ bytes) =
+    cond (nat_eq b 0x78) (Ok (storage.I8, bytes))
+    (cond (nat_eq b 0x77) (Ok (storage.I16, bytes))
+    (val_at (b ∷ bytes) >>= (λ v. Ok (storage.Val v.0, v.1))))
+
+unfoldable pub mutability_at : List ℕ → Result (Bool × List ℕ) Fault
+mutability_at [] = wanted [] expected.Mutability
+mutability_at (b ∷ bytes) =
+    cond (nat_eq b 0x00) (Ok (false, bytes))
+    (cond (nat_eq b 0x01) (Ok (true, bytes)) (wanted (b ∷ bytes) expected.Mutability))
+
+unfoldable pub field_at : List ℕ → Result (Field ℕ × List ℕ) Fault
+field_at bytes =
+    storage_at bytes >>= (λ s. mutability_at s.1 >>= (λ m.
+    Ok (record { element_type = s.0; mutable = m.0 }, m.1)))
+
+unfoldable pub function_at : List ℕ → Result (CompAt × List ℕ) Fault
+function_at bytes =
+    vec_at val_at bytes >>= (λ ps. vec_at val_at ps.1 >>= (λ rs.
+    Ok (comp.Function ps.0 rs.0, rs.1)))
+
+unfoldable pub comp_at : List ℕ → Result (CompAt × List ℕ) Fault
+comp_at [] = wanted [] expected.CompType
+comp_at (b ∷ bytes) =
+    cond (nat_eq b 0x60) (function_at bytes)
+    (cond (nat_eq b 0x5F) (vec_at field_at bytes >>= (λ fs. Ok (comp.Struct fs.0, fs.1)))
+    (cond (nat_eq b 0x5E) (field_at bytes >>= (λ f. Ok (comp.Array f.0, f.1)))
+    (cond (nat_eq b 0x5D) (unheld (b ∷ bytes) held.Continuation)
+    (cond (nat_eq b 0x65) (unheld (b ∷ bytes) held.Shared)
+    (cond (nat_eq b 0x4C || nat_eq b 0x4D) (unheld (b ∷ bytes) held.Descriptor)
+    (wanted (b ∷ bytes) expected.CompType))))))
+
+-- ---- definitions and groups
+
+-- the one supertype, if there is one
+unfoldable pub supertype_at : List ℕ → Result (Option ℕ × List ℕ) Fault
+supertype_at bytes =
+    u32_at bytes >>= (λ n.
+    cond (nat_eq n.0 0) (Ok (None, n.1))
+    (cond (nat_eq n.0 1) (u32_at n.1 >>= (λ k. Ok (Some k.0, k.1)))
+    (unheld bytes held.Supertypes)))
+
+unfoldable pub declared_at : Bool → List ℕ → Result (EntryAt × List ℕ) Fault
+declared_at is_final bytes =
+    supertype_at bytes >>= (λ s. comp_at s.1 >>= (λ c.
+    Ok (record { comp = c.0; is_final = is_final; supertype = s.0 }, c.1)))
+
+unfoldable pub entry_at : List ℕ → Result (EntryAt × List ℕ) Fault
+entry_at [] = wanted [] expected.RecType
+entry_at (b ∷ bytes) =
+    cond (nat_eq b 0x50) (declared_at false bytes)
+    (cond (nat_eq b 0x4F) (declared_at true bytes)
+    (comp_at (b ∷ bytes) >>= (λ c.
+    Ok (record { comp = c.0; is_final = true; supertype = None }, c.1))))
+
+unfoldable pub group_at : List ℕ → Result (GroupAt × List ℕ) Fault
+group_at [] = wanted [] expected.RecType
+group_at (b ∷ bytes) =
+    cond (nat_eq b 0x4E) (vec_at entry_at bytes >>= (λ es. Ok (group.Rec es.0, es.1)))
+    (entry_at (b ∷ bytes) >>= (λ e. Ok (group.Single e.0, e.1)))
+
+-- all of the bytes
+unfoldable pub types_at : List ℕ → Result (List GroupAt) Fault
+types_at bytes =
+    vec_at group_at bytes >>= (λ gs.
+    cond (nat_eq (length gs.1) 0) (Ok gs.0) (wanted gs.1 expected.End))

@@ -1,0 +1,14 @@
+-- The error that a fault in bytes of this length is.
+use Rattle.std.specs.Prelude.{ℕ, ◌-◌}
+use Rattle.walrus_binary.specs.declared.error.DecodeError.{DecodeError}
+use Rattle.walrus_binary.specs.declared.error.DecodeError.TheVariants as decode
+use Rattle.walrus_binary.specs.declared.error.Reason.{Reason}
+use Rattle.walrus_binary.specs.declared.error.Reason.TheVariants as reason
+use Rattle.walrus_binary.specs.declared.error.Fault.{Fault}
+
+abbrev pub with_reason : ℕ → Reason → DecodeError
+with_reason offset (reason.Expected expected) = decode.Malformed offset expected
+with_reason offset (reason.NotHeld what) = decode.NotHeld offset what
+
+abbrev pub refusal : ℕ → Fault → DecodeError
+refusal len fault = with_reason (len - fault.left) fault.reason

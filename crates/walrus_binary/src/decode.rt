@@ -1,0 +1,55 @@
+//! Reading what a type section has after its id and size.
+ghost use Rattle.std.specs.Prelude.{◌≡◌, ◌+◌, ◌<◌, ◌≤◌, length, take, IfOk, IfErr, IfSome};
+ghost use Rattle.walrus_binary.specs.Grammar.{IsTypes};
+ghost use Rattle.walrus_binary.specs.Faults.{IsNoText, BeginsNoText, IsSeenThere, error_offset};
+ghost use Rattle.walrus_binary.specs.Steps.Reading.{Gives, types_at};
+
+mod composite;
+mod group;
+mod list;
+mod value;
+
+use crate::decode::list::read_vec;
+use crate::error::{DecodeError, Expected, ReadError};
+use std::alloc::Global;
+use walrus_ty::GroupAt;
+
+/// The groups of a type section, of which `bytes` are all that stands after its id and size.
+///
+/// An error says at which byte the bytes stop being a text of groups: no text begins with the bytes
+/// up to that one and with it. Integers may be longer than they need to be, as far as the
+/// specification lets them. A count takes no memory for what doesn't follow it.
+///
+/// ```
+/// let groups = decode_types(alloc, &[1, 0x60, 1, 0x7F, 0])?;
+/// assert_eq!(rt; groups.len(), 1);
+/// ```
+pub fn decode_types(alloc: Global, bytes: &[u8]) -> Result<Vec<GroupAt>, DecodeError>
+    // What is answered has these bytes as a text.
+    ensures found { IfOk result (λ groups. IsTypes bytes.now groups.items) }
+    // Bytes that are refused are a text of no groups, unless memory was refused.
+    ensures refused { IfErr result (λ e. IfSome (error_offset e) (λ offset. IsNoText bytes.now)) }
+    // The place lies in the bytes or at their end,
+    ensures place { IfErr result (λ e. IfSome (error_offset e) (λ offset.
+        offset ≤ length bytes.now)) }
+    // and with the byte there no text goes on.
+    ensures stuck { IfErr result (λ e. IfSome (error_offset e) (λ offset.
+        IsSeenThere e → offset < length bytes.now → BeginsNoText (take (offset + 1) bytes.now))) }
+{
+    match read_types(alloc, bytes) {
+        Ok(groups) => Ok(groups),
+        Err(ReadError::Fault(fault)) => Err(fault.refusal(bytes.len())),
+        Err(ReadError::Memory) => Err(DecodeError::Memory),
+    }
+}
+
+#[tactic(auto, unfolding(crate::specs::Steps::Reading::types_at))]
+fn read_types(alloc: Global, bytes: &[u8]) -> Result<Vec<GroupAt>, ReadError>
+    ensures { Gives (λ groups. groups.items) result (types_at bytes.now) }
+{
+    let (groups, rest) = read_vec(alloc, bytes)?;
+    if !rest.is_empty() {
+        return Err(ReadError::at(rest, Expected::End));
+    }
+    Ok(groups)
+}

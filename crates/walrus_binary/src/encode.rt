@@ -1,0 +1,38 @@
+//! Writing what a type section has after its id and size.
+ghost use Rattle.std.specs.Prelude.{◌≡◌, ◌≤◌, ℕ, List, length, IfOk, IsErrOf};
+ghost use Rattle.walrus_binary.specs.Grammar.{IsTypes};
+ghost use Rattle.walrus_binary.specs.Faults.{HasNoText};
+ghost use Rattle.walrus_binary.specs.declared.error.EncodeError.TheVariants.{TooMany};
+
+mod composite;
+mod group;
+mod list;
+mod value;
+
+use crate::encode::list::write_vec;
+use crate::error::EncodeError;
+use std::alloc::Global;
+use walrus_ty::GroupAt;
+
+/// The shortest text of these groups: what a type section of them has after its id and size.
+///
+/// The answer is `TooMany` where a list of parameters, results, fields, definitions or groups has
+/// 2^32 items or more, so that no text counts them, and `Memory` where memory was refused.
+///
+/// ```
+/// let bytes = encode_types(alloc, &decode_types(alloc, &[0x81, 0x00, 0x5E, 0x78, 0])?)?;
+/// assert_eq!(rt; bytes.as_slice(), [1, 0x5E, 0x78, 0].as_slice());
+/// ```
+pub fn encode_types(alloc: Global, groups: &[GroupAt]) -> Result<Vec<u8>, EncodeError>
+    // What is written is a text of these groups,
+    ensures text { IfOk result (λ bytes. IsTypes bytes.items groups.now) }
+    // and none is shorter.
+    ensures shortest { IfOk result (λ bytes. (others : List ℕ) → IsTypes others groups.now →
+        length bytes.items ≤ length others) }
+    // Too many are groups that have no text.
+    ensures too_many { IsErrOf result TooMany → HasNoText IsTypes groups.now }
+{
+    let mut out = Vec::new(alloc);
+    write_vec(&mut out, groups)?;
+    Ok(out)
+}

@@ -1,0 +1,183 @@
+//! Why bytes could not be read.
+ghost use Rattle.std.specs.Prelude.{◌≡◌, ◌≤◌, length};
+ghost use Rattle.walrus_binary.specs.Steps.Refusals.{refusal};
+ghost use Rattle.walrus_binary.specs.declared.error.EncodeError.TheVariants as encode;
+ghost use Rattle.walrus_binary.specs.declared.error.ReadError.TheVariants as errors;
+ghost use Rattle.walrus_binary.specs.declared.error.Reason.TheVariants as reason;
+
+use std::alloc::{AllocError, AllocFailed};
+use thiserror::Error;
+
+/// What has to stand at a place of a type section.
+#[derive(Clone, Copy, PartialEq, Eq, Debug, Error)]
+pub enum Expected {
+    /// An integer in LEB128: of at most five bytes, and without bits beyond its range.
+    #[error("an integer")]
+    Integer,
+    /// A heap type: an abstract one, or an index.
+    #[error("a heap type")]
+    HeapType,
+    /// A value type: a number, a vector or a reference.
+    #[error("a value type")]
+    ValType,
+    /// A value type or a packed one.
+    #[error("a storage type")]
+    StorageType,
+    /// Whether a field is mutable: 0 or 1.
+    #[error("a mutability")]
+    Mutability,
+    /// A function, struct or array type.
+    #[error("a composite type")]
+    CompType,
+    /// A definition, or a recursion group.
+    #[error("a definition")]
+    RecType,
+    /// Nothing more.
+    #[error("the end")]
+    End,
+}
+
+/// What the binary format has, and a [`GroupAt`](walrus_ty::GroupAt) has no place for.
+#[derive(Clone, Copy, PartialEq, Eq, Debug, Error)]
+pub enum NotHeld {
+    /// A definition with two supertypes or more.
+    #[error("several supertypes")]
+    Supertypes,
+    /// A shared type, of the shared-everything threads proposal.
+    #[error("a shared type")]
+    Shared,
+    /// A continuation type, of the stack switching proposal.
+    #[error("a continuation type")]
+    Continuation,
+    /// A type that has a descriptor or is one, of the custom descriptors proposal.
+    #[error("a descriptor")]
+    Descriptor,
+}
+
+/// Why bytes were not read as the groups of a type section.
+#[derive(Clone, Copy, PartialEq, Eq, Debug, Error)]
+pub enum DecodeError {
+    /// No text of groups goes on with the byte at this place, or with the end of the bytes.
+    #[error("byte {offset}: expected {expected}")]
+    Malformed {
+        /// The byte's place, counted from 0; the number of bytes where there are too few.
+        offset: usize,
+        /// What had to stand there.
+        expected: Expected,
+    },
+    /// What begins at this place has no record.
+    #[error("byte {offset}: no record for {what}")]
+    NotHeld {
+        /// The place of its first byte, counted from 0; for several supertypes that of their count.
+        offset: usize,
+        /// What it is.
+        what: NotHeld,
+    },
+    /// Memory was refused.
+    #[error("out of memory")]
+    Memory,
+}
+
+/// Why groups were not written.
+#[derive(Clone, Copy, PartialEq, Eq, Debug, Error)]
+pub enum EncodeError {
+    /// A list has 2^32 items or more, so that no text counts them.
+    #[error("too many items")]
+    TooMany,
+    /// Memory was refused.
+    #[error("out of memory")]
+    Memory,
+}
+
+/// What is wrong at a place.
+#[derive(Clone, Copy, PartialEq, Eq, Debug)]
+pub enum Reason {
+    Expected(Expected),
+    NotHeld(NotHeld),
+}
+
+/// Where bytes stop being a text.
+#[derive(Clone, Copy, PartialEq, Eq, Debug)]
+pub struct Fault {
+    /// How many bytes are left there.
+    pub left: usize,
+    pub reason: Reason,
+}
+
+/// Why a part of a section could not be read.
+#[derive(Clone, Copy, PartialEq, Eq, Debug)]
+pub enum ReadError {
+    Fault(Fault),
+    /// Memory was refused.
+    Memory,
+}
+
+impl Fault {
+    /// The fault as an error, in bytes of this length.
+    pub fn refusal(self, len: usize) -> DecodeError
+        requires { self.left ≤ len }
+        ensures { result ≡ refusal len self }
+    {
+        let offset = len - self.left;
+        match self.reason {
+            Reason::Expected(expected) => DecodeError::Malformed { offset, expected },
+            Reason::NotHeld(what) => DecodeError::NotHeld { offset, what },
+        }
+    }
+}
+
+impl ReadError {
+    /// What was expected where these bytes are left.
+    pub fn at(bytes: &[u8], expected: Expected) -> ReadError
+        ensures { result ≡ errors.Fault
+            (record { left = length bytes.now; reason = reason.Expected expected }) }
+    {
+        ReadError::Fault(Fault {
+            left: bytes.len(),
+            reason: Reason::Expected(expected),
+        })
+    }
+
+    /// What stands where these bytes are left, and no record can hold.
+    pub fn not_held(bytes: &[u8], what: NotHeld) -> ReadError
+        ensures { result ≡ errors.Fault
+            (record { left = length bytes.now; reason = reason.NotHeld what }) }
+    {
+        ReadError::Fault(Fault {
+            left: bytes.len(),
+            reason: Reason::NotHeld(what),
+        })
+    }
+}
+
+impl From<AllocError> for ReadError {
+    ghost from_gives = { λ _ e. e ≡ errors.Memory };
+
+    fn from(_: AllocError) -> ReadError {
+        ReadError::Memory
+    }
+}
+
+impl<T: Drop> From<AllocFailed<T>> for ReadError {
+    ghost from_gives = { λ _ e. e ≡ errors.Memory };
+
+    fn from(_: AllocFailed<T>) -> ReadError {
+        ReadError::Memory
+    }
+}
+
+impl From<AllocError> for EncodeError {
+    ghost from_gives = { λ _ e. e ≡ encode.Memory };
+
+    fn from(_: AllocError) -> EncodeError {
+        EncodeError::Memory
+    }
+}
+
+impl<T: Drop> From<AllocFailed<T>> for EncodeError {
+    ghost from_gives = { λ _ e. e ≡ encode.Memory };
+
+    fn from(_: AllocFailed<T>) -> EncodeError {
+        EncodeError::Memory
+    }
+}

@@ -1,0 +1,21 @@
+//! The type section of a WebAssembly module in the binary format, as records of
+//! [`walrus_ty`](walrus_ty::GroupAt).
+//!
+//! - [`decode_types`] reads the groups of a section, and says where bytes are no text of groups.
+//! - [`encode_types`] writes the shortest text of groups.
+//! - [`laws`] has the theorems: bytes are a text of one list of groups at most, and no text
+//!   is the beginning of a longer one.
+#![tactic(auto)]
+
+mod decode;
+mod encode;
+mod error;
+pub mod laws;
+mod leb128;
+
+pub use decode::decode_types;
+pub use encode::encode_types;
+pub use error::{DecodeError, EncodeError, Expected, NotHeld};
+
+#[cfg(test)]
+mod tests;

@@ -1,0 +1,71 @@
+//! Texts of the specification's grammar with what they stand for, and what is no text.
+mod encoding;
+mod integers;
+mod productions;
+mod refusals;
+mod unheld;
+
+use crate::{DecodeError, Expected, decode_types};
+use std::alloc::{AllocError, Global};
+use walrus_ty::{
+    AbstractHeapType, CompAt, EntryAt, FieldAt, GroupAt, HeapAt, Listed, RefAt, StorageAt, ValAt,
+};
+
+/// What is wrong with the bytes.
+fn error_of(alloc: Global, bytes: &[u8]) -> Option<DecodeError> {
+    decode_types(alloc, bytes).err()
+}
+
+/// Whether the bytes are read as these groups.
+fn reads(alloc: Global, bytes: &[u8], groups: &[GroupAt]) -> bool {
+    match decode_types(alloc, bytes) {
+        Ok(found) => found.as_slice() == groups,
+        Err(_) => false,
+    }
+}
+
+/// Whether the bytes are read as this one group.
+fn reads_group(alloc: Global, bytes: &[u8], group: GroupAt) -> bool {
+    let groups = [group];
+    reads(alloc, bytes, &groups)
+}
+
+fn malformed(offset: usize, expected: Expected) -> Option<DecodeError> {
+    Some(DecodeError::Malformed { offset, expected })
+}
+
+/// A final definition without supertype.
+fn plain(comp: CompAt) -> EntryAt {
+    EntryAt {
+        comp,
+        is_final: true,
+        supertype: None,
+    }
+}
+
+fn constant(element_type: StorageAt) -> FieldAt {
+    FieldAt {
+        element_type,
+        mutable: false,
+    }
+}
+
+/// An array of what can't be changed, alone.
+fn array(element_type: StorageAt) -> GroupAt {
+    let field = constant(element_type);
+    GroupAt::Single(plain(CompAt::Array { field }))
+}
+
+fn array_of(nullable: bool, heap_type: HeapAt) -> GroupAt {
+    array(StorageAt::Val(ValAt::Ref(RefAt {
+        nullable,
+        heap_type,
+    })))
+}
+
+fn function(alloc: Global, params: &[ValAt], results: &[ValAt]) -> Result<CompAt, AllocError> {
+    Ok(CompAt::Function {
+        params: Listed::from_vec(params.to_vec(alloc)?),
+        results: Listed::from_vec(results.to_vec(alloc)?),
+    })
+}

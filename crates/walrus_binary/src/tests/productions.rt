@@ -1,0 +1,148 @@
+//! Each production with a text, and with bytes that are none.
+use super::*;
+use std::test::*;
+
+#[test]
+fn abstract_heap_types(rt: HostRuntime) {
+    let codes = [
+        (0x74, AbstractHeapType::NoExn),
+        (0x73, AbstractHeapType::NoFunc),
+        (0x72, AbstractHeapType::NoExtern),
+        (0x71, AbstractHeapType::None),
+        (0x70, AbstractHeapType::Func),
+        (0x6F, AbstractHeapType::Extern),
+        (0x6E, AbstractHeapType::Any),
+        (0x6D, AbstractHeapType::Eq),
+        (0x6C, AbstractHeapType::I31),
+        (0x6B, AbstractHeapType::Struct),
+        (0x6A, AbstractHeapType::Array),
+        (0x69, AbstractHeapType::Exn),
+    ];
+    for (code, heap_type) in codes {
+        let heap_type = HeapAt::Abstract(heap_type);
+        let short = [1, 0x5E, code, 0];
+        assert!(rt; reads_group(rt.alloc(), &short, array_of(true, heap_type)));
+        let nullable = [1, 0x5E, 0x63, code, 0];
+        assert!(rt; reads_group(rt.alloc(), &nullable, array_of(true, heap_type)));
+        let not_null = [1, 0x5E, 0x64, code, 0];
+        assert!(rt; reads_group(rt.alloc(), &not_null, array_of(false, heap_type)));
+    }
+}
+
+#[test]
+fn references_to_types(rt: HostRuntime) {
+    let nullable = [1, 0x5E, 0x63, 0x05, 0];
+    assert!(rt; reads_group(rt.alloc(), &nullable, array_of(true, HeapAt::Concrete(5))));
+    let exact = [1, 0x5E, 0x63, 0x62, 0x05, 0];
+    assert!(rt; reads_group(rt.alloc(), &exact, array_of(true, HeapAt::Exact(5))));
+    let no_type = [1, 0x5E, 0x63, 0x7F, 0];
+    assert_eq!(rt;
+        error_of(rt.alloc(), &no_type),
+        malformed(3, Expected::HeapType)
+    );
+}
+
+#[test]
+fn function_types(rt: HostRuntime) -> Result<(), Fail> {
+    let params = [ValAt::I32, ValAt::I64, ValAt::F32, ValAt::F64, ValAt::V128];
+    let results = [ValAt::F64];
+    let bytes = [1, 0x60, 5, 0x7F, 0x7E, 0x7D, 0x7C, 0x7B, 1, 0x7C];
+    let group = GroupAt::Single(plain(function(rt.alloc(), &params, &results)?));
+    assert!(rt; reads_group(rt.alloc(), &bytes, group));
+    let packed = [1, 0x60, 1, 0x78, 0];
+    assert_eq!(rt;
+        error_of(rt.alloc(), &packed),
+        malformed(3, Expected::ValType)
+    );
+    Ok(())
+}
+
+#[test]
+fn struct_types(rt: HostRuntime) -> Result<(), Fail> {
+    let fields = vec![in rt.alloc();
+        constant(StorageAt::I8),
+        FieldAt {
+            element_type: StorageAt::I16,
+            mutable: true,
+        },
+        constant(StorageAt::Val(ValAt::I32)),
+    ]?;
+    let group = GroupAt::Single(plain(CompAt::Struct {
+        fields: Listed::from_vec(fields),
+    }));
+    let bytes = [1, 0x5F, 3, 0x78, 0, 0x77, 1, 0x7F, 0];
+    assert!(rt; reads_group(rt.alloc(), &bytes, group));
+    let mutability = [1, 0x5F, 1, 0x78, 2];
+    assert_eq!(rt;
+        error_of(rt.alloc(), &mutability),
+        malformed(4, Expected::Mutability)
+    );
+    let no_type = [1, 0x5F, 1, 0x79, 0];
+    assert_eq!(rt;
+        error_of(rt.alloc(), &no_type),
+        malformed(3, Expected::ValType)
+    );
+    let no_comp = [1, 0x61, 0];
+    assert_eq!(rt;
+        error_of(rt.alloc(), &no_comp),
+        malformed(1, Expected::CompType)
+    );
+    Ok(())
+}
+
+#[test]
+fn declared_types(rt: HostRuntime) {
+    let field = constant(StorageAt::I8);
+    let open = GroupAt::Single(EntryAt {
+        comp: CompAt::Array { field },
+        is_final: false,
+        supertype: None,
+    });
+    assert!(rt; reads_group(rt.alloc(), &[1, 0x50, 0, 0x5E, 0x78, 0], open));
+    let sub = GroupAt::Single(EntryAt {
+        comp: CompAt::Array { field },
+        is_final: true,
+        supertype: Some(64),
+    });
+    assert!(rt; reads_group(rt.alloc(), &[1, 0x4F, 1, 0x40, 0x5E, 0x78, 0], sub));
+    let plain = array(StorageAt::I8);
+    assert!(rt; reads_group(rt.alloc(), &[1, 0x4F, 0, 0x5E, 0x78, 0], plain));
+}
+
+#[test]
+fn recursion_groups(rt: HostRuntime) -> Result<(), Fail> {
+    let field = constant(StorageAt::I8);
+    let entry = plain(CompAt::Array { field });
+    let one = GroupAt::Rec(Listed::from_vec(vec![in rt.alloc(); entry]?));
+    assert!(rt; reads_group(rt.alloc(), &[1, 0x4E, 1, 0x5E, 0x78, 0], one));
+    let none = GroupAt::Rec(Listed::from_vec(Vec::new(rt.alloc())));
+    assert!(rt; reads_group(rt.alloc(), &[1, 0x4E, 0], none));
+    let nested = [1, 0x4E, 1, 0x4E, 0];
+    assert_eq!(rt;
+        error_of(rt.alloc(), &nested),
+        malformed(3, Expected::CompType)
+    );
+    Ok(())
+}
+
+#[test]
+fn nothing_stands_behind_the_groups(rt: HostRuntime) {
+    let bytes = [1, 0x5E, 0x78, 0, 0x5E];
+    assert_eq!(rt; error_of(rt.alloc(), &bytes), malformed(4, Expected::End));
+}
+
+#[test]
+fn each_truncation_stops_at_its_end(rt: HostRuntime) {
+    let bytes = [
+        2, 0x4E, 2, 0x50, 1, 0x80, 0x00, 0x5F, 2, 0x63, 0xC0, 0x00, 1, 0x78, 0, 0x5E, 0x64, 0x62,
+        7, 0, 0x60, 1, 0x7F, 1, 0x6F,
+    ];
+    assert!(rt; decode_types(rt.alloc(), &bytes).is_ok());
+    for len in 0..bytes.len() {
+        let offset = match decode_types(rt.alloc(), &bytes[..len]) {
+            Err(DecodeError::Malformed { offset, .. }) => Some(offset),
+            _ => None,
+        };
+        assert_eq!(rt; offset, Some(len));
+    }
+}
