@@ -1,0 +1,2 @@
+pub mod UnusedTypes
+pub mod Calling

@@ -1,0 +1,5 @@
+pub mod NeededTypes
+pub mod WellNamed
+pub mod SnippedFunctions
+pub mod Adapters
+pub mod Steps

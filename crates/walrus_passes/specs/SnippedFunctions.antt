@@ -1,0 +1,49 @@
+-- What is left of a function whose body is replaced.
+-- WebAssembly core specification, "Functions"; "Control Instructions", `unreachable`. That a body
+-- is replaced is of this crate's own.
+use Rattle.std.specs.Prelude.{◌≡◌, ℕ, List, [], ◌∷◌, Option, Some, None, slice_get, slice_set, IsSomeAnd}
+use Rattle.walrus_ir.specs.Sequence.{no_location}
+use Rattle.walrus_ir.specs.declared.instr_seq_type.InstrSeqType.{InstrSeqType}
+use Rattle.walrus_ir.specs.declared.instr_seq_type.InstrSeqType.TheVariants.{Simple}
+use Rattle.walrus_ir.specs.declared.ir.instr.Instr.TheVariants.{Unreachable}
+use Rattle.walrus_functions.specs.Body.{Body, sequence}
+use Rattle.walrus_functions.specs.Locals.{FunctionWithArgs}
+
+-- the name, or else the other one
+abbrev pub name_or : Option (List ℕ) → Option (List ℕ) → Option (List ℕ)
+name_or None other = other
+name_or (Some name) other = Some name
+
+-- the function with this body: it keeps its parameters, and its name if it has one
+abbrev pub with_body : Body → FunctionWithArgs → FunctionWithArgs
+with_body body f =
+    record { body = record body { name = name_or f.body.name body.name }; args = f.args }
+
+abbrev pub type_of_entry : Body → Option ℕ → InstrSeqType
+type_of_entry f None = Simple None
+type_of_entry f (Some id) = (sequence f id).ty
+
+-- the body that is a single `unreachable`, of the same type and without a name
+abbrev pub unreachable_body : Body → Body
+unreachable_body f = record {
+  seqs = record {
+    id = 0;
+    ty = type_of_entry f f.entry;
+    instrs = (Unreachable (record {}), no_location) ∷ [];
+    end = no_location;
+  } ∷ [];
+  entry = Some 0;
+  ty = f.ty;
+  name = None;
+}
+
+-- the function whose body is a single `unreachable`
+abbrev pub snipped : FunctionWithArgs → FunctionWithArgs
+snipped f = with_body (unreachable_body f.body) f
+
+-- the function of the id is what `change` makes of it, and all others are as they were
+abbrev pub Changes :
+    List FunctionWithArgs → List FunctionWithArgs → ℕ →
+    (FunctionWithArgs → FunctionWithArgs) → Type 0
+Changes old new id change =
+    IsSomeAnd (slice_get old id) (λ f. new ≡ slice_set old id (change f))

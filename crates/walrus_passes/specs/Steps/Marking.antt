@@ -1,0 +1,80 @@
+-- How far the marking of needed types has come.
+use Rattle.std.specs.Prelude.{◌≡◌, ℕ, ◌+◌, ◌<◌, ◌↔◌, Bool, true, false, ◌++◌, List, [], ◌∷◌, length, replicate, slice_index_or, slice_set, if◌then◌else◌, Option, Some, None}
+use Rattle.std.specs.List.{fold}
+use Rattle.walrus_ty.specs.Types.{ModuleType}
+use Rattle.walrus_ty.specs.Views.{referenced_ids}
+use Rattle.walrus_types.specs.declared.table.rec_group.RecGroup.{RecGroup}
+use Rattle.walrus_types.specs.TypesById.{live_type, IsLive}
+use Rattle.walrus_types.specs.Table.{Table, IsTable, group_with}
+use Rattle.walrus_passes.specs.NeededTypes.{Needed}
+
+-- a mark for each id, and the work that comes next first
+pub record State : Type 0 where
+  pub marks : List Bool
+  pub work : List ℕ
+
+-- no marks for the ids up to this one, and no work
+abbrev pub no_marks : ℕ → State
+no_marks greatest = record { marks = replicate greatest false ++ false ∷ []; work = [] }
+
+abbrev pub is_marked : State → ℕ → Bool
+is_marked s id = slice_index_or s.marks id false
+
+abbrev pub IsMarked : State → ℕ → Type 0
+IsMarked s id = is_marked s id ≡ true
+
+abbrev pub IsUnmarked : State → Type 0
+IsUnmarked s = (s.work ≡ []) × ((id : ℕ) → is_marked s id ≡ false)
+
+-- the state in which this work stands before the rest
+abbrev pub with_work : ℕ → State → State
+with_work id s = record s { work = id ∷ s.work }
+
+-- an id that has no mark gets one, and its names are to be followed
+abbrev pub marked : ℕ → State → State
+marked id s =
+    if is_marked s id then s else record { marks = slice_set s.marks id true; work = id ∷ s.work }
+
+-- each of these in turn
+abbrev pub all_marked : List ℕ → State → State
+all_marked ids s = fold (λ s id. marked id s) s ids
+
+abbrev pub members_of : Option RecGroup → List ℕ
+members_of None = []
+members_of (Some g) = g.types
+
+-- the group of an id that has no mark is marked
+abbrev pub reached : Table → ℕ → State → State
+reached t id s =
+    if is_marked s id then s else all_marked (members_of (group_with t.groups id)) s
+
+-- each of these in turn
+abbrev pub all_reached : Table → List ℕ → State → State
+all_reached t ids s = fold (λ s id. reached t id s) s ids
+
+abbrev pub ids_in : Option ModuleType → List ℕ
+ids_in None = []
+ids_in (Some ty) = referenced_ids ty
+
+-- the ids that the type of the id names
+abbrev pub ids_named : Table → ℕ → List ℕ
+ids_named t id = ids_in (live_type t.types.slots id)
+
+-- the table is one, and there is a mark for each of its types
+pub record Covers (t : Table) (s : State) : Type 0 where
+  pub grouping : IsTable t
+  pub size : (id : ℕ) → IsLive t.types.slots id → id < length s.marks
+
+-- just what the roots need is marked
+abbrev pub MarksNeeded : Table → List ℕ → State → Type 0
+MarksNeeded t roots s = (id : ℕ) → IsMarked s id ↔ Needed t roots id
+
+-- how many ids have no mark
+abbrev pub unmarked : List Bool → ℕ
+unmarked [] = 0
+unmarked (true ∷ marks) = unmarked marks
+unmarked (false ∷ marks) = 1 + unmarked marks
+
+-- how many steps are left
+abbrev pub steps_left : State → ℕ
+steps_left s = length s.work + unmarked s.marks

@@ -1,0 +1,133 @@
+//! Functions that call another one of their type.
+ghost use Rattle.std.specs.Prelude.{◌≡◌, ◌++◌, length, IfOk, OnOk, OnErr, IsSome, IsSomeAnd};
+ghost use Rattle.std.specs.List.{range_with_len};
+ghost use Rattle.walrus_types.specs.Table.{signature_at};
+ghost use Rattle.walrus_functions.specs.Body.{with_instrs, instrs_of};
+ghost use Rattle.walrus_functions.specs.Building.{function_of, seq_id, IsKnown, Stays, StayKnown};
+ghost use Rattle.walrus_passes.specs.Adapters.{new_locals, call_with, adapter_body, Calls, AddsEntryOrNone, GainsSome};
+
+use std::alloc::{AllocError, Global};
+use walrus_functions::{BuildError, FunctionBuilder, InstrSeqBuilder, LocalFunction};
+use walrus_ir::{InstrSeqType, LocalId, ModuleLocals};
+use walrus_types::{FunctionId, ModuleTypes, TypeId, ValType};
+
+/// A function of this type that calls `func`, such as an import of the type, with its own
+/// parameters, and returns what that returns.
+///
+/// Its parameters are new locals, one for each parameter of the type. Its body reads them in order,
+/// and calls `func`; by its end all that `func` left is returned. It has the very type `ty`, and
+/// its entry has the type that `ModuleTypes::add_entry_ty` answers for the results.
+///
+/// # Errors
+///
+/// Where memory is refused. Then the table may have the entry type, and the locals some of the new
+/// ones; what was there is as it was.
+///
+/// # A wrapper of an import
+///
+/// ```
+/// let func = adapter(alloc, &mut types, &mut locals, import, ty)?;
+/// let wrapper = funcs.add(func)?;
+/// ```
+pub fn adapter(
+    alloc: Global,
+    types: &mut ModuleTypes,
+    locals: &mut ModuleLocals,
+    func: FunctionId,
+    ty: TypeId,
+) -> Result<LocalFunction, AllocError>
+    requires { IsSome (signature_at types.old ty) }
+    ensures adapter { IfOk result (λ adapter. IsSomeAnd (signature_at types.old ty)
+        (λ f. Calls types.old types.new func ty f.results adapter)) }
+    ensures args { IfOk result (λ adapter. IsSomeAnd (signature_at types.old ty)
+        (λ f. adapter.args ≡ range_with_len (length locals.old) (length f.params))) }
+    ensures locals { OnOk result (IsSomeAnd (signature_at types.old ty)
+        (λ f. locals.new ≡ locals.old ++ new_locals (length locals.old) f.params)) }
+    ensures types_err { OnErr result (IsSomeAnd (signature_at types.old ty)
+        (λ f. AddsEntryOrNone types.old types.new f.results)) }
+    ensures locals_err { OnErr result (IsSomeAnd (signature_at types.old ty)
+        (λ f. GainsSome locals.old locals.new f.params)) }
+{
+    let args = add_locals(alloc, locals, types.params(ty))?;
+    adapter_with(alloc, types, func, ty, args)
+}
+
+// The adapter that has these locals as its parameters.
+fn adapter_with(
+    alloc: Global,
+    types: &mut ModuleTypes,
+    func: FunctionId,
+    ty: TypeId,
+    args: Vec<LocalId>,
+) -> Result<LocalFunction, AllocError>
+    requires { IsSome (signature_at types.old ty) }
+    ensures args { IfOk result (λ adapter. adapter.args ≡ args.items) }
+    ensures adapter { IfOk result (λ adapter. IsSomeAnd (signature_at types.old ty)
+        (λ f. Calls types.old types.new func ty f.results adapter)) }
+    ensures err { OnErr result (IsSomeAnd (signature_at types.old ty)
+        (λ f. AddsEntryOrNone types.old types.new f.results)) }
+{
+    let results = types.results(ty).to_vec(alloc)?;
+    let entry_ty = types.add_entry_ty(results.as_slice())?;
+    let body = adapter_body(alloc, ty, entry_ty, args.as_slice(), func)?;
+    Ok(body.local_func(args))
+}
+
+// Adds a local of each of these types, and answers their ids.
+fn add_locals(
+    alloc: Global,
+    locals: &mut ModuleLocals,
+    types: &[ValType],
+) -> Result<Vec<LocalId>, AllocError>
+    ensures ids { IfOk result
+        (λ ids. ids.items ≡ range_with_len (length locals.old) (length types.now)) }
+    ensures ok { OnOk result (locals.new ≡ locals.old ++ new_locals (length locals.old) types.now) }
+    ensures some { GainsSome locals.old locals.new types.now }
+{
+    let mut ids = Vec::with_capacity(alloc, types.len())?;
+    for ty in types {
+        ids.push_reserved(locals.add(*ty)?);
+    }
+    Ok(ids)
+}
+
+// The builder of a function that reads these locals and calls the function.
+fn adapter_body(
+    alloc: Global,
+    ty: TypeId,
+    entry_ty: TypeId,
+    args: &[LocalId],
+    func: FunctionId,
+) -> Result<FunctionBuilder, AllocError>
+    ensures { IfOk result (λ f. f ≡ adapter_body ty entry_ty args.now func) }
+{
+    let mut builder = FunctionBuilder::without_entry(alloc, ty);
+    let Ok(mut body) = builder.dangling_instr_seq(InstrSeqType::MultiValue(entry_ty)) else {
+        return Err(AllocError);
+    };
+    let Ok(()) = add_call(&mut body, args, func) else {
+        return Err(AllocError);
+    };
+    let id = body.id();
+    builder.set_entry(id);
+    Ok(builder)
+}
+
+// Reads these locals in order, and calls the function.
+fn add_call(
+    body: &mut InstrSeqBuilder<'_>,
+    args: &[LocalId],
+    func: FunctionId,
+) -> Result<(), BuildError>
+    requires { IsKnown body.old }
+    ensures same { Stays body.old body.new }
+    ensures known { StayKnown (function_of body.old) (function_of body.new) }
+    ensures ok { OnOk result (function_of body.new ≡
+        with_instrs (function_of body.old) (seq_id body.old)
+        (instrs_of (function_of body.old) (seq_id body.old) ++ call_with args.now func)) }
+{
+    for arg in args {
+        body.local_get(*arg)?;
+    }
+    body.call(func)
+}

@@ -1,0 +1,87 @@
+//! Passes that replace the bodies of functions.
+ghost use Rattle.std.specs.Prelude.{◌≡◌, ◌<◌, length, IfOk, OnOk, OnErr};
+ghost use Rattle.walrus_passes.specs.SnippedFunctions.{with_body, unreachable_body, snipped, type_of_entry, name_or, Changes};
+
+use std::alloc::{AllocError, Global};
+use std::mem;
+use walrus_functions::{FunctionBuilder, LocalFunction, LocalFunctions};
+use walrus_ir::InstrSeqType;
+use walrus_types::FunctionId;
+
+/// Makes the body of a known function a single `unreachable`.
+///
+/// The function keeps its type, its parameters and its name, and its entry the type that it had.
+/// All other functions are as they were.
+///
+/// # Errors
+///
+/// Where memory is refused. Then no function has changed.
+///
+/// # A function that must not be run
+///
+/// ```
+/// let id = builder.finish(args, &mut funcs)?;
+/// snip(alloc, &mut funcs, id)?;
+/// ```
+pub fn snip(alloc: Global, funcs: &mut LocalFunctions, id: FunctionId) -> Result<(), AllocError>
+    requires { id < length funcs.old }
+    ensures ok { OnOk result (Changes funcs.old funcs.new id snipped) }
+    ensures err { OnErr result (funcs.new ≡ funcs.old) }
+{
+    let body = unreachable_body(alloc, funcs.get(id))?;
+    replace_with(alloc, funcs, id, body)
+}
+
+/// Gives a known function the body that is built.
+///
+/// The function keeps its parameters, and its name if it has one. Its sequences, its entry and its
+/// type are those of the builder, so that should begin with the function's type. All other
+/// functions are as they were.
+///
+/// # Errors
+///
+/// Where memory is refused. Then no function has changed.
+pub fn replace_with(
+    alloc: Global,
+    funcs: &mut LocalFunctions,
+    id: FunctionId,
+    body: FunctionBuilder,
+) -> Result<(), AllocError>
+    requires { id < length funcs.old }
+    ensures ok { OnOk result (Changes funcs.old funcs.new id (with_body body)) }
+    ensures err { OnErr result (funcs.new ≡ funcs.old) }
+{
+    let mut body = body;
+    if let Some(name) = funcs.get(id).name() {
+        body.name(String::from_str(alloc, name)?);
+    }
+    let func = funcs.get_mut(id);
+    let args = mem::replace(&mut func.args, Vec::new(alloc));
+    *func = body.local_func(args);
+    Ok(())
+}
+
+// The builder of a body like that of the function, which is a single `unreachable`.
+fn unreachable_body(alloc: Global, func: &LocalFunction) -> Result<FunctionBuilder, AllocError>
+    ensures { IfOk result (λ f. f ≡ unreachable_body func.now.body) }
+{
+    let mut builder = FunctionBuilder::without_entry(alloc, func.ty());
+    let Ok(mut body) = builder.dangling_instr_seq(type_of_entry(func)) else {
+        return Err(AllocError);
+    };
+    let Ok(()) = body.unreachable() else {
+        return Err(AllocError);
+    };
+    let id = body.id();
+    builder.set_entry(id);
+    Ok(builder)
+}
+
+fn type_of_entry(func: &LocalFunction) -> InstrSeqType
+    ensures { result ≡ type_of_entry func.now.body func.now.body.entry }
+{
+    match func.entry() {
+        Some(id) => func.block(id).ty,
+        None => InstrSeqType::Simple(None),
+    }
+}

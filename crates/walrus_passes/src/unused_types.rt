@@ -1,0 +1,84 @@
+//! The pass that deletes unused types.
+ghost use Rattle.std.specs.Prelude.{◌≡◌, ◌↔◌, ◌≤◌, ℕ, All, IfOk, OnOk, OnErr};
+ghost use Rattle.walrus_types.specs.TypesById.{IsLive};
+ghost use Rattle.walrus_types.specs.Table.{IsTable, DeletesAll};
+ghost use Rattle.walrus_passes.specs.NeededTypes.{Needed, AreUnused, Keeps};
+ghost use Rattle.walrus_passes.specs.WellNamed.{IsWellNamed};
+
+mod marking;
+
+use marking::Marking;
+use std::alloc::{AllocError, Global};
+use walrus_types::{ModuleTypes, TypeId};
+
+/// Deletes the types that no root needs, and answers their ids in order.
+///
+/// A type is needed if it is a root, if a needed type names it, be it as supertype, or if it stands
+/// in one recursion group with a needed type: so a group is kept whole or dies whole. A type that
+/// stands for the entry of a function is a type as all others: it stays where it is a root, or
+/// where a needed type names it. A name of an id that isn't live needs nothing.
+///
+/// What stays keeps its id, its contents and its group, and is found as before. Groups that lost
+/// their types stay in the list of groups, without types. Where no name missed its index before
+/// when the table was written, none does after. It takes time linear in the size of the table.
+///
+/// # Errors
+///
+/// Where memory is refused. Then nothing was deleted.
+///
+/// # The types that a function needs
+///
+/// ```
+/// let pair = types.add_struct(fields)?;
+/// let used = types.add(&[ValType::I32], &[])?;
+/// let deleted = delete_unused_types(alloc, &mut types, &[used])?;
+/// assert_eq!(rt; deleted.as_slice(), [pair].as_slice());
+/// ```
+pub fn delete_unused_types(
+    alloc: Global,
+    types: &mut ModuleTypes,
+    roots: &[TypeId],
+) -> Result<Vec<TypeId>, AllocError>
+    requires { All (IsLive types.old.types.slots) roots.now }
+    ensures deleted { IfOk result (λ ids. AreUnused types.old roots.now ids.items) }
+    ensures ok { IfOk result (λ ids. DeletesAll types.old ids.items types.new) }
+    ensures live { OnOk result
+        ((id : ℕ) → IsLive types.new.types.slots id ↔ Needed types.old roots.now id) }
+    ensures kept { OnOk result (Keeps (Needed types.old roots.now) types.old types.new) }
+    ensures well_named { OnOk result (IsWellNamed types.old → IsWellNamed types.new) }
+    ensures err { OnErr result (types.new ≡ types.old) }
+{
+    let unused = unused_types(alloc, types, roots)?;
+    types.delete_all(unused.as_slice())?;
+    Ok(unused)
+}
+
+// The ids of the live types that no root needs, in order.
+fn unused_types(
+    alloc: Global,
+    types: &ModuleTypes,
+    roots: &[TypeId],
+) -> Result<Vec<TypeId>, AllocError>
+    requires { All (IsLive types.now.types.slots) roots.now }
+    ensures unused { IfOk result (λ ids. AreUnused types.now roots.now ids.items) }
+    ensures grouping { OnOk result (IsTable types.now) }
+{
+    let live = types.live_ids()?;
+    let groups = types.rec_groups();
+    let mut marking = Marking::new(alloc, greatest(live.as_slice()), groups.len())?;
+    marking.mark_needed(alloc, types, roots)?;
+    marking.unmarked(alloc, live.as_slice())
+}
+
+// The greatest of these ids, as a number, or 0 where there are none.
+fn greatest(ids: &[TypeId]) -> usize
+    ensures { All (λ id. id ≤ result) ids.now }
+{
+    let mut greatest = 0;
+    for id in ids {
+        if id.index() > greatest {
+            greatest = id.index();
+        }
+    }
+    greatest
+}

@@ -1,0 +1,70 @@
+//! Functions that call another one of their type.
+use crate::bodies::{are, text_of};
+use std::alloc::{AllocError, Global};
+use std::process::Abort;
+use std::test::Fail;
+use walrus_functions::LocalFunction;
+use walrus_ir::{InstrSeqType, LocalId, ModuleLocals};
+use walrus_passes::adapter;
+use walrus_types::{Id, ModuleTypes, TypeId, ValType};
+
+// The adapter of the function 9, of the type of this index, if that is a function type.
+pub(crate) fn adapt(
+    rt: &impl Abort,
+    alloc: Global,
+    types: &mut ModuleTypes,
+    locals: &mut ModuleLocals,
+    index: usize,
+) -> Result<LocalFunction, AllocError> {
+    let ty = TypeId::from_index(index);
+    assert!(rt; types.contains(ty));
+    assert!(rt; types.get(ty).is_function());
+    adapter(alloc, types, locals, Id::from_index(9), ty)
+}
+
+// The type of a local.
+fn has_type(locals: &ModuleLocals, index: usize, ty: ValType) -> bool {
+    let id: LocalId = Id::from_index(index);
+    locals.contains(id) && locals.get(id).ty() == ty
+}
+
+#[test]
+fn an_adapter_reads_its_parameters_and_calls(rt: HostRuntime) -> Result<(), Fail> {
+    let mut types = ModuleTypes::new(rt.alloc());
+    let mut locals = ModuleLocals::new(rt.alloc());
+    locals.add(ValType::V128)?;
+    types.add(&[ValType::I32, ValType::F64], &[ValType::I64])?;
+    let func = adapt(&rt, rt.alloc(), &mut types, &mut locals, 0)?;
+    assert_eq!(rt; func.ty(), TypeId::from_index(0));
+    assert_eq!(rt; func.entry(), Some(Id::from_index(0)));
+    assert_eq!(rt; func.block_count(), 1);
+    assert!(rt; are(func.args.as_slice(), &[1, 2]));
+    assert_eq!(rt;
+        text_of(rt.alloc(), &func, 0)?.as_str(),
+        "LocalGet(LocalGet { local: Id(1) });LocalGet(LocalGet { local: Id(2) });\
+        Call(Call { func: Id(9) });"
+    );
+    assert!(rt; has_type(&locals, 1, ValType::I32));
+    assert!(rt; has_type(&locals, 2, ValType::F64));
+    Ok(())
+}
+
+#[test]
+fn an_adapter_has_an_entry_of_the_results(rt: HostRuntime) -> Result<(), Fail> {
+    let mut types = ModuleTypes::new(rt.alloc());
+    let mut locals = ModuleLocals::new(rt.alloc());
+    types.add(&[], &[ValType::I64])?;
+    let func = adapt(&rt, rt.alloc(), &mut types, &mut locals, 0)?;
+    assert!(rt; func.args.is_empty());
+    let entry = Id::from_index(0);
+    assert!(rt; func.contains_block(entry));
+    assert_eq!(rt;
+        func.block(entry).ty,
+        InstrSeqType::MultiValue(TypeId::from_index(1))
+    );
+    assert_eq!(rt;
+        types.find_for_function_entry(&[ValType::I64]),
+        Some(TypeId::from_index(1))
+    );
+    Ok(())
+}

@@ -1,0 +1,187 @@
+//! Refused memory: what a refused call leaves, and that it goes through when it is made again.
+//! Each request for memory of these tests may be refused, one in a run, and they still pass.
+use crate::adapters::adapt;
+use crate::bodies::{BUILT, SNIPPED, function, is, snip_first, text_of};
+use crate::unused_types::{are, delete_all_but, table};
+use std::alloc::{AllocError, Global};
+use std::process::Abort;
+use std::test::Fail;
+use walrus_functions::{BuildError, FunctionBuilder, LocalFunction, LocalFunctions};
+use walrus_ir::{InstrSeqType, LocalId, ModuleLocals};
+use walrus_passes::replace_with;
+use walrus_types::{AddRecGroupError, FunctionId, Id, ModuleTypes, TypeId, ValType};
+
+// The table of types. It is made again after a refusal.
+fn table_again(alloc: Global) -> Result<ModuleTypes, AddRecGroupError> {
+    match table(alloc) {
+        Ok(types) => Ok(types),
+        Err(_) => table(alloc),
+    }
+}
+
+// Whether the types with these ids are live and those after them are not.
+fn has_six(types: &ModuleTypes) -> bool {
+    (0..6usize).all(|index| types.contains(TypeId::from_index(index)))
+}
+
+#[test]
+fn a_refused_deletion_leaves_the_table(rt: HostRuntime) -> Result<(), Fail> {
+    let mut types = table_again(rt.alloc())?;
+    let deleted = match delete_all_but(&rt, rt.alloc(), &mut types, 4) {
+        Ok(deleted) => deleted,
+        Err(_) => {
+            assert!(rt; has_six(&types));
+            delete_all_but(&rt, rt.alloc(), &mut types, 4)?
+        }
+    };
+    assert!(rt; are(deleted.as_slice(), &[0, 1, 5]));
+    Ok(())
+}
+
+// The functions that are the one alone. They are made again after a refusal.
+fn one_again(alloc: Global) -> Result<LocalFunctions, BuildError> {
+    match one(alloc) {
+        Ok(funcs) => Ok(funcs),
+        Err(_) => one(alloc),
+    }
+}
+
+fn one(alloc: Global) -> Result<LocalFunctions, BuildError> {
+    let mut funcs = LocalFunctions::new(alloc);
+    match funcs.add(function(alloc)?) {
+        Ok(_) => Ok(funcs),
+        Err(_) => Err(BuildError::Memory),
+    }
+}
+
+// The function is as it is made, or else has this text. It is looked at again after a refusal.
+fn is_again(
+    rt: &impl Abort,
+    alloc: Global,
+    funcs: &LocalFunctions,
+    text: &str,
+) -> Result<(), AllocError> {
+    match is(rt, alloc, funcs, 0, text) {
+        Ok(()) => Ok(()),
+        Err(_) => is(rt, alloc, funcs, 0, text),
+    }
+}
+
+#[test]
+fn a_refused_snip_leaves_the_function(rt: HostRuntime) -> Result<(), Fail> {
+    let mut funcs = one_again(rt.alloc())?;
+    if snip_first(&rt, rt.alloc(), &mut funcs).is_err() {
+        is(&rt, rt.alloc(), &funcs, 0, BUILT)?;
+        snip_first(&rt, rt.alloc(), &mut funcs)?;
+    }
+    is_again(&rt, rt.alloc(), &funcs, SNIPPED)?;
+    Ok(())
+}
+
+// A builder of a body that leaves 8. It is made again after a refusal.
+fn eight_again(alloc: Global) -> Result<FunctionBuilder, BuildError> {
+    match eight(alloc) {
+        Ok(f) => Ok(f),
+        Err(_) => eight(alloc),
+    }
+}
+
+fn eight(alloc: Global) -> Result<FunctionBuilder, BuildError> {
+    let mut f = FunctionBuilder::without_entry(alloc, Id::from_index(0));
+    let mut body = f.dangling_instr_seq(InstrSeqType::Simple(Some(ValType::I32)))?;
+    body.i32_const(8)?;
+    Ok(f)
+}
+
+fn replace_first(
+    rt: &impl Abort,
+    alloc: Global,
+    funcs: &mut LocalFunctions,
+    body: FunctionBuilder,
+) -> Result<(), AllocError> {
+    let id: FunctionId = Id::from_index(0);
+    assert!(rt; funcs.contains(id));
+    replace_with(alloc, funcs, id, body)
+}
+
+#[test]
+fn a_refused_replacement_leaves_the_function(rt: HostRuntime) -> Result<(), Fail> {
+    let mut funcs = one_again(rt.alloc())?;
+    let body = eight_again(rt.alloc())?;
+    if replace_first(&rt, rt.alloc(), &mut funcs, body).is_err() {
+        is(&rt, rt.alloc(), &funcs, 0, BUILT)?;
+        let again = eight(rt.alloc())?;
+        replace_first(&rt, rt.alloc(), &mut funcs, again)?;
+    }
+    is_again(&rt, rt.alloc(), &funcs, "Const(Const { value: I32(8) });")?;
+    Ok(())
+}
+
+// A table with the type of a function that takes an `i32`. It is made again after a refusal.
+fn types_again(alloc: Global) -> Result<ModuleTypes, AllocError> {
+    match one_type(alloc) {
+        Ok(types) => Ok(types),
+        Err(_) => one_type(alloc),
+    }
+}
+
+fn one_type(alloc: Global) -> Result<ModuleTypes, AllocError> {
+    let mut types = ModuleTypes::new(alloc);
+    types.add(&[ValType::I32], &[])?;
+    Ok(types)
+}
+
+// The adapter. After a refusal the table has the type and up to one more, there is one local at
+// most, and the call is made again.
+fn adapt_again(
+    rt: &impl Abort,
+    alloc: Global,
+    types: &mut ModuleTypes,
+    locals: &mut ModuleLocals,
+) -> Result<LocalFunction, AllocError> {
+    if let Ok(func) = adapt(rt, alloc, types, locals, 0) {
+        return Ok(func);
+    }
+    let second: LocalId = Id::from_index(1);
+    assert!(rt; !locals.contains(second));
+    assert!(rt; types.contains(Id::from_index(0)));
+    assert!(rt; !types.contains(Id::from_index(2)));
+    adapt(rt, alloc, types, locals, 0)
+}
+
+fn text_again(alloc: Global, func: &LocalFunction) -> Result<String, AllocError> {
+    match text_of(alloc, func, 0) {
+        Ok(text) => Ok(text),
+        Err(_) => text_of(alloc, func, 0),
+    }
+}
+
+fn expected(alloc: Global, arg: usize) -> Result<String, AllocError> {
+    let mut text = String::new(alloc);
+    write!(
+        text,
+        "LocalGet(LocalGet {{ local: Id({arg}) }});Call(Call {{ func: Id(9) }});"
+    )?;
+    Ok(text)
+}
+
+fn expected_again(alloc: Global, arg: usize) -> Result<String, AllocError> {
+    match expected(alloc, arg) {
+        Ok(text) => Ok(text),
+        Err(_) => expected(alloc, arg),
+    }
+}
+
+#[test]
+fn a_refused_adapter_is_made_again(rt: HostRuntime) -> Result<(), Fail> {
+    let mut types = types_again(rt.alloc())?;
+    let mut locals = ModuleLocals::new(rt.alloc());
+    let func = adapt_again(&rt, rt.alloc(), &mut types, &mut locals)?;
+    assert_eq!(rt; func.ty().index(), 0);
+    assert_eq!(rt; func.args.len(), 1);
+    for arg in func.args.as_slice() {
+        let text = expected_again(rt.alloc(), arg.index())?;
+        assert_eq!(rt; text_again(rt.alloc(), &func)?.as_str(), text.as_str());
+    }
+    Ok(())
+}

@@ -1,0 +1,135 @@
+//! Which types are deleted.
+use std::alloc::{AllocError, Global};
+use std::process::Abort;
+use std::test::Fail;
+use walrus_passes::delete_unused_types;
+use walrus_types::{
+    AddRecGroupError, CompositeType, Field, FieldType, Heap, Listed, ModuleTypes, Reference,
+    Storage, StructType, TypeId, Val, ValType,
+};
+
+// A struct with a nullable reference to the type with this id, or without fields.
+fn structure(alloc: Global, name: Option<usize>) -> Result<CompositeType, AllocError> {
+    let mut fields = Vec::new(alloc);
+    if let Some(index) = name {
+        fields.push(reference_field(TypeId::from_index(index)))?;
+    }
+    Ok(CompositeType::Struct(StructType {
+        fields: Listed::from_vec(fields),
+    }))
+}
+
+fn reference_field(id: TypeId) -> FieldType {
+    Field {
+        element_type: Storage::Val(Val::Ref(Reference {
+            nullable: true,
+            heap_type: Heap::Concrete(id),
+        })),
+        mutable: false,
+    }
+}
+
+fn two_members(alloc: Global) -> Result<Vec<(CompositeType, bool, Option<TypeId>)>, AllocError> {
+    let mut members = Vec::new(alloc);
+    members.push((structure(alloc, Some(2))?, true, None))?;
+    members.push((structure(alloc, None)?, true, None))?;
+    Ok(members)
+}
+
+// 0: an open struct; 1: a subtype of it; 2: a function type; 3 and 4: a group, in which 3 names 2;
+// 5: the type of a body that leaves an `i32`.
+pub(crate) fn table(alloc: Global) -> Result<ModuleTypes, AddRecGroupError> {
+    let mut types = ModuleTypes::new(alloc);
+    types.add_composite(structure(alloc, None)?, false, None)?;
+    types.add_composite(structure(alloc, None)?, true, Some(TypeId::from_index(0)))?;
+    types.add(&[ValType::I32], &[])?;
+    types.add_rec_group(2, |_| two_members(alloc))?;
+    types.add_entry_ty(&[ValType::I32])?;
+    Ok(types)
+}
+
+// Deletes what this type does not need.
+pub(crate) fn delete_all_but(
+    rt: &impl Abort,
+    alloc: Global,
+    types: &mut ModuleTypes,
+    index: usize,
+) -> Result<Vec<TypeId>, AllocError> {
+    let root = TypeId::from_index(index);
+    assert!(rt; types.contains(root));
+    delete_unused_types(alloc, types, &[root])
+}
+
+// Whether these are the ids of these indices.
+pub(crate) fn are(ids: &[TypeId], indices: &[usize]) -> bool {
+    ids.len() == indices.len()
+        && ids
+            .iter()
+            .zip(indices)
+            .all(|(id, index)| id.index() == *index)
+}
+
+// Deletes what the type does not need, which has to be the types of these indices.
+fn deletes(
+    rt: &impl Abort,
+    alloc: Global,
+    index: usize,
+    dead: &[usize],
+    live: &[usize],
+) -> Result<(), Fail> {
+    let mut types = table(alloc)?;
+    let deleted = delete_all_but(rt, alloc, &mut types, index)?;
+    assert!(rt; are(deleted.as_slice(), dead));
+    assert!(rt; are(types.live_ids()?.as_slice(), live));
+    Ok(())
+}
+
+#[test]
+fn a_supertype_is_needed(rt: HostRuntime) -> Result<(), Fail> {
+    deletes(&rt, rt.alloc(), 1, &[2, 3, 4, 5], &[0, 1])
+}
+
+#[test]
+fn a_supertype_does_not_need_its_subtype(rt: HostRuntime) -> Result<(), Fail> {
+    deletes(&rt, rt.alloc(), 0, &[1, 2, 3, 4, 5], &[0])
+}
+
+#[test]
+fn a_group_is_kept_whole_with_what_its_members_name(rt: HostRuntime) -> Result<(), Fail> {
+    deletes(&rt, rt.alloc(), 4, &[0, 1, 5], &[2, 3, 4])
+}
+
+#[test]
+fn an_entry_type_stays_where_it_is_a_root(rt: HostRuntime) -> Result<(), Fail> {
+    deletes(&rt, rt.alloc(), 5, &[0, 1, 2, 3, 4], &[5])
+}
+
+#[test]
+fn without_roots_all_types_die(rt: HostRuntime) -> Result<(), Fail> {
+    let mut types = table(rt.alloc())?;
+    let deleted = delete_unused_types(rt.alloc(), &mut types, &[])?;
+    assert!(rt; are(deleted.as_slice(), &[0, 1, 2, 3, 4, 5]));
+    assert!(rt; types.live_ids()?.is_empty());
+    assert_eq!(rt; types.rec_groups().len(), 5);
+    assert!(rt;
+        types
+            .rec_groups()
+            .iter()
+            .all(|group| group.types.is_empty())
+    );
+    Ok(())
+}
+
+#[test]
+fn what_stays_is_found_and_what_died_is_not(rt: HostRuntime) -> Result<(), Fail> {
+    let mut types = table(rt.alloc())?;
+    delete_all_but(&rt, rt.alloc(), &mut types, 4)?;
+    assert_eq!(rt;
+        types.find(&[ValType::I32], &[]),
+        Some(TypeId::from_index(2))
+    );
+    assert_eq!(rt; types.find_for_function_entry(&[ValType::I32]), None);
+    assert_eq!(rt; types.add(&[ValType::I32], &[])?, TypeId::from_index(2));
+    assert_eq!(rt; types.add_entry_ty(&[ValType::I32])?, TypeId::from_index(6));
+    Ok(())
+}
