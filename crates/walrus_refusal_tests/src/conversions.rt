@@ -1,0 +1,2 @@
+//! Records that are read with ids, and types that are written as records.
+mod refusals;

@@ -1,0 +1,119 @@
+//! Conversions of composite types.
+use crate::fixtures::{field, list, reference, to};
+use std::alloc::{AllocError, Global};
+use std::test::Fail;
+use walrus_types::{
+    CompAt, CompositeType, FieldAt, FromRecordError, IdsToIndices, IndicesToIds, Listed, NoIndex,
+    StorageAt, ToRecordError, TypeId, Val, ValAt,
+};
+
+// A function type whose parameter names index 1 and whose first result names index 0.
+fn function_at(alloc: Global) -> Result<CompAt, AllocError> {
+    Ok(CompAt::Function {
+        params: Listed::from_vec(list(alloc, &[to(1)])?),
+        results: Listed::from_vec(list(alloc, &[to(0), ValAt::I32])?),
+    })
+}
+
+// A struct type whose field names this index.
+fn struct_at(alloc: Global, index: u32) -> Result<CompAt, AllocError> {
+    let field = FieldAt {
+        element_type: StorageAt::Val(to(index)),
+        mutable: false,
+    };
+    Ok(CompAt::Struct {
+        fields: Listed::from_vec(list(alloc, &[field])?),
+    })
+}
+
+fn two_ids(alloc: Global) -> Result<IndicesToIds, AllocError> {
+    let mut ids = IndicesToIds::new(alloc);
+    ids.push_type(TypeId::from_index(5))?;
+    ids.push_type(TypeId::from_index(3))?;
+    Ok(ids)
+}
+
+// Index 0 stands for the type 5, and index 1 for the type 3. The map is made again after a refusal.
+fn two_ids_again(alloc: Global) -> Result<IndicesToIds, AllocError> {
+    match two_ids(alloc) {
+        Ok(ids) => Ok(ids),
+        Err(_) => two_ids(alloc),
+    }
+}
+
+fn two_indices(alloc: Global) -> Result<IdsToIndices, AllocError> {
+    let mut indices = IdsToIndices::new(alloc);
+    indices.push_type(TypeId::from_index(5))?;
+    indices.push_type(TypeId::from_index(3))?;
+    Ok(indices)
+}
+
+// The type 5 has index 0, and the type 3 index 1. The map is made again after a refusal.
+fn two_indices_again(alloc: Global) -> Result<IdsToIndices, AllocError> {
+    match two_indices(alloc) {
+        Ok(indices) => Ok(indices),
+        Err(_) => two_indices(alloc),
+    }
+}
+
+// The composite type of the record. It is read again after a refusal of memory.
+fn read_again(
+    alloc: Global,
+    at: &CompAt,
+    ids: &IndicesToIds,
+) -> Result<CompositeType, FromRecordError> {
+    match CompositeType::from_record(alloc, at, ids) {
+        Err(FromRecordError::Memory) => CompositeType::from_record(alloc, at, ids),
+        answer => answer,
+    }
+}
+
+// The record of the composite type. It is written again after a refusal of memory.
+fn write_again(
+    alloc: Global,
+    kind: &CompositeType,
+    indices: &IdsToIndices,
+) -> Result<CompAt, ToRecordError> {
+    match kind.to_record(alloc, indices) {
+        Err(ToRecordError::Memory) => kind.to_record(alloc, indices),
+        answer => answer,
+    }
+}
+
+#[test]
+fn a_refused_function_type_is_converted_when_it_is_given_again(
+    rt: HostRuntime,
+) -> Result<(), Fail> {
+    let alloc = rt.alloc();
+    let at = function_at(alloc)?;
+    let kind = read_again(alloc, &at, &two_ids_again(alloc)?)?;
+    assert!(rt; kind.is_function_of(&[reference(3)], &[reference(5), Val::I32]));
+    let record = write_again(alloc, &kind, &two_indices_again(alloc)?)?;
+    assert!(rt; record == at);
+    let refused = write_again(alloc, &kind, &IdsToIndices::new(alloc)).err();
+    let missing = NoIndex::OfType(TypeId::from_index(3));
+    assert_eq!(rt; refused, Some(ToRecordError::NoIndex(missing)));
+    Ok(())
+}
+
+#[test]
+fn a_refused_struct_type_is_converted_when_it_is_given_again(rt: HostRuntime) -> Result<(), Fail> {
+    let alloc = rt.alloc();
+    let at = struct_at(alloc, 1)?;
+    let ids = two_ids_again(alloc)?;
+    let kind = read_again(alloc, &at, &ids)?;
+    match &kind {
+        CompositeType::Struct(of) => {
+            assert!(rt; of.fields.as_slice() == [field(reference(3))].as_slice());
+        }
+        _ => return Err(Fail::new("no struct type")),
+    }
+    let record = write_again(alloc, &kind, &two_indices_again(alloc)?)?;
+    assert!(rt; record == at);
+    let ill = struct_at(alloc, 2)?;
+    assert_eq!(rt;
+        read_again(alloc, &ill, &ids).err(),
+        Some(FromRecordError::UnknownIndex(2))
+    );
+    Ok(())
+}

@@ -1,0 +1,2 @@
+//! Sections that tables are written as.
+mod refusals;

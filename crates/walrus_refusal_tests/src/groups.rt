@@ -1,0 +1,2 @@
+//! Explicit groups of the type table.
+mod refusals;

@@ -1,0 +1,2 @@
+//! The maps between indices and ids.
+mod refusals;

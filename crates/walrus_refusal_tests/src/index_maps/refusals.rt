@@ -1,0 +1,151 @@
+//! Calls that give the next index.
+ghost use Rattle.std.specs.Prelude.{◌≡◌, ◌<◌, ◌+◌, ◌^◌, None, OnOk};
+ghost use Rattle.walrus_ty.specs.Indices.{GivesNext, type_indices};
+
+use std::alloc::AllocError;
+use std::process::Abort;
+use std::test::Fail;
+use walrus_ty::{FunctionId, GlobalId};
+use walrus_types::{IdsToIndices, IndicesToIds, NoIndex, TypeId, UnknownIndex};
+
+// What an index stands for.
+#[derive(Clone, Copy)]
+enum Kind {
+    Ty,
+    Func,
+    Global,
+}
+
+// Lets the next index of this kind stand for this id.
+fn push(ids: &mut IndicesToIds, kind: Kind, index: usize) -> Result<(), AllocError> {
+    match kind {
+        Kind::Ty => ids.push_type(TypeId::from_index(index)),
+        Kind::Func => ids.push_func(FunctionId::from_index(index)),
+        Kind::Global => ids.push_global(GlobalId::from_index(index)),
+    }
+}
+
+// What the index stands for.
+fn get(ids: &IndicesToIds, kind: Kind, index: u32) -> Result<usize, UnknownIndex> {
+    Ok(match kind {
+        Kind::Ty => ids.get_type(index)?.index(),
+        Kind::Func => ids.get_func(index)?.index(),
+        Kind::Global => ids.get_global(index)?.index(),
+    })
+}
+
+// Whether the indices of this kind up to this one stand for the ids 99, 98 and so on, and no others
+// for any.
+fn stand(ids: &IndicesToIds, kind: Kind, count: u32) -> bool {
+    for index in 0..count {
+        if get(ids, kind, index) != Ok(99 - index as usize % 100) {
+            return false;
+        }
+    }
+    get(ids, kind, count) == Err(UnknownIndex(count))
+}
+
+// Lets the next index of this kind stand for an id. After a refusal all must stand for what they
+// stood for, and the call is made again.
+fn push_again(
+    rt: &impl Abort,
+    ids: &mut IndicesToIds,
+    kind: Kind,
+    count: u32,
+) -> Result<(), AllocError>
+    requires { count < 20 }
+{
+    let next = 99 - count as usize;
+    if push(ids, kind, next).is_ok() {
+        return Ok(());
+    }
+    assert!(rt; stand(ids, kind, count));
+    push(ids, kind, next)
+}
+
+fn pushes(rt: &impl Abort, ids: &mut IndicesToIds, kind: Kind) -> Result<(), AllocError> {
+    for count in 0..20u32 {
+        push_again(rt, ids, kind, count)?;
+        assert!(rt; stand(ids, kind, count + 1));
+    }
+    Ok(())
+}
+
+#[test]
+fn a_refused_index_stands_for_nothing(rt: HostRuntime) -> Result<(), Fail> {
+    let mut ids = IndicesToIds::new(rt.alloc());
+    pushes(&rt, &mut ids, Kind::Ty)?;
+    pushes(&rt, &mut ids, Kind::Func)?;
+    pushes(&rt, &mut ids, Kind::Global)?;
+    assert!(rt; stand(&ids, Kind::Ty, 20));
+    assert!(rt; stand(&ids, Kind::Func, 20));
+    assert_eq!(rt; ids.type_count(), 20);
+    Ok(())
+}
+
+// Lets five more type indices stand for the ids of their own number. After a refusal as many must
+// stand for an id as before, and the call is made again.
+fn push_row_again(rt: &impl Abort, ids: &mut IndicesToIds, first: usize) -> Result<(), AllocError>
+    requires { first < 100 }
+{
+    if ids.push_types(first, 5).is_ok() {
+        return Ok(());
+    }
+    assert_eq!(rt; ids.type_count(), first);
+    ids.push_types(first, 5)
+}
+
+#[test]
+fn a_refused_row_of_indices_stands_for_nothing(rt: HostRuntime) -> Result<(), Fail> {
+    let mut ids = IndicesToIds::new(rt.alloc());
+    for row in 0..9usize {
+        push_row_again(&rt, &mut ids, 5 * row)?;
+        assert_eq!(rt; ids.type_count(), 5 * row + 5);
+    }
+    for index in 0..45u32 {
+        assert_eq!(rt; get(&ids, Kind::Ty, index), Ok(index as usize));
+    }
+    Ok(())
+}
+
+// Gives the next index to this type. After a refusal it must have none, and the call is made again.
+fn give_again(rt: &impl Abort, indices: &mut IdsToIndices, id: TypeId) -> Result<(), AllocError>
+    requires fresh { (type_indices indices.old).index id ≡ None }
+    requires room { (type_indices indices.old).count < 2 ^ 32 }
+    ensures { OnOk result (GivesNext (type_indices indices.old) (type_indices indices.new) id) }
+{
+    if indices.push_type(id).is_ok() {
+        return Ok(());
+    }
+    assert_eq!(rt; indices.get_type_index(id), Err(NoIndex::OfType(id)));
+    indices.push_type(id)
+}
+
+// Whether the types 5, 4 and so on have the first so many indices, and no others have any.
+fn have_indices(indices: &IdsToIndices, count: usize) -> bool {
+    for id in 0..7usize {
+        let id = TypeId::from_index(id);
+        let wanted = match 5usize.checked_sub(id.index()) {
+            Some(index) if index < count => Ok(index as u32),
+            _ => Err(NoIndex::OfType(id)),
+        };
+        if indices.get_type_index(id) != wanted {
+            return false;
+        }
+    }
+    true
+}
+
+#[test]
+fn a_refused_index_is_given_when_it_is_asked_for_again(rt: HostRuntime) -> Result<(), Fail> {
+    let mut indices = IdsToIndices::new(rt.alloc());
+    give_again(&rt, &mut indices, TypeId::from_index(5))?;
+    give_again(&rt, &mut indices, TypeId::from_index(4))?;
+    give_again(&rt, &mut indices, TypeId::from_index(3))?;
+    assert!(rt; have_indices(&indices, 3));
+    give_again(&rt, &mut indices, TypeId::from_index(2))?;
+    assert!(rt; have_indices(&indices, 4));
+    give_again(&rt, &mut indices, TypeId::from_index(1))?;
+    assert!(rt; have_indices(&indices, 5));
+    Ok(())
+}

@@ -1,0 +1,2 @@
+//! Instructions, locals and constant expressions.
+mod refusals;

@@ -1,0 +1,246 @@
+//! Calls that read and write constant expressions, add locals, and clone instructions.
+use crate::fixtures::{list, reference};
+use std::alloc::{AllocError, Global};
+use std::process::Abort;
+use std::test::Fail;
+use walrus_ir::{
+    BrTable, ConstExpr, ConstOp, ConstOpAt, Instr, InstrSeqId, InstrSeqType, LegacyCatch, LocalId,
+    ModuleLocals, Try, TryTable, TryTableCatch, Value,
+};
+use walrus_types::{
+    FromRecordError, Id, IdsToIndices, IndicesToIds, Listed, ModuleTypes, NoIndex, ToRecordError,
+    Val, ValType,
+};
+
+// Global index 0 stands for the global 5.
+fn one_global(alloc: Global) -> Result<IndicesToIds, AllocError> {
+    let mut ids = IndicesToIds::new(alloc);
+    if ids.push_global(Id::from_index(5)).is_err() {
+        ids.push_global(Id::from_index(5))?;
+    }
+    Ok(ids)
+}
+
+// The global 5 has index 0.
+fn one_index(alloc: Global) -> Result<IdsToIndices, AllocError> {
+    let mut indices = IdsToIndices::new(alloc);
+    if indices.push_global(Id::from_index(5)).is_err() {
+        indices.push_global(Id::from_index(5))?;
+    }
+    Ok(indices)
+}
+
+// The constant expression. It is read again after a refusal of memory.
+fn eval_again(
+    alloc: Global,
+    ops: &[ConstOpAt],
+    ids: &IndicesToIds,
+) -> Result<ConstExpr, FromRecordError> {
+    match ConstExpr::eval(alloc, ops, ids) {
+        Err(FromRecordError::Memory) => ConstExpr::eval(alloc, ops, ids),
+        answer => answer,
+    }
+}
+
+// The operations of the constant expression. They are written again after a refusal of memory.
+fn to_ops_again(
+    alloc: Global,
+    expr: &ConstExpr,
+    indices: &IdsToIndices,
+) -> Result<Vec<ConstOpAt>, ToRecordError> {
+    match expr.to_ops(alloc, indices) {
+        Err(ToRecordError::Memory) => expr.to_ops(alloc, indices),
+        answer => answer,
+    }
+}
+
+#[test]
+fn a_refused_constant_expression_is_read_when_it_is_given_again(
+    rt: HostRuntime,
+) -> Result<(), Fail> {
+    let alloc = rt.alloc();
+    let ids = one_global(alloc)?;
+    let sum = [
+        ConstOpAt::GlobalGet(0),
+        ConstOpAt::I32Const(4),
+        ConstOpAt::I32Add,
+    ];
+    let expr = eval_again(alloc, &sum, &ids)?;
+    let read = [
+        ConstOp::GlobalGet(Id::from_index(5)),
+        ConstOp::I32Const(4),
+        ConstOp::I32Add,
+    ];
+    assert!(rt; matches!(&expr, ConstExpr::Extended(ops) if ops.as_slice() == read.as_slice()));
+    let ops = to_ops_again(alloc, &expr, &one_index(alloc)?)?;
+    assert!(rt; ops.as_slice() == sum.as_slice());
+    Ok(())
+}
+
+#[test]
+fn a_refused_constant_expression_that_is_ill_has_its_error(rt: HostRuntime) -> Result<(), Fail> {
+    let alloc = rt.alloc();
+    let ids = one_global(alloc)?;
+    let unknown = [ConstOpAt::I32Const(4), ConstOpAt::GlobalGet(1)];
+    let refused = eval_again(alloc, &unknown, &ids).err();
+    assert_eq!(rt; refused, Some(FromRecordError::UnknownIndex(1)));
+    let expr = ConstExpr::Global(Id::from_index(6));
+    let refused = to_ops_again(alloc, &expr, &one_index(alloc)?).err();
+    let missing = NoIndex::OfGlobal(Id::from_index(6));
+    assert_eq!(rt; refused, Some(ToRecordError::NoIndex(missing)));
+    Ok(())
+}
+
+#[test]
+fn a_refused_value_is_written_when_it_is_given_again(rt: HostRuntime) -> Result<(), Fail> {
+    let indices = IdsToIndices::new(rt.alloc());
+    let expr = ConstExpr::Value(Value::I64(7));
+    let ops = to_ops_again(rt.alloc(), &expr, &indices)?;
+    assert!(rt; ops.as_slice() == [ConstOpAt::I64Const(7)].as_slice());
+    Ok(())
+}
+
+// Whether there are so many locals of type `i64`, and no others.
+fn has_locals(locals: &ModuleLocals, count: usize) -> bool {
+    for index in 0..count {
+        let id: LocalId = Id::from_index(index);
+        if !locals.contains(id) || locals.get(id).ty() != Val::I64 {
+            return false;
+        }
+    }
+    !locals.contains(Id::from_index(count))
+}
+
+#[test]
+fn a_refused_local_is_not_added(rt: HostRuntime) -> Result<(), Fail> {
+    let mut locals = ModuleLocals::new(rt.alloc());
+    for count in 0..20usize {
+        let id = match locals.add(Val::I64) {
+            Ok(id) => id,
+            Err(_) => {
+                assert!(rt; has_locals(&locals, count));
+                locals.add(Val::I64)?
+            }
+        };
+        assert_eq!(rt; id.index(), count);
+        assert!(rt; has_locals(&locals, count + 1));
+    }
+    Ok(())
+}
+
+// The type of sequences that take this and leave nothing. After a refusal the table must have so
+// many types and not this one, and the call is made again.
+fn seq_type_again(
+    rt: &impl Abort,
+    types: &mut ModuleTypes,
+    params: &[ValType],
+    count: usize,
+) -> Result<InstrSeqType, AllocError> {
+    if let Ok(ty) = InstrSeqType::new(types, params, &[]) {
+        return Ok(ty);
+    }
+    assert_eq!(rt; types.rec_groups().len(), count);
+    assert!(rt; !types.contains(Id::from_index(count)));
+    assert!(rt; InstrSeqType::existing(types, params, &[]).is_none());
+    InstrSeqType::new(types, params, &[])
+}
+
+#[test]
+fn a_refused_sequence_type_adds_no_type(rt: HostRuntime) -> Result<(), Fail> {
+    let mut types = ModuleTypes::new(rt.alloc());
+    for count in 0..5usize {
+        let ty = seq_type_again(&rt, &mut types, &[reference(count)], count)?;
+        assert_eq!(rt; ty, InstrSeqType::MultiValue(Id::from_index(count)));
+        assert_eq!(rt; types.rec_groups().len(), count + 1);
+        assert_eq!(rt;
+            InstrSeqType::existing(&types, &[reference(count)], &[]),
+            Some(ty)
+        );
+    }
+    Ok(())
+}
+
+fn branches(alloc: Global) -> Result<Instr, AllocError> {
+    Ok(Instr::BrTable(BrTable {
+        blocks: Listed::from_vec(list(alloc, &[Id::from_index(4), Id::from_index(5)])?),
+        default: Id::from_index(6),
+    }))
+}
+
+fn catches(alloc: Global) -> Result<Instr, AllocError> {
+    let clause = TryTableCatch::CatchAll {
+        label: Id::from_index(7),
+    };
+    Ok(Instr::TryTable(TryTable {
+        seq: Id::from_index(4),
+        catches: Listed::from_vec(list(alloc, &[clause])?),
+    }))
+}
+
+fn older_catches(alloc: Global) -> Result<Instr, AllocError> {
+    let clause = LegacyCatch::Delegate { relative_depth: 7 };
+    Ok(Instr::Try(Try {
+        seq: Id::from_index(4),
+        catches: Listed::from_vec(list(alloc, &[clause])?),
+    }))
+}
+
+// A clone of the instruction. It is cloned again after a refusal.
+fn clone_again(instr: &Instr) -> Result<Instr, AllocError> {
+    match instr.clone() {
+        Ok(copy) => Ok(copy),
+        Err(_) => instr.clone(),
+    }
+}
+
+#[test]
+fn a_refused_clone_of_branches_comes_when_it_is_asked_for_again(
+    rt: HostRuntime,
+) -> Result<(), Fail> {
+    let table = branches(rt.alloc())?;
+    let targets: [InstrSeqId; 2] = [Id::from_index(4), Id::from_index(5)];
+    match clone_again(&table)? {
+        Instr::BrTable(copy) => {
+            assert!(rt; copy.blocks.as_slice() == targets.as_slice());
+            assert_eq!(rt; copy.default.index(), 6);
+        }
+        _ => return Err(Fail::new("another instruction")),
+    }
+    Ok(())
+}
+
+#[test]
+fn a_refused_clone_of_catches_comes_when_it_is_asked_for_again(
+    rt: HostRuntime,
+) -> Result<(), Fail> {
+    let table = catches(rt.alloc())?;
+    match clone_again(&table)? {
+        Instr::TryTable(copy) => {
+            assert_eq!(rt; copy.seq.index(), 4);
+            match copy.catches.as_slice() {
+                [TryTableCatch::CatchAll { label }] => assert_eq!(rt; label.index(), 7),
+                _ => return Err(Fail::new("other clauses")),
+            }
+        }
+        _ => return Err(Fail::new("another instruction")),
+    }
+    Ok(())
+}
+
+#[test]
+fn a_refused_clone_of_older_catches_comes_when_it_is_asked_for_again(
+    rt: HostRuntime,
+) -> Result<(), Fail> {
+    let attempt = older_catches(rt.alloc())?;
+    match clone_again(&attempt)? {
+        Instr::Try(copy) => {
+            assert_eq!(rt; copy.seq.index(), 4);
+            match copy.catches.as_slice() {
+                [LegacyCatch::Delegate { relative_depth }] => assert_eq!(rt; *relative_depth, 7),
+                _ => return Err(Fail::new("other clauses")),
+            }
+        }
+        _ => return Err(Fail::new("another instruction")),
+    }
+    Ok(())
+}

@@ -1,0 +1,30 @@
+//! Tests of public calls under refused memory: what a refused call leaves, and that it goes through
+//! when it is made again.
+//!
+//! Each request for memory of these tests may be refused, one in a run, and they still pass. They
+//! stand in a crate of their own, since tests inside a crate have the gate prove that crate a second
+//! time.
+#![tactic(auto)]
+
+#[cfg(test)]
+mod bodies;
+#[cfg(test)]
+mod conversions;
+#[cfg(test)]
+mod emission;
+#[cfg(test)]
+mod fixtures;
+#[cfg(test)]
+mod groups;
+#[cfg(test)]
+mod index_maps;
+#[cfg(test)]
+mod ir;
+#[cfg(test)]
+mod nesting;
+#[cfg(test)]
+mod sections;
+#[cfg(test)]
+mod table;
+#[cfg(test)]
+mod walks;

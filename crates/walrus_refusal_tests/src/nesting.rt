@@ -1,0 +1,2 @@
+//! The nesting check.
+mod refusals;

@@ -1,0 +1,2 @@
+//! Reading sections, and their normal form.
+mod refusals;

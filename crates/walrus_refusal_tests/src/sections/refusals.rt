@@ -1,0 +1,252 @@
+//! Sections that are read, normalised, judged and compared.
+use crate::fixtures::{Piece, Shape, are, reference, section_again, to};
+use Piece::{One, Two};
+use Shape::{Func, Struct};
+use std::alloc::{AllocError, Global};
+use std::process::Abort;
+use std::test::Fail;
+use walrus_types::{
+    GroupAt, HashKeys, ModuleTypes, ReadError, SectionReader, TypeId, ValAt, is_normal_form,
+    normalise, parse_types, same_up_to_moves,
+};
+
+// A function type, a `Rec` of two that name each other, the function type again, and a struct type.
+fn four_groups(alloc: Global) -> Result<Vec<GroupAt>, AllocError> {
+    let pieces = [
+        One(Func(None)),
+        Two(Struct(Some(to(2))), Func(Some(to(1)))),
+        One(Func(None)),
+        One(Struct(Some(to(3)))),
+    ];
+    section_again(alloc, &pieces)
+}
+
+// What was read of the first so many of these groups: the id of each index, and how many groups the
+// table has.
+fn first_read(count: usize) -> (&'static [usize], usize) {
+    match count {
+        0 => (&[], 0),
+        1 => (&[0], 1),
+        2 => (&[0, 1, 2], 2),
+        3 => (&[0, 1, 2, 0], 2),
+        _ => (&[0, 1, 2, 0, 4], 3),
+    }
+}
+
+// Whether this was read of the first so many of these groups, and nothing else.
+fn has_read(types: &ModuleTypes, ids: &[TypeId], count: usize) -> bool {
+    let (indices, groups) = first_read(count);
+    let plain = if count < 1 {
+        None
+    } else {
+        Some(TypeId::from_index(0))
+    };
+    let namer = if count < 2 {
+        None
+    } else {
+        Some(TypeId::from_index(2))
+    };
+    for index in 0..6usize {
+        if types.contains(TypeId::from_index(index)) != indices.iter().any(|i| *i == index) {
+            return false;
+        }
+    }
+    are(ids, indices)
+        && types.rec_groups().len() == groups
+        && types.find(&[], &[]) == plain
+        && types.find(&[reference(1)], &[]) == namer
+}
+
+// Pushes the first so many groups. A push that is refused memory is made again.
+fn push_again(alloc: Global, groups: &[GroupAt], count: usize) -> Result<SectionReader, ReadError> {
+    let mut reader = SectionReader::new(alloc);
+    for group in groups.iter().take(count) {
+        match reader.push_group(group) {
+            Err(ReadError::Memory) => reader.push_group(group)?,
+            answer => answer?,
+        }
+    }
+    Ok(reader)
+}
+
+#[test]
+fn a_refused_group_is_not_read(rt: HostRuntime) -> Result<(), Fail> {
+    let groups = four_groups(rt.alloc())?;
+    for (count, group) in groups.iter().enumerate() {
+        let mut reader = push_again(rt.alloc(), groups.as_slice(), count)?;
+        let answer = reader.push_group(group);
+        let (types, ids) = reader.finish();
+        match answer {
+            Ok(()) => assert!(rt; has_read(&types, ids.as_slice(), count + 1)),
+            Err(error) => {
+                assert_eq!(rt; error, ReadError::Memory);
+                assert!(rt; has_read(&types, ids.as_slice(), count));
+            }
+        }
+    }
+    Ok(())
+}
+
+#[test]
+fn a_refused_group_is_read_when_it_is_pushed_again(rt: HostRuntime) -> Result<(), Fail> {
+    let groups = four_groups(rt.alloc())?;
+    let ill = section_again(rt.alloc(), &[Two(Func(None), Struct(Some(to(7))))])?;
+    let mut reader = push_again(rt.alloc(), groups.as_slice(), 4)?;
+    let bad = ReadError::BadIndex {
+        entry: 6,
+        index: 7,
+        end: 7,
+    };
+    for group in &ill {
+        assert_eq!(rt; reader.push_group(group), Err(bad));
+    }
+    let (types, ids) = reader.finish();
+    assert!(rt; has_read(&types, ids.as_slice(), 4));
+    Ok(())
+}
+
+// What is read of the section. It is read again after a refusal of memory.
+fn parse_again(alloc: Global, groups: &[GroupAt]) -> Result<(ModuleTypes, Vec<TypeId>), ReadError> {
+    match parse_types(alloc, HashKeys::fixed(), groups) {
+        Err(ReadError::Memory) => parse_types(alloc, HashKeys::fixed(), groups),
+        answer => answer,
+    }
+}
+
+#[test]
+fn a_refused_section_is_read_when_it_is_given_again(rt: HostRuntime) -> Result<(), Fail> {
+    let groups = four_groups(rt.alloc())?;
+    let (types, ids) = parse_again(rt.alloc(), groups.as_slice())?;
+    assert!(rt; has_read(&types, ids.as_slice(), 4));
+    Ok(())
+}
+
+#[test]
+fn a_refused_section_that_is_ill_has_its_error(rt: HostRuntime) -> Result<(), Fail> {
+    let pieces = [One(Func(None)), One(Struct(Some(to(2))))];
+    let groups = section_again(rt.alloc(), &pieces)?;
+    let bad = ReadError::BadIndex {
+        entry: 1,
+        index: 2,
+        end: 2,
+    };
+    assert_eq!(rt; parse_again(rt.alloc(), groups.as_slice()).err(), Some(bad));
+    Ok(())
+}
+
+// The normal form. It is asked for again after a refusal of memory.
+fn normalise_again(
+    alloc: Global,
+    groups: &[GroupAt],
+) -> Result<(Vec<GroupAt>, Vec<u32>), ReadError> {
+    match normalise(alloc, HashKeys::fixed(), groups) {
+        Err(ReadError::Memory) => normalise(alloc, HashKeys::fixed(), groups),
+        answer => answer,
+    }
+}
+
+// The normal form of the section is the one that is wanted.
+fn gives(
+    rt: &impl Abort,
+    alloc: Global,
+    pieces: &[Piece],
+    wanted: &[Piece],
+    map: &[u32],
+) -> Result<(), Fail> {
+    let groups = section_again(alloc, pieces)?;
+    let wanted = section_again(alloc, wanted)?;
+    let (output, indices) = normalise_again(alloc, groups.as_slice())?;
+    assert!(rt; output == wanted);
+    assert_eq!(rt; indices.as_slice(), map);
+    Ok(())
+}
+
+#[test]
+fn a_refused_normal_form_comes_when_it_is_asked_for_again(rt: HostRuntime) -> Result<(), Fail> {
+    let (func, int) = (One(Func(None)), One(Struct(Some(ValAt::I32))));
+    let section = [int, func, One(Struct(Some(to(0))))];
+    let sorted = [func, int, One(Struct(Some(to(1))))];
+    gives(&rt, rt.alloc(), &section, &sorted, &[1, 0, 2])
+}
+
+#[test]
+fn a_refused_normal_form_has_each_single_once(rt: HostRuntime) -> Result<(), Fail> {
+    let func = One(Func(None));
+    let first = One(Struct(Some(to(0))));
+    let second = One(Struct(Some(to(1))));
+    let repeats = [func, func, first, second];
+    gives(&rt, rt.alloc(), &repeats, &[func, first], &[0, 0, 1, 1])
+}
+
+#[test]
+fn a_refused_normal_form_of_an_ill_section_is_its_error(rt: HostRuntime) -> Result<(), Fail> {
+    let groups = section_again(rt.alloc(), &[One(Func(None)), One(Struct(Some(to(2))))])?;
+    let bad = ReadError::BadIndex {
+        entry: 1,
+        index: 2,
+        end: 2,
+    };
+    assert_eq!(rt;
+        normalise_again(rt.alloc(), groups.as_slice()).err(),
+        Some(bad)
+    );
+    Ok(())
+}
+
+// Whether the output is the normal form. It is asked for again after a refusal.
+fn is_normal_again(
+    alloc: Global,
+    section: &[GroupAt],
+    output: &[GroupAt],
+    map: &[u32],
+) -> Result<bool, AllocError> {
+    match is_normal_form(alloc, section, output, map) {
+        Ok(answer) => Ok(answer),
+        Err(_) => is_normal_form(alloc, section, output, map),
+    }
+}
+
+#[test]
+fn a_refused_judgement_comes_when_it_is_asked_for_again(rt: HostRuntime) -> Result<(), Fail> {
+    let alloc = rt.alloc();
+    let (func, int) = (One(Func(None)), One(Struct(Some(ValAt::I32))));
+    let (groups, sorted) = (
+        section_again(alloc, &[int, func])?,
+        section_again(alloc, &[func, int])?,
+    );
+    let (groups, sorted) = (groups.as_slice(), sorted.as_slice());
+    assert!(rt; is_normal_again(alloc, groups, sorted, &[1, 0])?);
+    assert!(rt; !is_normal_again(alloc, groups, sorted, &[0, 1])?);
+    assert!(rt; !is_normal_again(alloc, groups, groups, &[0, 1])?);
+    Ok(())
+}
+
+// Whether the sections are the same up to moves. It is asked for again after a refusal of memory.
+fn are_same_again(alloc: Global, first: &[GroupAt], second: &[GroupAt]) -> Result<bool, ReadError> {
+    match same_up_to_moves(alloc, HashKeys::fixed(), first, second) {
+        Err(ReadError::Memory) => same_up_to_moves(alloc, HashKeys::fixed(), first, second),
+        answer => answer,
+    }
+}
+
+#[test]
+fn a_refused_comparison_comes_when_it_is_asked_for_again(rt: HostRuntime) -> Result<(), Fail> {
+    let alloc = rt.alloc();
+    let (func, int) = (One(Func(None)), One(Struct(Some(ValAt::I32))));
+    let groups = section_again(alloc, &[int, func])?;
+    let turned = section_again(alloc, &[func, int, func])?;
+    let ill = section_again(alloc, &[One(Struct(Some(to(1))))])?;
+    let alone = section_again(alloc, &[func])?;
+    let (groups, turned) = (groups.as_slice(), turned.as_slice());
+    let (alone, ill) = (alone.as_slice(), ill.as_slice());
+    let bad = ReadError::BadIndex {
+        entry: 0,
+        index: 1,
+        end: 1,
+    };
+    assert_eq!(rt; are_same_again(alloc, groups, turned), Ok(true));
+    assert_eq!(rt; are_same_again(alloc, groups, alone), Ok(false));
+    assert_eq!(rt; are_same_again(alloc, ill, groups), Err(bad));
+    assert_eq!(rt; are_same_again(alloc, groups, ill), Err(bad));
+    Ok(())
+}

@@ -1,0 +1,2 @@
+//! The type table.
+mod refusals;

@@ -1,0 +1,2 @@
+//! The walk in order, and the changing walk.
+mod refusals;
