@@ -1,6 +1,7 @@
 //! The changing walk, on worked bodies.
 mod adder;
 mod functions;
+mod rename_types;
 mod walks;
 
 use std::alloc::{AllocError, Global};

@@ -5,7 +5,7 @@ use Shape::{Func, Open, Struct};
 use std::alloc::Global;
 use std::process::Abort;
 use std::test::Fail;
-use walrus_types::{GroupAt, HeapAt, ReadError, RefAt, ValAt, same_up_to_moves};
+use walrus_types::{GroupAt, HashKeys, HeapAt, ReadError, RefAt, ValAt, same_up_to_moves};
 
 const INT: Shape<'static> = Struct(&[ValAt::I32]);
 
@@ -22,7 +22,12 @@ fn exactly(index: u32) -> ValAt {
 fn are_same<'x>(alloc: Global, a: &[Piece<'x>], b: &[Piece<'x>]) -> Result<bool, ReadError> {
     let first = section(alloc, a)?;
     let second = section(alloc, b)?;
-    same_up_to_moves(alloc, first.as_slice(), second.as_slice())
+    same_up_to_moves(
+        alloc,
+        HashKeys::fixed(),
+        first.as_slice(),
+        second.as_slice(),
+    )
 }
 
 fn same<'x>(rt: &impl Abort, alloc: Global, a: &[Piece<'x>], b: &[Piece<'x>]) -> Result<(), Fail> {
@@ -124,7 +129,7 @@ fn sections_that_differ_in_a_supertype(rt: HostRuntime) -> Result<(), Fail> {
     } else {
         return Err(Fail::new("no entry that stands alone"));
     }
-    assert!(rt; !same_up_to_moves(alloc, plain.as_slice(), sub.as_slice())?);
+    assert!(rt; !same_up_to_moves(alloc, HashKeys::fixed(), plain.as_slice(), sub.as_slice())?);
     Ok(())
 }
 

@@ -7,7 +7,7 @@ use Shape::{Bytes, Func, Open, Struct};
 use std::alloc::Global;
 use std::process::Abort;
 use std::test::Fail;
-use walrus_types::{ReadError, ValAt, is_normal_form, normalise};
+use walrus_types::{HashKeys, ReadError, ValAt, is_normal_form, normalise};
 
 // The normal form of the section is the one that is wanted, and the slow program agrees.
 fn gives<'x>(
@@ -19,7 +19,7 @@ fn gives<'x>(
 ) -> Result<(), Fail> {
     let groups = section(alloc, pieces)?;
     let wanted = section(alloc, wanted)?;
-    let (output, places) = normalise(alloc, groups.as_slice())?;
+    let (output, places) = normalise(alloc, HashKeys::fixed(), groups.as_slice())?;
     assert!(rt; output == wanted);
     assert_eq!(rt; places.as_slice(), map);
     assert!(rt; is_normal_form(alloc, groups.as_slice(), wanted.as_slice(), map)?);
@@ -38,7 +38,7 @@ fn is_refused(
     wanted: ReadError,
 ) -> Result<(), Fail> {
     let groups = section(alloc, pieces)?;
-    let refused = normalise(alloc, groups.as_slice()).err();
+    let refused = normalise(alloc, HashKeys::fixed(), groups.as_slice()).err();
     assert_eq!(rt; refused, Some(wanted));
     Ok(())
 }

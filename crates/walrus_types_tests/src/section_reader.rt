@@ -5,7 +5,9 @@ use Shape::{Func, Struct};
 use std::alloc::{AllocError, Global};
 use std::process::Abort;
 use std::test::Fail;
-use walrus_types::{GroupAt, ReadError, RecGroup, SectionReader, TypeId, ValAt, parse_types};
+use walrus_types::{
+    GroupAt, HashKeys, ReadError, RecGroup, SectionReader, TypeId, ValAt, parse_types,
+};
 
 // Whether these are the ids of these indices.
 fn are(ids: &[TypeId], indices: &[usize]) -> bool {
@@ -28,7 +30,7 @@ fn is_refused(
     wanted: ReadError,
 ) -> Result<(), Fail> {
     let groups = section(alloc, pieces)?;
-    let refused = parse_types(alloc, groups.as_slice()).err();
+    let refused = parse_types(alloc, HashKeys::fixed(), groups.as_slice()).err();
     assert_eq!(rt; refused, Some(wanted));
     Ok(())
 }
@@ -94,7 +96,7 @@ fn an_equal_entry_is_sent_to_the_first(rt: HostRuntime) -> Result<(), Fail> {
     let alloc = rt.alloc();
     let rec = Many(&[Struct(&[ValAt::I32])]);
     let groups = section(alloc, &[One(Func(&[])), One(Func(&[])), rec])?;
-    let (types, ids) = parse_types(alloc, groups.as_slice())?;
+    let (types, ids) = parse_types(alloc, HashKeys::fixed(), groups.as_slice())?;
     assert!(rt; are(ids.as_slice(), &[0, 0, 2]));
     assert!(rt; types.contains(TypeId::from_index(0)));
     assert!(rt; !types.contains(TypeId::from_index(1)));
@@ -106,7 +108,7 @@ fn an_equal_entry_is_sent_to_the_first(rt: HostRuntime) -> Result<(), Fail> {
 fn an_empty_group_is_kept(rt: HostRuntime) -> Result<(), Fail> {
     let alloc = rt.alloc();
     let groups = section(alloc, &[Many(&[])])?;
-    let (types, ids) = parse_types(alloc, groups.as_slice())?;
+    let (types, ids) = parse_types(alloc, HashKeys::fixed(), groups.as_slice())?;
     assert_eq!(rt; ids.len(), 0);
     assert_eq!(rt; types.rec_groups().len(), 1);
     assert!(rt; is(&types.rec_groups()[0], &[], true));
@@ -118,7 +120,7 @@ fn names_may_point_forward_within_their_group(rt: HostRuntime) -> Result<(), Fai
     let alloc = rt.alloc();
     let rec = Many(&[Struct(&[to(1)]), Func(&[])]);
     let groups = section(alloc, &[rec, One(Struct(&[to(2)]))])?;
-    let (_, ids) = parse_types(alloc, groups.as_slice())?;
+    let (_, ids) = parse_types(alloc, HashKeys::fixed(), groups.as_slice())?;
     assert!(rt; are(ids.as_slice(), &[0, 1, 2]));
     Ok(())
 }
@@ -150,7 +152,7 @@ fn a_field_is_refused_before_a_supertype(rt: HostRuntime) -> Result<(), Fail> {
         index: 5,
         end: 1,
     };
-    let refused = parse_types(alloc, &[GroupAt::Single(both)]).err();
+    let refused = parse_types(alloc, HashKeys::fixed(), &[GroupAt::Single(both)]).err();
     assert_eq!(rt; refused, Some(expected));
     Ok(())
 }

@@ -9,8 +9,18 @@ fn add(
     f: &mut FunctionBuilder,
     instrs: Vec<Instr>,
 ) -> Result<InstrSeqId, BuildError> {
+    add_typed(alloc, f, NOTHING, instrs)
+}
+
+// The same with this type.
+pub(super) fn add_typed(
+    alloc: Global,
+    f: &mut FunctionBuilder,
+    ty: InstrSeqType,
+    instrs: Vec<Instr>,
+) -> Result<InstrSeqId, BuildError> {
     let located = with_locations(alloc, instrs)?;
-    let mut b = f.dangling_instr_seq(NOTHING)?;
+    let mut b = f.dangling_instr_seq(ty)?;
     *b.instrs_mut() = located;
     Ok(b.id())
 }
@@ -79,10 +89,12 @@ pub(super) fn test_function(alloc: Global) -> Result<LocalFunction, Fail> {
     Ok(f.local_func(Vec::new(alloc)))
 }
 
-// Two blocks of the entry name the sequence 1, which holds the constant 5.
+// Two blocks of the entry name the sequence 1, which holds the constant 5. The entry has a function
+// type.
 pub(super) fn shared(alloc: Global) -> Result<LocalFunction, Fail> {
     let mut f = FunctionBuilder::without_entry(alloc, id(0));
-    add(alloc, &mut f, vec![in alloc; block(1), block(1)]?)?;
+    let ty = InstrSeqType::MultiValue(id(1));
+    add_typed(alloc, &mut f, ty, vec![in alloc; block(1), block(1)]?)?;
     add(alloc, &mut f, vec![in alloc; number(5)]?)?;
     Ok(f.local_func(Vec::new(alloc)))
 }

@@ -100,22 +100,66 @@ fn a_shared_sequence_is_changed_twice(rt: HostRuntime) -> Result<(), Fail> {
     let mut visitor = adder(alloc, ALL);
     let answer = walk(alloc, &mut visitor, &mut func)?;
     assert_eq!(rt; answer, Ok(()));
+    assert_eq!(rt; visitor.calls.len(), 15);
     assert_eq!(rt; constant(&func)?, 7);
     Ok(())
 }
 
-// The entry has 6 hook calls: start, two blocks with one sequence id each, end. The shared
+// The entry has 7 hook calls: start, type, two blocks with one sequence id each, end. The shared
 // sequence has 4: start, constant, value, end.
 #[test]
 fn a_refused_hook_leaves_what_the_hooks_before_it_did(rt: HostRuntime) -> Result<(), Fail> {
     let alloc = rt.alloc();
-    for (limit, left) in [(0, 5), (7, 5), (8, 6), (11, 6), (12, 7), (13, 7)] {
+    for (limit, left) in [(0, 5), (8, 5), (9, 6), (12, 6), (13, 7), (14, 7)] {
         let mut func = shared(alloc)?;
         let mut visitor = adder(alloc, limit);
         let answer = walk(alloc, &mut visitor, &mut func)?;
         assert_eq!(rt; answer, Err(WalkError::Hook(Full)));
         assert_eq!(rt; visitor.calls.len(), limit);
         assert_eq!(rt; constant(&func)?, left);
+    }
+    Ok(())
+}
+
+fn changed(call: HookCall) -> HookCall {
+    match call {
+        HookCall::Number(n) => HookCall::Number(n.wrapping_add(1)),
+        other => other,
+    }
+}
+
+// Whether the calls are the same, but that the constants of the first so many have changed.
+fn are_changed_before(limit: usize, old: &[HookCall], new: &[HookCall]) -> bool {
+    if old.len() != new.len() {
+        return false;
+    }
+    for i in 0..old.len() {
+        let wanted = if i < limit { changed(old[i]) } else { old[i] };
+        if new[i] != wanted {
+            return false;
+        }
+    }
+    true
+}
+
+// Every hook call in turn is refused: the log is that of the whole walk, cut there, and the body is
+// changed by the calls before it alone, as another walk sees.
+#[test]
+fn a_refusing_hook_cuts_the_walk(rt: HostRuntime) -> Result<(), Fail> {
+    let alloc = rt.alloc();
+    let mut whole = adder(alloc, ALL);
+    let answer = walk(alloc, &mut whole, &mut test_function(alloc)?)?;
+    assert_eq!(rt; answer, Ok(()));
+    for limit in 0..whole.calls.len() {
+        let mut func = test_function(alloc)?;
+        let mut cut = adder(alloc, limit);
+        let answer = walk(alloc, &mut cut, &mut func)?;
+        assert_eq!(rt; answer, Err(WalkError::Hook(Full)));
+        assert!(rt; cut.calls.as_slice() == &whole.calls[..limit]);
+        let mut again = adder(alloc, ALL);
+        let answer = walk(alloc, &mut again, &mut func)?;
+        assert_eq!(rt; answer, Ok(()));
+        assert!(rt; are_changed_before(limit, &whole.calls, &again.calls));
     }
     Ok(())
 }

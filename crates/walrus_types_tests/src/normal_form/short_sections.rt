@@ -4,8 +4,8 @@ use std::alloc::{AllocError, Global};
 use std::slice;
 use std::test::Fail;
 use walrus_types::{
-    CompAt, EntryAt, GroupAt, HeapAt, Listed, ReadError, StorageAt, ValAt, is_normal_form,
-    normalise,
+    CompAt, EntryAt, GroupAt, HashKeys, HeapAt, Listed, ReadError, StorageAt, ValAt,
+    is_normal_form, normalise,
 };
 
 // Of each entry: which it is, and whether it stands alone, begins a `Rec`, or goes on with the
@@ -122,7 +122,7 @@ fn first_error(groups: &[GroupAt]) -> Option<ReadError> {
 fn is_right(alloc: Global, choices: &[u32]) -> Result<bool, AllocError> {
     let groups = section_of(alloc, choices)?;
     let refusal = first_error(groups.as_slice());
-    match normalise(alloc, groups.as_slice()) {
+    match normalise(alloc, HashKeys::fixed(), groups.as_slice()) {
         Ok((output, map)) => {
             let normal = is_normal_form(
                 alloc,
