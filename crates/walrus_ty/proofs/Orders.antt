@@ -4,3 +4,4 @@ pub mod Indices
 pub mod Ids
 pub mod Records
 pub mod Types
+pub mod Ties

@@ -9,6 +9,7 @@ pub mod Text
 pub mod Views
 pub mod SubTypes
 pub mod SameTypes
+pub mod Comparison
 pub mod Groups
 pub mod Lists
 pub mod Lookups

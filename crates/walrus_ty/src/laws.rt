@@ -21,11 +21,14 @@ ghost use Rattle.walrus_ty.specs.declared.ty.value.Storage.{Storage as StorageSh
 ghost use Rattle.walrus_ty.specs.Signature.{Signature};
 ghost use Rattle.walrus_ty.specs.declared.ty.value.Val as value;
 
+mod comparison;
+
 use crate::{
     AbstractHeapType, CompAt, CompositeType, EntryAt, FieldAt, FieldType, FunctionType, GroupAt,
     Heap, HeapAt, HeapType, RefAt, RefType, StorageAt, StorageType, Type, TypeId, Val, ValAt,
     ValType,
 };
+pub use comparison::{comparisons_agree, parts_in_order, record_comparisons_agree};
 
 /// The order of definitions is total, and only a definition itself is equal to it.
 pub fn definitions_in_order()

@@ -12,7 +12,11 @@ use Rattle.walrus_ty.specs.declared.ty.value.Storage.{Storage}
 use Rattle.walrus_ty.specs.declared.ty.value.Storage.TheVariants as storage
 use Rattle.walrus_ty.specs.declared.ty.value.Field.{Field}
 use Rattle.walrus_ty.specs.declared.ty.composite.CompositeType.{CompositeType}
-use Rattle.walrus_ty.specs.declared.ty.composite.CompositeType.TheVariants.{Function}
+use Rattle.walrus_ty.specs.declared.ty.composite.CompositeType.TheVariants.{Function, Struct, Array}
+use Rattle.walrus_ty.specs.declared.ty.composite.StructType.{StructType}
+use Rattle.walrus_ty.specs.declared.ty.composite.ArrayType.{ArrayType}
+use Rattle.walrus_ty.specs.contracts.ty.composite.StructTypePartialEq.TheImpl.{ghosts as struct_ghosts}
+use Rattle.walrus_ty.specs.contracts.ty.composite.ArrayTypePartialEq.TheImpl.{ghosts as array_ghosts}
 use Rattle.walrus_ty.specs.declared.records.CompAt.{CompAt}
 use Rattle.walrus_ty.specs.declared.records.CompAt.TheVariants as comp
 use Rattle.walrus_ty.specs.declared.records.EntryAt.{EntryAt}
@@ -65,6 +69,12 @@ function_same = is_sameness function_ghosts.eq function_exact function_itself
 
 pub kind_same : (c d : CompositeType) → (IsTrue (composite_ghosts.eq c d) ↔ (c ≡ d))
 kind_same = is_sameness composite_ghosts.eq composite_exact composite_itself
+
+pub struct_same : (s t : StructType) → (IsTrue (struct_ghosts.eq s t) ↔ (s ≡ t))
+struct_same s t = ((λ h. let p : Struct s ≡ Struct t = (kind_same (Struct s) (Struct t)).0 h in cc), (λ p. (kind_same (Struct s) (Struct t)).1 (ap Struct p)))
+
+pub array_same : (a b : ArrayType) → (IsTrue (array_ghosts.eq a b) ↔ (a ≡ b))
+array_same a b = ((λ h. let p : Array a ≡ Array b = (kind_same (Array a) (Array b)).0 h in cc), (λ p. (kind_same (Array a) (Array b)).1 (ap Array p)))
 
 -- over indices
 

@@ -23,7 +23,7 @@ use Rattle.walrus_ty.specs.declared.ty.value.Field.{Field}
 use Rattle.walrus_ty.specs.Value.{heap_cmp, reference_cmp, val_cmp, storage_cmp, field_cmp, bool_cmp}
 use Rattle.walrus_ty.proofs.Orders.Bare.{abstract_is, bool_is}
 
-heap_is :
+pub heap_is :
     (h g : Heap ℕ) → (heap_order.ghosts u32 number_order.ghosts number_order.dict number_eq.ghosts
     number_eq.dict number_partial_eq.ghosts number_partial_eq.dict number_partial_order.ghosts
     number_partial_order.dict).cmp h g ≡ heap_cmp h g
@@ -37,7 +37,7 @@ heap_is (heap.Exact k) (heap.Abstract b) = refl
 heap_is (heap.Exact k) (heap.Concrete l) = refl
 heap_is (heap.Exact k) (heap.Exact l) = refl
 
-reference_is :
+pub reference_is :
     (r q : Reference ℕ) → (reference_order.ghosts u32 number_order.ghosts number_order.dict
     number_eq.ghosts number_eq.dict number_partial_eq.ghosts number_partial_eq.dict
     number_partial_order.ghosts number_partial_order.dict).cmp r q ≡ reference_cmp r q
@@ -85,7 +85,7 @@ val_is val.V128 val.F32 = refl
 val_is val.V128 val.F64 = refl
 val_is val.V128 val.V128 = refl
 
-storage_is :
+pub storage_is :
     (a b : Storage ℕ) → (storage_order.ghosts u32 number_order.ghosts number_order.dict
     number_eq.ghosts number_eq.dict number_partial_eq.ghosts number_partial_eq.dict
     number_partial_order.ghosts number_partial_order.dict).cmp a b ≡ storage_cmp a b

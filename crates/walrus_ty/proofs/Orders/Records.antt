@@ -45,7 +45,7 @@ fields_are :
     number_partial_order.dict).cmp fs gs ≡ slice_cmp field_cmp fs gs
 fields_are fs gs = lists_are (field_order.ghosts u32 number_order.ghosts number_order.dict number_eq.ghosts number_eq.dict number_partial_eq.ghosts number_partial_eq.dict number_partial_order.ghosts number_partial_order.dict).cmp field_cmp field_is fs gs
 
-comp_is :
+pub comp_is :
     (c d : CompAt) → (comp_order.ghosts).cmp c d ≡
     composite_cmp (comp_composite c) (comp_composite d)
 comp_is (comp.Function ps rs) (comp.Function qs ss) =

@@ -52,7 +52,7 @@ fields_are :
     slice_cmp field_cmp fs gs
 fields_are fs gs = lists_are (field_order.ghosts (Key.the_row Builtin.RawPtr) (id_order.ghosts Builtin.RawPtr) (id_order.dict Builtin.RawPtr) (id_eq.ghosts Builtin.RawPtr) (id_eq.dict Builtin.RawPtr) (id_partial_eq.ghosts Builtin.RawPtr) (id_partial_eq.dict Builtin.RawPtr) (id_partial_order.ghosts Builtin.RawPtr) (id_partial_order.dict Builtin.RawPtr)).cmp field_cmp field_is fs gs
 
-kind_is :
+pub kind_is :
     (c d : CompositeType) → (kind_order.ghosts).cmp c d ≡
     composite_cmp (kind_composite c) (kind_composite d)
 kind_is (kind.Function f) (kind.Function g) =

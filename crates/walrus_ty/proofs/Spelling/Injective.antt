@@ -16,10 +16,10 @@ use Rattle.walrus_ty.proofs.Spelling.Tokens.{Mark, Spelling}
 use Rattle.walrus_ty.proofs.Spelling.Spelled.{heap_spelled, reference_spelled, val_spelled, list_spelled, storage_spelled, field_spelled, composite_spelled, supertype_spelled, spelled}
 
 -- an abstract heap type from its number
-abstract_at : ℕ → AbstractHeapType
+pub abstract_at : ℕ → AbstractHeapType
 abstract_at n = cond (n == 0) abstract.Func (cond (n == 1) abstract.Extern (cond (n == 2) abstract.Any (cond (n == 3) abstract.None (cond (n == 4) abstract.NoExtern (cond (n == 5) abstract.NoFunc (cond (n == 6) abstract.Eq (cond (n == 7) abstract.Struct (cond (n == 8) abstract.Array (cond (n == 9) abstract.I31 (cond (n == 10) abstract.Exn (abstract.NoExn)))))))))))
 
-abstract_back : (a : AbstractHeapType) → abstract_at (abstract_index a) ≡ a
+pub abstract_back : (a : AbstractHeapType) → abstract_at (abstract_index a) ≡ a
 unfolding abstract_at
 abstract_back abstract.Func = refl
 abstract_back abstract.Extern = refl
