@@ -5,8 +5,9 @@ use Rattle.std.specs.declared.cmp.Ordering.TheVariants.{Equal}
 use Rattle.walrus_ty.specs.declared.ty.composite.CompositeType.{CompositeType}
 use Rattle.walrus_ty.specs.Types.{ModuleType}
 
--- two are equal, and none of the two comes first, exactly where these parts are the same
-pub record ComparesBy {A B : Type 0} (parts : A → B) (eq : A → A → Bool) (cmp : A → A → Ordering) : Type 0 where
+-- two are equal, and neither comes first, exactly where these parts are the same
+pub record ComparesBy {A B : Type 0} (parts : A → B) (eq : A → A → Bool)
+    (cmp : A → A → Ordering) : Type 0 where
   pub equal : (x y : A) → (IsTrue (eq x y) ↔ (parts x ≡ parts y))
   pub tied : (x y : A) → ((cmp x y ≡ Equal) ↔ (parts x ≡ parts y))
 

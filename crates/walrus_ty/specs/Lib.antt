@@ -10,6 +10,7 @@ pub mod Views
 pub mod SubTypes
 pub mod SameTypes
 pub mod Comparison
+pub mod HashInput
 pub mod Groups
 pub mod Lists
 pub mod Lookups

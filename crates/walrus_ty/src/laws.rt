@@ -22,6 +22,7 @@ ghost use Rattle.walrus_ty.specs.Signature.{Signature};
 ghost use Rattle.walrus_ty.specs.declared.ty.value.Val as value;
 
 mod comparison;
+mod hashes;
 
 use crate::{
     AbstractHeapType, CompAt, CompositeType, EntryAt, FieldAt, FieldType, FunctionType, GroupAt,
@@ -29,6 +30,7 @@ use crate::{
     ValType,
 };
 pub use comparison::{comparisons_agree, parts_in_order, record_comparisons_agree};
+pub use hashes::{hashes_agree, record_hashes_agree};
 
 /// The order of definitions is total, and only a definition itself is equal to it.
 pub fn definitions_in_order()

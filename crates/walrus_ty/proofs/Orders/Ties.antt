@@ -1,5 +1,5 @@
 -- The order of what definitions are made of finds a tie only where the two are the same.
-use Rattle.std.proofs.Common.{◌≡◌, ℕ, Bool, true, false, None, refl, ap, sym, ◌∙◌}
+use Rattle.std.proofs.Common.{◌≡◌, ℕ, Bool, true, None, ap, sym, ◌∙◌}
 use Rattle.std.specs.Prelude.{IsTrue, ◌↔◌}
 use Rattle.std.specs.declared.cmp.Ordering.{Ordering}
 use Rattle.std.specs.declared.cmp.Ordering.TheVariants.{Equal}
@@ -13,7 +13,7 @@ use Rattle.walrus_ty.specs.declared.ty.value.Storage.{Storage}
 use Rattle.walrus_ty.specs.declared.ty.value.Storage.TheVariants as storage
 use Rattle.walrus_ty.specs.declared.ty.value.Field.{Field}
 use Rattle.walrus_ty.specs.Comparison.{ComparesBy}
-use Rattle.walrus_ty.specs.Definition.{Composite, Array, Definition, definition_cmp}
+use Rattle.walrus_ty.specs.Definition.{Array, Definition}
 use Rattle.walrus_ty.specs.Value.{heap_cmp, reference_cmp, val_cmp, storage_cmp, field_cmp}
 use Rattle.walrus_ty.proofs.Names.Definitions.{definitions_total, definition_exact}
 use Rattle.walrus_ty.proofs.Orders.Records.{equal_if_is_eq}

@@ -1,0 +1,5 @@
+-- What `Hash` is fed is read back.
+pub mod Parts
+pub mod Values
+pub mod Ids
+pub mod Indices
