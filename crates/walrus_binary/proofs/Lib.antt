@@ -12,3 +12,4 @@ pub mod Shortest
 pub mod Least
 pub mod Textless
 pub mod Texts
+pub mod Modules

@@ -1,4 +1,5 @@
 pub mod Leb128
 pub mod Grammar
 pub mod Faults
+pub mod Modules
 pub mod Steps

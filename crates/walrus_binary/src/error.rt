@@ -8,7 +8,7 @@ ghost use Rattle.walrus_binary.specs.declared.error.Reason.TheVariants as reason
 use std::alloc::{AllocError, AllocFailed};
 use thiserror::Error;
 
-/// What has to stand at a place of a type section.
+/// What has to stand at a place of a module or of its type section.
 #[derive(Clone, Copy, PartialEq, Eq, Debug, Error)]
 pub enum Expected {
     /// An integer in LEB128: of at most five bytes, and without bits beyond its range.
@@ -35,6 +35,21 @@ pub enum Expected {
     /// Nothing more.
     #[error("the end")]
     End,
+    /// The four bytes with which each module begins.
+    #[error("the magic number")]
+    Magic,
+    /// The four bytes after them: version 1.
+    #[error("version 1")]
+    Version,
+    /// The byte that says which section follows.
+    #[error("a section's id")]
+    SectionId,
+    /// A section that comes later in the order of sections.
+    #[error("a later section")]
+    LaterSection,
+    /// As many bytes as the section's size says.
+    #[error("the section's content")]
+    Content,
 }
 
 /// What the binary format has, and a [`GroupAt`](walrus_ty::GroupAt) has no place for.
@@ -54,10 +69,10 @@ pub enum NotHeld {
     Descriptor,
 }
 
-/// Why bytes were not read as the groups of a type section.
+/// Why bytes were not read as the groups of a type section, or as a module.
 #[derive(Clone, Copy, PartialEq, Eq, Debug, Error)]
 pub enum DecodeError {
-    /// No text of groups goes on with the byte at this place, or with the end of the bytes.
+    /// Nothing that is read goes on with the byte at this place, or with the end of the bytes.
     #[error("byte {offset}: expected {expected}")]
     Malformed {
         /// The byte's place, counted from 0; the number of bytes where there are too few.
@@ -113,6 +128,16 @@ pub enum ReadError {
 }
 
 impl Fault {
+    /// What was expected where these bytes are left.
+    pub fn at(bytes: &[u8], expected: Expected) -> Fault
+        ensures { result ≡ record { left = length bytes.now; reason = reason.Expected expected } }
+    {
+        Fault {
+            left: bytes.len(),
+            reason: Reason::Expected(expected),
+        }
+    }
+
     /// The fault as an error, in bytes of this length.
     pub fn refusal(self, len: usize) -> DecodeError
         requires { self.left ≤ len }
@@ -147,6 +172,14 @@ impl ReadError {
             left: bytes.len(),
             reason: Reason::NotHeld(what),
         })
+    }
+}
+
+impl From<Fault> for ReadError {
+    ghost from_gives = { λ f e. e ≡ errors.Fault f };
+
+    fn from(fault: Fault) -> ReadError {
+        ReadError::Fault(fault)
     }
 }
 

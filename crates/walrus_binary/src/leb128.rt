@@ -4,8 +4,9 @@ ghost use Rattle.std.specs.Prelude.{◌≡◌, ◌≤◌, ◌<◌, ◌^◌, ◌+
 ghost use Rattle.walrus_binary.specs.Leb128.{IsU32, IsS33};
 ghost use Rattle.walrus_binary.specs.Steps.Writing.{IsEnough, integer_text, u32_text, s33_text};
 ghost use Rattle.walrus_binary.specs.Steps.Reading.{Gives, integer_at, u32_at, s33_at};
+ghost use Rattle.walrus_binary.specs.Steps.Framing.{Reads};
 
-use crate::error::{Expected, ReadError};
+use crate::error::{Expected, Fault, ReadError};
 use std::alloc::AllocError;
 
 const U32_LIMIT: u64 = 1 << 32;
@@ -13,6 +14,14 @@ const U32_LIMIT: u64 = 1 << 32;
 /// A `u32` at the front, and the bytes after it.
 pub fn read_u32(bytes: &[u8]) -> Result<(u32, &[u8]), ReadError>
     ensures { Gives (λ x. (x.0, x.1.now)) result (u32_at bytes.now) }
+{
+    let (number, rest) = read_integer(0x80, U32_LIMIT, bytes)?;
+    Ok((number as u32, rest))
+}
+
+/// The size of a section as a `u32` at the front, and the bytes after it.
+pub fn read_size(bytes: &[u8]) -> Result<(u32, &[u8]), Fault>
+    ensures { Reads (λ x. (x.0, x.1.now)) result (u32_at bytes.now) }
 {
     let (number, rest) = read_integer(0x80, U32_LIMIT, bytes)?;
     Ok((number as u32, rest))
@@ -28,23 +37,23 @@ pub fn read_s33(bytes: &[u8]) -> Result<(u32, &[u8]), ReadError>
 
 /// A number below `limit` whose last byte is below `end`.
 #[tactic(auto, unfolding(crate::specs::Steps::Reading::integer_at))]
-fn read_integer(end: u8, limit: u64, bytes: &[u8]) -> Result<(u64, &[u8]), ReadError>
+fn read_integer(end: u8, limit: u64, bytes: &[u8]) -> Result<(u64, &[u8]), Fault>
     requires { limit ≤ 2 ^ 32 }
-    ensures gives { Gives (λ x. (x.0, x.1.now)) result (integer_at end limit bytes.now) }
+    ensures gives { Reads (λ x. (x.0, x.1.now)) result (integer_at end limit bytes.now) }
     ensures bound { IfOk result (λ x. x.0 < limit) }
 {
     let [byte, rest @ ..] = bytes else {
-        return Err(ReadError::at(bytes, Expected::Integer));
+        return Err(Fault::at(bytes, Expected::Integer));
     };
     let byte = *byte;
     if byte < 0x80 {
         if byte >= end || u64::from(byte) >= limit {
-            return Err(ReadError::at(bytes, Expected::Integer));
+            return Err(Fault::at(bytes, Expected::Integer));
         }
         return Ok((u64::from(byte), rest));
     }
     if limit <= 0x80 {
-        return Err(ReadError::at(bytes, Expected::Integer));
+        return Err(Fault::at(bytes, Expected::Integer));
     }
     let (high, rest) = read_integer(end, limit / 0x80, rest)?;
     Ok((high * 0x80 + u64::from(byte - 0x80), rest))

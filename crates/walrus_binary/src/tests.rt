@@ -1,6 +1,7 @@
 //! Texts of the specification's grammar with what they stand for, and what is no text.
 mod encoding;
 mod integers;
+mod modules;
 mod productions;
 mod refusals;
 mod unheld;

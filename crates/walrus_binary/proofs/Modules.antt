@@ -1,0 +1,6 @@
+-- How the sections of a module are read.
+pub mod Orders
+pub mod Readings
+pub mod Seen
+pub mod Framing
+pub mod Faulting

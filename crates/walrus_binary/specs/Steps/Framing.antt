@@ -1,0 +1,64 @@
+-- Reading a module's header and sections from left to right: the first fault, or what was read and
+-- the bytes after it.
+use Rattle.std.specs.Prelude.{◌≡◌, ℕ, List, [], ◌∷◌, length, take, drop, Result, Ok, Err, nat_lt, nat_le, nat_eq, cond}
+use Rattle.walrus_binary.specs.declared.error.Expected.{Expected}
+use Rattle.walrus_binary.specs.declared.error.Expected.TheVariants as expected
+use Rattle.walrus_binary.specs.declared.error.Fault.{Fault}
+use Rattle.walrus_binary.specs.Modules.{Section, section, magic, version}
+use Rattle.walrus_binary.specs.Steps.Reading.{◌>>=◌, wanted, u32_at}
+
+-- What a function answered, seen by view, is what reading gives.
+abbrev pub Reads : {X Y : Type 0} → (X → Y) → Result X Fault → Result Y Fault → Type 0
+Reads view (Ok x) read = read ≡ Ok (view x)
+Reads view (Err f) read = read ≡ Err f
+
+-- these bytes
+unfoldable pub literal_at : Expected → List ℕ → List ℕ → Result (Unit {0} × List ℕ) Fault
+literal_at e [] bytes = Ok (tt, bytes)
+literal_at e (k ∷ text) [] = wanted [] e
+literal_at e (k ∷ text) (b ∷ bytes) =
+    cond (nat_eq b k) (literal_at e text bytes) (wanted (b ∷ bytes) e)
+
+unfoldable pub header_at : List ℕ → Result (Unit {0} × List ℕ) Fault
+header_at bytes =
+    literal_at expected.Magic magic bytes >>= (λ m.
+    literal_at expected.Version version m.1 >>= (λ v. Ok (tt, v.1)))
+
+-- the place of a section of this id, and 0 where it has none
+unfoldable pub place_of : ℕ → ℕ
+place_of id =
+    cond (nat_eq id 1) 1
+    (cond (nat_eq id 2) 2
+    (cond (nat_eq id 3) 3
+    (cond (nat_eq id 4) 4
+    (cond (nat_eq id 5) 5
+    (cond (nat_eq id 13) 6
+    (cond (nat_eq id 6) 7
+    (cond (nat_eq id 7) 8
+    (cond (nat_eq id 8) 9
+    (cond (nat_eq id 9) 10
+    (cond (nat_eq id 12) 11
+    (cond (nat_eq id 10) 12
+    (cond (nat_eq id 11) 13 0))))))))))))
+
+-- the place of the last section that isn't custom, after one of this id
+abbrev pub place_after : ℕ → ℕ → ℕ
+place_after last id = cond (nat_eq id 0) last (place_of id)
+
+-- the id of a section behind the place `last`
+unfoldable pub id_at : ℕ → List ℕ → Result (ℕ × List ℕ) Fault
+id_at last [] = wanted [] expected.SectionId
+id_at last (b ∷ bytes) =
+    cond (nat_eq b 0) (Ok (b, bytes))
+    (cond (nat_eq (place_of b) 0) (wanted (b ∷ bytes) expected.SectionId)
+    (cond (nat_lt last (place_of b)) (Ok (b, bytes)) (wanted (b ∷ bytes) expected.LaterSection)))
+
+-- a size, and so many bytes
+unfoldable pub content_at : List ℕ → Result (List ℕ × List ℕ) Fault
+content_at bytes =
+    u32_at bytes >>= (λ n.
+    cond (nat_le n.0 (length n.1)) (Ok (take n.0 n.1, drop n.0 n.1)) (wanted [] expected.Content))
+
+unfoldable pub section_at : ℕ → List ℕ → Result (Section × List ℕ) Fault
+section_at last bytes =
+    id_at last bytes >>= (λ id. content_at id.1 >>= (λ c. Ok (section id.0 c.0, c.1)))

@@ -1,0 +1,156 @@
+//! Where the type section of a module stands, and what is no module.
+//! The bytes are put together by hand from the specification's grammar of modules.
+use super::*;
+use crate::type_section;
+use std::test::*;
+
+fn stands_at(bytes: &[u8], start: usize, end: usize) -> bool {
+    match type_section(bytes) {
+        Ok(Some(range)) => range.start == start && range.end == end,
+        _ => false,
+    }
+}
+
+fn has_none(bytes: &[u8]) -> bool {
+    matches!(type_section(bytes), Ok(None))
+}
+
+fn fault(bytes: &[u8]) -> Option<DecodeError> {
+    type_section(bytes).err()
+}
+
+#[test]
+fn the_shortest_module_has_no_types(rt: HostRuntime) {
+    assert!(rt; has_none(&[0, 0x61, 0x73, 0x6D, 1, 0, 0, 0]));
+}
+
+#[test]
+fn types_come_after_the_header(rt: HostRuntime) {
+    let bytes = [0, 0x61, 0x73, 0x6D, 1, 0, 0, 0, 1, 4, 1, 0x60, 0, 0];
+    assert!(rt; stands_at(&bytes, 10, 14));
+    let empty = [0, 0x61, 0x73, 0x6D, 1, 0, 0, 0, 1, 0];
+    assert!(rt; stands_at(&empty, 10, 10));
+}
+
+#[test]
+fn custom_sections_stand_anywhere(rt: HostRuntime) {
+    let bytes = [
+        0, 0x61, 0x73, 0x6D, 1, 0, 0, 0, 0, 3, 1, 0x61, 7, 0, 2, 1, 0x61, 1, 1, 0, 0, 2, 1, 0x62,
+    ];
+    assert!(rt; stands_at(&bytes, 19, 20));
+    let alone = [0, 0x61, 0x73, 0x6D, 1, 0, 0, 0, 0, 2, 1, 0x61];
+    assert!(rt; has_none(&alone));
+}
+
+#[test]
+fn all_sections_in_their_order(rt: HostRuntime) {
+    let bytes = [
+        0, 0x61, 0x73, 0x6D, 1, 0, 0, 0, 1, 1, 0, 2, 1, 0, 3, 1, 0, 4, 1, 0, 5, 1, 0, 13, 1, 0, 6,
+        1, 0, 7, 1, 0, 8, 1, 0, 9, 1, 0, 12, 1, 0, 10, 1, 0, 11, 1, 0,
+    ];
+    assert!(rt; stands_at(&bytes, 10, 11));
+}
+
+#[test]
+fn a_module_without_types(rt: HostRuntime) {
+    let bytes = [0, 0x61, 0x73, 0x6D, 1, 0, 0, 0, 3, 1, 0, 10, 1, 0];
+    assert!(rt; has_none(&bytes));
+}
+
+#[test]
+fn no_section_comes_before_an_earlier_one(rt: HostRuntime) {
+    let types = [0, 0x61, 0x73, 0x6D, 1, 0, 0, 0, 2, 1, 0, 1, 1, 0];
+    assert_eq!(rt; fault(&types), malformed(11, Expected::LaterSection));
+    let tags = [0, 0x61, 0x73, 0x6D, 1, 0, 0, 0, 6, 1, 0, 13, 1, 0];
+    assert_eq!(rt; fault(&tags), malformed(11, Expected::LaterSection));
+    let counts = [0, 0x61, 0x73, 0x6D, 1, 0, 0, 0, 10, 1, 0, 12, 1, 0];
+    assert_eq!(rt; fault(&counts), malformed(11, Expected::LaterSection));
+    let codes = [0, 0x61, 0x73, 0x6D, 1, 0, 0, 0, 11, 1, 0, 10, 1, 0];
+    assert_eq!(rt; fault(&codes), malformed(11, Expected::LaterSection));
+}
+
+#[test]
+fn no_second_type_section(rt: HostRuntime) {
+    let next = [0, 0x61, 0x73, 0x6D, 1, 0, 0, 0, 1, 1, 0, 1, 1, 0];
+    assert_eq!(rt; fault(&next), malformed(11, Expected::LaterSection));
+    let behind_custom = [0, 0x61, 0x73, 0x6D, 1, 0, 0, 0, 1, 1, 0, 0, 1, 0, 1, 1, 0];
+    assert_eq!(rt;
+        fault(&behind_custom),
+        malformed(14, Expected::LaterSection)
+    );
+}
+
+#[test]
+fn no_other_ids(rt: HostRuntime) {
+    let bytes = [0, 0x61, 0x73, 0x6D, 1, 0, 0, 0, 14, 1, 0];
+    assert_eq!(rt; fault(&bytes), malformed(8, Expected::SectionId));
+    let last = [0, 0x61, 0x73, 0x6D, 1, 0, 0, 0, 1, 0, 0xFF];
+    assert_eq!(rt; fault(&last), malformed(10, Expected::SectionId));
+}
+
+#[test]
+fn sizes_end_within_the_module(rt: HostRuntime) {
+    let one_more = [0, 0x61, 0x73, 0x6D, 1, 0, 0, 0, 1, 5, 1, 0x60, 0, 0];
+    assert_eq!(rt; fault(&one_more), malformed(14, Expected::Content));
+    let greatest = [
+        0, 0x61, 0x73, 0x6D, 1, 0, 0, 0, 0, 0xFF, 0xFF, 0xFF, 0xFF, 0x0F, 1,
+    ];
+    assert_eq!(rt; fault(&greatest), malformed(15, Expected::Content));
+}
+
+#[test]
+fn sizes_may_be_padded_to_five_bytes(rt: HostRuntime) {
+    let five = [
+        0, 0x61, 0x73, 0x6D, 1, 0, 0, 0, 1, 0x81, 0x80, 0x80, 0x80, 0x00, 0,
+    ];
+    assert!(rt; stands_at(&five, 14, 15));
+    let six = [
+        0, 0x61, 0x73, 0x6D, 1, 0, 0, 0, 1, 0x81, 0x80, 0x80, 0x80, 0x80, 0x00, 0,
+    ];
+    assert_eq!(rt; fault(&six), malformed(13, Expected::Integer));
+    let wide = [
+        0, 0x61, 0x73, 0x6D, 1, 0, 0, 0, 1, 0x81, 0x80, 0x80, 0x80, 0x10, 0,
+    ];
+    assert_eq!(rt; fault(&wide), malformed(13, Expected::Integer));
+}
+
+#[test]
+fn headers_are_exact(rt: HostRuntime) {
+    let text = [0x28, 0x6D, 0x6F, 0x64, 0x75, 0x6C, 0x65, 0x29];
+    assert_eq!(rt; fault(&text), malformed(0, Expected::Magic));
+    let magic = [0, 0x61, 0x73, 0x6E, 1, 0, 0, 0];
+    assert_eq!(rt; fault(&magic), malformed(3, Expected::Magic));
+    let component = [0, 0x61, 0x73, 0x6D, 0x0D, 0, 1, 0];
+    assert_eq!(rt; fault(&component), malformed(4, Expected::Version));
+    let later = [0, 0x61, 0x73, 0x6D, 1, 0, 0, 1];
+    assert_eq!(rt; fault(&later), malformed(7, Expected::Version));
+}
+
+// What is expected where a module of a custom section, a type section and a function section ends.
+fn expected_at(len: usize) -> Option<Expected> {
+    match len {
+        0..4 => Some(Expected::Magic),
+        4..8 => Some(Expected::Version),
+        9 | 13 | 19 => Some(Expected::Integer),
+        10 | 11 | 14..18 | 20..22 => Some(Expected::Content),
+        _ => None,
+    }
+}
+
+#[test]
+fn each_truncation_is_told(rt: HostRuntime) {
+    let bytes = [
+        0, 0x61, 0x73, 0x6D, 1, 0, 0, 0, 0, 2, 1, 0x61, 1, 4, 1, 0x60, 0, 0, 3, 2, 1, 0,
+    ];
+    for len in 0..bytes.len() {
+        let wanted = match expected_at(len) {
+            Some(expected) => malformed(len, expected),
+            None => None,
+        };
+        assert_eq!(rt; fault(&bytes[..len]), wanted);
+    }
+    assert!(rt; has_none(&bytes[..8]));
+    assert!(rt; has_none(&bytes[..12]));
+    assert!(rt; stands_at(&bytes[..18], 14, 18));
+    assert!(rt; stands_at(&bytes, 14, 18));
+}
