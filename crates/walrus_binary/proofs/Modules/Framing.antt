@@ -1,5 +1,5 @@
 -- What is known of a module after some of its sections.
-use Rattle.std.proofs.Common.{◌≡◌, ℕ, ◌+◌, ◌-◌, ◌<◌, ◌≤◌, ◌⊎◌, inl, inr, nat_eq, true, eqb-true, List, [], ◌∷◌, ◌++◌, length, map, Option, Some, None, Ok, Err, refl, sym, ap, subst, ◌∙◌, arith, append_assoc, append-nil, length-append}
+use Rattle.std.proofs.Common.{◌≡◌, ℕ, ◌+◌, ◌-◌, ◌<◌, ◌≤◌, ◌⊎◌, inl, inr, nat_eq, true, eqb-true, List, [], ◌∷◌, ◌++◌, length, Option, Some, None, Ok, Err, refl, sym, ap, subst, ◌∙◌, arith, append_assoc, append-nil, length-append}
 use Rattle.std.specs.Prelude.{MatchOption, IfSome, IfNone}
 use Rattle.std.specs.List.{All}
 use Rattle.std.proofs.lemmas.List.{map-append}
@@ -9,11 +9,11 @@ use Rattle.walrus_binary.specs.declared.error.Reason.TheVariants as reason
 use Rattle.walrus_binary.specs.declared.error.Fault.{Fault}
 use Rattle.walrus_binary.specs.Leb128.{IsU32}
 use Rattle.walrus_binary.specs.Grammar.{AreItems, none, next}
-use Rattle.walrus_binary.specs.Modules.{Section, section, ids, IsSection, sized, AreInOrder, no_more, header, IsModule, framed, AreAroundTypes, around, IsTypeSectionAt, IsOther, HasNoTypeSection}
+use Rattle.walrus_binary.specs.Modules.{Section, section, ids, IsSection, sized, AreInOrder, no_more, header, IsModule, framed, around, IsTypeSectionAt, IsOther, HasNoTypeSection}
 use Rattle.walrus_binary.specs.Steps.Framing.{place_after, header_at, id_at, section_at}
 use Rattle.walrus_binary.proofs.Basics.{Reading, Takes, value_is, rest_is}
-use Rattle.walrus_binary.proofs.Faults.{failed, stop}
-use Rattle.walrus_binary.proofs.Modules.Orders.{Follows, order_on, order_parts}
+use Rattle.walrus_binary.proofs.Faults.{stop}
+use Rattle.walrus_binary.proofs.Modules.Orders.{order_on, order_parts}
 use Rattle.walrus_binary.proofs.Modules.Readings.{IsNextSection, header_sound, section_sound, section_complete}
 
 -- behind the place `last`, the bytes are these sections

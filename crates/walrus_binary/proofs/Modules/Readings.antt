@@ -1,18 +1,17 @@
 -- Header and sections: what is read has the text that stands there, what has a text is read, and
 -- where reading stops nothing goes on.
-use Rattle.std.proofs.Common.{◌≡◌, ℕ, ◌+◌, ◌<◌, ◌≤◌, ◌⊎◌, inl, inr, nat_eq, nat_lt, nat_le, Bool, true, false, cond, List, [], ◌∷◌, ◌++◌, length, take, drop, Ok, Err, refl, sym, ap, subst, ◌∙◌, arith, append_assoc, append-nil, length-append, length-take-le, take-append-drop, take_at, drop_at, eqb-true, eq-eqb, ne_eqb, ltb-true, lt-ltb, leb-true, le-leb}
+use Rattle.std.proofs.Common.{◌≡◌, ℕ, ◌≤◌, inl, inr, nat_eq, nat_lt, nat_le, cond, List, [], ◌∷◌, ◌++◌, length, take, drop, Ok, refl, sym, ap, subst, ◌∙◌, arith, append_assoc, append-nil, length-append, length-take-le, take-append-drop, take_at, drop_at, eqb-true, eq-eqb, ne_eqb, ltb-true, lt-ltb, leb-true, le-leb}
 use Rattle.std.proofs.lemmas.Bool.{eqb-false}
 use Rattle.walrus_binary.specs.declared.error.Expected.{Expected}
 use Rattle.walrus_binary.specs.declared.error.Expected.TheVariants as expected
 use Rattle.walrus_binary.specs.declared.error.Reason.TheVariants as reason
-use Rattle.walrus_binary.specs.declared.error.Fault.{Fault}
 use Rattle.walrus_binary.specs.Leb128.{IsU32}
 use Rattle.walrus_binary.specs.Modules.{Section, section, IsSection, sized, magic, version, header}
-use Rattle.walrus_binary.specs.Steps.Reading.{◌>>=◌, u32_at}
+use Rattle.walrus_binary.specs.Steps.Reading.{u32_at}
 use Rattle.walrus_binary.specs.Steps.Framing.{literal_at, header_at, place_of, id_at, content_at, section_at}
 use Rattle.walrus_binary.proofs.Basics.{Takes, IsSound, IsComplete, bind_ok, guard_ok, done, value_is, rest_is, which, pair_takes, pair_again}
 use Rattle.walrus_binary.proofs.Integers.{u32_sound, u32_complete}
-use Rattle.walrus_binary.proofs.Faults.{failed, Stops, IsStuck, stop, left_is, end_stops, first_stops, tag_stops, behind_stops, begin_stops, step_err, pair_stuck, u32_stuck}
+use Rattle.walrus_binary.proofs.Faults.{failed, IsStuck, stop, left_is, end_stops, first_stops, tag_stops, begin_stops, step_err, pair_stuck, u32_stuck}
 use Rattle.walrus_binary.proofs.Modules.Orders.{Follows, place_from, place_is, not_custom}
 
 -- ---- the header

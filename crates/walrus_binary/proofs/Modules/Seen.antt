@@ -1,11 +1,11 @@
 -- What is wrong with a header or a section is something that was expected.
-use Rattle.std.proofs.Common.{◌≡◌, ℕ, ◌^◌, ◌*◌, ◌+◌, ◌-◌, ◌/◌, nat_eq, nat_lt, nat_le, ◌&&◌, List, [], ◌∷◌, length, refl, ap, subst}
+use Rattle.std.proofs.Common.{◌≡◌, ℕ, ◌^◌, ◌*◌, ◌+◌, ◌-◌, ◌/◌, nat_eq, nat_lt, nat_le, ◌&&◌, List, [], ◌∷◌, length, subst}
 use Rattle.walrus_binary.specs.declared.error.Expected.{Expected}
 use Rattle.walrus_binary.specs.declared.error.Expected.TheVariants as expected
 use Rattle.walrus_binary.specs.declared.error.Reason.TheVariants as reason
 use Rattle.walrus_binary.specs.declared.error.Fault.{Fault}
 use Rattle.walrus_binary.specs.Modules.{section, magic, version}
-use Rattle.walrus_binary.specs.Steps.Reading.{◌>>=◌, IsSeenAtOnce, integer_at, u32_at}
+use Rattle.walrus_binary.specs.Steps.Reading.{IsSeenAtOnce, integer_at, u32_at}
 use Rattle.walrus_binary.specs.Steps.Framing.{literal_at, header_at, place_of, id_at, content_at, section_at}
 use Rattle.walrus_binary.proofs.Basics.{Reading, which}
 use Rattle.walrus_binary.proofs.Faults.{failed, stop, here, map_err, step_err}
