@@ -1,5 +1,1 @@
-pub mod Basics
-pub mod Lexing
-pub mod Parsing
-pub mod Gathering
 pub mod Failures

@@ -6,7 +6,7 @@ use Rattle.std.specs.Io.KnownBytes.{Appends}
 use Rattle.walrus_sections.specs.NormalForm.{IsNormalForm}
 use Rattle.walrus_ty.specs.Records.{section_of}
 use Rattle.walrus_sections.specs.Section.{IsWellNamed}
-use Rattle.typenorm.specs.Text.{section_lines, output_text, HasSectionIndices}
+use Rattle.walrus_text.specs.Text.{section_lines, output_text, HasSectionIndices}
 
 -- the lines are those of a section whose numbers can stand for types, but that names what it may
 -- not, or has too many entries

@@ -1,8 +1,3 @@
--- What private functions promise one another on the way to a public clause. No public clause and no
--- law cites these modules: who wants to know what the program promises can pass them over.
-pub mod Words
-pub mod Parts
-pub mod Lines
-pub mod Builder
-pub mod Bytes
+-- What private functions promise one another on the way to a public clause. No public clause cites
+-- this module: who wants to know what the program promises can pass it over.
 pub mod Failures

@@ -3,10 +3,10 @@ ghost use Rattle.std.specs.Prelude.{◌≡◌, ◌≤◌, ◌⊎◌};
 ghost use Rattle.typenorm.specs.Steps.Failures.{status_of};
 
 use crate::ReadError;
-use std::alloc::AllocError;
 use std::fmt;
 use std::fmt::Formatter;
 use std::io::Write;
+use walrus_text::TextError;
 
 /// What ends a run without a normal form.
 #[derive(Debug, Drop)]
@@ -33,14 +33,18 @@ impl fmt::Display for Failure {
     }
 }
 
-impl From<AllocError> for Failure {
+impl From<TextError> for Failure {
     ghost use Rattle.std.specs.Prelude.{◌≡◌};
-    ghost use Rattle.typenorm.specs.declared.failure.Failure.TheVariants.{Memory};
+    ghost use Rattle.typenorm.specs.Steps.Failures.{text_failure};
 
-    ghost from_gives = { λ _ e. e ≡ Memory };
+    ghost from_gives = { λ t e. e ≡ text_failure t };
 
-    fn from(_: AllocError) -> Failure {
-        Failure::Memory
+    fn from(error: TextError) -> Failure {
+        match error {
+            TextError::BadText { line } => Failure::BadText { line },
+            TextError::Memory => Failure::Memory,
+            TextError::Stream => Failure::Stream,
+        }
     }
 }
 

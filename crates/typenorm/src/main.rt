@@ -3,29 +3,22 @@
 
 ghost use Rattle.std.specs.Prelude.{◌≡◌, ◌<◌, ◌≤◌, IfErr, OnOk, IfSome};
 ghost use Rattle.std.specs.Io.KnownBytes.{Appends, Keeps};
-ghost use Rattle.typenorm.specs.Words.{lines_of};
-ghost use Rattle.typenorm.specs.Text.{IsSectionText, output_text};
+ghost use Rattle.walrus_text.specs.Words.{lines_of};
+ghost use Rattle.walrus_text.specs.Text.{IsSectionText, output_text};
 ghost use Rattle.typenorm.specs.Runs.{IsIllNamedText, IsNormalised};
 ghost use Rattle.typenorm.specs.Steps.Failures.{Explains, status_of};
 
 mod failure;
-pub mod laws;
-mod line_reader;
-mod parse;
-mod print;
-mod section_builder;
 #[cfg(test)]
 mod tests;
-mod words;
 
 use failure::{Failure, report};
-use line_reader::read_section;
-use print::write_output;
 use std::alloc::Global;
 use std::hash::{BuildHasher, RandomState};
 use std::io::{self, BufWriter, Read, Write};
 use std::process::ExitCode;
 use std::random::RandomSource;
+use walrus_text::{read_section, write_output};
 use walrus_types::{GroupAt, HashKeys, ReadError, normalise};
 
 /// Reads a section from `reader`, and writes its normal form and the place of each entry in it to

@@ -4,8 +4,16 @@ use Rattle.walrus_sections.specs.declared.error.ReadError.{ReadError}
 use Rattle.walrus_sections.specs.declared.error.ReadError.TheVariants as read
 use Rattle.typenorm.specs.declared.failure.Failure.{Failure}
 use Rattle.typenorm.specs.declared.failure.Failure.TheVariants as failure
-use Rattle.typenorm.specs.Text.{IsSectionText}
+use Rattle.walrus_text.specs.declared.error.TextError.{TextError}
+use Rattle.walrus_text.specs.declared.error.TextError.TheVariants as text
+use Rattle.walrus_text.specs.Text.{IsSectionText}
 use Rattle.typenorm.specs.Runs.{IsIllNamedText}
+
+-- the failure that a text ends with which could not be read
+abbrev pub text_failure : TextError → Failure
+text_failure (text.BadText line) = failure.BadText line
+text_failure text.Memory = failure.Memory
+text_failure text.Stream = failure.Stream
 
 abbrev pub ExplainsReadError : ReadError → List (List (List ℕ)) → Type 0
 ExplainsReadError (read.BadIndex entry index end) lines = IsIllNamedText lines

@@ -1,9 +1,9 @@
 //! Every text of at most three lines out of five.
 use super::{answer, text_of};
 use crate::normalise;
-use crate::print::write_output;
 use std::alloc::{AllocError, Global};
 use std::test::Fail;
+use walrus_text::write_output;
 use walrus_types::{
     CompAt, EntryAt, FieldAt, GroupAt, HashKeys, HeapAt, Listed, RefAt, StorageAt, ValAt,
 };

@@ -1,7 +1,0 @@
-use Rattle.std.proofs.Common.{ℕ, List}
-use Rattle.std.specs.Io.KnownBytes.{Consumes}
-use Rattle.typenorm.specs.Steps.Bytes.{HasReadBytes}
-use Rattle.typenorm.proofs.line_reader.read_section.Given as goal
-
-abbrev pub invariant-loop : goal.invariant-loop
-invariant-loop g l = (bytes : List ℕ) × HasReadBytes l.lines bytes × Consumes (g.R.Read.remaining l.fn.reader) (g.R.Read.remaining l.reader) bytes

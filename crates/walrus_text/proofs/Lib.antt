@@ -1,0 +1,4 @@
+pub mod Basics
+pub mod Lexing
+pub mod Parsing
+pub mod Gathering

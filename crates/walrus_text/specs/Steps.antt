@@ -1,0 +1,7 @@
+-- What private functions promise one another on the way to a public clause. No public clause and no
+-- law cites these modules: who wants to know what the crate promises can pass them over.
+pub mod Words
+pub mod Parts
+pub mod Lines
+pub mod Builder
+pub mod Bytes

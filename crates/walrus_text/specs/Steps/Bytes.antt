@@ -1,0 +1,20 @@
+-- `HasReadBytes`: what a line reader knows of the bytes that it was given.
+use Rattle.std.specs.Prelude.{ℕ, false, List, ◌++◌, ◌==◌, Option, Some, None, ◌≡◌, All}
+use Rattle.walrus_text.specs.declared.line_reader.LineReader.{LineReader}
+use Rattle.walrus_text.specs.declared.section_builder.SectionBuilder.{SectionBuilder}
+use Rattle.walrus_text.specs.Words.{lines_of}
+use Rattle.walrus_text.specs.Steps.Builder.{builder_lines, HasBuilderIndices, BeginsNoSection}
+
+-- the builder was given these lines, or a line among the first of them is bad
+abbrev pub HasChecked : SectionBuilder → Option ℕ → List (List (List ℕ)) → Type 0
+HasChecked section None lines = builder_lines section ≡ lines
+HasChecked section (Some bad) lines = BeginsNoSection lines
+
+-- the reader was given these bytes: some lines, which are checked, and the beginning of one more
+pub record HasReadBytes (reader : LineReader) (bytes : List ℕ) : Type 0 where
+  pub lines : List (List (List ℕ))
+  pub split :
+      (rest : List ℕ) → lines_of (bytes ++ rest) ≡ lines ++ lines_of (reader.line.items ++ rest)
+  pub one_line : All (λ b. (b == 10) ≡ false) reader.line.items
+  pub checked : HasChecked reader.section reader.bad lines
+  pub fits : HasBuilderIndices reader.section

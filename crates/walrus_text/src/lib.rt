@@ -1,0 +1,44 @@
+//! The text of type sections: a line for each definition, read as records of
+//! [`walrus_ty`](walrus_ty::GroupAt) and written from them.
+//!
+//! - [`read_section`] reads the groups of a text, and says which line is no part of a section.
+//! - [`write_section`] writes groups, and [`write_output`] also where each entry of another
+//!   section went.
+//! - [`laws`] has the theorem that nothing but words and lines counts in a text.
+//!
+//! The WebAssembly specification has no text for a type section alone; this one takes the names of
+//! its types from there. Spaces divide words. A line ends with a line feed, which the last one may
+//! lack, and a line without words does not count. In this grammar `LF` is the end of a line:
+//!
+//! ```text
+//! section    = group*
+//! group      = definition LF | "rec" LF (definition LF)* "end" LF
+//! definition = "open"? supertype? composite
+//! supertype  = "sub:" index
+//! composite  = "func" value* "->" value* | "struct" field* | "array" field
+//! field      = storage | "mut:" storage
+//! storage    = value | "i8" | "i16"
+//! value      = "i32" | "i64" | "f32" | "f64" | "v128" | "null:" heap | "ref:" heap
+//! heap       = name | index | "exact:" index
+//! name       = "func" | "nofunc" | "extern" | "noextern" | "exn" | "noexn" | "any" | "none"
+//!            | "eq" | "i31" | "struct" | "array"
+//! ```
+//!
+//! What follows a colon belongs to the same word. A type that is not `open` is final. A field after
+//! `mut:` can be written, a reference after `null:` may be null. An index is a number below 2^32 in
+//! decimal digits, without a sign and without leading zeros; what it names is not looked at.
+#![tactic(auto)]
+
+mod error;
+pub mod laws;
+mod line_reader;
+mod parse;
+mod print;
+mod section_builder;
+#[cfg(test)]
+mod tests;
+mod words;
+
+pub use error::TextError;
+pub use line_reader::read_section;
+pub use print::{write_output, write_section};

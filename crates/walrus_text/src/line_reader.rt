@@ -1,0 +1,188 @@
+//! A section from a reader, one line of text at a time.
+ghost use Rattle.std.specs.Prelude.{◌≡◌, ◌++◌, ◌∷◌, [], ℕ, List, false, IsTrue, IfOk, IfErr, OnOk, IfSome};
+ghost use Rattle.walrus_text.specs.Words.{lines_of};
+ghost use Rattle.walrus_text.specs.Steps.Words.{words_if_any};
+ghost use Rattle.walrus_text.specs.Text.{HasSectionIndices, IsSectionText, section_lines};
+ghost use Rattle.walrus_text.specs.Errors.{bad_line};
+ghost use Rattle.walrus_text.specs.Steps.Builder.{BeginsNoSection, HasBuilderIndices, builder_lines};
+ghost use Rattle.walrus_text.specs.Steps.Bytes.{HasReadBytes, HasChecked};
+
+use crate::error::TextError;
+use crate::parse::read_line;
+use crate::section_builder::SectionBuilder;
+use std::alloc::{AllocError, Global};
+use std::io::Read;
+use walrus_ty::GroupAt;
+
+/// How many reads may pass without the end.
+const READ_LIMIT: u64 = 1 << 48;
+
+/// How many bytes one read asks for.
+const BLOCK: usize = 8192;
+
+/// The groups of the text that a reader gives up to its end.
+///
+/// A text is read to its end even behind a bad line; then `BadText` has the first one. `Stream`
+/// comes where a read fails, or where 2^48 reads did not come to the end, `Memory` where memory was
+/// refused.
+///
+/// ```
+/// let mut reader = b"rec\nstruct null:1\nopen func i32 ->\nend".as_slice();
+/// let groups = read_section(alloc, &mut reader)?;
+/// assert_eq!(rt; groups.len(), 1);
+/// ```
+pub fn read_section<R: Read>(alloc: Global, reader: &mut R) -> Result<Vec<GroupAt>, TextError>
+    // What is answered has this text,
+    ensures read { IfOk result (λ groups.
+        IfSome (R.remaining reader.old) (λ text. lines_of text ≡ section_lines groups.items)) }
+    // and its indices lie below 2^32.
+    ensures fits { IfOk result (λ groups. HasSectionIndices groups.items) }
+    // A text with a bad line is that of no section.
+    ensures refused { IfErr result (λ e. IfSome (R.remaining reader.old) (λ text.
+        IfSome (bad_line e) (λ line. ¬ IsSectionText (lines_of text)))) }
+{
+    let mut lines = LineReader::new(alloc);
+    let mut block = [0u8; BLOCK];
+    for _ in 0..READ_LIMIT {
+        let Ok(count) = reader.read(&mut block) else {
+            return Err(TextError::Stream);
+        };
+        if count == 0 {
+            return lines.finish();
+        }
+        lines.push_bytes(&block[..count])?;
+    }
+    Err(TextError::Stream)
+}
+
+/// A text that is read block by block.
+#[derive(Drop)]
+struct LineReader {
+    /// What the whole lines say, up to the first bad one.
+    section: SectionBuilder,
+    /// The bytes of the line that has not ended.
+    line: Vec<u8>,
+    /// How many lines have ended.
+    lines: u64,
+    /// The first bad line, counted from 1.
+    bad: Option<u64>,
+    alloc: Global,
+}
+
+impl LineReader {
+    #[tactic(auto, using(crate::proofs::Gathering::Bytes::nothing_read))]
+    fn new(alloc: Global) -> LineReader
+        ensures { HasReadBytes result [] }
+    {
+        LineReader {
+            section: SectionBuilder::new(alloc),
+            line: Vec::new(alloc),
+            lines: 0,
+            bad: None,
+            alloc,
+        }
+    }
+
+    fn push_bytes(&mut self, block: &[u8]) -> Result<(), AllocError>
+        ensures { OnOk result ((bytes : List ℕ) → HasReadBytes self.old bytes →
+            HasReadBytes self.new (bytes ++ block.now)) }
+    {
+        for byte in block {
+            self.push_byte(*byte)?;
+        }
+        Ok(())
+    }
+
+    fn push_byte(&mut self, byte: u8) -> Result<(), AllocError>
+        ensures { OnOk result ((bytes : List ℕ) → HasReadBytes self.old bytes →
+            HasReadBytes self.new (bytes ++ byte ∷ [])) }
+    {
+        if byte == b'\n' {
+            return self.end_line();
+        }
+        self.line.push(byte)?;
+        Ok(())
+    }
+
+    /// Ends the line, as a line feed does.
+    fn end_line(&mut self) -> Result<(), AllocError>
+        ensures empty { OnOk result (self.new.line.items ≡ []) }
+        ensures read { OnOk result ((bytes : List ℕ) → HasReadBytes self.old bytes →
+            HasReadBytes self.new (bytes ++ 10 ∷ [])) }
+    {
+        self.lines = self.lines.saturating_add(1);
+        self.check_line()?;
+        self.line.clear();
+        Ok(())
+    }
+
+    /// Adds the line to the section, and marks it where it is the first bad one.
+    fn check_line(&mut self) -> Result<(), AllocError>
+        ensures line { OnOk result (self.new.line.items ≡ self.old.line.items) }
+        ensures checked { OnOk result ((lines : List (List (List ℕ))) →
+            HasChecked self.old.section self.old.bad lines →
+            HasChecked self.new.section self.new.bad (lines ++ words_if_any self.old.line.items)) }
+        ensures fits { OnOk result (HasBuilderIndices self.old.section →
+            HasBuilderIndices self.new.section) }
+    {
+        if self.bad.is_some() {
+            return Ok(());
+        }
+        if !self.add_line()? {
+            self.bad = Some(self.lines);
+        }
+        Ok(())
+    }
+
+    /// Adds the line to the section. `false` says that no text of a section has it here.
+    fn add_line(&mut self) -> Result<bool, AllocError>
+        ensures line { self.new.line.items ≡ self.old.line.items }
+        ensures bad { self.new.bad ≡ self.old.bad }
+        ensures taken { IfOk result (λ taken. IsTrue taken →
+            builder_lines self.new.section ≡ builder_lines self.old.section ++
+            words_if_any self.old.line.items) }
+        ensures refused { IfOk result (λ taken. taken ≡ false →
+            BeginsNoSection (builder_lines self.old.section ++ words_if_any self.old.line.items)) }
+        ensures fits { OnOk result (HasBuilderIndices self.old.section →
+            HasBuilderIndices self.new.section) }
+    {
+        match read_line(self.alloc, self.line.as_slice())? {
+            Some(line) => self.section.add(line),
+            None => Ok(false),
+        }
+    }
+
+    /// Ends the last line, whose line feed may be missing.
+    fn end_last_line(&mut self) -> Result<(), AllocError>
+        ensures checked { OnOk result ((bytes : List ℕ) → HasReadBytes self.old bytes →
+            HasChecked self.new.section self.new.bad (lines_of bytes)) }
+        ensures fits { OnOk result ((bytes : List ℕ) → HasReadBytes self.old bytes →
+            HasBuilderIndices self.new.section) }
+    {
+        if self.line.as_slice().is_empty() {
+            return Ok(());
+        }
+        self.end_line()?;
+        Ok(())
+    }
+
+    fn finish(mut self) -> Result<Vec<GroupAt>, TextError>
+        ensures read { IfOk result (λ groups. (bytes : List ℕ) → HasReadBytes self bytes →
+            lines_of bytes ≡ section_lines groups.items) }
+        ensures fits { IfOk result (λ groups. (bytes : List ℕ) → HasReadBytes self bytes →
+            HasSectionIndices groups.items) }
+        ensures refused { IfErr result (λ e. (bytes : List ℕ) → HasReadBytes self bytes →
+            IfSome (bad_line e) (λ line. ¬ IsSectionText (lines_of bytes))) }
+    {
+        self.end_last_line()?;
+        if let Some(line) = self.bad {
+            return Err(TextError::BadText { line });
+        }
+        match self.section.finish() {
+            Some(groups) => Ok(groups),
+            None => Err(TextError::BadText {
+                line: self.lines.saturating_add(1),
+            }),
+        }
+    }
+}

@@ -1,0 +1,229 @@
+//! Definitions, each a line of words.
+ghost use Rattle.std.specs.Prelude.{◌≡◌, ◌≢◌, ◌<◌, ◌^◌, ◌++◌, ◌∷◌, [], ℕ, List, length, map, codes, decimal, IfOk, IfSome, IfNone};
+ghost use Rattle.std.specs.List.{flat_map};
+ghost use Rattle.walrus_ty.specs.Value.{val_names, field_names};
+ghost use Rattle.walrus_ty.specs.Definition.{names_of, composite_names, supertype_names};
+ghost use Rattle.walrus_ty.specs.Records.{comp_composite, entry_definition};
+ghost use Rattle.walrus_text.specs.Words.{words_of};
+ghost use Rattle.walrus_text.specs.Text.{AreIndices, IsText, val_word, field_word, composite_words, supertype_words, open_words, entry_words};
+ghost use Rattle.walrus_text.specs.Steps.Parts.{BeginsWith, IsSupertypeWord, IsArrayLine, IsValWord, IsFieldWord, IsCompositeLine, IsSubtypeLine, IsEntryLine};
+
+use crate::parse::value::{after_prefix, field_type, type_index, value_type};
+use crate::words::{is_blank, next_word, word_count, word_count_before};
+use std::alloc::{AllocError, Global};
+use walrus_ty::{CompAt, EntryAt, FieldAt, Listed, ValAt};
+
+/// A definition: `open` where it is not final, `sub:` and its supertype where it has one, then what
+/// it is made of.
+#[tactic(auto, using(crate::proofs::Parsing::Entries::fits_both))]
+pub fn entry(alloc: Global, line: &[u8]) -> Result<Option<EntryAt>, AllocError>
+    ensures found { IfOk result (λ found. IfSome found (λ e. words_of line.now ≡ entry_words e)) }
+    ensures fits { IfOk result (λ found. IfSome found
+        (λ e. AreIndices (names_of (entry_definition e)))) }
+    ensures none { IfOk result (λ found. IfNone found (¬ IsEntryLine (words_of line.now))) }
+{
+    let (is_final, rest) = finality(line);
+    let (supertype, rest) = supertype(rest);
+    let Some(comp) = composite(alloc, rest)? else {
+        return Ok(None);
+    };
+    Ok(Some(EntryAt {
+        comp,
+        is_final,
+        supertype,
+    }))
+}
+
+/// Whether a definition is final, and the words that follow.
+#[tactic(auto, using(crate::proofs::Parsing::Entries::after_open, crate::proofs::Parsing::Entries::without_open))]
+fn finality(line: &[u8]) -> (bool, &[u8])
+    ensures value { words_of line.now ≡ open_words result.0 ++ words_of result.1.now }
+    ensures only { IsEntryLine (words_of line.now) → IsSubtypeLine (words_of result.1.now) }
+{
+    match after_word(line, b"open") {
+        Some(rest) => (false, rest),
+        None => (true, line),
+    }
+}
+
+/// The supertype of a definition, and the words that follow.
+#[tactic(auto, using(crate::proofs::Parsing::Entries::after_supertype, crate::proofs::Parsing::Entries::without_supertype))]
+fn supertype(line: &[u8]) -> (Option<u32>, &[u8])
+    ensures value { words_of line.now ≡ supertype_words result.0 ++ words_of result.1.now }
+    ensures fits { AreIndices (supertype_names result.0) }
+    ensures only { IsSubtypeLine (words_of line.now) → IsCompositeLine (words_of result.1.now) }
+{
+    match first_supertype(line) {
+        Some((number, rest)) => (Some(number), rest),
+        None => (None, line),
+    }
+}
+
+fn first_supertype(line: &[u8]) -> Option<(u32, &[u8])>
+    ensures found { IfSome result (λ found. words_of line.now ≡ (codes "sub:" ++ decimal found.0) ∷
+        words_of found.1.now) }
+    ensures fits { IfSome result (λ found. found.0 < 2 ^ 32) }
+    ensures none { IfNone result (¬ BeginsWith IsSupertypeWord (words_of line.now)) }
+{
+    let (word, rest) = next_word(line)?;
+    let number = supertype_index(word)?;
+    Some((number, rest))
+}
+
+fn supertype_index(word: &[u8]) -> Option<u32>
+    ensures found { IfSome result (λ k. word.now ≡ codes "sub:" ++ decimal k) }
+    ensures fits { IfSome result (λ k. k < 2 ^ 32) }
+    ensures none { IfNone result (¬ IsSupertypeWord word.now) }
+{
+    type_index(after_prefix(word, b"sub:")?)
+}
+
+/// What stands after this word, where the line begins with it.
+pub fn after_word<'a>(line: &'a [u8], wanted: &[u8]) -> Option<&'a [u8]>
+    ensures found { IfSome result (λ rest. words_of line.now ≡ wanted.now ∷ words_of rest.now) }
+    ensures none { IfNone result ((ws : List (List ℕ)) → words_of line.now ≢ wanted.now ∷ ws) }
+{
+    let (word, rest) = next_word(line)?;
+    if word == wanted { Some(rest) } else { None }
+}
+
+#[tactic(auto, using(crate::proofs::Parsing::Entries::no_composite))]
+fn composite(alloc: Global, line: &[u8]) -> Result<Option<CompAt>, AllocError>
+    ensures found { IfOk result (λ found.
+        IfSome found (λ c. words_of line.now ≡ composite_words c)) }
+    ensures fits { IfOk result (λ found. IfSome found
+        (λ c. AreIndices (composite_names (comp_composite c)))) }
+    ensures none { IfOk result (λ found. IfNone found (¬ IsCompositeLine (words_of line.now))) }
+{
+    if let Some(rest) = after_word(line, b"func") {
+        return function(alloc, rest);
+    }
+    if let Some(rest) = after_word(line, b"struct") {
+        return structure(alloc, rest);
+    }
+    Ok(array(line))
+}
+
+/// A function type, from the word after `func` on.
+#[tactic(auto, using(crate::proofs::Parsing::Entries::no_arrow, crate::proofs::Parsing::Entries::more_after_results, crate::proofs::Parsing::Entries::fits_both))]
+fn function(alloc: Global, line: &[u8]) -> Result<Option<CompAt>, AllocError>
+    ensures found { IfOk result (λ found.
+        IfSome found (λ c. codes "func" ∷ words_of line.now ≡ composite_words c)) }
+    ensures fits { IfOk result (λ found. IfSome found
+        (λ c. AreIndices (composite_names (comp_composite c)))) }
+    ensures none { IfOk result (λ found. IfNone found
+        (¬ IsCompositeLine (codes "func" ∷ words_of line.now))) }
+{
+    let (params, rest) = values(alloc, line)?;
+    let Some(rest) = after_word(rest, b"->") else {
+        return Ok(None);
+    };
+    let (results, rest) = values(alloc, rest)?;
+    if !is_blank(rest) {
+        return Ok(None);
+    }
+    Ok(Some(CompAt::Function {
+        params: Listed::from_vec(params),
+        results: Listed::from_vec(results),
+    }))
+}
+
+/// A struct type, from the word after `struct` on.
+#[tactic(auto, using(crate::proofs::Parsing::Entries::more_after_fields))]
+fn structure(alloc: Global, line: &[u8]) -> Result<Option<CompAt>, AllocError>
+    ensures found { IfOk result (λ found.
+        IfSome found (λ c. codes "struct" ∷ words_of line.now ≡ composite_words c)) }
+    ensures fits { IfOk result (λ found. IfSome found
+        (λ c. AreIndices (composite_names (comp_composite c)))) }
+    ensures none { IfOk result (λ found. IfNone found
+        (¬ IsCompositeLine (codes "struct" ∷ words_of line.now))) }
+{
+    let (fields, rest) = fields(alloc, line)?;
+    if !is_blank(rest) {
+        return Ok(None);
+    }
+    Ok(Some(CompAt::Struct {
+        fields: Listed::from_vec(fields),
+    }))
+}
+
+/// An array type.
+fn array(line: &[u8]) -> Option<CompAt>
+    ensures found { IfSome result (λ c. words_of line.now ≡ composite_words c) }
+    ensures fits { IfSome result (λ c. AreIndices (composite_names (comp_composite c))) }
+    ensures none { IfNone result (¬ IsArrayLine (words_of line.now)) }
+{
+    let field = only_field(after_word(line, b"array")?)?;
+    Some(CompAt::Array { field })
+}
+
+/// A line that is one field.
+fn only_field(line: &[u8]) -> Option<FieldAt>
+    ensures found { IfSome result (λ f. words_of line.now ≡ field_word f ∷ []) }
+    ensures fits { IfSome result (λ f. AreIndices (field_names f)) }
+    ensures none { IfNone result (¬ IsText (λ f. field_word f ∷ [])
+        (λ f. AreIndices (field_names f)) (words_of line.now)) }
+{
+    let (field, rest) = next_field(line)?;
+    if is_blank(rest) { Some(field) } else { None }
+}
+
+/// The value types that a line begins with, and what stands after them.
+#[tactic(auto, using(crate::proofs::Parsing::Entries::fits_more_values))]
+fn values(alloc: Global, line: &[u8]) -> Result<(Vec<ValAt>, &[u8]), AllocError>
+    ensures read { IfOk result (λ read. words_of line.now ≡ map val_word read.0.items ++
+        words_of read.1.now) }
+    ensures fits { IfOk result (λ read. AreIndices (flat_map val_names read.0.items)) }
+    ensures stops { IfOk result (λ read. ¬ BeginsWith IsValWord (words_of read.1.now)) }
+{
+    // Room for each word that can be a value, so that the list need not grow.
+    let mut values = Vec::with_capacity(alloc, word_count_before(line, b"->"))?;
+    let mut rest = line;
+    while let Some((value, after)) = next_value(rest) {
+        values.push(value)?;
+        rest = after;
+    }
+    Ok((values, rest))
+}
+
+fn next_value(line: &[u8]) -> Option<(ValAt, &[u8])>
+    ensures found { IfSome result (λ found. words_of line.now ≡ val_word found.0 ∷
+        words_of found.1.now) }
+    ensures shorter { IfSome result (λ found. length found.1.now < length line.now) }
+    ensures fits { IfSome result (λ found. AreIndices (val_names found.0)) }
+    ensures none { IfNone result (¬ BeginsWith IsValWord (words_of line.now)) }
+{
+    let (word, rest) = next_word(line)?;
+    let value = value_type(word)?;
+    Some((value, rest))
+}
+
+/// The fields that a line begins with, and what stands after them.
+#[tactic(auto, using(crate::proofs::Parsing::Entries::fits_more_fields))]
+fn fields(alloc: Global, line: &[u8]) -> Result<(Vec<FieldAt>, &[u8]), AllocError>
+    ensures read { IfOk result (λ read. words_of line.now ≡ map field_word read.0.items ++
+        words_of read.1.now) }
+    ensures fits { IfOk result (λ read. AreIndices (flat_map field_names read.0.items)) }
+    ensures stops { IfOk result (λ read. ¬ BeginsWith IsFieldWord (words_of read.1.now)) }
+{
+    // Room for each word, so that the list need not grow.
+    let mut fields = Vec::with_capacity(alloc, word_count(line))?;
+    let mut rest = line;
+    while let Some((field, after)) = next_field(rest) {
+        fields.push(field)?;
+        rest = after;
+    }
+    Ok((fields, rest))
+}
+
+fn next_field(line: &[u8]) -> Option<(FieldAt, &[u8])>
+    ensures found { IfSome result (λ found. words_of line.now ≡ field_word found.0 ∷
+        words_of found.1.now) }
+    ensures shorter { IfSome result (λ found. length found.1.now < length line.now) }
+    ensures fits { IfSome result (λ found. AreIndices (field_names found.0)) }
+    ensures none { IfNone result (¬ BeginsWith IsFieldWord (words_of line.now)) }
+{
+    let (word, rest) = next_word(line)?;
+    let field = field_type(word)?;
+    Some((field, rest))
+}

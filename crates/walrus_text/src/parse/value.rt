@@ -1,0 +1,199 @@
+//! Heap types, value types and fields, each one word.
+ghost use Rattle.std.specs.Prelude.{◌≡◌, ◌≢◌, ◌<◌, ◌^◌, ◌++◌, ℕ, List, codes, decimal, IfSome, IfNone};
+ghost use Rattle.walrus_ty.specs.Value.{heap_names, val_names, storage_names, field_names};
+ghost use Rattle.walrus_text.specs.Text.{AreIndices, IsText, name_word, heap_word, val_word, storage_word, field_word};
+ghost use Rattle.walrus_text.specs.Steps.Parts.{IsIndexWord, IsNameWord, IsPlainWord, IsPackedWord, has_sign_or_leading_zero, IsHeapWord, IsValWord, IsStorageWord, IsFieldWord};
+
+use walrus_ty::{AbstractHeapType, FieldAt, HeapAt, RefAt, StorageAt, ValAt};
+
+/// The number of a type: decimal, below 2^32, without a sign and without leading zeros.
+pub fn type_index(word: &[u8]) -> Option<u32>
+    ensures found { IfSome result (λ k. word.now ≡ decimal k) }
+    ensures fits { IfSome result (λ k. k < 2 ^ 32) }
+    ensures none { IfNone result (¬ IsIndexWord word.now) }
+{
+    number(str::from_utf8(word).ok()?)
+}
+
+fn number(text: &str) -> Option<u32>
+    ensures found { IfSome result (λ k. text.now ≡ decimal k) }
+    ensures fits { IfSome result (λ k. k < 2 ^ 32) }
+    ensures none { IfNone result (¬ IsIndexWord text.now) }
+{
+    if has_sign_or_leading_zero(text.as_bytes()) {
+        return None;
+    }
+    text.parse().ok()
+}
+
+/// Whether a sign or zeros stand before the digits.
+fn has_sign_or_leading_zero(word: &[u8]) -> bool
+    ensures { result ≡ has_sign_or_leading_zero word.now }
+{
+    let first = word.first().copied().unwrap_or(0);
+    first == b'+' || first == b'0' && word.len() > 1
+}
+
+/// A heap type that the WebAssembly specification defines, by its name.
+pub fn abstract_heap_type(word: &[u8]) -> Option<AbstractHeapType>
+    ensures found { IfSome result (λ name. word.now ≡ name_word name) }
+    ensures none { IfNone result (¬ IsNameWord word.now) }
+{
+    match word {
+        b"func" => Some(AbstractHeapType::Func),
+        b"extern" => Some(AbstractHeapType::Extern),
+        b"any" => Some(AbstractHeapType::Any),
+        b"none" => Some(AbstractHeapType::None),
+        b"noextern" => Some(AbstractHeapType::NoExtern),
+        b"nofunc" => Some(AbstractHeapType::NoFunc),
+        b"eq" => Some(AbstractHeapType::Eq),
+        b"struct" => Some(AbstractHeapType::Struct),
+        b"array" => Some(AbstractHeapType::Array),
+        b"i31" => Some(AbstractHeapType::I31),
+        b"exn" => Some(AbstractHeapType::Exn),
+        b"noexn" => Some(AbstractHeapType::NoExn),
+        _ => None,
+    }
+}
+
+/// A heap type: the name of an abstract one, or the number of a type, after `exact:` where no
+/// subtype is meant.
+pub fn heap_type(word: &[u8]) -> Option<HeapAt>
+    ensures found { IfSome result (λ h. word.now ≡ heap_word h) }
+    ensures fits { IfSome result (λ h. AreIndices (heap_names h)) }
+    ensures none { IfNone result (¬ IsHeapWord word.now) }
+{
+    if let Some(name) = abstract_heap_type(word) {
+        return Some(HeapAt::Abstract(name));
+    }
+    if let Some(number) = type_index(word) {
+        return Some(HeapAt::Concrete(number));
+    }
+    let number = exact_index(word)?;
+    Some(HeapAt::Exact(number))
+}
+
+fn exact_index(word: &[u8]) -> Option<u32>
+    ensures found { IfSome result (λ k. word.now ≡ codes "exact:" ++ decimal k) }
+    ensures fits { IfSome result (λ k. k < 2 ^ 32) }
+    ensures none { IfNone result (¬ IsText (λ k. codes "exact:" ++ decimal k) (λ k. k < 2 ^ 32)
+        word.now) }
+{
+    type_index(after_prefix(word, b"exact:")?)
+}
+
+/// What stands after a prefix.
+pub fn after_prefix<'a>(word: &'a [u8], prefix: &[u8]) -> Option<&'a [u8]>
+    ensures found { IfSome result (λ rest. word.now ≡ prefix.now ++ rest.now) }
+    ensures none { IfNone result ((rest : List ℕ) → word.now ≢ prefix.now ++ rest) }
+{
+    word.strip_prefix(prefix)
+}
+
+/// A value type: a number or vector type by its name, or a heap type after `null:` where the
+/// reference may be null and after `ref:` where it may not.
+pub fn value_type(word: &[u8]) -> Option<ValAt>
+    ensures found { IfSome result (λ v. word.now ≡ val_word v) }
+    ensures fits { IfSome result (λ v. AreIndices (val_names v)) }
+    ensures none { IfNone result (¬ IsValWord word.now) }
+{
+    if let Some(plain) = plain_value_type(word) {
+        return Some(plain);
+    }
+    if let Some(heap_type) = after_null(word) {
+        return Some(ValAt::Ref(RefAt {
+            nullable: true,
+            heap_type,
+        }));
+    }
+    let heap_type = after_ref(word)?;
+    Some(ValAt::Ref(RefAt {
+        nullable: false,
+        heap_type,
+    }))
+}
+
+fn plain_value_type(word: &[u8]) -> Option<ValAt>
+    ensures found { IfSome result (λ v. word.now ≡ val_word v) }
+    ensures fits { IfSome result (λ v. AreIndices (val_names v)) }
+    ensures none { IfNone result (¬ IsPlainWord word.now) }
+{
+    match word {
+        b"i32" => Some(ValAt::I32),
+        b"i64" => Some(ValAt::I64),
+        b"f32" => Some(ValAt::F32),
+        b"f64" => Some(ValAt::F64),
+        b"v128" => Some(ValAt::V128),
+        _ => None,
+    }
+}
+
+fn after_null(word: &[u8]) -> Option<HeapAt>
+    ensures found { IfSome result (λ h. word.now ≡ codes "null:" ++ heap_word h) }
+    ensures fits { IfSome result (λ h. AreIndices (heap_names h)) }
+    ensures none { IfNone result (¬ IsText (λ h. codes "null:" ++ heap_word h)
+        (λ h. AreIndices (heap_names h)) word.now) }
+{
+    heap_type(after_prefix(word, b"null:")?)
+}
+
+fn after_ref(word: &[u8]) -> Option<HeapAt>
+    ensures found { IfSome result (λ h. word.now ≡ codes "ref:" ++ heap_word h) }
+    ensures fits { IfSome result (λ h. AreIndices (heap_names h)) }
+    ensures none { IfNone result (¬ IsText (λ h. codes "ref:" ++ heap_word h)
+        (λ h. AreIndices (heap_names h)) word.now) }
+{
+    heap_type(after_prefix(word, b"ref:")?)
+}
+
+/// A field: what it holds, after `mut:` where it can be written.
+pub fn field_type(word: &[u8]) -> Option<FieldAt>
+    ensures found { IfSome result (λ f. word.now ≡ field_word f) }
+    ensures fits { IfSome result (λ f. AreIndices (field_names f)) }
+    ensures none { IfNone result (¬ IsFieldWord word.now) }
+{
+    if let Some(element_type) = storage_type(word) {
+        return Some(FieldAt {
+            element_type,
+            mutable: false,
+        });
+    }
+    let element_type = after_mut(word)?;
+    Some(FieldAt {
+        element_type,
+        mutable: true,
+    })
+}
+
+fn after_mut(word: &[u8]) -> Option<StorageAt>
+    ensures found { IfSome result (λ s. word.now ≡ codes "mut:" ++ storage_word s) }
+    ensures fits { IfSome result (λ s. AreIndices (storage_names s)) }
+    ensures none { IfNone result (¬ IsText (λ s. codes "mut:" ++ storage_word s)
+        (λ s. AreIndices (storage_names s)) word.now) }
+{
+    storage_type(after_prefix(word, b"mut:")?)
+}
+
+fn storage_type(word: &[u8]) -> Option<StorageAt>
+    ensures found { IfSome result (λ s. word.now ≡ storage_word s) }
+    ensures fits { IfSome result (λ s. AreIndices (storage_names s)) }
+    ensures none { IfNone result (¬ IsStorageWord word.now) }
+{
+    if let Some(packed) = packed_type(word) {
+        return Some(packed);
+    }
+    let value = value_type(word)?;
+    Some(StorageAt::Val(value))
+}
+
+fn packed_type(word: &[u8]) -> Option<StorageAt>
+    ensures found { IfSome result (λ s. word.now ≡ storage_word s) }
+    ensures fits { IfSome result (λ s. AreIndices (storage_names s)) }
+    ensures none { IfNone result (¬ IsPackedWord word.now) }
+{
+    match word {
+        b"i8" => Some(StorageAt::I8),
+        b"i16" => Some(StorageAt::I16),
+        _ => None,
+    }
+}

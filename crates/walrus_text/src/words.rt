@@ -1,0 +1,87 @@
+//! A line as words: what stands between spaces. No other byte divides words.
+ghost use Rattle.std.specs.Prelude.{◌≡◌, ◌==◌, ◌∷◌, [], ◌<◌, ◌≤◌, length, not, IfSome, IfNone};
+ghost use Rattle.std.specs.List.{position, position_or_len};
+ghost use Rattle.walrus_text.specs.Words.{has_items, words_of};
+ghost use Rattle.walrus_text.specs.Steps.Words.{word_count_before};
+
+/// The first word of a line, and what stands after it; `None` where the line has no word.
+#[tactic(auto, using(crate::proofs::Lexing::FirstWord::words_from_word, crate::proofs::Lexing::FirstWord::no_words))]
+pub fn next_word(line: &[u8]) -> Option<(&[u8], &[u8])>
+    ensures found { IfSome result (λ found. words_of line.now ≡ found.0.now ∷
+        words_of found.1.now) }
+    ensures shorter { IfSome result (λ found. length found.1.now < length line.now) }
+    ensures none { IfNone result (words_of line.now ≡ []) }
+{
+    let from_word = &line[spaces_len(line)..];
+    let (word, rest) = from_word.split_at(word_len(from_word));
+    if word.is_empty() {
+        return None;
+    }
+    Some((word, rest))
+}
+
+/// How many words the line has.
+pub fn word_count(line: &[u8]) -> usize
+    ensures { result ≡ length (words_of line.now) }
+{
+    let mut count = 0;
+    let mut rest = line;
+    while let Some((_, after)) = next_word(rest) {
+        count += 1;
+        rest = after;
+    }
+    count
+}
+
+/// How many words stand before the first that is `end`; all of them where none is.
+pub fn word_count_before(line: &[u8], end: &[u8]) -> usize
+    ensures { result ≡ word_count_before end.now (words_of line.now) }
+{
+    let mut count = 0;
+    let mut rest = line;
+    while let Some((word, after)) = next_word(rest) {
+        if word == end {
+            break;
+        }
+        count += 1;
+        rest = after;
+    }
+    count
+}
+
+/// Whether the line has no word.
+pub fn is_blank(line: &[u8]) -> bool
+    ensures { result ≡ not (has_items (words_of line.now)) }
+{
+    next_word(line).is_none()
+}
+
+/// How many spaces the line begins with.
+#[tactic(auto, using(crate::proofs::Lexing::FirstWord::place_or_end))]
+fn spaces_len(line: &[u8]) -> usize
+    ensures within { result ≤ length line.now }
+    ensures value { result ≡ position_or_len (λ b. not (b == 32)) line.now }
+{
+    word_start(line).unwrap_or(line.len())
+}
+
+fn word_start(line: &[u8]) -> Option<usize>
+    ensures { result ≡ position (λ b. not (b == 32)) line.now }
+{
+    line.iter().position(|byte| *byte != b' ')
+}
+
+/// How many bytes stand before the first space; all where there is none.
+#[tactic(auto, using(crate::proofs::Lexing::FirstWord::place_or_end))]
+fn word_len(line: &[u8]) -> usize
+    ensures within { result ≤ length line.now }
+    ensures value { result ≡ position_or_len (λ b. b == 32) line.now }
+{
+    first_space(line).unwrap_or(line.len())
+}
+
+fn first_space(line: &[u8]) -> Option<usize>
+    ensures { result ≡ position (λ b. b == 32) line.now }
+{
+    line.iter().position(|byte| *byte == b' ')
+}
