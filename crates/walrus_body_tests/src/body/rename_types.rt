@@ -40,20 +40,27 @@ fn types(alloc: Global, func: &LocalFunction) -> Result<Vec<usize>, Fail> {
     Ok(list)
 }
 
+// Renames the types of the body by the list of their new ids, and tells whether all was walked.
+fn is_renamed(
+    alloc: Global,
+    func: &mut LocalFunction,
+    names: Vec<TypeId>,
+) -> Result<bool, AllocError> {
+    let start = id(0);
+    let mut visitor = RenameTypes::new(names);
+    match check_nesting(alloc, func, start)? {
+        Nesting::Nested(_) => Ok(dfs_pre_order_mut(alloc, &mut visitor, func, start).is_ok()),
+        Nesting::Cycle { .. } | Nesting::Unknown(_) => Ok(false),
+    }
+}
+
 #[test]
 fn two_types_change_places(rt: HostRuntime) -> Result<(), Fail> {
     let alloc = rt.alloc();
     let mut func = body(alloc)?;
     assert_eq!(rt; types(alloc, &func)?.as_slice(), [1, 0, 2, 0, 1].as_slice());
     let names: Vec<TypeId> = vec![in alloc; id(1), id(0)]?;
-    let mut visitor = RenameTypes::new(names);
-    let Nesting::Nested(_) = check_nesting(alloc, &func, id(0))? else {
-        return Err(Fail::new("not nested"));
-    };
-    assert_eq!(rt;
-        dfs_pre_order_mut(alloc, &mut visitor, &mut func, id(0)),
-        Ok(())
-    );
+    assert!(rt; is_renamed(alloc, &mut func, names)?);
     assert_eq!(rt; types(alloc, &func)?.as_slice(), [0, 1, 2, 1, 0].as_slice());
     Ok(())
 }
