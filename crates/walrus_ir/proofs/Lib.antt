@@ -1,4 +1,4 @@
 mod HexText
 mod ConstExprLemmas
-
 -- lemmas
+pub mod LocalHashes

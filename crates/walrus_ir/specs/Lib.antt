@@ -1,5 +1,6 @@
 pub mod Values
 pub mod Locals
+pub mod LocalParts
 pub mod BlockTypes
 pub mod ConstExpr
 pub mod LocalLends
