@@ -1,4 +1,5 @@
 mod HexText
 mod ConstExprLemmas
--- lemmas
 pub mod LocalHashes
+
+-- lemmas
