@@ -4,3 +4,4 @@ pub mod Readings
 pub mod Seen
 pub mod Framing
 pub mod Faulting
+pub mod Replacing

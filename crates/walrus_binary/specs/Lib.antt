@@ -2,4 +2,5 @@ pub mod Leb128
 pub mod Grammar
 pub mod Faults
 pub mod Modules
+pub mod Replacement
 pub mod Steps

@@ -1,7 +1,8 @@
 //! The type section of a WebAssembly module in the binary format, as records of
 //! [`walrus_ty`](walrus_ty::GroupAt).
 //!
-//! - [`type_section`] finds the type section of a module.
+//! - [`type_section`] finds the type section of a module, and [`replace_type_section`] gives it
+//!   another content.
 //! - [`decode_types`] reads the groups of a section, and says where bytes are no text of groups.
 //! - [`encode_types`] writes the shortest text of groups.
 //! - [`laws`] has the theorems: bytes are a text of one list of groups at most, and no text
@@ -17,8 +18,8 @@ mod module;
 
 pub use decode::decode_types;
 pub use encode::encode_types;
-pub use error::{DecodeError, EncodeError, Expected, NotHeld};
-pub use module::type_section;
+pub use error::{DecodeError, EncodeError, Expected, NotHeld, ReplaceError};
+pub use module::{replace_type_section, type_section};
 
 #[cfg(test)]
 mod tests;

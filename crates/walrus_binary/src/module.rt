@@ -2,12 +2,16 @@
 //! WebAssembly core specification, "Binary Format", modules.
 ghost use Rattle.std.specs.Prelude.{◌≡◌, ◌+◌, ◌-◌, ◌<◌, ◌≤◌, length, take, IfOk, IfErr, IfSome, IfNone, IsSome};
 ghost use Rattle.walrus_binary.specs.Faults.{error_offset};
+ghost use Rattle.walrus_binary.specs.Replacement.{IsNoModuleBy};
+ghost use Rattle.walrus_binary.specs.Steps.Framing.{IsTypeSectionFrom};
 ghost use Rattle.walrus_binary.specs.Modules.{IsTypeSectionAt, HasNoTypeSection, IsNoModule, BeginsNoModule};
 
+mod replace;
 mod section;
 
 use crate::error::{DecodeError, Fault};
 use crate::module::section::{TYPE, place_after, read_header, read_section};
+pub use replace::replace_type_section;
 use std::ops::Range;
 
 /// The place of what the type section of a module has after its id and size, and `None` where the
@@ -42,15 +46,37 @@ pub fn type_section(bytes: &[u8]) -> Result<Option<Range<usize>>, DecodeError>
     ensures stuck { IfErr result (λ e. IfSome (error_offset e) (λ offset.
         offset < length bytes.now → BeginsNoModule (take (offset + 1) bytes.now))) }
 {
-    match find_type_section(bytes) {
+    match find_type_section(bytes)? {
+        Some(found) => Ok(Some(found.content)),
+        None => Ok(None),
+    }
+}
+
+/// A type section in the bytes of a module.
+#[derive(Drop)]
+struct TypeSection {
+    /// The place of its id.
+    id: usize,
+    /// The place of what it has after its id and size.
+    content: Range<usize>,
+}
+
+fn find_type_section(bytes: &[u8]) -> Result<Option<TypeSection>, DecodeError>
+    ensures found { IfOk result (λ found. IfSome found (λ s.
+        IsTypeSectionFrom bytes.now s.id s.content.start s.content.end)) }
+    ensures none { IfOk result (λ found. IfNone found (HasNoTypeSection bytes.now)) }
+    ensures refused { IfErr result (λ e. IsNoModuleBy bytes.now e) }
+    ensures placed { IfErr result (λ e. IsSome (error_offset e)) }
+{
+    match scan_sections(bytes) {
         Ok(found) => Ok(found),
         Err(fault) => Err(fault.refusal(bytes.len())),
     }
 }
 
-fn find_type_section(bytes: &[u8]) -> Result<Option<Range<usize>>, Fault>
-    ensures found { IfOk result (λ found. IfSome found (λ r.
-        IsTypeSectionAt bytes.now r.start r.end)) }
+fn scan_sections(bytes: &[u8]) -> Result<Option<TypeSection>, Fault>
+    ensures found { IfOk result (λ found. IfSome found (λ s.
+        IsTypeSectionFrom bytes.now s.id s.content.start s.content.end)) }
     ensures none { IfOk result (λ found. IfNone found (HasNoTypeSection bytes.now)) }
     ensures refused { IfErr result (λ f. IsNoModule bytes.now) }
     ensures place { IfErr result (λ f. f.left ≤ length bytes.now) }
@@ -64,7 +90,10 @@ fn find_type_section(bytes: &[u8]) -> Result<Option<Range<usize>>, Fault>
         let (id, content, after) = read_section(last, rest)?;
         if id == TYPE {
             let end = bytes.len() - after.len();
-            found = Some(end - content.len()..end);
+            found = Some(TypeSection {
+                id: bytes.len() - rest.len(),
+                content: end - content.len()..end,
+            });
         }
         last = place_after(last, id);
         rest = after;

@@ -4,6 +4,7 @@ mod integers;
 mod modules;
 mod productions;
 mod refusals;
+mod replacing;
 mod unheld;
 
 use crate::{DecodeError, Expected, decode_types};

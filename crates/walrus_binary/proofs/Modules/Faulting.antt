@@ -51,10 +51,10 @@ not_both x f y e h = absurd cc
 
 -- ---- the header
 
-abbrev ModuleParts : List ℕ → List Section → Type 0
+abbrev pub ModuleParts : List ℕ → List Section → Type 0
 ModuleParts bytes sections = (texts : List ℕ) × (bytes ≡ header ++ texts) × AreBehind 0 texts sections
 
-module_parts : (bytes : List ℕ) (sections : List Section) → IsModule bytes sections → ModuleParts bytes sections
+pub module_parts : (bytes : List ℕ) (sections : List Section) → IsModule bytes sections → ModuleParts bytes sections
 module_parts _ _ (framed texts sections h o) = (texts, refl, (h, o))
 
 no_header : (bytes : List ℕ) → DoesNotRead header_at bytes → IsNoModule bytes
@@ -68,9 +68,9 @@ header_faulty bytes f e =
 
 -- ---- sections
 
-no_section : {R : Type 0} (start stop : R → ℕ) (bytes rest : List ℕ) (last : ℕ) (found : Option R) (state : State start stop bytes rest last found) (xs : List ℕ)
+no_section : {R : Type 0} (opening start stop : R → ℕ) (bytes rest : List ℕ) (last : ℕ) (found : Option R) (state : State opening start stop bytes rest last found) (xs : List ℕ)
     → (xs ≡ [] → ⊥) → DoesNotRead (section_at last) xs → IsNoModule (header ++ (state.texts ++ xs))
-no_section start stop bytes rest last found state xs some n sections h =
+no_section opening start stop bytes rest last found state xs some n sections h =
     let m = module_parts (header ++ (state.texts ++ xs)) sections h in
     let same : m.0 ≡ state.texts ++ xs = append_cancel_left header m.0 (state.texts ++ xs) (sym m.1) in
     let a = state.splits xs sections (subst (λ (u : List ℕ). AreBehind 0 u sections) same m.2) in
@@ -87,13 +87,13 @@ not_empty : (front other : List ℕ) (b : ℕ) → front ++ b ∷ other ≡ [] �
 not_empty [] other b e = absurd cc
 not_empty (x ∷ front) other b e = absurd cc
 
-pub section_faulty : {R : Type 0} (start stop : R → ℕ) (bytes rest : List ℕ) (last : ℕ) (found : Option R) (f : Fault) → State start stop bytes rest last found
+pub section_faulty : {R : Type 0} (opening start stop : R → ℕ) (bytes rest : List ℕ) (last : ℕ) (found : Option R) (f : Fault) → State opening start stop bytes rest last found
     → false ≡ nat_eq (length rest) 0 → section_at last rest ≡ Err f → IsFaulty bytes f
-section_faulty start stop bytes rest last found f state more e =
+section_faulty opening start stop bytes rest last found f state more e =
     let some = not_nothing rest more in
     let pre : List ℕ = header ++ state.texts in
     let whole : bytes ≡ pre ++ rest = state.whole ∙ sym (append_assoc header state.texts rest) in
     faulty (section_at last) bytes pre rest f whole (section_stuck last rest f e) (section_seen last rest f e)
-    (subst IsNoModule (sym state.whole) (no_section start stop bytes rest last found state rest some (f, e)))
+    (subst IsNoModule (sym state.whole) (no_section opening start stop bytes rest last found state rest some (f, e)))
     (λ b front other n. subst IsNoModule (sym (append_assoc header state.texts (front ++ b ∷ other)))
-    (no_section start stop bytes rest last found state (front ++ b ∷ other) (not_empty front other b) n))
+    (no_section opening start stop bytes rest last found state (front ++ b ∷ other) (not_empty front other b) n))

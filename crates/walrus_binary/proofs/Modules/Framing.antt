@@ -9,8 +9,8 @@ use Rattle.walrus_binary.specs.declared.error.Reason.TheVariants as reason
 use Rattle.walrus_binary.specs.declared.error.Fault.{Fault}
 use Rattle.walrus_binary.specs.Leb128.{IsU32}
 use Rattle.walrus_binary.specs.Grammar.{AreItems, none, next}
-use Rattle.walrus_binary.specs.Modules.{Section, section, ids, IsSection, sized, AreInOrder, no_more, header, IsModule, framed, around, IsTypeSectionAt, IsOther, HasNoTypeSection}
-use Rattle.walrus_binary.specs.Steps.Framing.{place_after, header_at, id_at, section_at}
+use Rattle.walrus_binary.specs.Modules.{Section, section, ids, IsSection, sized, AreInOrder, no_more, header, IsModule, framed, around, IsOther, HasNoTypeSection}
+use Rattle.walrus_binary.specs.Steps.Framing.{IsTypeSectionFrom, place_after, header_at, id_at, section_at}
 use Rattle.walrus_binary.proofs.Basics.{Reading, Takes, value_is, rest_is}
 use Rattle.walrus_binary.proofs.Faults.{stop}
 use Rattle.walrus_binary.proofs.Modules.Orders.{order_on, order_parts}
@@ -44,7 +44,7 @@ begins last _ _ (next text others s sections h hs) o =
 
 -- ---- the type section among those that were read
 
-pub record IsFound (texts : List ℕ) (before : List Section) (start stop : ℕ) : Type 0 where
+pub record IsFound (texts : List ℕ) (before : List Section) (opening start stop : ℕ) : Type 0 where
   pub front : List ℕ
   pub size : List ℕ
   pub content : List ℕ
@@ -56,12 +56,13 @@ pub record IsFound (texts : List ℕ) (before : List Section) (start stop : ℕ)
   pub sized : IsU32 size (length content)
   pub parts : texts ≡ (front ++ 1 ∷ size) ++ (content ++ back)
   pub sections : before ≡ first ++ section 1 content ∷ second
+  pub opens : opening ≡ length (header ++ front)
   pub starts : start ≡ length ((header ++ front) ++ 1 ∷ size)
   pub stops : stop ≡ start + length content
 
-abbrev pub Finds : {R : Type 0} → (R → ℕ) → (R → ℕ) → List ℕ → List Section → Option R → Type 0
-Finds start stop texts before found =
-    MatchOption found (All IsOther before) (λ r. IsFound texts before (start r) (stop r))
+abbrev pub Finds : {R : Type 0} → (R → ℕ) → (R → ℕ) → (R → ℕ) → List ℕ → List Section → Option R → Type 0
+Finds opening start stop texts before found =
+    MatchOption found (All IsOther before) (λ r. IsFound texts before (opening r) (start r) (stop r))
 
 one_text : (text : List ℕ) (s : Section) → IsSection text s → AreItems IsSection text (s ∷ [])
 one_text text s h = subst (λ (u : List ℕ). AreItems IsSection u (s ∷ [])) (append-nil text) (next text [] s [] h none)
@@ -71,8 +72,8 @@ joined _ b _ ys none k = k
 joined _ b _ ys (next text others s sections h hs) k =
     subst (λ (u : List ℕ). AreItems IsSection u (s ∷ (sections ++ ys))) (sym (append_assoc text others b)) (next text (others ++ b) s (sections ++ ys) h (joined others b sections ys hs k))
 
-found_on : (texts text : List ℕ) (before : List Section) (s : Section) (start stop : ℕ) → IsSection text s → IsFound texts before start stop → IsFound (texts ++ text) (before ++ s ∷ []) start stop
-found_on texts text before s start stop h f =
+found_on : (texts text : List ℕ) (before : List Section) (s : Section) (opening start stop : ℕ) → IsSection text s → IsFound texts before opening start stop → IsFound (texts ++ text) (before ++ s ∷ []) opening start stop
+found_on texts text before s opening start stop h f =
     record {
       front = f.front;
       size = f.size;
@@ -87,17 +88,18 @@ found_on texts text before s start stop h f =
           ap (λ (u : List ℕ). u ++ text) f.parts ∙ append_assoc (f.front ++ 1 ∷ f.size) (f.content ++ f.back) text
           ∙ ap (λ (u : List ℕ). (f.front ++ 1 ∷ f.size) ++ u) (append_assoc f.content f.back text);
       sections = ap (λ (u : List Section). u ++ s ∷ []) f.sections ∙ append_assoc f.first (section 1 f.content ∷ f.second) (s ∷ []);
+      opens = f.opens;
       starts = f.starts;
       stops = f.stops;
     }
 
-finds_on : {R : Type 0} (start stop : R → ℕ) (texts text : List ℕ) (before : List Section) (s : Section) (found : Option R) → IsSection text s → (s.id ≡ 1 → ⊥) → Finds start stop texts before found → Finds start stop (texts ++ text) (before ++ s ∷ []) found
-finds_on start stop texts text before s None h other f = All-append IsOther before (s ∷ []) f (All-cons IsOther s [] other (All-nil IsOther))
-finds_on start stop texts text before s (Some r) h other f = found_on texts text before s (start r) (stop r) h f
+finds_on : {R : Type 0} (opening start stop : R → ℕ) (texts text : List ℕ) (before : List Section) (s : Section) (found : Option R) → IsSection text s → (s.id ≡ 1 → ⊥) → Finds opening start stop texts before found → Finds opening start stop (texts ++ text) (before ++ s ∷ []) found
+finds_on opening start stop texts text before s None h other f = All-append IsOther before (s ∷ []) f (All-cons IsOther s [] other (All-nil IsOther))
+finds_on opening start stop texts text before s (Some r) h other f = found_on texts text before s (opening r) (start r) (stop r) h f
 
-found_here : (texts text content : List ℕ) (before : List Section) (s : Section) (start stop : ℕ) → AreItems IsSection texts before → IsSection text s → s.id ≡ 1 → s.content ≡ content
-    → start ≡ length header + length texts + length text - length content → stop ≡ length header + length texts + length text → IsFound (texts ++ text) (before ++ s ∷ []) start stop
-found_here texts _ content before _ start stop ts (sized id size inside h) is same starts stops =
+found_here : (texts text content : List ℕ) (before : List Section) (s : Section) (opening start stop : ℕ) → AreItems IsSection texts before → IsSection text s → s.id ≡ 1 → s.content ≡ content
+    → opening ≡ length header + length texts → start ≡ length header + length texts + length text - length content → stop ≡ length header + length texts + length text → IsFound (texts ++ text) (before ++ s ∷ []) opening start stop
+found_here texts _ content before _ opening start stop ts (sized id size inside h) is same opens starts stops =
     let long = length-append size inside in
     let inside-long : length inside ≡ length content = ap (λ (u : List ℕ). length u) same in
     let places = length-append (header ++ texts) (1 ∷ size) in
@@ -116,23 +118,24 @@ found_here texts _ content before _ start stop ts (sized id size inside h) is sa
           ap (λ k. texts ++ k ∷ (size ++ inside)) is ∙ sym (append_assoc texts (1 ∷ size) inside)
           ∙ ap (λ (u : List ℕ). (texts ++ 1 ∷ size) ++ u) (sym (append-nil inside));
       sections = ap (λ k. before ++ section k inside ∷ []) is;
+      opens = opens ∙ sym heads;
       starts = omega (arith, starts, long, inside-long, places, heads);
       stops = omega (arith, starts, stops, long, inside-long);
     }
 
 -- ---- after some sections
 
-pub record State {R : Type 0} (start stop : R → ℕ) (bytes rest : List ℕ) (last : ℕ) (found : Option R) : Type 0 where
+pub record State {R : Type 0} (opening start stop : R → ℕ) (bytes rest : List ℕ) (last : ℕ) (found : Option R) : Type 0 where
   pub texts : List ℕ
   pub before : List Section
   pub whole : bytes ≡ header ++ (texts ++ rest)
   pub are : AreItems IsSection texts before
   pub joins : (after : List ℕ) → AreInOrder last after → AreInOrder 0 (ids before ++ after)
   pub splits : (more : List ℕ) (all : List Section) → AreBehind 0 (texts ++ more) all → (after : List Section) × AreBehind last more after
-  pub finds : Finds start stop texts before found
+  pub finds : Finds opening start stop texts before found
 
-pub begun : {R : Type 0} (start stop : R → ℕ) (bytes rest : List ℕ) → header_at bytes ≡ Ok (tt, rest) → State start stop bytes rest 0 None
-begun start stop bytes rest e =
+pub begun : {R : Type 0} (opening start stop : R → ℕ) (bytes rest : List ℕ) → header_at bytes ≡ Ok (tt, rest) → State opening start stop bytes rest 0 None
+begun opening start stop bytes rest e =
     let t = header_sound bytes tt rest e in
     record {
       texts = [];
@@ -172,9 +175,9 @@ others_of last text more s all h k =
     ]
 
 -- one section more, whatever is known of the type section
-goes_on : {R : Type 0} (start stop : R → ℕ) (bytes rest after : List ℕ) (last : ℕ) (found later : Option R) (s : Section) (state : State start stop bytes rest last found) (t : Takes (IsNextSection last) rest s after)
-    → Finds start stop (state.texts ++ t.text) (state.before ++ s ∷ []) later → State start stop bytes after (place_after last s.id) later
-goes_on start stop bytes rest after last found later s state t finds =
+goes_on : {R : Type 0} (opening start stop : R → ℕ) (bytes rest after : List ℕ) (last : ℕ) (found later : Option R) (s : Section) (state : State opening start stop bytes rest last found) (t : Takes (IsNextSection last) rest s after)
+    → Finds opening start stop (state.texts ++ t.text) (state.before ++ s ∷ []) later → State opening start stop bytes after (place_after last s.id) later
+goes_on opening start stop bytes rest after last found later s state t finds =
     let ids-are : ids (state.before ++ s ∷ []) ≡ ids state.before ++ s.id ∷ [] = map-append (λ (k : Section). k.id) state.before (s ∷ []) in
     record {
       texts = state.texts ++ t.text;
@@ -190,38 +193,39 @@ goes_on start stop bytes rest after last found later s state t finds =
       finds = finds;
     }
 
-pub passes : {R : Type 0} (start stop : R → ℕ) (bytes rest after content : List ℕ) (last id : ℕ) (found : Option R) → State start stop bytes rest last found
-    → section_at last rest ≡ Ok (section id content, after) → (id ≡ 1 → ⊥) → State start stop bytes after (place_after last id) found
-passes start stop bytes rest after content last id found state e other =
+pub passes : {R : Type 0} (opening start stop : R → ℕ) (bytes rest after content : List ℕ) (last id : ℕ) (found : Option R) → State opening start stop bytes rest last found
+    → section_at last rest ≡ Ok (section id content, after) → (id ≡ 1 → ⊥) → State opening start stop bytes after (place_after last id) found
+passes opening start stop bytes rest after content last id found state e other =
     let t = section_sound last rest (section id content) after e in
-    goes_on start stop bytes rest after last found found (section id content) state t
-    (finds_on start stop state.texts t.text state.before (section id content) found t.is_text.0 other state.finds)
+    goes_on opening start stop bytes rest after last found found (section id content) state t
+    (finds_on opening start stop state.texts t.text state.before (section id content) found t.is_text.0 other state.finds)
 
-pub meets : {R : Type 0} (start stop : R → ℕ) (bytes rest after content : List ℕ) (last id : ℕ) (found : Option R) (r : R) → State start stop bytes rest last found
-    → section_at last rest ≡ Ok (section id content, after) → id ≡ 1 → start r ≡ length bytes - length after - length content → stop r ≡ length bytes - length after
-    → State start stop bytes after (place_after last id) (Some r)
-meets start stop bytes rest after content last id found r state e is starts stops =
+pub meets : {R : Type 0} (opening start stop : R → ℕ) (bytes rest after content : List ℕ) (last id : ℕ) (found : Option R) (r : R) → State opening start stop bytes rest last found
+    → section_at last rest ≡ Ok (section id content, after) → id ≡ 1 → opening r ≡ length bytes - length rest → start r ≡ length bytes - length after - length content → stop r ≡ length bytes - length after
+    → State opening start stop bytes after (place_after last id) (Some r)
+meets opening start stop bytes rest after content last id found r state e is opens starts stops =
     let s = section id content in
     let t = section_sound last rest s after e in
     let long : length bytes ≡ length header + length (state.texts ++ rest) = ap (λ (u : List ℕ). length u) state.whole ∙ length-append header (state.texts ++ rest) in
     let rest-long : length rest ≡ length t.text + length after = ap (λ (u : List ℕ). length u) t.parts ∙ length-append t.text after in
     let texts-long = length-append state.texts rest in
-    goes_on start stop bytes rest after last found (Some r) s state t
-    (found_here state.texts t.text content state.before s (start r) (stop r) state.are t.is_text.0 is refl
-    (omega (arith, starts, long, rest-long, texts-long)) (omega (arith, stops, long, rest-long, texts-long)))
+    goes_on opening start stop bytes rest after last found (Some r) s state t
+    (found_here state.texts t.text content state.before s (opening r) (start r) (stop r) state.are t.is_text.0 is refl
+    (omega (arith, opens, long, texts-long)) (omega (arith, starts, long, rest-long, texts-long)) (omega (arith, stops, long, rest-long, texts-long)))
 
 -- how long what is left is
 pub record IsShorter (bytes rest after content : List ℕ) : Type 0 where
   pub smaller : length after < length rest
   pub end : length after ≤ length bytes
   pub start : length content ≤ length bytes - length after
+  pub opening : length rest ≤ length bytes
 
 section_long : (text : List ℕ) (s : Section) → IsSection text s → length s.content < length text
 section_long _ _ (sized id size content h) = omega (arith, length-append size content)
 
-pub shorter : {R : Type 0} (start stop : R → ℕ) (bytes rest after content : List ℕ) (last id : ℕ) (found : Option R) → State start stop bytes rest last found
+pub shorter : {R : Type 0} (opening start stop : R → ℕ) (bytes rest after content : List ℕ) (last id : ℕ) (found : Option R) → State opening start stop bytes rest last found
     → section_at last rest ≡ Ok (section id content, after) → IsShorter bytes rest after content
-shorter start stop bytes rest after content last id found state e =
+shorter opening start stop bytes rest after content last id found state e =
     let t = section_sound last rest (section id content) after e in
     let more = section_long t.text (section id content) t.is_text.0 in
     let rest-long : length rest ≡ length t.text + length after = ap (λ (u : List ℕ). length u) t.parts ∙ length-append t.text after in
@@ -231,56 +235,60 @@ shorter start stop bytes rest after content last id found state e =
       smaller = omega (arith, rest-long, more);
       end = omega (arith, long, texts-long, rest-long);
       start = omega (arith, long, texts-long, rest-long, more);
+      opening = omega (arith, long, texts-long);
     }
 
 -- ---- after all sections
 
-in_order : {R : Type 0} (start stop : R → ℕ) (bytes : List ℕ) (last : ℕ) (found : Option R) (state : State start stop bytes [] last found) → AreInOrder 0 (ids state.before)
-in_order start stop bytes last found state =
+in_order : {R : Type 0} (opening start stop : R → ℕ) (bytes : List ℕ) (last : ℕ) (found : Option R) (state : State opening start stop bytes [] last found) → AreInOrder 0 (ids state.before)
+in_order opening start stop bytes last found state =
     subst (λ (u : List ℕ). AreInOrder 0 u) (append-nil (ids state.before)) (state.joins [] (no_more last))
 
-all_texts : {R : Type 0} (start stop : R → ℕ) (bytes : List ℕ) (last : ℕ) (found : Option R) (state : State start stop bytes [] last found) → bytes ≡ header ++ state.texts
-all_texts start stop bytes last found state = state.whole ∙ ap (λ (u : List ℕ). header ++ u) (append-nil state.texts)
+all_texts : {R : Type 0} (opening start stop : R → ℕ) (bytes : List ℕ) (last : ℕ) (found : Option R) (state : State opening start stop bytes [] last found) → bytes ≡ header ++ state.texts
+all_texts opening start stop bytes last found state = state.whole ∙ ap (λ (u : List ℕ). header ++ u) (append-nil state.texts)
 
-is_found : (bytes texts : List ℕ) (before : List Section) (start stop : ℕ) → bytes ≡ header ++ texts → AreInOrder 0 (ids before) → IsFound texts before start stop → IsTypeSectionAt bytes start stop
-is_found bytes texts before start stop is order f =
+is_found : (bytes texts : List ℕ) (before : List Section) (opening start stop : ℕ) → bytes ≡ header ++ texts → AreInOrder 0 (ids before) → IsFound texts before opening start stop → IsTypeSectionFrom bytes opening start stop
+is_found bytes texts before opening start stop is order f =
     let ids-are : ids before ≡ ids f.first ++ 1 ∷ ids f.second = ap (λ (u : List Section). ids u) f.sections ∙ map-append (λ (k : Section). k.id) f.first (section 1 f.content ∷ f.second) in
     record {
-      front = header ++ f.front;
-      size = f.size;
-      content = f.content;
-      back = f.back;
-      around_it = around f.front f.back f.first f.second f.front_is f.back_is (subst (λ (u : List ℕ). AreInOrder 0 u) ids-are order);
-      sized = f.sized;
-      parts = is ∙ ap (λ (u : List ℕ). header ++ u) f.parts;
-      starts = f.starts;
-      stops = f.stops;
+      there = record {
+        front = header ++ f.front;
+        size = f.size;
+        content = f.content;
+        back = f.back;
+        around_it = around f.front f.back f.first f.second f.front_is f.back_is (subst (λ (u : List ℕ). AreInOrder 0 u) ids-are order);
+        sized = f.sized;
+        parts = is ∙ ap (λ (u : List ℕ). header ++ u) f.parts;
+        starts = f.starts;
+        stops = f.stops;
+      };
+      opens = f.opens;
     }
 
 nothing_left : (rest : List ℕ) → true ≡ nat_eq (length rest) 0 → rest ≡ []
 nothing_left [] e = refl
 nothing_left (b ∷ rest) e = absurd (let k = eqb-true (length (b ∷ rest)) 0 (sym e) in omega (arith, k))
 
-ended_some : {R : Type 0} (start stop : R → ℕ) (bytes : List ℕ) (last : ℕ) (found : Option R) → State start stop bytes [] last found → IfSome found (λ r. IsTypeSectionAt bytes (start r) (stop r))
-ended_some start stop bytes last None state = tt
-ended_some start stop bytes last (Some r) state =
-    is_found bytes state.texts state.before (start r) (stop r) (all_texts start stop bytes last (Some r) state) (in_order start stop bytes last (Some r) state) state.finds
+ended_some : {R : Type 0} (opening start stop : R → ℕ) (bytes : List ℕ) (last : ℕ) (found : Option R) → State opening start stop bytes [] last found → IfSome found (λ r. IsTypeSectionFrom bytes (opening r) (start r) (stop r))
+ended_some opening start stop bytes last None state = tt
+ended_some opening start stop bytes last (Some r) state =
+    is_found bytes state.texts state.before (opening r) (start r) (stop r) (all_texts opening start stop bytes last (Some r) state) (in_order opening start stop bytes last (Some r) state) state.finds
 
-ended_none : {R : Type 0} (start stop : R → ℕ) (bytes : List ℕ) (last : ℕ) (found : Option R) → State start stop bytes [] last found → IfNone found (HasNoTypeSection bytes)
-ended_none start stop bytes last (Some r) state = tt
-ended_none start stop bytes last None state =
+ended_none : {R : Type 0} (opening start stop : R → ℕ) (bytes : List ℕ) (last : ℕ) (found : Option R) → State opening start stop bytes [] last found → IfNone found (HasNoTypeSection bytes)
+ended_none opening start stop bytes last (Some r) state = tt
+ended_none opening start stop bytes last None state =
     record {
       sections = state.before;
       is_module =
-          subst (λ (u : List ℕ). IsModule u state.before) (sym (all_texts start stop bytes last None state))
-          (framed state.texts state.before state.are (in_order start stop bytes last None state));
+          subst (λ (u : List ℕ). IsModule u state.before) (sym (all_texts opening start stop bytes last None state))
+          (framed state.texts state.before state.are (in_order opening start stop bytes last None state));
       others = state.finds;
     }
 
-pub some_found : {R : Type 0} (start stop : R → ℕ) (bytes rest : List ℕ) (last : ℕ) (found : Option R) → State start stop bytes rest last found → true ≡ nat_eq (length rest) 0 → IfSome found (λ r. IsTypeSectionAt bytes (start r) (stop r))
-some_found start stop bytes rest last found state e =
-    ended_some start stop bytes last found (subst (λ (u : List ℕ). State start stop bytes u last found) (nothing_left rest e) state)
+pub some_found : {R : Type 0} (opening start stop : R → ℕ) (bytes rest : List ℕ) (last : ℕ) (found : Option R) → State opening start stop bytes rest last found → true ≡ nat_eq (length rest) 0 → IfSome found (λ r. IsTypeSectionFrom bytes (opening r) (start r) (stop r))
+some_found opening start stop bytes rest last found state e =
+    ended_some opening start stop bytes last found (subst (λ (u : List ℕ). State opening start stop bytes u last found) (nothing_left rest e) state)
 
-pub none_found : {R : Type 0} (start stop : R → ℕ) (bytes rest : List ℕ) (last : ℕ) (found : Option R) → State start stop bytes rest last found → true ≡ nat_eq (length rest) 0 → IfNone found (HasNoTypeSection bytes)
-none_found start stop bytes rest last found state e =
-    ended_none start stop bytes last found (subst (λ (u : List ℕ). State start stop bytes u last found) (nothing_left rest e) state)
+pub none_found : {R : Type 0} (opening start stop : R → ℕ) (bytes rest : List ℕ) (last : ℕ) (found : Option R) → State opening start stop bytes rest last found → true ≡ nat_eq (length rest) 0 → IfNone found (HasNoTypeSection bytes)
+none_found opening start stop bytes rest last found state e =
+    ended_none opening start stop bytes last found (subst (λ (u : List ℕ). State opening start stop bytes u last found) (nothing_left rest e) state)

@@ -4,8 +4,13 @@ use Rattle.std.specs.Prelude.{◌≡◌, ℕ, List, [], ◌∷◌, length, take,
 use Rattle.walrus_binary.specs.declared.error.Expected.{Expected}
 use Rattle.walrus_binary.specs.declared.error.Expected.TheVariants as expected
 use Rattle.walrus_binary.specs.declared.error.Fault.{Fault}
-use Rattle.walrus_binary.specs.Modules.{Section, section, magic, version}
+use Rattle.walrus_binary.specs.Modules.{Section, section, magic, version, IsTypeSectionAt}
 use Rattle.walrus_binary.specs.Steps.Reading.{◌>>=◌, wanted, u32_at}
+
+-- The type section whose id stands at `opening`, and whose content begins and ends there.
+pub record IsTypeSectionFrom (bytes : List ℕ) (opening start stop : ℕ) : Type 0 where
+  pub there : IsTypeSectionAt bytes start stop
+  pub opens : opening ≡ length there.front
 
 -- What a function answered, seen by view, is what reading gives.
 abbrev pub Reads : {X Y : Type 0} → (X → Y) → Result X Fault → Result Y Fault → Type 0

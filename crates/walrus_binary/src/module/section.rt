@@ -13,6 +13,9 @@ pub const CUSTOM: u8 = 0;
 /// The id of the type section.
 pub const TYPE: u8 = 1;
 
+/// How many bytes a module's header has.
+pub const HEADER_LEN: usize = 8;
+
 const MAGIC: [u8; 4] = [0x00, 0x61, 0x73, 0x6D];
 
 const VERSION: [u8; 4] = [0x01, 0x00, 0x00, 0x00];

@@ -1,7 +1,7 @@
 //! Refused memory: a call that was refused goes through when it is made again.
 //! Each request for memory of these tests may be refused, one in a run, and they still pass.
 use super::*;
-use crate::{EncodeError, encode_types};
+use crate::{EncodeError, ReplaceError, encode_types, replace_type_section};
 use std::test::*;
 
 // The groups of the bytes. After a refusal the call is made again.
@@ -66,5 +66,26 @@ fn a_refused_encode_writes_again(rt: HostRuntime) -> Result<(), Fail> {
     assert_eq!(rt; groups.len(), 2);
     assert_eq!(rt; sizes(&groups[0]), [1, 9, 0]);
     assert_eq!(rt; sizes(&groups[1]), [1, 1, 0]);
+    Ok(())
+}
+
+// The module with other types. After a refusal the call is made again.
+fn replace_again(alloc: Global, bytes: &[u8], content: &[u8]) -> Result<Vec<u8>, ReplaceError> {
+    match replace_type_section(alloc, bytes, content) {
+        Err(ReplaceError::Memory) => replace_type_section(alloc, bytes, content),
+        other => other,
+    }
+}
+
+#[test]
+fn a_refused_replacement_is_made_again(rt: HostRuntime) -> Result<(), Fail> {
+    let bytes = [0, 0x61, 0x73, 0x6D, 1, 0, 0, 0, 1, 1, 0, 3, 1, 0];
+    let new = replace_again(rt.alloc(), &bytes, &[1, 0x60, 0, 0])
+        .ok()
+        .ok_or("the second call replaces")?;
+    let wanted = [
+        0, 0x61, 0x73, 0x6D, 1, 0, 0, 0, 1, 4, 1, 0x60, 0, 0, 3, 1, 0,
+    ];
+    assert_eq!(rt; new.as_slice(), wanted.as_slice());
     Ok(())
 }

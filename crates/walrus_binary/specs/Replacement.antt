@@ -1,0 +1,38 @@
+-- Another content for the type section of a module.
+-- WebAssembly core specification, "Binary Format", modules and sections.
+use Rattle.std.specs.Prelude.{◌≡◌, ℕ, ◌<◌, ◌≤◌, ◌+◌, List, ◌∷◌, ◌++◌, length, take}
+use Rattle.std.specs.Prelude.{IfSome}
+use Rattle.walrus_binary.specs.declared.error.DecodeError.{DecodeError}
+use Rattle.walrus_binary.specs.Leb128.{IsU32}
+use Rattle.walrus_binary.specs.Faults.{error_offset}
+use Rattle.walrus_binary.specs.Modules.{section, IsSection, header, IsNoModule, BeginsNoModule, AreAroundTypes, IsTypeSectionAt, HasNoTypeSection}
+
+-- the shortest text of a type section with this content
+pub record IsShortestTypes (text content : List ℕ) : Type 0 where
+  pub is_section : IsSection text (section 1 content)
+  pub least : (others : List ℕ) → IsSection others (section 1 content) → length text ≤ length others
+
+-- The bytes of a module, and those of the one that has this content in its type section: what
+-- stands around that section is the same, and it comes first where there was none.
+pub data IsReplaced (content : List ℕ) : List ℕ → List ℕ → Type 0 where
+  replaced :
+      (front size before back text : List ℕ)
+      → AreAroundTypes front back → IsU32 size (length before) → IsShortestTypes text content
+      → IsReplaced content ((front ++ 1 ∷ size) ++ (before ++ back)) (front ++ (text ++ back))
+  inserted :
+      (texts text : List ℕ) → HasNoTypeSection (header ++ texts) → IsShortestTypes text content
+      → IsReplaced content (header ++ texts) (header ++ (text ++ texts))
+
+-- the bytes are a module, and this is the content of its type section
+pub record HasTypes (bytes content : List ℕ) : Type 0 where
+  pub start : ℕ
+  pub stop : ℕ
+  pub there : IsTypeSectionAt bytes start stop
+  pub same : there.content ≡ content
+
+-- The bytes are no module, and the error says where: in the bytes or at their end, and with the
+-- byte there no module goes on.
+pub record IsNoModuleBy (bytes : List ℕ) (e : DecodeError) : Type 0 where
+  pub no_module : IsNoModule bytes
+  pub place : IfSome (error_offset e) (λ offset. offset ≤ length bytes)
+  pub stuck : IfSome (error_offset e) (λ offset. offset < length bytes → BeginsNoModule (take (offset + 1) bytes))
