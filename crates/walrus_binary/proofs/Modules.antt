@@ -5,3 +5,4 @@ pub mod Seen
 pub mod Framing
 pub mod Faulting
 pub mod Replacing
+pub mod Uniqueness

@@ -1,6 +1,7 @@
-//! The theorems on texts of type sections. Nothing here runs.
-ghost use Rattle.std.specs.Prelude.{◌≡◌, ◌++◌, ℕ, List, []};
+//! The theorems on texts of type sections and on modules. Nothing here runs.
+ghost use Rattle.std.specs.Prelude.{◌≡◌, ◌∷◌, ◌++◌, ℕ, List, []};
 ghost use Rattle.walrus_binary.specs.Grammar.{IsTypes};
+ghost use Rattle.walrus_binary.specs.Modules.{Section, section, IsModule, IsTypeSectionAt};
 ghost use Rattle.walrus_ty.specs.declared.records.GroupAt.{GroupAt};
 
 /// Bytes are a text of one list of groups at most.
@@ -12,4 +13,15 @@ pub fn one_section()
 pub fn no_longer_text()
     ensures { (bytes more : List ℕ) (a b : List GroupAt) → IsTypes bytes a →
         IsTypes (bytes ++ more) b → more ≡ [] }
+{}
+
+/// Bytes are a module of one list of sections at most.
+pub fn one_module()
+    ensures { (bytes : List ℕ) (a b : List Section) → IsModule bytes a → IsModule bytes b → a ≡ b }
+{}
+
+/// Bytes in which a type section is located are a module that has it among its sections.
+pub fn located_types()
+    ensures { (bytes : List ℕ) (start stop : ℕ) (t : IsTypeSectionAt bytes start stop) →
+        (before after : List Section) × IsModule bytes (before ++ section 1 t.content ∷ after) }
 {}

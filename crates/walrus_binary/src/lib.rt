@@ -5,8 +5,8 @@
 //!   another content.
 //! - [`decode_types`] reads the groups of a section, and says where bytes are no text of groups.
 //! - [`encode_types`] writes the shortest text of groups.
-//! - [`laws`] has the theorems: bytes are a text of one list of groups at most, and no text
-//!   is the beginning of a longer one.
+//! - [`laws`] has the theorems: bytes are a text of one list of groups at most, no text is the
+//!   beginning of a longer one, and bytes are a module of one list of sections at most.
 #![tactic(auto)]
 
 mod decode;

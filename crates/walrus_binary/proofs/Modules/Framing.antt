@@ -67,7 +67,7 @@ Finds opening start stop texts before found =
 one_text : (text : List ℕ) (s : Section) → IsSection text s → AreItems IsSection text (s ∷ [])
 one_text text s h = subst (λ (u : List ℕ). AreItems IsSection u (s ∷ [])) (append-nil text) (next text [] s [] h none)
 
-joined : (a b : List ℕ) (xs ys : List Section) → AreItems IsSection a xs → AreItems IsSection b ys → AreItems IsSection (a ++ b) (xs ++ ys)
+pub joined : (a b : List ℕ) (xs ys : List Section) → AreItems IsSection a xs → AreItems IsSection b ys → AreItems IsSection (a ++ b) (xs ++ ys)
 joined _ b _ ys none k = k
 joined _ b _ ys (next text others s sections h hs) k =
     subst (λ (u : List ℕ). AreItems IsSection u (s ∷ (sections ++ ys))) (sym (append_assoc text others b)) (next text (others ++ b) s (sections ++ ys) h (joined others b sections ys hs k))
@@ -154,7 +154,7 @@ nothing : (last : ℕ) → section_at last [] ≡ Err (stop [] (reason.Expected 
 unfolding section_at id_at
 nothing last = refl
 
-nothing_reads : (last : ℕ) (bytes : List ℕ) (s : Section) (rest : List ℕ) → bytes ≡ [] → section_at last bytes ≡ Ok (s, rest) → ⊥
+pub nothing_reads : (last : ℕ) (bytes : List ℕ) (s : Section) (rest : List ℕ) → bytes ≡ [] → section_at last bytes ≡ Ok (s, rest) → ⊥
 nothing_reads last bytes s rest e h =
     no_reading (stop [] (reason.Expected expected.SectionId)) s rest (section_at last []) (nothing last) (ap (section_at last) (sym e) ∙ h)
 
