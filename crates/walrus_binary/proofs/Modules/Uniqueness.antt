@@ -1,9 +1,9 @@
 -- Bytes are a module of one list of sections, the type section among them.
-use Rattle.std.proofs.Common.{◌≡◌, ℕ, inl, inr, List, [], ◌∷◌, ◌++◌, Ok, refl, sym, ap, subst, ◌∙◌, append_assoc}
+use Rattle.std.proofs.Common.{◌≡◌, ℕ, inl, inr, List, [], ◌∷◌, ◌++◌, refl, sym, ap, subst, ◌∙◌, append_assoc}
 use Rattle.std.proofs.lemmas.List.{map-append, append_cancel_left}
 use Rattle.walrus_binary.specs.Grammar.{AreItems, none, next}
 use Rattle.walrus_binary.specs.Modules.{Section, section, ids, IsSection, sized, AreInOrder, header, IsModule, framed, AreAroundTypes, around, IsTypeSectionAt}
-use Rattle.walrus_binary.specs.Steps.Framing.{place_after, section_at}
+use Rattle.walrus_binary.specs.Steps.Framing.{place_after}
 use Rattle.walrus_binary.proofs.Basics.{value_is, rest_is}
 use Rattle.walrus_binary.proofs.Modules.Orders.{order_parts}
 use Rattle.walrus_binary.proofs.Modules.Readings.{section_complete}
