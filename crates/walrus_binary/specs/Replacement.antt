@@ -1,7 +1,6 @@
 -- Another content for the type section of a module.
 -- WebAssembly core specification, "Binary Format", modules and sections.
-use Rattle.std.specs.Prelude.{◌≡◌, ℕ, ◌<◌, ◌≤◌, ◌+◌, List, ◌∷◌, ◌++◌, length, take}
-use Rattle.std.specs.Prelude.{IfSome}
+use Rattle.std.specs.Prelude.{◌≡◌, ℕ, ◌<◌, ◌≤◌, ◌+◌, List, ◌∷◌, ◌++◌, length, take, IfSome}
 use Rattle.walrus_binary.specs.declared.error.DecodeError.{DecodeError}
 use Rattle.walrus_binary.specs.Leb128.{IsU32}
 use Rattle.walrus_binary.specs.Faults.{error_offset}
@@ -35,4 +34,6 @@ pub record HasTypes (bytes content : List ℕ) : Type 0 where
 pub record IsNoModuleBy (bytes : List ℕ) (e : DecodeError) : Type 0 where
   pub no_module : IsNoModule bytes
   pub place : IfSome (error_offset e) (λ offset. offset ≤ length bytes)
-  pub stuck : IfSome (error_offset e) (λ offset. offset < length bytes → BeginsNoModule (take (offset + 1) bytes))
+  pub stuck :
+      IfSome (error_offset e)
+      (λ offset. offset < length bytes → BeginsNoModule (take (offset + 1) bytes))
