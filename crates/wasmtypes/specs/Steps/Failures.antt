@@ -1,0 +1,24 @@
+-- What a failure says of the bytes, `Explains`, and the exit status that it has.
+use Rattle.std.specs.Prelude.{ℕ, List, IfSome}
+use Rattle.walrus_binary.specs.declared.error.DecodeError.{DecodeError}
+use Rattle.walrus_binary.specs.declared.error.DecodeError.TheVariants as decode
+use Rattle.walrus_binary.specs.Faults.{error_offset}
+use Rattle.wasmtypes.specs.declared.failure.Failure.{Failure}
+use Rattle.wasmtypes.specs.declared.failure.Failure.TheVariants as failure
+use Rattle.wasmtypes.specs.Runs.{HasBadTypes}
+
+-- what a failure says of the bytes
+abbrev pub Explains : Failure → List ℕ → Type 0
+Explains (failure.Refused e) bytes = IfSome (error_offset e) (λ offset. HasBadTypes bytes)
+Explains failure.Memory bytes = Unit {0}
+Explains failure.Stream bytes = Unit {0}
+
+abbrev pub decode_status : DecodeError → ℕ
+decode_status (decode.Malformed offset expected) = 1
+decode_status (decode.NotHeld offset what) = 1
+decode_status decode.Memory = 3
+
+abbrev pub status_of : Failure → ℕ
+status_of (failure.Refused e) = decode_status e
+status_of failure.Memory = 3
+status_of failure.Stream = 4
