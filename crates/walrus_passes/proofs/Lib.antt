@@ -1,2 +1,3 @@
 pub mod UnusedTypes
 pub mod Calling
+pub mod UsedTypes

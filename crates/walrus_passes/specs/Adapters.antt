@@ -1,10 +1,10 @@
 -- A function that calls another one of its type with its own parameters.
 -- WebAssembly core specification, "Functions"; "Variable Instructions" and "Control Instructions",
 -- `local.get` and `call`. That such a function is made is of this crate's own.
-use Rattle.std.specs.Prelude.{◌≡◌, ℕ, ◌+◌, List, [], ◌∷◌, ◌++◌, length, map, take, Some, None, ◌⊎◌}
+use Rattle.std.specs.Prelude.{◌≡◌, ℕ, List, [], ◌∷◌, ◌++◌, length, map, Some, None, ◌⊎◌}
 use Rattle.walrus_ty.specs.declared.ty.value.Val.{Val}
 use Rattle.walrus_types.specs.Table.{Table, FindsOrAdds, IsSameTable}
-use Rattle.walrus_ir.specs.Locals.{LocalVariable, unnamed_local}
+use Rattle.walrus_ir.specs.Locals.{LocalVariable, unnamed_locals}
 use Rattle.walrus_ir.specs.Sequence.{no_location}
 use Rattle.walrus_ir.specs.declared.instr_seq_type.InstrSeqType.TheVariants.{MultiValue}
 use Rattle.walrus_ir.specs.declared.ir.instr.Instr.{Instr}
@@ -12,11 +12,6 @@ use Rattle.walrus_ir.specs.declared.ir.instr.Instr.TheVariants.{LocalGet, Call}
 use Rattle.walrus_functions.specs.Beginning.{new_entry_type}
 use Rattle.walrus_functions.specs.Body.{Body}
 use Rattle.walrus_functions.specs.Locals.{FunctionWithArgs}
-
--- a local of each of these types, with ids from this one on
-abbrev pub new_locals : ℕ → List (Val ℕ) → List LocalVariable
-new_locals id [] = []
-new_locals id (ty ∷ types) = unnamed_local id ty ∷ new_locals (id + 1) types
 
 abbrev pub get_of : ℕ → Instr × ℕ
 get_of local = (LocalGet (record { local = local }), no_location)
@@ -53,7 +48,7 @@ AddsEntryOrNone old new results =
     IsSameTable old new
     ⊎ ((entry_ty : ℕ) × FindsOrAdds old new (new_entry_type old results) entry_ty)
 
--- the first few of the new locals came
-abbrev pub GainsSome : List LocalVariable → List LocalVariable → List (Val ℕ) → Type 0
-GainsSome old new types =
-    (count : ℕ) × (new ≡ old ++ new_locals (length old) (take count types))
+-- there are no new locals, or one for each of these types
+abbrev pub AddsLocalsOrNone : List LocalVariable → List LocalVariable → List (Val ℕ) → Type 0
+AddsLocalsOrNone old new types =
+    (new ≡ old) ⊎ (new ≡ old ++ unnamed_locals (length old) types)

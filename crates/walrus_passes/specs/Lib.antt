@@ -1,5 +1,6 @@
 pub mod NeededTypes
 pub mod WellNamed
+pub mod UsedTypes
 pub mod SnippedFunctions
 pub mod Adapters
 pub mod Steps

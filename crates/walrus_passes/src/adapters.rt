@@ -2,14 +2,15 @@
 ghost use Rattle.std.specs.Prelude.{◌≡◌, ◌++◌, length, IfOk, OnOk, OnErr, IsSome, IsSomeAnd};
 ghost use Rattle.std.specs.List.{range_with_len};
 ghost use Rattle.walrus_types.specs.Table.{signature_at};
+ghost use Rattle.walrus_ir.specs.Locals.{unnamed_locals};
 ghost use Rattle.walrus_functions.specs.Body.{with_instrs, instrs_of};
 ghost use Rattle.walrus_functions.specs.Building.{function_of, seq_id, IsKnown, Stays, StayKnown};
-ghost use Rattle.walrus_passes.specs.Adapters.{new_locals, call_with, adapter_body, Calls, AddsEntryOrNone, GainsSome};
+ghost use Rattle.walrus_passes.specs.Adapters.{call_with, adapter_body, Calls, AddsEntryOrNone, AddsLocalsOrNone};
 
 use std::alloc::{AllocError, Global};
 use walrus_functions::{BuildError, FunctionBuilder, InstrSeqBuilder, LocalFunction};
 use walrus_ir::{InstrSeqType, LocalId, ModuleLocals};
-use walrus_types::{FunctionId, ModuleTypes, TypeId, ValType};
+use walrus_types::{FunctionId, ModuleTypes, TypeId};
 
 /// A function of this type that calls `func`, such as an import of the type, with its own
 /// parameters, and returns what that returns.
@@ -20,8 +21,8 @@ use walrus_types::{FunctionId, ModuleTypes, TypeId, ValType};
 ///
 /// # Errors
 ///
-/// Where memory is refused. Then the table may have the entry type, and the locals some of the new
-/// ones; what was there is as it was.
+/// Where memory is refused. Then the table may have the entry type, and there may be all of the new
+/// locals or none; what was there is as it was.
 ///
 /// # A wrapper of an import
 ///
@@ -42,13 +43,13 @@ pub fn adapter(
     ensures args { IfOk result (λ adapter. IsSomeAnd (signature_at types.old ty)
         (λ f. adapter.args ≡ range_with_len (length locals.old) (length f.params))) }
     ensures locals { OnOk result (IsSomeAnd (signature_at types.old ty)
-        (λ f. locals.new ≡ locals.old ++ new_locals (length locals.old) f.params)) }
+        (λ f. locals.new ≡ locals.old ++ unnamed_locals (length locals.old) f.params)) }
     ensures types_err { OnErr result (IsSomeAnd (signature_at types.old ty)
         (λ f. AddsEntryOrNone types.old types.new f.results)) }
     ensures locals_err { OnErr result (IsSomeAnd (signature_at types.old ty)
-        (λ f. GainsSome locals.old locals.new f.params)) }
+        (λ f. AddsLocalsOrNone locals.old locals.new f.params)) }
 {
-    let args = add_locals(alloc, locals, types.params(ty))?;
+    let args = locals.add_all(types.params(ty))?;
     adapter_with(alloc, types, func, ty, args)
 }
 
@@ -71,24 +72,6 @@ fn adapter_with(
     let entry_ty = types.add_entry_ty(results.as_slice())?;
     let body = adapter_body(alloc, ty, entry_ty, args.as_slice(), func)?;
     Ok(body.local_func(args))
-}
-
-// Adds a local of each of these types, and answers their ids.
-fn add_locals(
-    alloc: Global,
-    locals: &mut ModuleLocals,
-    types: &[ValType],
-) -> Result<Vec<LocalId>, AllocError>
-    ensures ids { IfOk result
-        (λ ids. ids.items ≡ range_with_len (length locals.old) (length types.now)) }
-    ensures ok { OnOk result (locals.new ≡ locals.old ++ new_locals (length locals.old) types.now) }
-    ensures some { GainsSome locals.old locals.new types.now }
-{
-    let mut ids = Vec::with_capacity(alloc, types.len())?;
-    for ty in types {
-        ids.push_reserved(locals.add(*ty)?);
-    }
-    Ok(ids)
 }
 
 // The builder of a function that reads these locals and calls the function.

@@ -1,15 +1,20 @@
 //! Passes over WebAssembly modules.
 //!
-//! - [`delete_unused_types`] deletes the types that nothing needs.
+//! - [`delete_unused_types`] deletes the types that nothing needs, and [`used_types`] lists those
+//!   that a function uses.
 //! - [`snip`] makes the body of a function a single `unreachable`, and [`replace_with`] gives it
 //!   another one.
 //! - [`adapter`] makes a function that calls another one of its type.
+//! - [`laws`] has the theorems, such as that no type dies which a function uses.
 #![tactic(auto)]
 
 mod adapters;
 mod bodies;
+pub mod laws;
+mod roots;
 mod unused_types;
 
 pub use adapters::adapter;
 pub use bodies::{replace_with, snip};
+pub use roots::used_types;
 pub use unused_types::delete_unused_types;

@@ -12,3 +12,5 @@ mod bodies;
 mod refusals;
 #[cfg(test)]
 mod unused_types;
+#[cfg(test)]
+mod used_types;

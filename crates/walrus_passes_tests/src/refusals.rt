@@ -1,14 +1,15 @@
 //! Refused memory: what a refused call leaves, and that it goes through when it is made again.
 //! Each request for memory of these tests may be refused, one in a run, and they still pass.
 use crate::adapters::adapt;
-use crate::bodies::{BUILT, SNIPPED, function, is, snip_first, text_of};
+use crate::bodies::{BUILT, SNIPPED, are as are_locals, function, is, snip_first, text_of};
 use crate::unused_types::{are, delete_all_but, table};
+use crate::used_types::{hold_just, locals, nested_function};
 use std::alloc::{AllocError, Global};
 use std::process::Abort;
 use std::test::Fail;
 use walrus_functions::{BuildError, FunctionBuilder, LocalFunction, LocalFunctions};
 use walrus_ir::{InstrSeqType, LocalId, ModuleLocals};
-use walrus_passes::replace_with;
+use walrus_passes::{replace_with, used_types};
 use walrus_types::{AddRecGroupError, FunctionId, Id, ModuleTypes, TypeId, ValType};
 
 // The table of types. It is made again after a refusal.
@@ -117,7 +118,8 @@ fn a_refused_replacement_leaves_the_function(rt: HostRuntime) -> Result<(), Fail
     Ok(())
 }
 
-// A table with the type of a function that takes an `i32`. It is made again after a refusal.
+// A table with the type of a function that takes an `i32` and an `i64`. It is made again after a
+// refusal.
 fn types_again(alloc: Global) -> Result<ModuleTypes, AllocError> {
     match one_type(alloc) {
         Ok(types) => Ok(types),
@@ -127,12 +129,12 @@ fn types_again(alloc: Global) -> Result<ModuleTypes, AllocError> {
 
 fn one_type(alloc: Global) -> Result<ModuleTypes, AllocError> {
     let mut types = ModuleTypes::new(alloc);
-    types.add(&[ValType::I32], &[])?;
+    types.add(&[ValType::I32, ValType::I64], &[])?;
     Ok(types)
 }
 
-// The adapter. After a refusal the table has the type and up to one more, there is one local at
-// most, and the call is made again.
+// The adapter. After a refusal the table has the type and up to one more, there are both locals or
+// none, and the call is made again.
 fn adapt_again(
     rt: &impl Abort,
     alloc: Global,
@@ -142,8 +144,11 @@ fn adapt_again(
     if let Ok(func) = adapt(rt, alloc, types, locals, 0) {
         return Ok(func);
     }
+    let first: LocalId = Id::from_index(0);
     let second: LocalId = Id::from_index(1);
-    assert!(rt; !locals.contains(second));
+    let third: LocalId = Id::from_index(2);
+    assert_eq!(rt; locals.contains(first), locals.contains(second));
+    assert!(rt; !locals.contains(third));
     assert!(rt; types.contains(Id::from_index(0)));
     assert!(rt; !types.contains(Id::from_index(2)));
     adapt(rt, alloc, types, locals, 0)
@@ -156,21 +161,12 @@ fn text_again(alloc: Global, func: &LocalFunction) -> Result<String, AllocError>
     }
 }
 
-fn expected(alloc: Global, arg: usize) -> Result<String, AllocError> {
-    let mut text = String::new(alloc);
-    write!(
-        text,
-        "LocalGet(LocalGet {{ local: Id({arg}) }});Call(Call {{ func: Id(9) }});"
-    )?;
-    Ok(text)
-}
+// What the adapter does with the first two locals, or with the two after them.
+const WITH_FIRST: &str = "LocalGet(LocalGet { local: Id(0) });\
+    LocalGet(LocalGet { local: Id(1) });Call(Call { func: Id(9) });";
 
-fn expected_again(alloc: Global, arg: usize) -> Result<String, AllocError> {
-    match expected(alloc, arg) {
-        Ok(text) => Ok(text),
-        Err(_) => expected(alloc, arg),
-    }
-}
+const WITH_NEXT: &str = "LocalGet(LocalGet { local: Id(2) });\
+    LocalGet(LocalGet { local: Id(3) });Call(Call { func: Id(9) });";
 
 #[test]
 fn a_refused_adapter_is_made_again(rt: HostRuntime) -> Result<(), Fail> {
@@ -178,10 +174,40 @@ fn a_refused_adapter_is_made_again(rt: HostRuntime) -> Result<(), Fail> {
     let mut locals = ModuleLocals::new(rt.alloc());
     let func = adapt_again(&rt, rt.alloc(), &mut types, &mut locals)?;
     assert_eq!(rt; func.ty().index(), 0);
-    assert_eq!(rt; func.args.len(), 1);
-    for arg in func.args.as_slice() {
-        let text = expected_again(rt.alloc(), arg.index())?;
-        assert_eq!(rt; text_again(rt.alloc(), &func)?.as_str(), text.as_str());
+    let text = text_again(rt.alloc(), &func)?;
+    let args = func.args.as_slice();
+    let has_first = are_locals(args, &[0, 1]);
+    assert!(rt; has_first || are_locals(args, &[2, 3]));
+    assert_eq!(rt;
+        text.as_str(),
+        if has_first { WITH_FIRST } else { WITH_NEXT }
+    );
+    Ok(())
+}
+
+// The function of nested blocks. It is made again after a refusal.
+fn nested_again(alloc: Global) -> Result<LocalFunction, BuildError> {
+    match nested_function(alloc) {
+        Ok(func) => Ok(func),
+        Err(_) => nested_function(alloc),
     }
+}
+
+fn locals_again(alloc: Global) -> Result<ModuleLocals, AllocError> {
+    match locals(alloc) {
+        Ok(locals) => Ok(locals),
+        Err(_) => locals(alloc),
+    }
+}
+
+#[test]
+fn a_refused_list_of_used_types_is_made_again(rt: HostRuntime) -> Result<(), Fail> {
+    let func = nested_again(rt.alloc())?;
+    let locals = locals_again(rt.alloc())?;
+    let used = match used_types(rt.alloc(), &func, &locals) {
+        Ok(used) => used,
+        Err(_) => used_types(rt.alloc(), &func, &locals)?,
+    };
+    assert!(rt; used.is_some_and(|ids| hold_just(ids.as_slice(), &[7, 2, 3, 6])));
     Ok(())
 }

@@ -1,0 +1,21 @@
+-- The types that a function uses, as they are listed.
+use Rattle.std.specs.Prelude.{ℕ, List, ◌∷◌, ◌++◌}
+use Rattle.std.specs.List.{flat_map}
+use Rattle.walrus_ty.specs.Definition.{supertype_names}
+use Rattle.walrus_ir.specs.BlockTypes.{block_type_name}
+use Rattle.walrus_ir.specs.Locals.{LocalVariable}
+use Rattle.walrus_ir.specs.Sequence.{Sequence}
+use Rattle.walrus_functions.specs.Body.{sequence}
+use Rattle.walrus_functions.specs.Locals.{FunctionWithArgs}
+use Rattle.walrus_passes.specs.UsedTypes.{local_types, instr_types}
+
+-- the types of a sequence
+abbrev pub seq_types : List LocalVariable → Sequence → List ℕ
+seq_types locals s =
+    supertype_names (block_type_name s.ty) ++ flat_map (λ x. instr_types locals x.0) s.instrs
+
+-- the types of a function whose body is these sequences
+abbrev pub function_types : List LocalVariable → FunctionWithArgs → List ℕ → List ℕ
+function_types locals f seqs =
+    (f.body.ty ∷ flat_map (local_types locals) f.args)
+    ++ flat_map (λ id. seq_types locals (sequence f.body id)) seqs

@@ -1,0 +1,20 @@
+//! Laws of the passes. Each function does nothing; its clauses are theorems, which a caller gets by
+//! calling it.
+ghost use Rattle.std.specs.Prelude.{◌≡◌, ℕ, List, Contains};
+ghost use Rattle.walrus_types.specs.Table.{Table};
+ghost use Rattle.walrus_types.specs.TypesById.{live_type};
+ghost use Rattle.walrus_functions.specs.Locals.{FunctionWithArgs};
+ghost use Rattle.walrus_ir.specs.Locals.{LocalVariable};
+ghost use Rattle.walrus_passes.specs.NeededTypes.{Needed, Keeps};
+ghost use Rattle.walrus_passes.specs.UsedTypes.{UsesType};
+
+/// What a function uses stays where it stands among the roots: a table that keeps the types which
+/// the roots need, as [`delete_unused_types`](crate::delete_unused_types) leaves it, has each type
+/// that the function uses as it was.
+pub fn used_types_are_kept()
+    ensures { (old new : Table) (roots : List ℕ) → Keeps (Needed old roots) old new →
+        (locals : List LocalVariable) (f : FunctionWithArgs) →
+        ((id : ℕ) → UsesType locals f id → Contains roots id) →
+        (id : ℕ) → UsesType locals f id →
+        live_type new.types.slots id ≡ live_type old.types.slots id }
+{}

@@ -1,0 +1,195 @@
+//! The types that a function uses: the roots that it brings to the deletion of unused ones.
+ghost use Rattle.std.specs.Prelude.{◌≡◌, ◌↔◌, ℕ, ◌++◌, All, Contains, IfOk, OnOk, IsSome, IfSome};
+ghost use Rattle.std.specs.List.{flat_map};
+ghost use Rattle.walrus_ty.specs.Definition.{supertype_names};
+ghost use Rattle.walrus_functions.specs.Body.{Knows, sequence};
+ghost use Rattle.walrus_passes.specs.UsedTypes.{HasNestedBody, IsInBody, UsesType, local_types, instr_types, types_of};
+ghost use Rattle.walrus_passes.specs.Steps.UsedTypes.{seq_types};
+
+use std::alloc::{AllocError, Global};
+use walrus_functions::LocalFunction;
+use walrus_ir::{Instr, InstrSeq, InstrSeqId, LocalId, ModuleLocals};
+use walrus_traversals::{Nesting, check_nesting};
+use walrus_types::{TypeId, ValType};
+
+/// The types that a function uses, or `None` where its body is not nested from its entry: the roots
+/// that it brings to [`delete_unused_types`](crate::delete_unused_types).
+///
+/// They are its own type, the types of its parameters, and in the sequences that are reached from
+/// its entry the types of blocks and those of instructions: the ones that stand behind them, also
+/// behind `ref.null` and `select`, and those of the locals that they read and write. A type stands
+/// in the list as often as it is used. A local that `locals` does not know has no type.
+///
+/// It takes time linear in the size of the function, also where a sequence stands in several.
+/// Constant expressions have [`referenced_types`](walrus_ir::ConstExpr::referenced_types).
+///
+/// # Errors
+///
+/// Where memory is refused.
+///
+/// # Deleting what no function and no global uses
+///
+/// ```
+/// let Some(mut roots) = used_types(alloc, &func, &locals)? else {
+///     return Ok(());
+/// };
+/// init.referenced_types(&mut roots)?;
+/// delete_unused_types(alloc, &mut types, roots.as_slice())?;
+/// ```
+pub fn used_types(
+    alloc: Global,
+    func: &LocalFunction,
+    locals: &ModuleLocals,
+) -> Result<Option<Vec<TypeId>>, AllocError>
+    ensures nested { IfOk result (λ o. IsSome o ↔ HasNestedBody func.now.body) }
+    ensures types { IfOk result (λ o. IfSome o (λ ids. (id : ℕ) →
+        Contains ids.items id ↔ UsesType locals.now func.now id)) }
+{
+    let Some(seqs) = reached(alloc, func)? else {
+        return Ok(None);
+    };
+    let mut used = vec![in alloc; func.ty()]?;
+    add_locals(&mut used, locals, func.args.as_slice())?;
+    add_seqs(&mut used, locals, func, seqs.as_slice())?;
+    Ok(Some(used))
+}
+
+// The sequences that are reached from the entry, or `None` where the body is not nested.
+fn reached(alloc: Global, func: &LocalFunction) -> Result<Option<Vec<InstrSeqId>>, AllocError>
+    ensures nested { IfOk result (λ o. IsSome o ↔ HasNestedBody func.now.body) }
+    ensures reached { IfOk result (λ o. IfSome o (λ ids. (id : ℕ) →
+        Contains ids.items id ↔ IsInBody func.now.body id)) }
+    ensures known { IfOk result (λ o. IfSome o (λ ids. All (Knows func.now.body) ids.items)) }
+{
+    let Some(entry) = func.entry() else {
+        return Ok(Some(Vec::new(alloc)));
+    };
+    match check_nesting(alloc, func, entry)? {
+        Nesting::Nested(ids) => Ok(Some(ids)),
+        Nesting::Cycle { .. } => Ok(None),
+        Nesting::Unknown(_) => Ok(None),
+    }
+}
+
+// The types of these locals.
+fn add_locals(
+    used: &mut Vec<TypeId>,
+    locals: &ModuleLocals,
+    ids: &[LocalId],
+) -> Result<(), AllocError>
+    ensures { OnOk result
+        (used.new.items ≡ used.old.items ++ flat_map (local_types locals.now) ids.now) }
+{
+    for id in ids {
+        add_local(used, locals, *id)?;
+    }
+    Ok(())
+}
+
+fn add_local(used: &mut Vec<TypeId>, locals: &ModuleLocals, id: LocalId) -> Result<(), AllocError>
+    ensures { OnOk result (used.new.items ≡ used.old.items ++ local_types locals.now id) }
+{
+    if !locals.contains(id) {
+        return Ok(());
+    }
+    add(used, locals.get(id).ty().type_id())
+}
+
+// The types of these sequences.
+fn add_seqs(
+    used: &mut Vec<TypeId>,
+    locals: &ModuleLocals,
+    func: &LocalFunction,
+    ids: &[InstrSeqId],
+) -> Result<(), AllocError>
+    requires { All (Knows func.now.body) ids.now }
+    ensures { OnOk result (used.new.items ≡ used.old.items ++
+        flat_map (λ id. seq_types locals.now (sequence func.now.body id)) ids.now) }
+{
+    for id in ids {
+        add_seq(used, locals, func.block(*id))?;
+    }
+    Ok(())
+}
+
+fn add_seq(used: &mut Vec<TypeId>, locals: &ModuleLocals, seq: &InstrSeq) -> Result<(), AllocError>
+    ensures { OnOk result (used.new.items ≡ used.old.items ++ seq_types locals.now seq.now) }
+{
+    add(used, seq.ty.type_id())?;
+    for (instr, _) in &seq.instrs {
+        add_instr(used, locals, instr)?;
+    }
+    Ok(())
+}
+
+fn add_instr(used: &mut Vec<TypeId>, locals: &ModuleLocals, instr: &Instr) -> Result<(), AllocError>
+    ensures { OnOk result (used.new.items ≡ used.old.items ++ instr_types locals.now instr.now) }
+{
+    match instr {
+        Instr::CallIndirect(x) => add(used, Some(x.ty)),
+        Instr::ReturnCallIndirect(x) => add(used, Some(x.ty)),
+        Instr::CallRef(x) => add(used, Some(x.ty)),
+        Instr::ReturnCallRef(x) => add(used, Some(x.ty)),
+        Instr::LocalGet(x) => add_local(used, locals, x.local),
+        Instr::LocalSet(x) => add_local(used, locals, x.local),
+        Instr::LocalTee(x) => add_local(used, locals, x.local),
+        Instr::Select(x) => add_value_type(used, x.ty),
+        Instr::BrOnCast(x) => add_both(used, x.from_heap_type.type_id(), x.to_heap_type.type_id()),
+        Instr::BrOnCastFail(x) => {
+            add_both(used, x.from_heap_type.type_id(), x.to_heap_type.type_id())
+        }
+        Instr::RefNull(x) => add(used, x.ty.type_id()),
+        Instr::RefTest(x) => add(used, x.heap_type.type_id()),
+        Instr::RefCast(x) => add(used, x.heap_type.type_id()),
+        Instr::StructNew(x) => add(used, Some(x.ty)),
+        Instr::StructNewDefault(x) => add(used, Some(x.ty)),
+        Instr::StructGet(x) => add(used, Some(x.ty)),
+        Instr::StructGetS(x) => add(used, Some(x.ty)),
+        Instr::StructGetU(x) => add(used, Some(x.ty)),
+        Instr::StructSet(x) => add(used, Some(x.ty)),
+        Instr::ArrayNew(x) => add(used, Some(x.ty)),
+        Instr::ArrayNewDefault(x) => add(used, Some(x.ty)),
+        Instr::ArrayNewFixed(x) => add(used, Some(x.ty)),
+        Instr::ArrayNewData(x) => add(used, Some(x.ty)),
+        Instr::ArrayNewElem(x) => add(used, Some(x.ty)),
+        Instr::ArrayGet(x) => add(used, Some(x.ty)),
+        Instr::ArrayGetS(x) => add(used, Some(x.ty)),
+        Instr::ArrayGetU(x) => add(used, Some(x.ty)),
+        Instr::ArraySet(x) => add(used, Some(x.ty)),
+        Instr::ArrayFill(x) => add(used, Some(x.ty)),
+        Instr::ArrayCopy(x) => add_both(used, Some(x.dst_ty), Some(x.src_ty)),
+        Instr::ArrayInitData(x) => add(used, Some(x.ty)),
+        Instr::ArrayInitElem(x) => add(used, Some(x.ty)),
+        _ => Ok(()),
+    }
+}
+
+fn add_value_type(used: &mut Vec<TypeId>, ty: Option<ValType>) -> Result<(), AllocError>
+    ensures { OnOk result (used.new.items ≡ used.old.items ++ types_of ty) }
+{
+    match ty {
+        Some(ty) => add(used, ty.type_id()),
+        None => Ok(()),
+    }
+}
+
+fn add_both(
+    used: &mut Vec<TypeId>,
+    first: Option<TypeId>,
+    second: Option<TypeId>,
+) -> Result<(), AllocError>
+    ensures { OnOk result (used.new.items ≡
+        used.old.items ++ supertype_names first ++ supertype_names second) }
+{
+    add(used, first)?;
+    add(used, second)
+}
+
+fn add(used: &mut Vec<TypeId>, id: Option<TypeId>) -> Result<(), AllocError>
+    ensures { OnOk result (used.new.items ≡ used.old.items ++ supertype_names id) }
+{
+    if let Some(id) = id {
+        used.push(id)?;
+    }
+    Ok(())
+}

@@ -1,0 +1,245 @@
+//! Which types a function uses.
+use crate::unused_types::{are, table};
+use std::alloc::{AllocError, Global};
+use std::process::Abort;
+use std::test::Fail;
+use walrus_functions::{BuildError, FunctionBuilder, LocalFunction};
+use walrus_ir::{
+    ArrayCopy, Block, BrOnCast, CallIndirect, ConstExpr, Id, Instr, InstrSeqId, InstrSeqType,
+    LocalGet, LocalId, LocalSet, LocalTee, Loop, ModuleLocals, RefNull, RefTest, Select,
+};
+use walrus_passes::{delete_unused_types, used_types};
+use walrus_types::{Heap, HeapType, ModuleTypes, RefType, Reference, TypeId, Val, ValType};
+
+const NOTHING: InstrSeqType = InstrSeqType::Simple(None);
+
+fn ty(index: usize) -> TypeId {
+    TypeId::from_index(index)
+}
+
+fn heap(index: usize) -> HeapType {
+    Heap::Concrete(ty(index))
+}
+
+fn reference(index: usize) -> RefType {
+    Reference {
+        nullable: true,
+        heap_type: Heap::Exact(ty(index)),
+    }
+}
+
+fn value(index: usize) -> ValType {
+    Val::Ref(reference(index))
+}
+
+// The locals 0 to 3: an `i32`, and references to the types 50, 51 and 52.
+pub(crate) fn locals(alloc: Global) -> Result<ModuleLocals, AllocError> {
+    let mut locals = ModuleLocals::new(alloc);
+    locals.add(ValType::I32)?;
+    locals.add(value(50))?;
+    locals.add(value(51))?;
+    locals.add(value(52))?;
+    Ok(locals)
+}
+
+// Whether these are the types of these indices, in some order and each as often as it may be.
+pub(crate) fn hold_just(ids: &[TypeId], indices: &[usize]) -> bool {
+    ids.iter()
+        .all(|id| indices.iter().any(|index| id.index() == *index))
+        && indices
+            .iter()
+            .all(|index| ids.iter().any(|id| id.index() == *index))
+}
+
+// The function uses just the types of these indices.
+fn uses(
+    rt: &impl Abort,
+    alloc: Global,
+    func: &LocalFunction,
+    indices: &[usize],
+) -> Result<(), Fail> {
+    let locals = locals(alloc)?;
+    let used = used_types(alloc, func, &locals)?;
+    assert!(rt; used.is_some_and(|ids| hold_just(ids.as_slice(), indices)));
+    Ok(())
+}
+
+// A function of the type 7 whose one sequence has these instructions, and is of type 1.
+fn function(alloc: Global, instrs: Vec<Instr>) -> Result<LocalFunction, BuildError> {
+    let mut f = FunctionBuilder::without_entry(alloc, ty(7));
+    let mut body = f.dangling_instr_seq(InstrSeqType::MultiValue(ty(1)))?;
+    for instr in instrs {
+        body.instr(instr)?;
+    }
+    enter(&mut f, 0);
+    Ok(f.local_func(Vec::new(alloc)))
+}
+
+fn enter(f: &mut FunctionBuilder, index: usize) {
+    let id: InstrSeqId = Id::from_index(index);
+    if f.contains_seq(id) {
+        f.set_entry(id);
+    }
+}
+
+// Sequences in one another: a block 1, of a type that leaves a reference to 2, in the entry 0, and
+// a loop 2 of type 3 in that. The sequence 3 stands in none; it is of type 4, and names 5.
+fn nested(alloc: Global) -> Result<FunctionBuilder, BuildError> {
+    let mut f = FunctionBuilder::without_entry(alloc, ty(7));
+    let mut entry = f.dangling_instr_seq(NOTHING)?;
+    entry.instr(Block {
+        seq: Id::from_index(1),
+    })?;
+    let mut block = f.dangling_instr_seq(InstrSeqType::Simple(Some(value(2))))?;
+    block.instr(Loop {
+        seq: Id::from_index(2),
+    })?;
+    let mut again = f.dangling_instr_seq(InstrSeqType::MultiValue(ty(3)))?;
+    again.struct_new(ty(6))?;
+    let mut apart = f.dangling_instr_seq(InstrSeqType::MultiValue(ty(4)))?;
+    apart.struct_new(ty(5))?;
+    Ok(f)
+}
+
+// The function of these sequences, with its entry.
+pub(crate) fn nested_function(alloc: Global) -> Result<LocalFunction, BuildError> {
+    let mut f = nested(alloc)?;
+    enter(&mut f, 0);
+    Ok(f.local_func(Vec::new(alloc)))
+}
+
+#[test]
+fn a_function_uses_its_type_and_those_of_its_parameters(rt: HostRuntime) -> Result<(), Fail> {
+    let f = FunctionBuilder::without_entry(rt.alloc(), ty(7));
+    let first: LocalId = Id::from_index(0);
+    let third: LocalId = Id::from_index(2);
+    let unknown: LocalId = Id::from_index(9);
+    let func = f.local_func(vec![in rt.alloc(); first, third, unknown]?);
+    uses(&rt, rt.alloc(), &func, &[7, 51])
+}
+
+#[test]
+fn blocks_that_are_reached_use_their_types(rt: HostRuntime) -> Result<(), Fail> {
+    let func = nested_function(rt.alloc())?;
+    uses(&rt, rt.alloc(), &func, &[7, 2, 3, 6])
+}
+
+#[test]
+fn without_an_entry_no_sequence_is_reached(rt: HostRuntime) -> Result<(), Fail> {
+    let func = nested(rt.alloc())?.local_func(Vec::new(rt.alloc()));
+    uses(&rt, rt.alloc(), &func, &[7])
+}
+
+#[test]
+fn types_that_walks_do_not_report_are_used(rt: HostRuntime) -> Result<(), Fail> {
+    let null = Instr::from(RefNull { ty: reference(10) });
+    let select = Instr::from(Select {
+        ty: Some(value(11)),
+    });
+    let plain = Instr::from(Select { ty: None });
+    let instrs = vec![in rt.alloc(); null, select, plain]?;
+    uses(
+        &rt,
+        rt.alloc(),
+        &function(rt.alloc(), instrs)?,
+        &[7, 1, 10, 11],
+    )
+}
+
+#[test]
+fn instructions_use_the_types_behind_them(rt: HostRuntime) -> Result<(), Fail> {
+    let call = Instr::from(CallIndirect {
+        ty: ty(12),
+        table: Id::from_index(80),
+    });
+    let cast = Instr::from(BrOnCast {
+        block: Id::from_index(0),
+        from_nullable: true,
+        from_heap_type: heap(13),
+        to_nullable: false,
+        to_heap_type: heap(14),
+    });
+    let copy = Instr::from(ArrayCopy {
+        dst_ty: ty(15),
+        src_ty: ty(16),
+    });
+    let test = Instr::from(RefTest {
+        nullable: true,
+        heap_type: heap(17),
+    });
+    let instrs = vec![in rt.alloc(); call, cast, copy, test]?;
+    let func = function(rt.alloc(), instrs)?;
+    uses(&rt, rt.alloc(), &func, &[7, 1, 12, 13, 14, 15, 16, 17])
+}
+
+#[test]
+fn locals_that_are_read_and_written_bring_their_types(rt: HostRuntime) -> Result<(), Fail> {
+    let get = Instr::from(LocalGet {
+        local: Id::from_index(1),
+    });
+    let set = Instr::from(LocalSet {
+        local: Id::from_index(2),
+    });
+    let tee = Instr::from(LocalTee {
+        local: Id::from_index(0),
+    });
+    let instrs = vec![in rt.alloc(); get, set, tee]?;
+    uses(
+        &rt,
+        rt.alloc(),
+        &function(rt.alloc(), instrs)?,
+        &[7, 1, 50, 51],
+    )
+}
+
+#[test]
+fn a_body_that_is_not_nested_has_no_list(rt: HostRuntime) -> Result<(), Fail> {
+    let locals = locals(rt.alloc())?;
+    let itself = Instr::from(Block {
+        seq: Id::from_index(0),
+    });
+    let func = function(rt.alloc(), vec![in rt.alloc(); itself]?)?;
+    assert!(rt; used_types(rt.alloc(), &func, &locals)?.is_none());
+    let unknown = Instr::from(Block {
+        seq: Id::from_index(1),
+    });
+    let func = function(rt.alloc(), vec![in rt.alloc(); unknown]?)?;
+    assert!(rt; used_types(rt.alloc(), &func, &locals)?.is_none());
+    Ok(())
+}
+
+// A function of the type 2 of the table of `unused_types`, which makes a struct of type 0.
+fn maker(alloc: Global) -> Result<LocalFunction, BuildError> {
+    let mut f = FunctionBuilder::without_entry(alloc, ty(2));
+    let mut body = f.dangling_instr_seq(InstrSeqType::MultiValue(ty(5)))?;
+    body.struct_new(ty(0))?;
+    enter(&mut f, 0);
+    Ok(f.local_func(Vec::new(alloc)))
+}
+
+#[test]
+fn what_a_function_and_a_constant_use_is_kept(rt: HostRuntime) -> Result<(), Fail> {
+    let mut types = table(rt.alloc())?;
+    let locals = ModuleLocals::new(rt.alloc());
+    let func = maker(rt.alloc())?;
+    let mut roots = match used_types(rt.alloc(), &func, &locals)? {
+        Some(roots) => roots,
+        None => Vec::new(rt.alloc()),
+    };
+    ConstExpr::RefNull(reference(3)).referenced_types(&mut roots)?;
+    assert!(rt; hold_just(roots.as_slice(), &[2, 5, 0, 3]));
+    let deleted = delete_all_but_these(&rt, rt.alloc(), &mut types, roots.as_slice())?;
+    assert!(rt; are(deleted.as_slice(), &[1]));
+    assert!(rt; are(types.live_ids()?.as_slice(), &[0, 2, 3, 4, 5]));
+    Ok(())
+}
+
+fn delete_all_but_these(
+    rt: &impl Abort,
+    alloc: Global,
+    types: &mut ModuleTypes,
+    roots: &[TypeId],
+) -> Result<Vec<TypeId>, AllocError> {
+    assert!(rt; roots.iter().all(|id| types.contains(*id)));
+    delete_unused_types(alloc, types, roots)
+}
