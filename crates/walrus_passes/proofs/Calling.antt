@@ -9,7 +9,7 @@ use Rattle.walrus_ir.specs.Locals.{unnamed_locals}
 use Rattle.walrus_ir.specs.Sequence.{Sequence, empty_sequence, no_location}
 use Rattle.walrus_ir.specs.declared.instr_seq_type.InstrSeqType.TheVariants.{Simple}
 use Rattle.walrus_ir.specs.declared.ir.instr.Instr.{Instr}
-use Rattle.walrus_ir.specs.declared.ir.instr.Instr.TheVariants.{LocalGet, Call}
+use Rattle.walrus_ir.specs.declared.ir.instr.Instr.TheVariants.{Call}
 use Rattle.walrus_functions.specs.Body.{Body, Knows, sequence, with_sequence, with_instrs, with_instr}
 use Rattle.walrus_passes.specs.Adapters.{get_of, call_with}
 

@@ -1,3 +1,4 @@
 pub mod UnusedTypes
 pub mod Calling
 pub mod UsedTypes
+pub mod IndexMaps

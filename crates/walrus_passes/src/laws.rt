@@ -1,10 +1,11 @@
 //! Laws of the passes. Each function does nothing; its clauses are theorems, which a caller gets by
 //! calling it.
-ghost use Rattle.std.specs.Prelude.{◌≡◌, ℕ, List, Contains};
+ghost use Rattle.std.specs.Prelude.{◌≡◌, ℕ, List, Option, Contains, map};
 ghost use Rattle.walrus_types.specs.Table.{Table};
 ghost use Rattle.walrus_types.specs.TypesById.{live_type};
 ghost use Rattle.walrus_functions.specs.Locals.{FunctionWithArgs};
 ghost use Rattle.walrus_ir.specs.Locals.{LocalVariable};
+ghost use Rattle.walrus_passes.specs.IndexMaps.{new_index, index_through};
 ghost use Rattle.walrus_passes.specs.NeededTypes.{Needed, Keeps};
 ghost use Rattle.walrus_passes.specs.UsedTypes.{UsesType};
 
@@ -17,4 +18,11 @@ pub fn used_types_are_kept()
         ((id : ℕ) → UsesType locals f id → Contains roots id) →
         (id : ℕ) → UsesType locals f id →
         live_type new.types.slots id ≡ live_type old.types.slots id }
+{}
+
+/// The new index of an old one is what both maps give in turn: from the old index to the type that
+/// it stands for, and from that to its index. So it has one exactly where both have something.
+pub fn new_indices_compose()
+    ensures { (ids : List ℕ) (index : ℕ → Option ℕ) (old : ℕ) →
+        new_index (map index ids) old ≡ index_through ids index old }
 {}

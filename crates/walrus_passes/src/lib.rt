@@ -5,16 +5,20 @@
 //! - [`snip`] makes the body of a function a single `unreachable`, and [`replace_with`] gives it
 //!   another one.
 //! - [`adapter`] makes a function that calls another one of its type.
+//! - [`new_indices`] maps the type indices of a section to those that it gets once it is written
+//!   again.
 //! - [`laws`] has the theorems, such as that no type dies which a function uses.
 #![tactic(auto)]
 
 mod adapters;
 mod bodies;
+mod index_maps;
 pub mod laws;
 mod roots;
 mod unused_types;
 
 pub use adapters::adapter;
 pub use bodies::{replace_with, snip};
+pub use index_maps::new_indices;
 pub use roots::used_types;
 pub use unused_types::delete_unused_types;

@@ -2,6 +2,7 @@
 //! Each request for memory of these tests may be refused, one in a run, and they still pass.
 use crate::adapters::adapt;
 use crate::bodies::{BUILT, SNIPPED, are as are_locals, function, is, snip_first, text_of};
+use crate::index_maps::{are as are_indices, read};
 use crate::unused_types::{are, delete_all_but, table};
 use crate::used_types::{hold_just, locals, nested_function};
 use std::alloc::{AllocError, Global};
@@ -9,8 +10,11 @@ use std::process::Abort;
 use std::test::Fail;
 use walrus_functions::{BuildError, FunctionBuilder, LocalFunction, LocalFunctions};
 use walrus_ir::{InstrSeqType, LocalId, ModuleLocals};
-use walrus_passes::{replace_with, used_types};
-use walrus_types::{AddRecGroupError, FunctionId, Id, ModuleTypes, TypeId, ValType};
+use walrus_passes::{new_indices, replace_with, used_types};
+use walrus_types::{
+    AddRecGroupError, EmitError, FunctionId, GroupAt, Id, IdsToIndices, ModuleTypes, ReadError,
+    TypeId, ValType,
+};
 
 // The table of types. It is made again after a refusal.
 fn table_again(alloc: Global) -> Result<ModuleTypes, AddRecGroupError> {
@@ -209,5 +213,32 @@ fn a_refused_list_of_used_types_is_made_again(rt: HostRuntime) -> Result<(), Fai
         Err(_) => used_types(rt.alloc(), &func, &locals)?,
     };
     assert!(rt; used.is_some_and(|ids| hold_just(ids.as_slice(), &[7, 2, 3, 6])));
+    Ok(())
+}
+
+// The table of a section with its ids. It is read again after a refusal.
+fn read_again(alloc: Global) -> Result<(ModuleTypes, Vec<TypeId>), ReadError> {
+    match read(alloc) {
+        Ok(section) => Ok(section),
+        Err(_) => read(alloc),
+    }
+}
+
+fn emit_again(types: &ModuleTypes) -> Result<(Vec<GroupAt>, IdsToIndices), EmitError> {
+    match types.emit() {
+        Ok(written) => Ok(written),
+        Err(_) => types.emit(),
+    }
+}
+
+#[test]
+fn a_refused_map_of_indices_is_made_again(rt: HostRuntime) -> Result<(), Fail> {
+    let (types, ids) = read_again(rt.alloc())?;
+    let (_, indices) = emit_again(&types)?;
+    let new = match new_indices(rt.alloc(), ids.as_slice(), &indices) {
+        Ok(new) => new,
+        Err(_) => new_indices(rt.alloc(), ids.as_slice(), &indices)?,
+    };
+    assert!(rt; are_indices(new.as_slice(), &[Some(1), Some(0), Some(1)]));
     Ok(())
 }

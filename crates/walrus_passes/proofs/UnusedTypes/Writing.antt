@@ -1,21 +1,19 @@
 -- A table whose names stand for types that are written keeps them so.
-use Rattle.std.proofs.Common.{◌≡◌, ℕ, zero, suc, ◌<◌, ◌⊎◌, inl, inr, Bool, true, false, nat_eq, List, [], ◌∷◌, length, refl, sym, ap, subst, ◌∙◌, arith, Some, None, Option, IsSome, Contains, All}
-use Rattle.std.specs.List.{slice_get, list_any}
+use Rattle.std.proofs.Common.{◌≡◌, ℕ, zero, suc, inl, inr, List, [], ◌∷◌, refl, sym, ap, subst, ◌∙◌, arith, Some, None, Option, IsSome, All}
+use Rattle.std.specs.List.{slice_get}
 use Rattle.std.specs.Option.{IsSomeAnd}
 use Rattle.walrus_ty.specs.Definition.{Definition, Names, names_of}
 use Rattle.walrus_ty.specs.Types.{ModuleType, type_definition}
-use Rattle.walrus_types.specs.SlotMap.{TypeGroup}
-use Rattle.walrus_types.specs.Emission.{group_at, IsMember, IsGrouped, IsWritten, IsFreeGroup, IsInversion, IsWrittenBefore}
-use Rattle.walrus_types.specs.Refusal.{HasIndexBy, IsMissing}
+use Rattle.walrus_types.specs.Emission.{group_at, IsMember, IsWritten, IsFreeGroup}
+use Rattle.walrus_types.specs.Refusal.{HasIndexBy}
 use Rattle.walrus_types.specs.declared.table.rec_group.RecGroup.{RecGroup}
 use Rattle.walrus_types.specs.TypesById.{TypeSlots, live_type, IsLive}
 use Rattle.walrus_types.specs.Table.{Table, IsTable, IsIdAt, rec_group_at, DeletesAll}
 use Rattle.walrus_types.specs.TableEmission.{type_groups, slot_definition, definition_at, slot_is_entry, is_entry_at}
 use Rattle.walrus_types.proofs.Emission.PairsOfGroups.{at_member, to_member}
-use Rattle.walrus_types.proofs.Tables.Places.{any_has, has_any}
-use Rattle.walrus_passes.specs.NeededTypes.{Needed, named, grouped, IsNamedBy, AreUnused, Keeps}
+use Rattle.walrus_passes.specs.NeededTypes.{Needed, named, grouped, AreUnused, Keeps}
 use Rattle.walrus_passes.specs.WellNamed.{IsWellNamed}
-use Rattle.walrus_passes.proofs.UnusedTypes.Elements.{contains_from_get, get_from_contains}
+use Rattle.walrus_passes.proofs.UnusedTypes.Elements.{contains_from_get}
 use Rattle.walrus_passes.proofs.UnusedTypes.Keeping.{needed_kept}
 
 ids_at :

@@ -1,0 +1,71 @@
+//! The new indices of a section that is written again.
+use std::alloc::{AllocError, Global};
+use std::process::Abort;
+use std::test::Fail;
+use walrus_passes::{delete_unused_types, new_indices};
+use walrus_types::{
+    CompAt, EntryAt, GroupAt, HashKeys, IdsToIndices, Listed, ModuleTypes, ReadError, TypeId,
+    parse_types,
+};
+
+// A final entry that stands alone.
+fn single(comp: CompAt) -> GroupAt {
+    GroupAt::Single(EntryAt {
+        comp,
+        is_final: true,
+        supertype: None,
+    })
+}
+
+fn structure(alloc: Global) -> GroupAt {
+    single(CompAt::Struct {
+        fields: Listed::from_vec(Vec::new(alloc)),
+    })
+}
+
+fn function(alloc: Global) -> GroupAt {
+    single(CompAt::Function {
+        params: Listed::from_vec(Vec::new(alloc)),
+        results: Listed::from_vec(Vec::new(alloc)),
+    })
+}
+
+// A struct, a function, and the struct again. As functions come first where sections are written,
+// the function gets the index 0, and the struct, under both of its old indices, the index 1.
+pub(crate) fn read(alloc: Global) -> Result<(ModuleTypes, Vec<TypeId>), ReadError> {
+    let groups = vec![in alloc; structure(alloc), function(alloc), structure(alloc)]?;
+    parse_types(alloc, HashKeys::fixed(), groups.as_slice())
+}
+
+// Whether these are the new indices.
+pub(crate) fn are(new: &[Option<u32>], expected: &[Option<u32>]) -> bool {
+    new.len() == expected.len() && new.iter().zip(expected).all(|(a, b)| *a == *b)
+}
+
+#[test]
+fn equal_types_get_one_index(rt: HostRuntime) -> Result<(), Fail> {
+    let (types, ids) = read(rt.alloc())?;
+    let (_, indices) = types.emit()?;
+    let new = new_indices(rt.alloc(), ids.as_slice(), &indices)?;
+    assert!(rt; are(new.as_slice(), &[Some(1), Some(0), Some(1)]));
+    Ok(())
+}
+
+#[test]
+fn a_type_that_is_not_written_has_no_new_index(rt: HostRuntime) -> Result<(), Fail> {
+    let (mut types, ids) = read(rt.alloc())?;
+    let root = TypeId::from_index(0);
+    assert!(rt; types.contains(root));
+    delete_unused_types(rt.alloc(), &mut types, &[root])?;
+    let (_, indices) = types.emit()?;
+    let new = new_indices(rt.alloc(), ids.as_slice(), &indices)?;
+    assert!(rt; are(new.as_slice(), &[Some(0), None, Some(0)]));
+    Ok(())
+}
+
+#[test]
+fn an_empty_section_has_no_indices(rt: HostRuntime) -> Result<(), Fail> {
+    let new = new_indices(rt.alloc(), &[], &IdsToIndices::new(rt.alloc()))?;
+    assert!(rt; new.is_empty());
+    Ok(())
+}
