@@ -5,8 +5,9 @@ use std::process::Abort;
 use std::test::Fail;
 use walrus_functions::{BuildError, FunctionBuilder, LocalFunction};
 use walrus_ir::{
-    ArrayCopy, Block, BrOnCast, CallIndirect, ConstExpr, Id, Instr, InstrSeqId, InstrSeqType,
-    LocalGet, LocalId, LocalSet, LocalTee, Loop, ModuleLocals, RefNull, RefTest, Select,
+    ArrayCopy, Block, BrOnCast, CallIndirect, ConstExpr, Id, Instr, InstrLocId, InstrSeqId,
+    InstrSeqType, LocalGet, LocalId, LocalSet, LocalTee, Loop, ModuleLocals, RefNull, RefTest,
+    Select,
 };
 use walrus_passes::{delete_unused_types, used_types};
 use walrus_types::{Heap, HeapType, ModuleTypes, RefType, Reference, TypeId, Val, ValType};
@@ -66,13 +67,23 @@ fn uses(
 
 // A function of the type 7 whose one sequence has these instructions, and is of type 1.
 fn function(alloc: Global, instrs: Vec<Instr>) -> Result<LocalFunction, BuildError> {
+    let located = with_locations(alloc, instrs)?;
     let mut f = FunctionBuilder::without_entry(alloc, ty(7));
     let mut body = f.dangling_instr_seq(InstrSeqType::MultiValue(ty(1)))?;
-    for instr in instrs {
-        body.instr(instr)?;
-    }
+    *body.instrs_mut() = located;
     enter(&mut f, 0);
     Ok(f.local_func(Vec::new(alloc)))
+}
+
+fn with_locations(
+    alloc: Global,
+    instrs: Vec<Instr>,
+) -> Result<Vec<(Instr, InstrLocId)>, AllocError> {
+    let mut list = Vec::new(alloc);
+    for instr in instrs {
+        list.push((instr, InstrLocId::default()))?;
+    }
+    Ok(list)
 }
 
 fn enter(f: &mut FunctionBuilder, index: usize) {
