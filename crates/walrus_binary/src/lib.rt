@@ -7,6 +7,20 @@
 //! - [`encode_types`] writes the shortest text of groups.
 //! - [`laws`] has the theorems: bytes are a text of one list of groups at most, no text is the
 //!   beginning of a longer one, and bytes are a module of one list of sections at most.
+//!
+//! Whether the bytes are read as groups that have this text for their shortest:
+//!
+//! ```
+//! fn shortens(alloc: Global, bytes: &[u8], shortest: &[u8]) -> bool {
+//!     let Ok(groups) = decode_types(alloc, bytes) else {
+//!         return false;
+//!     };
+//!     match encode_types(alloc, &groups) {
+//!         Ok(written) => written.as_slice() == shortest,
+//!         Err(_) => false,
+//!     }
+//! }
+//! ```
 #![tactic(auto)]
 
 mod decode;

@@ -4,6 +4,23 @@
 //! - [`RenameTypes`] is a visitor that renames types.
 //! - [`laws`] has the theorems, such as what a walk with [`RenameTypes`] leaves of a whole body.
 //!
+//! Renames the types of a body by the list of their new ids, and tells whether all was walked:
+//!
+//! ```
+//! fn is_renamed(
+//!     alloc: Global,
+//!     func: &mut LocalFunction,
+//!     names: Vec<TypeId>,
+//! ) -> Result<bool, AllocError> {
+//!     let start = id(0);
+//!     let mut visitor = RenameTypes::new(names);
+//!     match check_nesting(alloc, func, start)? {
+//!         Nesting::Nested(_) => Ok(dfs_pre_order_mut(alloc, &mut visitor, func, start).is_ok()),
+//!         Nesting::Cycle { .. } | Nesting::Unknown(_) => Ok(false),
+//!     }
+//! }
+//! ```
+//!
 //! What goes into such a walk stands here too, from the crates below: functions and their builders,
 //! the nesting check, the in-order walk, and the names that hooks are given.
 #![tactic(auto)]

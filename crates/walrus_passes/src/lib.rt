@@ -8,6 +8,18 @@
 //! - [`new_indices`] maps the type indices of a section to those that it gets once it is written
 //!   again.
 //! - [`laws`] has the theorems, such as that no type dies which a function uses.
+//!
+//! Of two types one is used, and the section written has that one alone:
+//!
+//! ```
+//! let mut types = ModuleTypes::new(rt.alloc());
+//! types.add(&[ValType::F64], &[])?;
+//! let used = types.add(&[ValType::I32], &[])?;
+//! delete_unused_types(rt.alloc(), &mut types, &[used])?;
+//! let (groups, _) = types.emit()?;
+//! let section = encode_types(rt.alloc(), groups.as_slice())?;
+//! assert_eq!(rt; section.as_slice(), [1, 0x60, 1, 0x7F, 0].as_slice());
+//! ```
 #![tactic(auto)]
 
 mod adapters;

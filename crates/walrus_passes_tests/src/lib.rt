@@ -9,6 +9,8 @@ mod adapters;
 #[cfg(test)]
 mod bodies;
 #[cfg(test)]
+mod examples;
+#[cfg(test)]
 mod index_maps;
 #[cfg(test)]
 mod refusals;

@@ -8,6 +8,15 @@
 //! - [`first_error`] says why a recursion group can't be read.
 //! - [`laws`] has the theorems: there is one normal form, a second round changes nothing, and moves
 //!   of three kinds lead to it.
+//!
+//! An array type and a function type that name no index change places, and the map says so:
+//!
+//! ```
+//! let given = [GroupAt::Single(array(ValAt::I32)), GroupAt::Single(func(alloc))];
+//! let turned = [GroupAt::Single(func(alloc)), GroupAt::Single(array(ValAt::I32))];
+//! assert!(rt; is_normal_form(alloc, &given, &turned, &[1, 0])?);
+//! assert!(rt; !is_normal_form(alloc, &given, &given, &[0, 1])?);
+//! ```
 #![tactic(auto)]
 
 mod error;

@@ -5,6 +5,22 @@
 //! - [`UsedIds`] is a visitor that collects the ids that a body names, and [`used_ids`] checks and
 //!   walks in one.
 //! - [`laws`] has the theorems.
+//!
+//! How many sequences are reached from the first one on, and how many locals are named there:
+//!
+//! ```
+//! fn reached(alloc: Global, func: &LocalFunction) -> Result<Option<usize>, AllocError> {
+//!     match check_nesting(alloc, func, Id::from_index(0))? {
+//!         Nesting::Nested(seqs) => Ok(Some(seqs.len())),
+//!         Nesting::Cycle { .. } | Nesting::Unknown(_) => Ok(None),
+//!     }
+//! }
+//!
+//! fn named_locals(alloc: Global, func: &LocalFunction) -> Result<Option<usize>, AllocError> {
+//!     let ids = used_ids(alloc, func, Id::from_index(0))?;
+//!     Ok(ids.map(|ids| ids.locals.len()))
+//! }
+//! ```
 #![tactic(auto)]
 
 mod fields;

@@ -5,6 +5,16 @@
 //!   [`IndicesToIds`] and [`IdsToIndices`] lead from one to the other.
 //! - [`laws`] and [`record_laws`] have the theorems: how types and records compare, and that their
 //!   texts and contents tell them.
+//!
+//! A record is read as a type through a map from indices to ids, and written again through one from
+//! ids to indices:
+//!
+//! ```
+//! fn both_ways(alloc: Global, comp: &CompAt) -> Result<CompAt, Fail> {
+//!     let read = CompositeType::from_record(alloc, comp, &ids(alloc)?)?;
+//!     Ok(read.to_record(alloc, &indices(alloc)?)?)
+//! }
+//! ```
 #![tactic(auto)]
 
 mod convert;

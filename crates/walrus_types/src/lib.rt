@@ -10,6 +10,16 @@
 //!   an answer, and [`same_up_to_moves`] compares two sections.
 //! - [`laws`] and [`record_laws`] have the theorems.
 //!
+//! The normal form of a section and the place of each entry in it, which the slow program judges
+//! too:
+//!
+//! ```
+//! let (output, places) = normalise(alloc, HashKeys::fixed(), groups.as_slice())?;
+//! assert!(rt; output == wanted);
+//! assert_eq!(rt; places.as_slice(), map);
+//! assert!(rt; is_normal_form(alloc, groups.as_slice(), wanted.as_slice(), map)?);
+//! ```
+//!
 //! Nothing here says what is valid: whether a supertype is final or matches, for one, is not looked
 //! at.
 #![tactic(auto)]
