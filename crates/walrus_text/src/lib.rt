@@ -27,6 +27,17 @@
 //! What follows a colon belongs to the same word. A type that is not `open` is final. A field after
 //! `mut:` can be written, a reference after `null:` may be null. An index is a number below 2^32 in
 //! decimal digits, without a sign and without leading zeros; what it names is not looked at.
+//!
+//! Spaces and lines without words do not come back:
+//!
+//! ```
+//! let mut reader = b"rec\nend\n \n  open   struct\n\nfunc -> i32".as_slice();
+//! let groups = read_section(alloc, &mut reader)?;
+//! let mut out: Vec<u8> = Vec::new(alloc);
+//! write_output(&mut out, groups.as_slice(), &[1, 0, 4294967295])?;
+//! let wanted = b"rec\nend\nopen struct\nfunc -> i32\nmap 1 0 4294967295\n".as_slice();
+//! assert_eq!(rt; out.as_slice(), wanted);
+//! ```
 #![tactic(auto)]
 
 mod error;
