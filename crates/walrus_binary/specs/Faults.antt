@@ -25,7 +25,8 @@ error_offset (decode.Malformed offset expected) = Some offset
 error_offset (decode.NotHeld offset what) = Some offset
 error_offset decode.Memory = None
 
--- The byte at that place can't stand there. Several supertypes are named where their count begins.
+-- The byte at the place of the error can't stand there. Nothing is said of several supertypes:
+-- their place is where their count begins, and the first byte of a count may be right.
 abbrev pub IsSeenThere : DecodeError → Type 0
 IsSeenThere (decode.Malformed offset expected) = Unit {0}
 IsSeenThere (decode.NotHeld offset held.Supertypes) = ⊥

@@ -116,7 +116,7 @@ abbrev pub sub_code : Bool → ℕ
 sub_code true = 0x4F
 sub_code false = 0x50
 
--- What is final and has no supertype may stand without the two.
+-- A final definition without supertype may also stand as its composite type alone.
 pub data IsSubType : List ℕ → EntryAt → Type 0 where
   declared :
       (supers bytes : List ℕ) (is_final : Bool) (supertype : Option ℕ) (c : CompAt)

@@ -17,6 +17,6 @@ pub data IsInteger (end : ℕ) : ℕ → List ℕ → ℕ → Type 0 where
 abbrev pub IsU32 : List ℕ → ℕ → Type 0
 IsU32 = IsInteger 0x80 (2 ^ 32)
 
--- The bit 0x40 of the last byte is the sign.
+-- The bit 0x40 of the last byte is the sign, and clear: no index is negative.
 abbrev pub IsS33 : List ℕ → ℕ → Type 0
 IsS33 = IsInteger 0x40 (2 ^ 32)

@@ -14,11 +14,20 @@ use crate::error::{DecodeError, Expected, ReadError};
 use std::alloc::Global;
 use walrus_ty::GroupAt;
 
-/// The groups of a type section, of which `bytes` are all that stands after its id and size.
+/// The groups of a type section, of which `bytes` are all that stands after its id and size
+/// (WebAssembly core specification, "Binary Format", "Type Section").
 ///
-/// An error says at which byte the bytes stop being a text of groups: no text begins with the bytes
-/// up to that one and with it. Integers may be longer than they need to be, as far as the
-/// specification lets them. A count takes no memory for what doesn't follow it.
+/// Integers may be longer than they need to be, as far as the specification lets them. What an
+/// index stands for is not looked at. A count takes no memory for what doesn't follow it.
+///
+/// # Errors
+///
+/// [`DecodeError::Malformed`] and [`DecodeError::NotHeld`] say at which byte the bytes stop being a
+/// text of groups: no text begins with the bytes up to that one and with it. Only several
+/// supertypes are told at the first byte of their count, with which a text may still go on.
+/// [`DecodeError::Memory`] comes where memory was refused.
+///
+/// # A section of one function type
 ///
 /// ```
 /// let groups = decode_types(alloc, &[1, 0x60, 1, 0x7F, 0])?;

@@ -14,10 +14,16 @@ use crate::error::EncodeError;
 use std::alloc::Global;
 use walrus_ty::GroupAt;
 
-/// The shortest text of these groups: what a type section of them has after its id and size.
+/// The shortest text of these groups: what a type section of them has after its id and size
+/// (WebAssembly core specification, "Binary Format", "Type Section").
 ///
-/// The answer is `TooMany` where a list of parameters, results, fields, definitions or groups has
-/// 2^32 items or more, so that no text counts them, and `Memory` where memory was refused.
+/// # Errors
+///
+/// [`EncodeError::TooMany`] comes where a list of parameters, results, fields, definitions or
+/// groups has 2^32 items or more, so that no text counts them; [`EncodeError::Memory`] where memory
+/// was refused.
+///
+/// # A padded count gets shorter
 ///
 /// ```
 /// let bytes = encode_types(alloc, &decode_types(alloc, &[0x81, 0x00, 0x5E, 0x78, 0])?)?;

@@ -10,6 +10,10 @@ use std::alloc::{AllocError, AllocFailed};
 use thiserror::Error;
 
 /// What has to stand at a place of a module or of its type section.
+///
+/// A byte that begins none of several parts is told by the last of them that was tried: as no
+/// `ValType` where a storage type may stand, and as no `CompType` where a definition may. So
+/// `StorageType` and `RecType` come at the end of the bytes alone.
 #[derive(Clone, Copy, PartialEq, Eq, Debug, Error)]
 pub enum Expected {
     /// An integer in LEB128: of at most five bytes, and without bits beyond its range.
@@ -73,7 +77,8 @@ pub enum NotHeld {
 /// Why bytes were not read as the groups of a type section, or as a module.
 #[derive(Clone, Copy, PartialEq, Eq, Debug, Error)]
 pub enum DecodeError {
-    /// Nothing that is read goes on with the byte at this place, or with the end of the bytes.
+    /// No text of groups, or no module, goes on with the byte at this place, or ends where the
+    /// bytes end.
     #[error("byte {offset}: expected {expected}")]
     Malformed {
         /// The byte's place, counted from 0; the number of bytes where there are too few.
@@ -81,7 +86,8 @@ pub enum DecodeError {
         /// What had to stand there.
         expected: Expected,
     },
-    /// What begins at this place has no record.
+    /// What begins at this place is of the binary format or of a proposal to it, but no record
+    /// holds it.
     #[error("byte {offset}: no record for {what}")]
     NotHeld {
         /// The place of its first byte, counted from 0; for several supertypes that of their count.

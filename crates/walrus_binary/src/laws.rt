@@ -1,4 +1,5 @@
-//! The theorems on texts of type sections and on modules. Nothing here runs.
+//! Laws of the texts of type sections and of modules. Each function does nothing; its clause is a
+//! theorem, which a caller gets by calling it.
 ghost use Rattle.std.specs.Prelude.{◌≡◌, ◌∷◌, ◌++◌, ℕ, List, []};
 ghost use Rattle.walrus_binary.specs.Grammar.{IsTypes};
 ghost use Rattle.walrus_binary.specs.Modules.{Section, section, IsModule, IsTypeSectionAt};

@@ -14,13 +14,20 @@ use crate::module::section::{TYPE, place_after, read_header, read_section};
 pub use replace::replace_type_section;
 use std::ops::Range;
 
-/// The place of what the type section of a module has after its id and size, and `None` where the
-/// module has no type section.
+/// Which bytes of a module, counted from 0, its type section has after its id and size, and `None`
+/// where the module has no type section (WebAssembly core specification, "Binary Format",
+/// "Modules").
 ///
 /// Header, ids, sizes and the order of the sections are those of a module; what the sections
-/// contain, and whether a custom section begins with a name, is not judged. An error says at which
-/// byte the bytes stop being such a module: none begins with the bytes up to that one and with it.
-/// No memory is taken, and each byte is read once at most.
+/// contain, and whether a custom section begins with a name, is not judged. No memory is taken, and
+/// each byte is read once at most.
+///
+/// # Errors
+///
+/// [`DecodeError::Malformed`] says at which byte the bytes stop being such a module: none begins
+/// with the bytes up to that one and with it. No other error comes.
+///
+/// # A module of one section
 ///
 /// ```
 /// let bytes = [0, 0x61, 0x73, 0x6D, 1, 0, 0, 0, 1, 4, 1, 0x60, 0, 0];

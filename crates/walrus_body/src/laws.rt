@@ -25,8 +25,9 @@ pub fn full_walks_are_determined<V: VisitorMut>()
         Walks V.step s id Full t → Walks V.step s id Full u → t ≡ u }
 {}
 
-/// The unfolding of a body visits exactly the sequences that are reached, in an order and as often
-/// as the body determines.
+/// The unfolding of a body lists the sequences that a changing walk visits, in order, each as often
+/// as it is visited. It has exactly the sequences that are reached from the start, and the body
+/// determines it.
 pub fn unfoldings_visit_what_is_reached()
     ensures reached { (f : Body) (start : ℕ) (visits : List ℕ) → Unfolds f start visits →
         (id : ℕ) → (Contains visits id ↔ Reached f start id) }
@@ -34,8 +35,8 @@ pub fn unfoldings_visit_what_is_reached()
         Unfolds f start visits → Unfolds f start others → visits ≡ others }
 {}
 
-/// A full walk with a visitor that maps fields leaves the visitor as it was. Each sequence is mapped
-/// as often as the unfolding of the body visits it, and nothing else of the body changes.
+/// A full walk with a visitor that maps fields leaves the visitor as it was. Each sequence is
+/// mapped as often as the unfolding of the body visits it, and nothing else of the body changes.
 pub fn field_maps_map_the_body<V: VisitorMut>()
     ensures visitor { (v : V) (f : FieldMap) → MapsFields V.step v f →
         (s : Body) (t : V × Body) (start : ℕ) → Walks V.step (v, s) start Full t → t.0 ≡ v }

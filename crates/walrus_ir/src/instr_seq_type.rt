@@ -69,8 +69,8 @@ impl InstrSeqType {
         }
     }
 
-    /// The type of the module that it names: its function type, or the type that the one value
-    /// names which it leaves.
+    /// The type of the module that it names, if it names one: the function type of `MultiValue`, or
+    /// the type that the value type of `Simple` refers to.
     pub fn type_id(&self) -> Option<TypeId>
         ensures { result ≡ block_type_name self.now }
     {

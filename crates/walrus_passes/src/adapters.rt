@@ -12,8 +12,9 @@ use walrus_functions::{BuildError, FunctionBuilder, InstrSeqBuilder, LocalFuncti
 use walrus_ir::{InstrSeqType, LocalId, ModuleLocals};
 use walrus_types::{FunctionId, ModuleTypes, TypeId};
 
-/// A function of this type that calls `func`, such as an import of the type, with its own
-/// parameters, and returns what that returns.
+/// A function of the type `ty` that calls `func`, such as an import of that type, with its own
+/// parameters, and returns what that returns. `ty` has to be a live function type; whether there is
+/// such a `func`, and of which type it is, is not looked at.
 ///
 /// Its parameters are new locals, one for each parameter of the type. Its body reads them in order,
 /// and calls `func`; by its end all that `func` left is returned. It has the very type `ty`, and

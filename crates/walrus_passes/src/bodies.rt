@@ -8,10 +8,11 @@ use walrus_functions::{FunctionBuilder, LocalFunction, LocalFunctions};
 use walrus_ir::InstrSeqType;
 use walrus_types::FunctionId;
 
-/// Makes the body of a known function a single `unreachable`.
+/// Makes the body of a function a single `unreachable`. `id` has to be one of `funcs`.
 ///
-/// The function keeps its type, its parameters and its name, and its entry the type that it had.
-/// All other functions are as they were.
+/// The function keeps its type, its parameters and its name, and its entry keeps the type that it
+/// had; where there was no entry, the new one takes and leaves nothing. All other functions are as
+/// they were.
 ///
 /// # Errors
 ///
@@ -32,11 +33,12 @@ pub fn snip(alloc: Global, funcs: &mut LocalFunctions, id: FunctionId) -> Result
     replace_with(alloc, funcs, id, body)
 }
 
-/// Gives a known function the body that is built.
+/// Gives a function the body that is built. `id` has to be one of `funcs`.
 ///
-/// The function keeps its parameters, and its name if it has one. Its sequences, its entry and its
-/// type are those of the builder, so that should begin with the function's type. All other
-/// functions are as they were.
+/// The function keeps its parameters, and its name if it has one; else it gets that of the builder.
+/// Its sequences, its entry and its type are those of the builder: where the type is to stay, begin
+/// the builder with [`LocalFunction::ty`]. Whether the parameters fit the type is not looked at.
+/// All other functions are as they were.
 ///
 /// # Errors
 ///

@@ -1,7 +1,7 @@
 //! Passes over WebAssembly modules.
 //!
-//! - [`delete_unused_types`] deletes the types that nothing needs, and [`used_types`] lists those
-//!   that a function uses.
+//! - [`delete_unused_types`] deletes the types that no root needs, and [`used_types`] lists the
+//!   roots that a function brings.
 //! - [`snip`] makes the body of a function a single `unreachable`, and [`replace_with`] gives it
 //!   another one.
 //! - [`adapter`] makes a function that calls another one of its type.

@@ -20,6 +20,10 @@ use walrus_types::{TypeId, ValType};
 /// behind `ref.null` and `select`, and those of the locals that they read and write. A type stands
 /// in the list as often as it is used. A local that `locals` does not know has no type.
 ///
+/// The types of the functions, tables, globals and tags that it names are not in the list: each of
+/// these brings roots of its own. Nor is it looked at whether the types are live, which
+/// `delete_unused_types` asks of its roots.
+///
 /// It takes time linear in the size of the function, also where a sequence stands in several.
 /// Constant expressions have [`referenced_types`](walrus_ir::ConstExpr::referenced_types).
 ///
@@ -27,13 +31,14 @@ use walrus_types::{TypeId, ValType};
 ///
 /// Where memory is refused.
 ///
-/// # Deleting what no function and no global uses
+/// # Deleting what neither a function nor the first value of a global uses
 ///
 /// ```
 /// let Some(mut roots) = used_types(alloc, &func, &locals)? else {
 ///     return Ok(());
 /// };
 /// init.referenced_types(&mut roots)?;
+/// assert!(rt; roots.iter().all(|id| types.contains(*id)));
 /// delete_unused_types(alloc, &mut types, roots.as_slice())?;
 /// ```
 pub fn used_types(

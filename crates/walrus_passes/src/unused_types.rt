@@ -11,7 +11,8 @@ use marking::Marking;
 use std::alloc::{AllocError, Global};
 use walrus_types::{ModuleTypes, TypeId};
 
-/// Deletes the types that no root needs, and answers their ids in order.
+/// Deletes the types that no root needs, and answers their ids in order. Each root has to be the id
+/// of a live type, and may stand among the roots more than once.
 ///
 /// A type is needed if it is a root, if a needed type names it, be it as supertype, or if it stands
 /// in one recursion group with a needed type: so a group is kept whole or dies whole. A type that
@@ -19,14 +20,17 @@ use walrus_types::{ModuleTypes, TypeId};
 /// where a needed type names it. A name of an id that isn't live needs nothing.
 ///
 /// What stays keeps its id, its contents and its group, and is found as before. Groups that lost
-/// their types stay in the list of groups, without types. Where no name missed its index before
-/// when the table was written, none does after. It takes time linear in the size of the table.
+/// their types stay in the list of groups, without types. A table that [`ModuleTypes::emit`] writes
+/// without a name that misses its index stays one.
+///
+/// It takes time linear in the size of the table and the number of roots, and beyond that, for each
+/// group that dies, time with the square of the number of its types.
 ///
 /// # Errors
 ///
 /// Where memory is refused. Then nothing was deleted.
 ///
-/// # The types that a function needs
+/// # A struct that nothing names
 ///
 /// ```
 /// let pair = types.add_struct(fields)?;

@@ -2,8 +2,8 @@
 //! when it is made again.
 //!
 //! Each request for memory of these tests may be refused, one in a run, and they still pass. They
-//! stand in a crate of their own, since tests inside a crate have the gate prove that crate a second
-//! time.
+//! stand in a crate of their own, since tests inside a crate have the gate prove that crate a
+//! second time.
 #![tactic(auto)]
 
 #[cfg(test)]

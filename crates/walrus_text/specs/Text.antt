@@ -94,7 +94,7 @@ map_words places = codes "map" ∷ map decimal places
 abbrev pub output_text : List GroupAt → List ℕ → List ℕ
 output_text groups places = text_of (section_lines groups ++ map_words places ∷ [])
 
--- numbers that can stand for types of a section
+-- each of these numbers is below 2^32, as the index of a type is
 abbrev pub AreIndices : List ℕ → Type 0
 AreIndices names = AllByRecursion (λ k. k < 2 ^ 32) names
 

@@ -7,8 +7,9 @@
 //! - [`laws`] has the theorem that nothing but words and lines counts in a text.
 //!
 //! The WebAssembly specification has no text for a type section alone; this one takes the names of
-//! its types from there. Spaces divide words. A line ends with a line feed, which the last one may
-//! lack, and a line without words does not count. In this grammar `LF` is the end of a line:
+//! its types from there. Spaces divide words, and no other byte does: a tab or a carriage return is
+//! a part of its word. A line ends with a line feed, which the last one may lack, and a line
+//! without words does not count. In this grammar `LF` is the end of a line:
 //!
 //! ```text
 //! section    = group*

@@ -20,11 +20,16 @@ const READ_LIMIT: u64 = 1 << 48;
 /// How many bytes one read asks for.
 const BLOCK: usize = 8192;
 
-/// The groups of the text that a reader gives up to its end.
+/// The groups of the text that a reader gives up to its end, in the grammar of
+/// [this crate](crate). The reader needs no buffer: each read asks for 8192 bytes.
 ///
-/// A text is read to its end even behind a bad line; then `BadText` has the first one. `Stream`
-/// comes where a read fails, or where 2^48 reads did not come to the end, `Memory` where memory was
-/// refused.
+/// # Errors
+///
+/// [`TextError::BadText`] has the first bad line; the text is read to its end even behind it.
+/// [`TextError::Stream`] comes where a read fails, or where 2^48 reads did not come to the end,
+/// [`TextError::Memory`] where memory was refused. After these two some of the text may be unread.
+///
+/// # A group of two types
 ///
 /// ```
 /// let mut reader = b"rec\nstruct null:1\nopen func i32 ->\nend".as_slice();

@@ -9,7 +9,14 @@ use std::io;
 use std::io::Write;
 use walrus_ty::{AbstractHeapType, CompAt, EntryAt, FieldAt, GroupAt, HeapAt, StorageAt, ValAt};
 
-/// Writes the lines of the groups.
+/// Writes the lines of the groups, each with a line feed: nothing where there are no groups. Words
+/// are written piece by piece, so an unbuffered writer is slow; the writer is not flushed.
+///
+/// # Errors
+///
+/// Where a write fails. Then a part of the text may have been written.
+///
+/// # The text of a section
 ///
 /// ```
 /// write_section(&mut out, groups.as_slice())?;
@@ -24,8 +31,15 @@ pub fn write_section<W: Write>(out: &mut W, groups: &[GroupAt]) -> io::Result<()
     Ok(())
 }
 
-/// Writes the lines of the groups, and then the line `map` with an index for each entry of another
-/// section: the one that it has in these groups.
+/// Writes the lines of the groups, as [`write_section`] does, and then the line `map` with an index
+/// for each entry of another section: the one that it has in these groups.
+/// [`read_section`](crate::read_section) takes no such line.
+///
+/// # Errors
+///
+/// Where a write fails. Then a part of the text may have been written.
+///
+/// # Two entries that changed places
 ///
 /// ```
 /// write_output(&mut out, groups.as_slice(), &[1, 0])?;

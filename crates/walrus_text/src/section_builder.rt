@@ -1,4 +1,4 @@
-//! The groups of a section, builder line by line.
+//! The groups of a section, built line by line.
 ghost use Rattle.std.specs.Prelude.{◌≡◌, ◌++◌, ◌∷◌, [], codes, false, IsTrue, IfOk, OnOk, IfSome, IfNone};
 ghost use Rattle.walrus_ty.specs.Definition.{names_of};
 ghost use Rattle.walrus_ty.specs.Records.{entry_definition};

@@ -10,8 +10,8 @@
 //!   an answer, and [`same_up_to_moves`] compares two sections.
 //! - [`laws`] and [`record_laws`] have the theorems.
 //!
-//! The normal form of a section and the place of each entry in it, which the slow program judges
-//! too:
+//! Of a section `groups`, `wanted` is the normal form, and `map` has the place of each entry in it,
+//! as [`is_normal_form`] says too:
 //!
 //! ```
 //! let (output, places) = normalise(alloc, HashKeys::fixed(), groups.as_slice())?;

@@ -16,7 +16,8 @@ use std::alloc::Global;
 /// It is so exactly where the two have the same normal form.
 ///
 /// Where the first section can't be read, that is the answer, and else, where the second can't be;
-/// `Memory` comes only where memory was refused. The keys are those of `normalise`.
+/// `Memory` comes only where memory was refused. The keys are those of the hash in [`normalise`],
+/// on which no answer hangs.
 ///
 /// walrus has no such call.
 pub fn same_up_to_moves(

@@ -25,9 +25,10 @@ use walrus_ty::GroupAt;
 /// it has none.
 ///
 /// The answer is the exit status: 0 where that is done; 1 where the bytes are no module, or what
-/// its type section contains is no text of groups; 3 where memory was refused; 4 where a read or a
-/// write failed. One line on `err` tells each of 1 to 4. `out` gains nothing at 1 and 3, since all
-/// is read before it writes; at 4 it may have gained a part of the text.
+/// its type section contains is no text of groups, or one of types that no record holds; 3 where
+/// memory was refused; 4 where a read or a write failed. One line on `err` tells each of 1, 3 and
+/// 4, and where that line could not be written the answer is 4. `out` gains nothing at 1 and 3,
+/// since all is read before it writes; at 4 it may have gained the text or a part of it.
 ///
 /// What the other sections contain is not judged.
 pub fn run<R: Read, W: Write, E: Write>(

@@ -7,8 +7,8 @@ use std::alloc::Global;
 use walrus_binary::{DecodeError, decode_types, type_section};
 use walrus_ty::GroupAt;
 
-/// The groups of a module's type section: none where it has no such section. The place of an error
-/// is one of the module's.
+/// The groups of a module's type section: none where it has no such section. An error names a place
+/// in the module, not one in the section.
 pub fn module_types(alloc: Global, bytes: &[u8]) -> Result<Vec<GroupAt>, DecodeError>
     ensures found { IfOk result (λ groups. HasTypes bytes.now groups.items) }
     ensures refused { IfErr result (λ e. IfSome (error_offset e) (λ offset.

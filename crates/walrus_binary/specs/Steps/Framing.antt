@@ -7,7 +7,8 @@ use Rattle.walrus_binary.specs.declared.error.Fault.{Fault}
 use Rattle.walrus_binary.specs.Modules.{Section, section, magic, version, IsTypeSectionAt}
 use Rattle.walrus_binary.specs.Steps.Reading.{◌>>=◌, wanted, u32_at}
 
--- The type section whose id stands at `opening`, and whose content begins and ends there.
+-- The type section whose id stands at `opening`, and whose content begins at `start` and ends
+-- before `stop`.
 pub record IsTypeSectionFrom (bytes : List ℕ) (opening start stop : ℕ) : Type 0 where
   pub there : IsTypeSectionAt bytes start stop
   pub opens : opening ≡ length there.front

@@ -31,11 +31,12 @@ abbrev pub ◌>>=◌ : {A B : Type 0} → Result A Fault → (A → Result B Fau
 (Ok x) >>= f = f x
 (Err e) >>= f = Err e
 
--- What a function answered, seen by view, is what reading gives, unless memory was refused.
+-- the error is the fault that reading ends with, unless memory was refused
 abbrev pub Fails : {Y : Type 0} → ReadError → Result Y Fault → Type 0
 Fails errors.Memory read = Unit {0}
 Fails (errors.Fault f) read = read ≡ Err f
 
+-- what a function answered, seen by view, is what reading gives, unless memory was refused
 abbrev pub Gives : {X Y : Type 0} → (X → Y) → Result X ReadError → Result Y Fault → Type 0
 Gives view (Ok x) read = read ≡ Ok (view x)
 Gives view (Err e) read = Fails e read
@@ -46,8 +47,8 @@ wanted bytes e = Err (record { left = length bytes; reason = reason.Expected e }
 abbrev pub unheld : {A : Type 0} → List ℕ → NotHeld → Result A Fault
 unheld bytes e = Err (record { left = length bytes; reason = reason.NotHeld e })
 
--- What is wrong is seen by the first byte that can't stand there. Only how many supertypes there are
--- is known behind it.
+-- What is wrong is seen by the first byte that can't stand there. Only how many supertypes there
+-- are is known behind it.
 abbrev pub IsSeenAtOnce : Reason → Type 0
 IsSeenAtOnce (reason.Expected e) = Unit {0}
 IsSeenAtOnce (reason.NotHeld held.Supertypes) = ⊥

@@ -14,13 +14,18 @@ use std::alloc::Global;
 
 /// The module with this as what its type section has after its id and size.
 ///
-/// The section is written in its shortest form, and every other byte is kept. A module that has no
-/// type section gets one right behind its header. Neither the content nor what the other sections
-/// contain is judged, as by [`type_section`](crate::type_section).
+/// The size of the section is written in its shortest form, and every byte outside the section is
+/// kept. A module that has no type section gets one right behind its header. Neither the content
+/// nor what the other sections contain is judged, as by [`type_section`](crate::type_section):
+/// where types get other indices, what names them in other sections is still to be changed.
 ///
-/// The answer is `NoModule` where the bytes are no module, with what `type_section` says of them;
-/// `TooLong` where the content has 2^32 bytes or more, so that no size counts them; and `Memory`
-/// where memory was refused.
+/// # Errors
+///
+/// [`ReplaceError::NoModule`] comes where the bytes are no module, with what `type_section` says of
+/// them; [`ReplaceError::TooLong`] where the content has 2^32 bytes or more, so that no size counts
+/// them; [`ReplaceError::Memory`] where memory was refused.
+///
+/// # Another type for a module
 ///
 /// ```
 /// let bytes = [0, 0x61, 0x73, 0x6D, 1, 0, 0, 0, 1, 1, 0];

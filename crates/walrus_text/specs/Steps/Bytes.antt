@@ -5,7 +5,8 @@ use Rattle.walrus_text.specs.declared.section_builder.SectionBuilder.{SectionBui
 use Rattle.walrus_text.specs.Words.{lines_of}
 use Rattle.walrus_text.specs.Steps.Builder.{builder_lines, HasBuilderIndices, BeginsNoSection}
 
--- the builder was given these lines, or a line among the first of them is bad
+-- these lines are what the builder was built from, or one of them was bad: no section begins with
+-- them
 abbrev pub HasChecked : SectionBuilder → Option ℕ → List (List (List ℕ)) → Type 0
 HasChecked section None lines = builder_lines section ≡ lines
 HasChecked section (Some bad) lines = BeginsNoSection lines
