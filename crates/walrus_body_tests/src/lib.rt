@@ -1,5 +1,4 @@
-//! Tests of the nesting check and of the walks through the public calls of their crates, and large
-//! bodies.
+//! Tests of the changing walk through the public calls of its crate, and large bodies.
 //!
 //! They stand in a crate of their own, since tests inside a crate have the gate prove that crate a
 //! second time.
@@ -9,5 +8,3 @@
 mod body;
 #[cfg(test)]
 mod speed;
-#[cfg(test)]
-mod traversals;

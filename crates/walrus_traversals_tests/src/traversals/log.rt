@@ -76,7 +76,7 @@ pub(super) struct Log {
 
 impl Model for Log {
     ghost use Rattle.std.specs.Prelude.{List};
-    ghost use Rattle.walrus_body_tests.specs.declared.traversals.log.HookCall.{HookCall};
+    ghost use Rattle.walrus_traversals_tests.specs.declared.traversals.log.HookCall.{HookCall};
 
     ghost Value = { List HookCall };
 
