@@ -53,6 +53,15 @@ new_ids (DeletesMany ids live distinct ok) = []
 new_ids (TriesToDelete id deleted live ok) = []
 new_ids (DeletesWhole id live ok) = []
 
+-- one call makes the new table of the old one, and gives these ids to new types
+abbrev pub IsCall : Table → Table → List ℕ → Type 0
+IsCall old new ids = (call : Call old new) × (new_ids call ≡ ids)
+
+-- one call adds the type, or finds it, and answers the id, which is that of a new type where
+-- nothing was found
+abbrev pub IsAddition : Table → Table → ModuleType → ℕ → Type 0
+IsAddition old new ty id = IsCall old new (if is_some (found_id old.types ty) then [] else id ∷ [])
+
 -- calls that make the table of an empty one, or of one that a section was read into, with all ids
 -- that were given, in order
 pub data Calls : Table → List ℕ → Type 0 where

@@ -17,6 +17,8 @@ ghost use Rattle.walrus_ty.specs.Records.{section_of};
 ghost use Rattle.walrus_ty.specs.Groups.{Section};
 ghost use Rattle.walrus_sections.specs.Section.{index_space};
 
+pub mod calls;
+
 pub use crate::table::every_table_is_sound;
 pub use walrus_sections::laws::{
     equal_outputs_by_moves, first_error_decides, names_stand_before, normal_form_stays,
