@@ -1,5 +1,5 @@
 //! What ends a run without a text: its line on standard error and its exit status.
-ghost use Rattle.std.specs.Prelude.{◌≡◌, ◌≤◌, ◌⊎◌};
+ghost use Rattle.std.specs.Prelude.{◌≡◌, ◌⊎◌};
 ghost use Rattle.wasmtypes.specs.Steps.Failures.{status_of};
 
 use std::fmt;
@@ -44,7 +44,7 @@ impl From<DecodeError> for Failure {
 #[tactic(auto, using(crate::proofs::Failures::status_range))]
 pub fn report<E: Write>(failure: &Failure, err: &mut E) -> u8
     ensures status { (result ≡ status_of failure.now) ⊎ (result ≡ 4) }
-    ensures range { result ≤ 4 }
+    ensures range { (result ≡ 1) ⊎ (result ≡ 3) ⊎ (result ≡ 4) }
 {
     if writeln!(err, "{failure}").is_err() {
         return 4;

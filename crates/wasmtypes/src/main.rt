@@ -1,7 +1,7 @@
 //! Reads a WebAssembly module and writes its type section as text.
 #![tactic(auto)]
 
-ghost use Rattle.std.specs.Prelude.{◌≡◌, ◌<◌, ◌≤◌, IfErr, IfOk, OnOk, IfSome};
+ghost use Rattle.std.specs.Prelude.{◌≡◌, ◌⊎◌, ◌<◌, IfErr, IfOk, OnOk, IfSome};
 ghost use Rattle.std.specs.Io.KnownBytes.{Appends, Keeps};
 ghost use Rattle.walrus_text.specs.Words.{text_of};
 ghost use Rattle.walrus_text.specs.Text.{section_lines};
@@ -42,7 +42,7 @@ pub fn run<R: Read, W: Write, E: Write>(
     ensures silent { result ≡ 0 → Keeps (E.contents err.old) (E.contents err.new) }
     ensures bad_module { result ≡ 1 → IfSome (R.remaining reader.old)
         (λ bytes. HasBadTypes bytes) }
-    ensures range { result ≤ 4 }
+    ensures range { (result ≡ 0) ⊎ (result ≡ 1) ⊎ (result ≡ 3) ⊎ (result ≡ 4) }
     ensures unwritten { 0 < result → result < 4 → Keeps (W.contents out.old) (W.contents out.new) }
 {
     match print_types(alloc, reader, out) {
