@@ -7,8 +7,8 @@ use Rattle.std.specs.List.{IsDistinct, AllByRecursion}
 use Rattle.walrus_arena.specs.Arena.{Slots, without, without_all, range}
 use Rattle.walrus_arena.specs.Calls.{Call, Step, AreCalls, new_ids, AnswersFreshIds}
 use Rattle.walrus_arena.specs.Calls.Call.{allocates, allocates_all, writes, deletes, deletes_all, stays}
-use Rattle.walrus_arena.specs.Set.{Set, found_id, Adds, IsSame, Registers, Removes}
-use Rattle.walrus_arena.proofs.ArenaLemmas.{length-range}
+use Rattle.walrus_arena.specs.Set.{Set, found_id, Adds, IsSame, Registers, Removes, RemovesAll}
+use Rattle.walrus_arena.proofs.ArenaLemmas.{length-range, died_at_once}
 
 -- two runs of ids, the second where the first ends
 range-append : (first a b : ℕ) → range first (a + b) ≡ range first a ++ range (first + a) b
@@ -104,6 +104,14 @@ module _ {T E : Type 0} where
   allocated old new value (Ok id) named put = allocates value id refl named put
   allocated old new value (Err e) named put = tt
 
+  pub allocated_by : (old new : Slots T) (P : T → Type 0) (r : Result ℕ E) → IfOk r (λ id. id ≡ length old) → OnOk r ((value : T) × P value × (new ≡ old ++ Some value ∷ [])) → IfOk r (λ id. Call old new (id ∷ []))
+  allocated_by old new P (Ok id) named put = allocates put.0 id refl named put.2
+  allocated_by old new P (Err e) named put = tt
+
+  pub allocated_all : {X : Type 0} (items : X → List ℕ) (old new : Slots T) (values : List T) (count : ℕ) (r : Result X E) → count ≡ length values → IfOk r (λ all. items all ≡ range (length old) count) → OnOk r (new ≡ old ++ map Some values) → IfOk r (λ all. Call old new (items all))
+  allocated_all items old new values count (Ok all) same named put = allocates_all values (named ∙ ap (range (length old)) same) put
+  allocated_all items old new values count (Err e) same named put = tt
+
   pub refused : {X : Type 0} (old new : Slots T) (r : Result X E) → OnErr r (new ≡ old) → OnErr r (Call old new [])
   refused old new (Ok x) same = tt
   refused old new (Err e) same = stays refl same
@@ -115,6 +123,11 @@ module _ {T E : Type 0} where
   pub deleted_all : {X : Type 0} (old new : Slots T) (dead : List ℕ) (r : Result X E) → OnOk r (new ≡ without_all old dead) → OnOk r (Call old new [])
   deleted_all old new dead (Ok x) put = deletes_all dead refl put
   deleted_all old new dead (Err e) put = tt
+
+-- the slots after removals in turn
+slots_after : {T : Type 0} (eq : T → T → Bool) (ids : List ℕ) (old new : Set T) → RemovesAll eq old ids new → new.slots ≡ without_all old.slots ids
+slots_after eq [] old new same = same.slots
+slots_after eq (id ∷ ids) old new (between, gone, rest) = slots_after eq ids between new rest ∙ ap (λ s. without_all s ids) gone.slots
 
 module _ {T E : Type 0} (eq : T → T → Bool) (old new : Set T) where
   pub inserted : (value : T) (r : Result ℕ E) → IfOk r (λ id. MatchOption (found_id eq old value) (Adds eq old new value id) (λ known. (id ≡ known) × IsSame eq old new)) → IfOk r (λ id. MatchOption (found_id eq old value) (Call old.slots new.slots (id ∷ [])) (λ _. Call old.slots new.slots []))
@@ -136,3 +149,35 @@ module _ {T E : Type 0} (eq : T → T → Bool) (old new : Set T) where
   pub removed : {X : Type 0} (id : ℕ) (r : Result X E) → OnOk r (Removes eq old new id) → OnOk r (Call old.slots new.slots [])
   removed id (Ok x) gone = deletes id refl gone.slots
   removed id (Err e) gone = tt
+
+  -- a new slot with the value, whatever the map has
+  pub added : (value : T) (r : Result ℕ E) → IfOk r (Adds eq old new value) → IfOk r (λ id. Call old.slots new.slots (id ∷ []))
+  added value (Ok id) adds = allocates value id refl adds.named adds.slots
+  added value (Err e) adds = tt
+
+  pub left_without : {X : Type 0} (ids : List ℕ) (r : Result X E) → OnOk r (RemovesAll eq old ids new) → OnOk r (new.slots ≡ without_all old.slots ids)
+  left_without ids (Ok x) gone = slots_after eq ids old new gone
+  left_without ids (Err e) gone = tt
+
+  pub removed_all : {X : Type 0} (ids : List ℕ) (r : Result X E) → OnOk r (RemovesAll eq old ids new) → OnOk r (Call old.slots new.slots [])
+  removed_all ids (Ok x) gone = deletes_all ids refl (slots_after eq ids old new gone)
+  removed_all ids (Err e) gone = tt
+
+module _ {T E : Type 0} (old new : Set T) where
+  pub put_apart : (value : T) (r : Result ℕ E) → IfOk r (λ id. id ≡ length old.slots) → OnOk r (new ≡ record old { slots = old.slots ++ Some value ∷ [] }) → IfOk r (λ id. Call old.slots new.slots (id ∷ []))
+  put_apart value (Ok id) named put = allocates value id refl named (ap (λ (s : Set T). s.slots) put)
+  put_apart value (Err e) named put = tt
+
+  pub put_all_apart : {X : Type 0} (items : X → List ℕ) (values : List T) (r : Result X E) → IfOk r (λ all. items all ≡ range (length old.slots) (length values)) → OnOk r (new ≡ record old { slots = old.slots ++ map Some values }) → IfOk r (λ all. Call old.slots new.slots (items all))
+  put_all_apart items values (Ok all) named put = allocates_all values named (ap (λ (s : Set T). s.slots) put)
+  put_all_apart items values (Err e) named put = tt
+
+  pub put_dead : (value : T) (r : Result ℕ E) → IfOk r (λ id. id ≡ length old.slots) → OnOk r (new ≡ record old { slots = old.slots ++ None ∷ [] }) → IfOk r (λ id. (between : Slots T) × Call old.slots between (id ∷ []) × Call between new.slots [])
+  put_dead value (Err e) named put = tt
+  put_dead value (Ok id) named put =
+      let died = ap (λ (s : Set T). s.slots) put ∙ sym (died_at_once old.slots value id named) in
+      (old.slots ++ Some value ∷ [], allocates value id refl named refl, deletes id refl died)
+
+  pub stayed : {X : Type 0} (r : Result X E) → OnErr r (new ≡ old) → OnErr r (Call old.slots new.slots [])
+  stayed (Ok x) same = tt
+  stayed (Err e) same = stays refl (ap (λ (s : Set T). s.slots) same)
