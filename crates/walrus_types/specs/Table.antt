@@ -160,11 +160,11 @@ module _ (old new : Table) (id : ℕ) where
     pub types : IsSomeAnd (group_with old.groups id) (λ g. LosesAll old.types g.types new.types)
     pub groups : new.groups ≡ map (group_ended id) old.groups
 
--- the types of these ids died, one after the other, and left their groups
+-- the types of these ids died, one after the other from the last to the first, and left their groups
 abbrev pub DeletesAll : Table → List ℕ → Table → Type 0
 DeletesAll old [] new = new ≡ old
 DeletesAll old (id ∷ ids) new =
-    (between : Table) × Deletes old between id × DeletesAll between ids new
+    (between : Table) × DeletesAll old ids between × Deletes between new id
 
 -- the type of this other id is live and names the id
 abbrev pub IsOtherNamer : Table → ℕ → ℕ → Type 0

@@ -1,7 +1,6 @@
 -- Each call keeps a table sound.
-use Rattle.std.proofs.Common.{◌≡◌, ℕ, zero, suc, ◌+◌, ◌<◌, List, [], ◌∷◌, ◌++◌, length, refl, sym, ap, subst, ◌∙◌, arith, Some, None, Option, IsSome, set, inl, inr, get_or-set_same, get_or-set_other, append-nil, All, Bool, true, false, nat_eq, is_some, get_or, map, if◌then◌else◌, MatchBool, MatchOption}
-use Rattle.std.specs.List.{slice_index, range_with_len, IsDistinct, AllByRecursion}
-use Rattle.std.proofs.lemmas.Bool.{eqb-false}
+use Rattle.std.proofs.Common.{◌≡◌, ℕ, zero, suc, ◌+◌, ◌<◌, List, [], ◌∷◌, ◌++◌, length, refl, sym, ap, subst, ◌∙◌, arith, Some, None, Option, IsSome, set, inl, inr, get_or-set_same, get_or-set_other, append-nil, All, Bool, true, false, nat_eq, is_some, map, if◌then◌else◌, MatchBool, MatchOption}
+use Rattle.std.specs.List.{slice_index, range_with_len, IsDistinct}
 use Rattle.std.proofs.lemmas.List.FromFn.{length-map-range_with_len, get_or-map-range_with_len}
 use Rattle.std.proofs.lemmas.Bool.{cases_lt}
 use Rattle.std.proofs.lemmas.List.{length-set, length_push}
@@ -20,6 +19,7 @@ use Rattle.walrus_types.proofs.Tables.NewType.{table_added}
 use Rattle.walrus_types.proofs.Tables.NewGroup.{table_grouped, length-placed}
 use Rattle.walrus_types.proofs.Tables.DeadTypes.{table_deleted}
 use Rattle.walrus_types.proofs.Tables.DeadGroup.{table_ended, groups_are}
+use Rattle.walrus_types.proofs.Tables.Deletions.{others_stay}
 use Rattle.std.specs.Option.{IsSomeAnd}
 
 -- a table for which some list has the groups of its ids
@@ -108,32 +108,16 @@ unfolding IsSomewhere
 found_or_added old new ty id None ok at = (at.0 ++ length old.groups ∷ [], table_added old new at.0 ty id at.1 ok)
 found_or_added old new ty id (Some known) ok at = (at.0, indexed_same old new at.0 at.1 ok.1)
 
--- what is said of each element by recursion
-element :
-    (P : ℕ → Type 0) (xs : List ℕ) → AllByRecursion P xs → (k d : ℕ) → k < length xs →
-    P (get_or xs k d)
-element P [] all k d below = absurd (omega (arith, below))
-element P (x ∷ xs) all zero d below = all.0
-element P (x ∷ xs) all (suc k) d below = element P xs all.1 k d (omega (arith, below))
-
--- the other ids stay live where one dies
-others_live :
-    (s : Slots ModuleType) (id : ℕ) (ids : List ℕ) → AllByRecursion (λ y. nat_eq id y ≡ false) ids →
-    All (IsLive s) ids → All (IsLive (set s id None)) ids
-others_live s id ids apart live k d below =
-    let differ : nat_eq id (get_or ids k d) ≡ false = element (λ y. nat_eq id y ≡ false) ids apart k d below in
-    subst IsSome (sym (get_or-set_other s id (get_or ids k d) None None (λ same. eqb-false id (get_or ids k d) differ (sym same)))) (live k d below)
-
 all_deleted :
     (old new : Table) (go ids : List ℕ) → IsIndexed old go → All (IsLive old.types.slots) ids →
     IsDistinct nat_eq ids → DeletesAll old ids new → IsIndexed new go
 unfolding IsDistinct
 all_deleted old new go [] is live distinct all = subst (λ (t : Table). IsIndexed t go) (sym all) is
-all_deleted old new go (id ∷ ids) is live distinct all =
-    let first : IsIndexed all.0 go = table_deleted old all.0 go id is (live 0 0 (omega arith)) all.1 in
+all_deleted old new go (id ∷ ids) is live distinct (mid, all, last) =
     let rest : All (IsLive old.types.slots) ids = λ k d below. live (suc k) d (omega (arith, below)) in
-    let still : All (IsLive all.0.types.slots) ids = subst (λ (s : Slots ModuleType). All (IsLive s) ids) (sym all.1.types.slots) (others_live old.types.slots id ids distinct.0 rest) in
-    all_deleted all.0 new go ids first still distinct.1 all.2
+    let before : IsIndexed mid go = all_deleted old mid go ids is rest distinct.1 all in
+    let still : IsLive mid.types.slots id = others_stay old mid ids id all distinct.0 (live 0 0 (omega arith)) in
+    table_deleted mid new go id before still last
 
 tried : (old new : Table) (go : List ℕ) (id : ℕ) (deleted : Bool) → IsIndexed old go →
     IsLive old.types.slots id → MatchBool deleted (Deletes old new id) (new ≡ old) →

@@ -1,8 +1,8 @@
 -- Lemmas on tables whose types die.
-use Rattle.std.proofs.Common.{◌≡◌, ℕ, zero, suc, ◌<◌, ◌≤◌, List, [], ◌∷◌, length, map, refl, sym, ap, subst, ◌∙◌, arith, Some, None, Option, IsSome, Bool, true, false, cond, not, filter, nat_eq, set, eqb-true, get_or-set_same, get_or-set_other, Ok, Err, Result, IsOk, OnOk}
+use Rattle.std.proofs.Common.{◌≡◌, ℕ, zero, suc, ◌<◌, ◌≤◌, ◌-◌, List, [], ◌∷◌, length, map, take, refl, sym, ap, subst, ◌∙◌, arith, Some, None, Option, IsSome, Bool, true, false, cond, not, filter, nat_eq, set, eqb-true, get_or-set_same, get_or-set_other, Ok, Err, Result, IsOk, OnOk}
 use Rattle.std.proofs.lemmas.Bool.{eqb-false}
 use Rattle.std.proofs.lemmas.List.{length-set}
-use Rattle.std.specs.List.{slice_get, slice_index}
+use Rattle.std.specs.List.{slice_get, slice_index, IsDistinct, AllByRecursion}
 use Rattle.walrus_arena.specs.Arena.{Slots, get, IsLive}
 use Rattle.walrus_types.specs.declared.table.rec_group.RecGroup.{RecGroup}
 use Rattle.walrus_ty.specs.Types.{ModuleType}
@@ -119,6 +119,38 @@ groups_kept :
     map (group_without id) gs ≡ gs
 groups_kept id [] none = refl
 groups_kept id (g ∷ gs) none = ap (λ (h : RecGroup). h ∷ map (group_without id) gs) (group_kept id g (λ u h. none 0 u h)) ∙ ap (λ (t : List RecGroup). g ∷ t) (groups_kept id gs (λ l u h. none (suc l) u h))
+
+-- the last of distinct ids leaves them where it is taken off
+
+last_differs :
+    (x id y : ℕ) (xs : List ℕ) → AllByRecursion (λ z. nat_eq x z ≡ false) (y ∷ xs) →
+    slice_get (y ∷ xs) (length xs) ≡ Some id → nat_eq x id ≡ false
+last_differs x id y [] apart last = ap (nat_eq x) (sym (some_inj last)) ∙ apart.0
+last_differs x id y (z ∷ xs) apart last = last_differs x id z xs apart.1 last
+
+taken_off :
+    (id x : ℕ) (xs : List ℕ) → IsDistinct nat_eq (x ∷ xs) →
+    slice_get (x ∷ xs) (length xs) ≡ Some id →
+    take (length xs) (x ∷ xs) ≡ filter (λ i. not (nat_eq i id)) (x ∷ xs)
+unfolding IsDistinct
+taken_off id x [] distinct last = by_test (nat_eq x id) refl
+  where
+    by_test : (b : Bool) → b ≡ nat_eq x id → [] ≡ cond (not b) (x ∷ []) []
+    by_test true e = refl
+    by_test false e = absurd (eqb-false x id (sym e) (some_inj last))
+taken_off id x (y ∷ xs) distinct last =
+    let kept : List ℕ = filter (λ i. not (nat_eq i id)) (y ∷ xs) in
+    ap (λ (t : List ℕ). x ∷ t) (taken_off id y xs distinct.1 last)
+    ∙ sym (ap (λ (b : Bool). cond (not b) (x ∷ kept) kept) (last_differs x id y xs distinct.0 last))
+
+pub last_taken :
+    (id : ℕ) (xs : List ℕ) → IsDistinct nat_eq xs → slice_get xs (length xs - 1) ≡ Some id →
+    take (length xs - 1) xs ≡ filter (λ i. not (nat_eq i id)) xs
+last_taken id [] distinct last = cc
+last_taken id (x ∷ xs) distinct last =
+    let e : length (x ∷ xs) - 1 ≡ length xs = omega arith in
+    let at_end : slice_get (x ∷ xs) (length xs) ≡ Some id = subst (λ (n : ℕ). slice_get (x ∷ xs) n ≡ Some id) e last in
+    ap (λ (n : ℕ). take n (x ∷ xs)) e ∙ taken_off id x xs distinct at_end
 
 -- an id that stands in the group k alone leaves all groups where it leaves this one
 pub left_one :

@@ -1,30 +1,51 @@
 -- Lemmas on tables that lose one type after the other, and on their live ids.
-use Rattle.std.proofs.Common.{◌≡◌, ℕ, suc, ◌+◌, ◌<◌, List, [], ◌∷◌, ◌++◌, length, map, take, refl, sym, ap, subst, ◌∙◌, arith, Some, None, cond, filter, is_some, get_or}
-use Rattle.std.specs.List.{range_with_len}
-use Rattle.std.proofs.lemmas.List.{take_more}
-use Rattle.walrus_arena.specs.Arena.{Slots, get, items_from, without_all}
+use Rattle.std.proofs.Common.{◌≡◌, ℕ, zero, suc, ◌+◌, ◌<◌, List, [], ◌∷◌, All, length, map, drop, refl, sym, ap, subst, ◌∙◌, arith, Some, None, IsSome, false, nat_eq, cond, filter, is_some, get_or, get_or-set_other}
+use Rattle.std.specs.List.{range_with_len, IsDistinct, AllByRecursion}
+use Rattle.std.proofs.Math.Seq.{drop-cons, drop-length}
+use Rattle.std.proofs.lemmas.Bool.{eqb-false}
+use Rattle.walrus_arena.specs.Arena.{Slots, get, IsLive, items_from}
+use Rattle.walrus_ty.specs.Types.{ModuleType}
 use Rattle.walrus_types.specs.Table.{Table, Deletes, DeletesAll}
 
--- the slots of the ids died in turn
-pub slots_left :
-    (old new : Table) (ids : List ℕ) → DeletesAll old ids new →
-    new.types.slots ≡ without_all old.types.slots ids
-slots_left old new [] all = ap (λ t. t.types.slots) all
-slots_left old new (id ∷ ids) all = slots_left all.0 new ids all.2 ∙ ap (λ s. without_all s ids) all.1.types.slots
+-- another id stays live
+pub others_stay :
+    (old new : Table) (ids : List ℕ) (id : ℕ) → DeletesAll old ids new →
+    AllByRecursion (λ y. nat_eq id y ≡ false) ids → IsLive old.types.slots id →
+    IsLive new.types.slots id
+others_stay old new [] id all apart live = subst (λ (t : Table). IsLive t.types.slots id) (sym all) live
+others_stay old new (first ∷ ids) id (mid, all, last) apart live =
+    let kept : get new.types.slots id ≡ get mid.types.slots id = ap (λ (s : Slots ModuleType). get s id) last.types.slots ∙ get_or-set_other mid.types.slots first id None None (eqb-false id first apart.0) in
+    subst IsSome (sym kept) (others_stay old mid ids id all apart.1 live)
 
-one_more :
-    (old mid new : Table) (ids : List ℕ) (id : ℕ) → DeletesAll old ids mid → Deletes mid new id →
-    DeletesAll old (ids ++ id ∷ []) new
-one_more old mid new [] id all last = (new, subst (λ t. Deletes t new id) all last, refl)
-one_more old mid new (first ∷ ids) id all last = (all.0, all.1, one_more all.0 mid new ids id all.2 last)
+-- an id of distinct ones differs from those after it
+apart_from_later :
+    (ids : List ℕ) (k d : ℕ) → IsDistinct nat_eq ids → k < length ids →
+    AllByRecursion (λ y. nat_eq (get_or ids k d) y ≡ false) (drop (suc k) ids)
+unfolding IsDistinct
+apart_from_later [] k d distinct below = absurd (omega (arith, below))
+apart_from_later (x ∷ ids) zero d distinct below = distinct.0
+apart_from_later (x ∷ ids) (suc k) d distinct below = apart_from_later ids k d distinct.1 (omega (arith, below))
 
--- the next of these ids
+-- the next of these ids, from the last to the first, is live
+pub next_live :
+    (old mid : Table) (ids : List ℕ) (i k d : ℕ) → i ≡ suc k → k < length ids →
+    All (IsLive old.types.slots) ids → IsDistinct nat_eq ids → DeletesAll old (drop i ids) mid →
+    IsLive mid.types.slots (get_or ids k d)
+next_live old mid ids i k d next below live distinct all =
+    let later = subst (λ (n : ℕ). DeletesAll old (drop n ids) mid) next all in
+    others_stay old mid (drop (suc k) ids) (get_or ids k d) later (apart_from_later ids k d distinct below) (live k d below)
+
 pub next_deleted :
-    (old mid new : Table) (ids : List ℕ) (k id : ℕ) → k < length ids → id ≡ get_or ids k id →
-    DeletesAll old (take k ids) mid → Deletes mid new id → DeletesAll old (take (k + 1) ids) new
-next_deleted old mid new ids k id below is all last =
-    let more : take (k + 1) ids ≡ take k ids ++ id ∷ [] = take_more ids k id below ∙ ap (λ (n : ℕ). take k ids ++ n ∷ []) (sym is) in
-    subst (λ (ns : List ℕ). DeletesAll old ns new) (sym more) (one_more old mid new (take k ids) id all last)
+    (old mid new : Table) (ids : List ℕ) (i k id : ℕ) → i ≡ suc k → k < length ids →
+    id ≡ get_or ids k id → DeletesAll old (drop i ids) mid → Deletes mid new id →
+    DeletesAll old (drop k ids) new
+next_deleted old mid new ids i k id next below is all last =
+    let later = subst (λ (n : ℕ). DeletesAll old (drop n ids) mid) next all in
+    let more : drop k ids ≡ id ∷ drop (suc k) ids = drop-cons ids k id below ∙ ap (λ (n : ℕ). n ∷ drop (suc k) ids) (sym is) in
+    subst (λ (ns : List ℕ). DeletesAll old ns new) (sym more) (mid, later, last)
+
+pub none_deleted : (t : Table) (ids : List ℕ) → DeletesAll t (drop (length ids) ids) t
+none_deleted t ids = subst (λ (ns : List ℕ). DeletesAll t ns t) (sym (drop-length ids)) refl
 
 -- the ids of the live slots from b on
 ids_listed :

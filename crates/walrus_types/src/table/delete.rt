@@ -1,5 +1,5 @@
 //! Deleting types from a table.
-ghost use Rattle.std.specs.Prelude.{◌≡◌, ◌↔◌, All, IsOk, IsTrue, IfOk, OnOk, MatchBool, nat_eq};
+ghost use Rattle.std.specs.Prelude.{◌≡◌, ◌↔◌, ◌-◌, All, IsOk, IsTrue, IfOk, OnOk, MatchBool, Some, filter, length, nat_eq, not, slice_get};
 ghost use Rattle.std.specs.List.{IsDistinct};
 ghost use Rattle.walrus_types.specs.TypesById.{IsLive};
 ghost use Rattle.walrus_types.specs.Table.{Deletes, DeletesAll, DeletesGroup, IsNamedInGroup, IsOtherNamer};
@@ -12,7 +12,8 @@ use std::mem;
 impl ModuleTypes {
     /// Deletes the type of a live id, which leaves its group. It takes no memory, and answers `Ok`.
     ///
-    /// It is for the caller to see that nothing names the id any more.
+    /// It is for the caller to see that nothing names the id any more. It takes constant time where
+    /// the type is the last of its group, else time linear in the number of the group's types.
     pub fn delete(&mut self, id: TypeId) -> Result<(), AllocError>
         requires { IsLive self.old.types.slots id }
         ensures ok { OnOk result (Deletes self.old self.new id) }
@@ -20,21 +21,27 @@ impl ModuleTypes {
     {
         let at = self.group_of[id.index()];
         let group = &mut self.groups[at];
-        group.types.leave(id);
+        remove_id(&mut group.types, id);
         self.types.remove(id)
     }
 
-    /// `delete` of each of these distinct live ids, in order. It takes no memory, and answers `Ok`.
+    /// `delete` of each of these distinct live ids, from the last to the first. It takes no memory,
+    /// and answers `Ok`.
     ///
-    /// It is for the caller to see that nothing that stays names one of them any more.
+    /// It is for the caller to see that nothing that stays names one of them any more. An id takes
+    /// constant time where its type is the last of its group when its turn comes, else time linear
+    /// in the number of the group's types. So where groups die whole and the ids ascend, it takes
+    /// time linear in the number of the ids.
     pub fn delete_all(&mut self, ids: &[TypeId]) -> Result<(), AllocError>
         requires live { All (IsLive self.old.types.slots) ids.now }
         requires distinct { IsDistinct nat_eq ids.now }
         ensures ok { OnOk result (DeletesAll self.old ids.now self.new) }
         ensures succeeds { IsOk result }
     {
-        for id in ids {
-            self.delete(*id)?;
+        let mut i = ids.len();
+        while i > 0 {
+            i -= 1;
+            self.delete(ids[i])?;
         }
         Ok(())
     }
@@ -92,5 +99,26 @@ impl ModuleTypes {
         ensures { IsTrue result ↔ IsOtherNamer self.now other id }
     {
         other != id && self.types[other].names(id)
+    }
+}
+
+// Takes an id out of distinct ones, in constant time where it is the last.
+fn remove_id(ids: &mut Listed<TypeId>, id: TypeId)
+    requires { IsDistinct nat_eq ids.old }
+    ensures { ids.new ≡ filter (λ i. not (nat_eq i id)) ids.old }
+{
+    if is_last(ids.as_slice(), id) {
+        ids.pop();
+        return;
+    }
+    ids.leave(id);
+}
+
+fn is_last(ids: &[TypeId], id: TypeId) -> bool
+    ensures { IsTrue result ↔ (slice_get ids.now (length ids.now - 1) ≡ Some id) }
+{
+    match ids.last() {
+        Some(last) => *last == id,
+        None => false,
     }
 }

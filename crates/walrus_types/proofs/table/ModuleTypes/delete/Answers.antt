@@ -4,8 +4,17 @@ use Rattle.walrus_types.specs.Table.{Table}
 use Rattle.walrus_ty.specs.SameTypes.{type_eq}
 use Rattle.walrus_types.proofs.Tables.Places.{home_of}
 use Rattle.walrus_types.proofs.Tables.DeadTypes.{table_deleted, deletes_from, ok_holds}
+use Rattle.walrus_types.proofs.Tables.DeadGroup.{members_once, distinct_from_once}
 use Rattle.walrus_types.proofs.Tables.TypeSet.{seen, removes_seen}
 use Rattle.walrus_types.proofs.table.ModuleTypes.delete.Goals as goal
+
+pub remove_id-requires : goal.remove_id-requires
+remove_id-requires c =
+    let t : Table = record { types = seen c.self.inside.types; groups = c.self.inside.groups.items } in
+    let live = rw (← c.self.view_is) at c.requires in
+    let at = rw c.index.ensures at c.index-at.ensures in
+    let home = home_of t c.self.inside.group_of.items c.args.id c.index-at.result.now c.index_mut-group.result.now c.self.invariant live at c.index_mut-group.ensures.value in
+    distinct_from_once c.index_mut-group.result.now.types (members_once t c.self.inside.group_of.items c.args.id c.index-at.result.now c.index_mut-group.result.now c.self.invariant home)
 
 pub invariant_of-self : goal.invariant_of-self
 unfolding type_eq
@@ -15,7 +24,7 @@ invariant_of-self c =
     let removes : Removes type_eq c.self.inside.types c.remove.new.self c.args.id = ok_holds c.remove.result c.remove.ensures.succeeds c.remove.ensures.ok in
     let at = rw c.index.ensures at c.index-at.ensures in
     let home = home_of t c.self.inside.group_of.items c.args.id c.index-at.result.now c.index_mut-group.result.now c.self.invariant live at c.index_mut-group.ensures.value in
-    table_deleted t _ c.self.inside.group_of.items c.args.id c.self.invariant live (deletes_from t c.args.id c.index-at.result.now c.index_mut-group.result.now (seen c.remove.new.self) c.leave.new.self home c.leave.ensures (removes_seen c.self.inside.types c.remove.new.self c.args.id removes))
+    table_deleted t _ c.self.inside.group_of.items c.args.id c.self.invariant live (deletes_from t c.args.id c.index-at.result.now c.index_mut-group.result.now (seen c.remove.new.self) c.remove_id.new.ids home c.remove_id.ensures (removes_seen c.self.inside.types c.remove.new.self c.args.id removes))
 
 pub returns-clause-ok : goal.returns-clause-ok
 unfolding type_eq
@@ -24,4 +33,4 @@ returns-clause-ok c =
     let live = rw (← c.self.view_is) at c.requires in
     let at = rw c.index.ensures at c.index-at.ensures in
     let home = home_of t c.self.inside.group_of.items c.args.id c.index-at.result.now c.index_mut-group.result.now c.self.invariant live at c.index_mut-group.ensures.value in
-    on_ok_weaker c.remove.result (λ (r : Removes type_eq c.self.inside.types c.remove.new.self c.args.id). rw (← c.self.view_is) (deletes_from t c.args.id c.index-at.result.now c.index_mut-group.result.now (seen c.remove.new.self) c.leave.new.self home c.leave.ensures (removes_seen c.self.inside.types c.remove.new.self c.args.id r))) c.remove.ensures.ok
+    on_ok_weaker c.remove.result (λ (r : Removes type_eq c.self.inside.types c.remove.new.self c.args.id). rw (← c.self.view_is) (deletes_from t c.args.id c.index-at.result.now c.index_mut-group.result.now (seen c.remove.new.self) c.remove_id.new.ids home c.remove_id.ensures (removes_seen c.self.inside.types c.remove.new.self c.args.id r))) c.remove.ensures.ok

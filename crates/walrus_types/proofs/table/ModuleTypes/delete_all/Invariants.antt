@@ -1,6 +1,12 @@
-use Rattle.std.proofs.Common.{take}
+use Rattle.std.proofs.Common.{◌≤◌, drop, length}
 use Rattle.walrus_types.specs.Table.{DeletesAll}
 use Rattle.walrus_types.proofs.table.ModuleTypes.delete_all.Given as goal
 
-abbrev pub invariant-loop-id : goal.invariant-loop-id
-invariant-loop-id l = DeletesAll l.fn.self (take l.id-index l.ids) l.self
+abbrev pub invariant-loop-i : goal.invariant-loop-i
+invariant-loop-i l = record {
+  within : l.i ≤ length l.ids;
+  deleted : DeletesAll l.initial.self (drop l.i l.ids) l.self;
+}
+
+abbrev pub decreases-loop-i : goal.decreases-loop-i
+decreases-loop-i l = l.i
