@@ -23,8 +23,8 @@ use walrus_types::{ModuleTypes, TypeId};
 /// their types stay in the list of groups, without types. A table that [`ModuleTypes::emit`] writes
 /// without a name that misses its index stays one.
 ///
-/// It takes time linear in the size of the table and the number of roots, and beyond that, for each
-/// group that dies, time with the square of the number of its types.
+/// It takes time linear in the size of the table and the number of roots, however many groups die
+/// and however large they are.
 ///
 /// # Errors
 ///

@@ -18,13 +18,12 @@ set_none (x ∷ s) (suc id) = set_none s id
 -- the group without these ids
 abbrev pub group_less : List ℕ → RecGroup → RecGroup
 group_less [] g = g
-group_less (id ∷ ids) g = group_less ids (group_without id g)
+group_less (id ∷ ids) g = group_without id (group_less ids g)
 
 -- what deletions of these ids leave
 pub record Leaves (old new : Table) (ids : List ℕ) : Type 0 where
   pub stays : (x : ℕ) → (Contains ids x → ⊥) → live_type new.types.slots x ≡ live_type old.types.slots x
   pub dies : (x : ℕ) → Contains ids x → live_type new.types.slots x ≡ None
-  pub dead : (x : ℕ) → live_type old.types.slots x ≡ None → live_type new.types.slots x ≡ None
   pub next : next_id new ≡ next_id old
   pub count : length new.groups ≡ length old.groups
   pub group : (k : ℕ) → rec_group_at new.groups k ≡ group_less ids (rec_group_at old.groups k)
@@ -56,23 +55,21 @@ pub leaves : (old new : Table) (ids : List ℕ) → DeletesAll old ids new → L
 leaves old new [] all = subst (λ (t : Table). Leaves old t []) (sym all) (record {
   stays = λ x none. refl;
   dies = λ x c. absurd (contains_none x c);
-  dead = λ x h. h;
   next = refl;
   count = refl;
   group = λ k. refl;
 })
-leaves old new (id ∷ ids) (mid, first, rest) =
-    let r = leaves mid new ids rest in
+leaves old new (id ∷ ids) (mid, rest, last) =
+    let r = leaves old mid ids rest in
     record {
-      stays = λ x none. r.stays x (λ c. none (contains_rest id ids x c)) ∙ one_stays old mid id first x (λ e. none (subst (Contains (id ∷ ids)) (sym e) (contains_first id ids)));
+      stays = λ x none. one_stays mid new id last x (λ e. none (subst (Contains (id ∷ ids)) (sym e) (contains_first id ids))) ∙ r.stays x (λ c. none (contains_rest id ids x c));
       dies = λ x c. elim (contains_cases id ids x c) [
-        | inl e ↦ r.dead x (ap (live_type mid.types.slots) e ∙ one_dies old mid id first)
-        | inr k ↦ r.dies x k
+        | inl e ↦ (ap (live_type new.types.slots) e ∙ one_dies mid new id last)
+        | inr k ↦ one_dead mid new id last x (r.dies x k)
       ];
-      dead = λ x h. r.dead x (one_dead old mid id first x h);
-      next = r.next ∙ one_next old mid id first;
-      count = r.count ∙ one_count old mid id first;
-      group = λ k. r.group k ∙ ap (group_less ids) (one_group old mid id first k);
+      next = one_next mid new id last ∙ r.next;
+      count = one_count mid new id last ∙ r.count;
+      group = λ k. one_group mid new id last k ∙ ap (group_without id) (r.group k);
     }
 
 -- a group none of whose members goes is the same
@@ -91,18 +88,17 @@ group_stays [] g none = refl
 group_stays (id ∷ ids) g none =
     let made : List ℕ → RecGroup = λ t. record { types = t; is_explicit = g.is_explicit } in
     let one : group_without id g ≡ g = ap made (filter_all id g.types (λ c. none id (contains_first id ids) c)) in
-    ap (group_less ids) one ∙ group_stays ids g (λ x c m. none x (contains_rest id ids x c) m)
+    ap (group_without id) (group_stays ids g (λ x c m. none x (contains_rest id ids x c) m)) ∙ one
 
--- a group all of whose members go is left without types
-still_gone :
-    (id : ℕ) (ids xs : List ℕ) → ((x : ℕ) → Contains xs x → Contains (id ∷ ids) x) → (x : ℕ) →
-    Contains (filter (λ i. not (nat_eq i id)) xs) x → Contains ids x
-still_gone id ids xs all x c =
-    let k = filter_keeps (λ i. not (nat_eq i id)) xs x c in
-    elim (contains_cases id ids x (all x k.0)) [
-      | inl e ↦ absurd (not_same x id k.1 e)
-      | inr later ↦ later
-    ]
+-- what stays of a group stood in it, and isn't one of the ids
+less_keeps :
+    (ids : List ℕ) (g : RecGroup) (x : ℕ) → Contains (group_less ids g).types x →
+    Contains g.types x × (Contains ids x → ⊥)
+less_keeps [] g x c = (c, contains_none x)
+less_keeps (id ∷ ids) g x c =
+    let k = filter_keeps (λ i. not (nat_eq i id)) (group_less ids g).types x c in
+    let r = less_keeps ids g x k.0 in
+    (r.0, λ m. elim (contains_cases id ids x m) [ inl e ↦ not_same x id k.1 e | inr later ↦ r.1 later ])
   where
     not_same : (a b : ℕ) → not (nat_eq a b) ≡ true → a ≡ b → ⊥
     not_same a b h e = grind (arith, nat_tests, h, e)
@@ -111,8 +107,8 @@ none_left : (xs : List ℕ) → ((x : ℕ) → Contains xs x → ⊥) → xs ≡
 none_left [] none = refl
 none_left (x ∷ xs) none = absurd (none x (contains_first x xs))
 
+-- a group all of whose members go is left without types
 pub group_goes :
     (ids : List ℕ) (g : RecGroup) → ((x : ℕ) → Contains g.types x → Contains ids x) →
     (group_less ids g).types ≡ []
-group_goes [] g all = none_left g.types (λ x c. contains_none x (all x c))
-group_goes (id ∷ ids) g all = group_goes ids (group_without id g) (still_gone id ids g.types all)
+group_goes ids g all = none_left (group_less ids g).types (λ x c. let r = less_keeps ids g x c in r.1 (all x r.0))

@@ -115,14 +115,15 @@ pub found_left :
     (old new : Table) (ids : List ℕ) → DeletesAll old ids new → (q : ModuleType) (x : ℕ) →
     found_id new.types q ≡ Some x → (found_id old.types q ≡ Some x) × (Contains ids x → ⊥)
 found_left old new [] all q x h = (subst (λ (t : Table). found_id t.types q ≡ Some x) all h, contains_none x)
-found_left old new (id ∷ ids) (mid, first, rest) q x h =
-    let r = found_left mid new ids rest q x h in
-    let s = found_before old.types mid.types id first.types q x r.0 in
-    (s.0, λ c. elim (contains_cases id ids x c) [ inl e ↦ s.1 e | inr k ↦ r.1 k ])
+found_left old new (id ∷ ids) (mid, rest, last) q x h =
+    let s = found_before mid.types new.types id last.types q x h in
+    let r = found_left old mid ids rest q x s.0 in
+    (r.0, λ c. elim (contains_cases id ids x c) [ inl e ↦ s.1 e | inr k ↦ r.1 k ])
 
 pub found_still :
     (old new : Table) (ids : List ℕ) → DeletesAll old ids new → (q : ModuleType) (x : ℕ) →
     found_id old.types q ≡ Some x → (Contains ids x → ⊥) → found_id new.types q ≡ Some x
 found_still old new [] all q x h none = subst (λ (t : Table). found_id t.types q ≡ Some x) (sym all) h
-found_still old new (id ∷ ids) (mid, first, rest) q x h none =
-    found_still mid new ids rest q x (found_after old.types mid.types id first.types q x h (λ e. none (subst (Contains (id ∷ ids)) (sym e) (contains_first id ids)))) (λ c. none (contains_rest id ids x c))
+found_still old new (id ∷ ids) (mid, rest, last) q x h none =
+    let r = found_still old mid ids rest q x h (λ c. none (contains_rest id ids x c)) in
+    found_after mid.types new.types id last.types q x r (λ e. none (subst (Contains (id ∷ ids)) (sym e) (contains_first id ids)))
