@@ -1,3 +1,4 @@
 pub mod Emission
 pub mod Tables
 pub mod Reading
+pub mod EntryCounts

@@ -20,6 +20,7 @@ pub use Rattle.walrus_sections.specs.FirstError
 pub use Rattle.walrus_sections.specs.Refusal
 pub use Rattle.walrus_sections.specs.Examples
 pub mod TypesById
+pub mod Differences
 pub mod Table
 pub mod TableEmission
 pub mod TableLends

@@ -7,7 +7,8 @@
 //! - [`SectionReader`] and [`parse_types`] read a section into a table, and [`ModuleTypes::emit`]
 //!   writes a table as a section.
 //! - [`normalise`] does both, which gives the normal form of a section. [`is_normal_form`] judges
-//!   an answer, and [`same_up_to_moves`] compares two sections.
+//!   an answer, and [`same_up_to_moves`] compares two sections. [`first_difference`] says where
+//!   two normal forms differ.
 //! - [`laws`] and [`record_laws`] have the theorems.
 //!
 //! Of a section `groups`, `wanted` is the normal form, and `map` has the place of each entry in it,
@@ -24,6 +25,7 @@
 //! at.
 #![tactic(auto)]
 
+mod difference;
 mod emit;
 mod error;
 pub mod laws;
@@ -32,6 +34,7 @@ mod normal_form;
 mod section_reader;
 mod table;
 
+pub use difference::{entries_before, first_difference};
 pub use error::EmitError;
 pub use moves::same_up_to_moves;
 pub use normal_form::normalise;
