@@ -6,3 +6,4 @@ pub mod Framing
 pub mod Faulting
 pub mod Replacing
 pub mod Uniqueness
+pub mod ErrorPlaces

@@ -2,5 +2,6 @@ pub mod Leb128
 pub mod Grammar
 pub mod Faults
 pub mod Modules
+pub mod ModuleTypes
 pub mod Replacement
 pub mod Steps

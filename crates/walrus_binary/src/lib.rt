@@ -3,7 +3,8 @@
 //!
 //! - [`type_section`] finds the type section of a module, and [`replace_type_section`] gives it
 //!   another content.
-//! - [`decode_types`] reads the groups of a section, and says where bytes are no text of groups.
+//! - [`decode_types`] reads the groups of a section, and says where bytes are no text of groups;
+//!   [`module_types`] reads those of a module.
 //! - [`encode_types`] writes the shortest text of groups.
 //! - [`laws`] has the theorems: bytes are a text of one list of groups at most, no text is the
 //!   beginning of a longer one, and bytes are a module of one list of sections at most.
@@ -33,7 +34,7 @@ mod module;
 pub use decode::decode_types;
 pub use encode::encode_types;
 pub use error::{DecodeError, EncodeError, Expected, NotHeld, ReplaceError};
-pub use module::{replace_type_section, type_section};
+pub use module::{module_types, replace_type_section, type_section};
 
 #[cfg(test)]
 mod tests;

@@ -8,11 +8,13 @@ ghost use Rattle.walrus_binary.specs.Modules.{IsTypeSectionAt, HasNoTypeSection,
 
 mod replace;
 mod section;
+mod types;
 
 use crate::error::{DecodeError, Fault};
 use crate::module::section::{TYPE, place_after, read_header, read_section};
 pub use replace::replace_type_section;
 use std::ops::Range;
+pub use types::module_types;
 
 /// Which bytes of a module, counted from 0, its type section has after its id and size, and `None`
 /// where the module has no type section (WebAssembly core specification, "Binary Format",
