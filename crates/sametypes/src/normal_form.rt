@@ -1,0 +1,71 @@
+//! The normal form of what a reader gives, and where two of them differ.
+ghost use Rattle.std.specs.Prelude.{◌≡◌, ◌↔◌, ◌<◌, ◌^◌, IfOk, IfSome, None};
+ghost use Rattle.walrus_ty.specs.Records.{section_of};
+ghost use Rattle.walrus_sections.specs.Section.{index_space, IsWellNamed};
+ghost use Rattle.sametypes.specs.Runs.{HasSection, IsFirstDifference};
+ghost use Rattle.sametypes.specs.Steps.Answers.{HasNormalForm};
+
+use crate::failure::Trouble;
+use std::alloc::Global;
+use std::io::{ErrorKind, Read};
+use walrus_binary::module_types;
+use walrus_text::read_section;
+use walrus_types::{GroupAt, HashKeys, entries_before, first_difference, normalise};
+
+/// The four bytes with which each module begins, and no text of a section.
+const MAGIC: [u8; 4] = [0x00, 0x61, 0x73, 0x6D];
+
+/// The normal form of the section that a reader gives up to its end.
+pub fn read_normal_form<R: Read>(
+    alloc: Global,
+    keys: HashKeys,
+    reader: &mut R,
+) -> Result<Vec<GroupAt>, Trouble>
+    ensures normal { IfOk result (λ form. IfSome (R.remaining reader.old)
+        (λ bytes. HasNormalForm bytes form.items)) }
+    ensures well_named { IfOk result (λ form. IsWellNamed (section_of form.items)) }
+{
+    let bytes = read_bytes(alloc, reader)?;
+    let section = section_in(alloc, bytes.as_slice())?;
+    let (form, _) = normalise(alloc, keys, section.as_slice())?;
+    Ok(form)
+}
+
+/// All bytes that the reader gives.
+fn read_bytes<R: Read>(alloc: Global, reader: &mut R) -> Result<Vec<u8>, Trouble>
+    ensures { IfOk result (λ read. IfSome (R.remaining reader.old)
+        (λ bytes. read.items ≡ bytes)) }
+{
+    let mut bytes = Vec::new(alloc);
+    let Err(error) = reader.read_to_end(&mut bytes) else {
+        return Ok(bytes);
+    };
+    if error.kind() == ErrorKind::OutOfMemory {
+        return Err(Trouble::Memory);
+    }
+    Err(Trouble::Input)
+}
+
+/// The section that the bytes say, as a module or as a text.
+fn section_in(alloc: Global, bytes: &[u8]) -> Result<Vec<GroupAt>, Trouble>
+    ensures { IfOk result (λ groups. HasSection bytes.now groups.items) }
+{
+    if bytes.starts_with(&MAGIC) {
+        return Ok(module_types(alloc, bytes)?);
+    }
+    let mut text = bytes;
+    Ok(read_section(alloc, &mut text)?)
+}
+
+/// The index of the first entry of the first group in which two normal forms differ, or at which
+/// one of them ends.
+pub fn index_of_difference(first: &[GroupAt], second: &[GroupAt]) -> Option<usize>
+    requires few { (index_space (section_of first.now)).count < 2 ^ 32 }
+    ensures same { result ≡ None ↔ (first.now ≡ second.now) }
+    ensures index { IfSome result (λ index. IsFirstDifference index first.now second.now) }
+{
+    match first_difference(first, second) {
+        Some(place) => Some(entries_before(first, place)),
+        None => None,
+    }
+}
