@@ -1,28 +1,10 @@
--- What a run does: `IsPrinted` where its bytes are a module whose types can be read, `HasBadTypes`
--- where not.
-use Rattle.std.specs.Prelude.{ℕ, List, [], Option, slice_range}
+-- What a run does: `IsPrinted` where its bytes are a module whose types can be read.
+use Rattle.std.specs.Prelude.{ℕ, List, Option}
 use Rattle.std.specs.Io.KnownBytes.{Appends}
 use Rattle.walrus_ty.specs.declared.records.GroupAt.{GroupAt}
-use Rattle.walrus_binary.specs.Grammar.{IsTypes}
-use Rattle.walrus_binary.specs.Faults.{IsNoText}
-use Rattle.walrus_binary.specs.Modules.{IsTypeSectionAt, HasNoTypeSection, IsNoModule}
+use Rattle.walrus_binary.specs.ModuleTypes.{HasTypes}
 use Rattle.walrus_text.specs.Words.{text_of}
 use Rattle.walrus_text.specs.Text.{section_lines}
-
--- The bytes are a module, and what its type section contains is a text of these groups. Without
--- such a section there are none.
-pub data HasTypes (bytes : List ℕ) : List GroupAt → Type 0 where
-  in_section :
-      (start stop : ℕ) (groups : List GroupAt) → IsTypeSectionAt bytes start stop
-      → IsTypes (slice_range bytes start stop) groups → HasTypes bytes groups
-  without_section : HasNoTypeSection bytes → HasTypes bytes []
-
--- The bytes are no module, or what its type section contains is a text of no groups.
-pub data HasBadTypes (bytes : List ℕ) : Type 0 where
-  no_module : IsNoModule bytes → HasBadTypes bytes
-  bad_section :
-      (start stop : ℕ) → IsTypeSectionAt bytes start stop
-      → IsNoText (slice_range bytes start stop) → HasBadTypes bytes
 
 -- the bytes are a module, and a writer gained the text of its types
 pub record IsPrinted (bytes : List ℕ) (old new : Option (List ℕ)) : Type 0 where

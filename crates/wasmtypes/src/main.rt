@@ -5,19 +5,19 @@ ghost use Rattle.std.specs.Prelude.{◌≡◌, ◌⊎◌, ◌<◌, IfErr, IfOk, 
 ghost use Rattle.std.specs.Io.KnownBytes.{Appends, Keeps};
 ghost use Rattle.walrus_text.specs.Words.{text_of};
 ghost use Rattle.walrus_text.specs.Text.{section_lines};
-ghost use Rattle.wasmtypes.specs.Runs.{HasBadTypes, IsPrinted};
+ghost use Rattle.walrus_binary.specs.ModuleTypes.{HasBadTypes};
+ghost use Rattle.wasmtypes.specs.Runs.{IsPrinted};
 ghost use Rattle.wasmtypes.specs.Steps.Failures.{Explains, status_of};
 
 mod failure;
-mod module_types;
 #[cfg(test)]
 mod tests;
 
 use failure::{Failure, report};
-use module_types::module_types;
 use std::alloc::Global;
 use std::io::{BufWriter, ErrorKind, Read, Write};
 use std::process::ExitCode;
+use walrus_binary::module_types;
 use walrus_text::write_section;
 use walrus_ty::GroupAt;
 

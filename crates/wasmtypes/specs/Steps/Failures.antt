@@ -5,7 +5,7 @@ use Rattle.walrus_binary.specs.declared.error.DecodeError.TheVariants as decode
 use Rattle.walrus_binary.specs.Faults.{error_offset}
 use Rattle.wasmtypes.specs.declared.failure.Failure.{Failure}
 use Rattle.wasmtypes.specs.declared.failure.Failure.TheVariants as failure
-use Rattle.wasmtypes.specs.Runs.{HasBadTypes}
+use Rattle.walrus_binary.specs.ModuleTypes.{HasBadTypes}
 
 -- what a failure says of the bytes
 abbrev pub Explains : Failure → List ℕ → Type 0
