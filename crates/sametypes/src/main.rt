@@ -36,8 +36,8 @@ use walrus_types::HashKeys;
 /// The answer is the exit status: 0 where they are the same, 1 where they differ, and 2 where
 /// that can't be told: bytes are no module or no text, an entry names an index that it may not
 /// name, there are too many entries, memory was refused, a read failed, or the answer could not be
-/// written. One line on `err` says which, and in which of the two, `A` or `B`; where both are bad it
-/// is `A`. At 2 `out` gains nothing, unless it is the write of the answer that failed.
+/// written. One line on `err` says which, and in which of the two, `A` or `B`; where both are bad
+/// it is `A`. At 2 `out` gains nothing, unless it is the write of the answer that failed.
 ///
 /// The keys are those of the hash by which equal types are found. No answer hangs on them; where
 /// they can be foreseen, a section can be made that takes time with the square of its length.
