@@ -1,13 +1,16 @@
 //! Texts of the specification's grammar with what they stand for, and what is no text.
+mod changed;
+mod compiled;
 mod encoding;
 mod integers;
 mod modules;
 mod productions;
 mod refusals;
 mod replacing;
+mod speed;
 mod unheld;
 
-use crate::{DecodeError, Expected, decode_types};
+use crate::{DecodeError, Expected, decode_types, type_section};
 use std::alloc::{AllocError, Global};
 use walrus_ty::{
     AbstractHeapType, CompAt, EntryAt, FieldAt, GroupAt, HeapAt, Listed, RefAt, StorageAt, ValAt,
@@ -16,6 +19,14 @@ use walrus_ty::{
 /// What is wrong with the bytes.
 fn error_of(alloc: Global, bytes: &[u8]) -> Option<DecodeError> {
     decode_types(alloc, bytes).err()
+}
+
+/// What the type section of a module has after its id and size.
+fn content_of(bytes: &[u8]) -> Result<Option<&[u8]>, DecodeError> {
+    match type_section(bytes)? {
+        Some(range) => Ok(Some(&bytes[range.start..range.end])),
+        None => Ok(None),
+    }
 }
 
 /// Whether the bytes are read as these groups.

@@ -97,3 +97,45 @@ fn an_exact_index_is_unsigned(rt: HostRuntime) {
         malformed(8, Expected::Integer)
     );
 }
+
+#[test]
+fn each_count_may_be_padded(rt: HostRuntime) -> Result<(), Fail> {
+    let params = [1, 0x60, 0x81, 0x80, 0x80, 0x80, 0x00, 0x7F, 0x80, 0x00];
+    let group = GroupAt::Single(plain(function(rt.alloc(), &[ValAt::I32], &[])?));
+    assert!(rt; reads_group(rt.alloc(), &params, group));
+    let fields = [1, 0x5F, 0x80, 0x80, 0x00];
+    let group = GroupAt::Single(plain(CompAt::Struct {
+        fields: Listed::from_vec(Vec::new(rt.alloc())),
+    }));
+    assert!(rt; reads_group(rt.alloc(), &fields, group));
+    let entries = [1, 0x4E, 0x80, 0x00];
+    let group = GroupAt::Rec(Listed::from_vec(Vec::new(rt.alloc())));
+    assert!(rt; reads_group(rt.alloc(), &entries, group));
+    let supertypes = [1, 0x4F, 0x80, 0x80, 0x80, 0x80, 0x00, 0x5E, 0x78, 0];
+    assert!(rt; reads_group(rt.alloc(), &supertypes, array(StorageAt::I8)));
+    Ok(())
+}
+
+#[test]
+fn a_supertype_is_unsigned(rt: HostRuntime) {
+    let greatest = [1, 0x50, 1, 0xFF, 0xFF, 0xFF, 0xFF, 0x0F, 0x5E, 0x78, 0];
+    let field = constant(StorageAt::I8);
+    let group = GroupAt::Single(EntryAt {
+        comp: CompAt::Array { field },
+        is_final: false,
+        supertype: Some(0xFFFF_FFFF),
+    });
+    assert!(rt; reads_group(rt.alloc(), &greatest, group));
+    let unused = [1, 0x50, 1, 0xFF, 0xFF, 0xFF, 0xFF, 0x1F, 0x5E, 0x78, 0];
+    assert_eq!(rt;
+        error_of(rt.alloc(), &unused),
+        malformed(7, Expected::Integer)
+    );
+    let longer = [
+        1, 0x50, 1, 0x80, 0x80, 0x80, 0x80, 0x80, 0x00, 0x5E, 0x78, 0,
+    ];
+    assert_eq!(rt;
+        error_of(rt.alloc(), &longer),
+        malformed(7, Expected::Integer)
+    );
+}

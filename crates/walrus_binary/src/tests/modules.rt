@@ -1,7 +1,6 @@
 //! Where the type section of a module stands, and what is no module.
 //! The bytes are put together by hand from the specification's grammar of modules.
 use super::*;
-use crate::type_section;
 use std::test::*;
 
 fn stands_at(bytes: &[u8], start: usize, end: usize) -> bool {

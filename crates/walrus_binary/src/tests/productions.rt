@@ -91,6 +91,33 @@ fn struct_types(rt: HostRuntime) -> Result<(), Fail> {
 }
 
 #[test]
+fn array_types(rt: HostRuntime) {
+    let field = FieldAt {
+        element_type: StorageAt::Val(ValAt::F32),
+        mutable: true,
+    };
+    let group = GroupAt::Single(plain(CompAt::Array { field }));
+    assert!(rt; reads_group(rt.alloc(), &[1, 0x5E, 0x7D, 1], group));
+    let mutability = [1, 0x5E, 0x7D, 0x7D];
+    assert_eq!(rt;
+        error_of(rt.alloc(), &mutability),
+        malformed(3, Expected::Mutability)
+    );
+}
+
+#[test]
+fn values_of_no_type(rt: HostRuntime) {
+    // The empty block type, an exact index without a reference, and an index without one.
+    for code in [0x40, 0x62, 0x05] {
+        let bytes = [1, 0x60, 0, 1, code];
+        assert_eq!(rt;
+            error_of(rt.alloc(), &bytes),
+            malformed(4, Expected::ValType)
+        );
+    }
+}
+
+#[test]
 fn declared_types(rt: HostRuntime) {
     let field = constant(StorageAt::I8);
     let open = GroupAt::Single(EntryAt {
@@ -107,6 +134,20 @@ fn declared_types(rt: HostRuntime) {
     assert!(rt; reads_group(rt.alloc(), &[1, 0x4F, 1, 0x40, 0x5E, 0x78, 0], sub));
     let plain = array(StorageAt::I8);
     assert!(rt; reads_group(rt.alloc(), &[1, 0x4F, 0, 0x5E, 0x78, 0], plain));
+}
+
+#[test]
+fn a_declared_type_has_no_second_head(rt: HostRuntime) {
+    let open = [1, 0x50, 0, 0x50, 0, 0x5E, 0x78, 0];
+    assert_eq!(rt;
+        error_of(rt.alloc(), &open),
+        malformed(3, Expected::CompType)
+    );
+    let group = [1, 0x4F, 1, 0, 0x4E, 0];
+    assert_eq!(rt;
+        error_of(rt.alloc(), &group),
+        malformed(4, Expected::CompType)
+    );
 }
 
 #[test]
@@ -129,20 +170,4 @@ fn recursion_groups(rt: HostRuntime) -> Result<(), Fail> {
 fn nothing_stands_behind_the_groups(rt: HostRuntime) {
     let bytes = [1, 0x5E, 0x78, 0, 0x5E];
     assert_eq!(rt; error_of(rt.alloc(), &bytes), malformed(4, Expected::End));
-}
-
-#[test]
-fn each_truncation_stops_at_its_end(rt: HostRuntime) {
-    let bytes = [
-        2, 0x4E, 2, 0x50, 1, 0x80, 0x00, 0x5F, 2, 0x63, 0xC0, 0x00, 1, 0x78, 0, 0x5E, 0x64, 0x62,
-        7, 0, 0x60, 1, 0x7F, 1, 0x6F,
-    ];
-    assert!(rt; decode_types(rt.alloc(), &bytes).is_ok());
-    for len in 0..bytes.len() {
-        let offset = match decode_types(rt.alloc(), &bytes[..len]) {
-            Err(DecodeError::Malformed { offset, .. }) => Some(offset),
-            _ => None,
-        };
-        assert_eq!(rt; offset, Some(len));
-    }
 }
