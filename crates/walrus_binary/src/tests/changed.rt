@@ -2,7 +2,7 @@
 //!
 //! The numbers come from a reader of its own, written from the specification's productions in
 //! another language: a byte is the first bad one where some text begins with the bytes before it,
-//! and none with it too.
+//! and none with it too. Of several supertypes it is the first of their count.
 use super::*;
 use crate::{encode_types, replace_type_section};
 use std::test::*;
