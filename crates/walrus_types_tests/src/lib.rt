@@ -5,6 +5,8 @@
 #![tactic(auto)]
 
 #[cfg(test)]
+mod difference;
+#[cfg(test)]
 mod emit;
 #[cfg(test)]
 mod error;

@@ -1,0 +1,44 @@
+//! The first place where two sections differ.
+use crate::fixtures::{Piece, Shape, section};
+use Piece::{Many, One};
+use Shape::{Func, Struct};
+use std::alloc::{AllocError, Global};
+use std::test::Fail;
+use walrus_types::{ValAt, first_difference};
+
+const INT: Shape<'static> = Struct(&[ValAt::I32]);
+
+const FUNC: Shape<'static> = Func(&[]);
+
+fn place<'x>(alloc: Global, a: &[Piece<'x>], b: &[Piece<'x>]) -> Result<Option<usize>, AllocError> {
+    let first = section(alloc, a)?;
+    let second = section(alloc, b)?;
+    Ok(first_difference(first.as_slice(), second.as_slice()))
+}
+
+#[test]
+fn equal_sections_differ_nowhere(rt: HostRuntime) -> Result<(), Fail> {
+    let pieces = [One(FUNC), One(INT)];
+    assert_eq!(rt; place(rt.alloc(), &pieces, &pieces)?, None);
+    Ok(())
+}
+
+#[test]
+fn another_group_is_told(rt: HostRuntime) -> Result<(), Fail> {
+    let ints = [INT];
+    let alone = [One(FUNC), One(INT), One(FUNC)];
+    let grouped = [One(FUNC), Many(&ints), One(FUNC)];
+    assert_eq!(rt; place(rt.alloc(), &alone, &grouped)?, Some(1));
+    assert_eq!(rt; place(rt.alloc(), &grouped, &alone)?, Some(1));
+    Ok(())
+}
+
+#[test]
+fn the_end_of_the_shorter_one_is_told(rt: HostRuntime) -> Result<(), Fail> {
+    let two = [One(FUNC), One(INT)];
+    let one = [One(FUNC)];
+    assert_eq!(rt; place(rt.alloc(), &two, &one)?, Some(1));
+    assert_eq!(rt; place(rt.alloc(), &one, &two)?, Some(1));
+    assert_eq!(rt; place(rt.alloc(), &[], &one)?, Some(0));
+    Ok(())
+}
