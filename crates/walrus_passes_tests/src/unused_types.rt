@@ -133,3 +133,32 @@ fn what_stays_is_found_and_what_died_is_not(rt: HostRuntime) -> Result<(), Fail>
     assert_eq!(rt; types.add_entry_ty(&[ValType::I32])?, TypeId::from_index(6));
     Ok(())
 }
+
+const LARGE: usize = 20_000;
+
+fn structures(
+    alloc: Global,
+    count: usize,
+) -> Result<Vec<(CompositeType, bool, Option<TypeId>)>, AllocError> {
+    let mut members = Vec::new(alloc);
+    for _ in 0..count {
+        members.push((structure(alloc, None)?, true, None))?;
+    }
+    Ok(members)
+}
+
+#[test]
+fn a_large_group_dies_whole_and_in_order(rt: HostRuntime) -> Result<(), Fail> {
+    let alloc = rt.alloc();
+    let mut types = ModuleTypes::new(alloc);
+    types.add_rec_group(LARGE, |_| structures(alloc, LARGE))?;
+    let kept = types.add(&[ValType::I32], &[])?;
+    assert_eq!(rt; kept.index(), LARGE);
+    let deleted = delete_all_but(&rt, alloc, &mut types, LARGE)?;
+    assert_eq!(rt; deleted.len(), LARGE);
+    for (i, id) in deleted.iter().enumerate() {
+        assert_eq!(rt; id.index(), i);
+    }
+    assert!(rt; are(types.live_ids()?.as_slice(), &[LARGE]));
+    Ok(())
+}
