@@ -11,6 +11,7 @@ mod binary_ops;
 mod clones;
 mod const_expr;
 mod conversions;
+mod examples;
 mod instr_seq_type;
 mod locals;
 mod locations;

@@ -160,7 +160,7 @@ module _ (old new : Table) (id : ℕ) where
     pub types : IsSomeAnd (group_with old.groups id) (λ g. LosesAll old.types g.types new.types)
     pub groups : new.groups ≡ map (group_ended id) old.groups
 
--- the types of these ids died, one after the other from the last to the first, and left their groups
+-- the types of these ids died, one after the other, the last one first, and left their groups
 abbrev pub DeletesAll : Table → List ℕ → Table → Type 0
 DeletesAll old [] new = new ≡ old
 DeletesAll old (id ∷ ids) new =

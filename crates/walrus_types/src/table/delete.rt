@@ -12,8 +12,9 @@ use std::mem;
 impl ModuleTypes {
     /// Deletes the type of a live id, which leaves its group. It takes no memory, and answers `Ok`.
     ///
-    /// It is for the caller to see that nothing names the id any more. It takes constant time where
-    /// the type is the last of its group, else time linear in the number of the group's types.
+    /// It is for the caller to see that nothing names the id any more. Beside one look-up of the
+    /// type by its value, it takes constant time where the type is the last of its group, else time
+    /// linear in the number of the group's types.
     pub fn delete(&mut self, id: TypeId) -> Result<(), AllocError>
         requires { IsLive self.old.types.slots id }
         ensures ok { OnOk result (Deletes self.old self.new id) }
@@ -28,10 +29,10 @@ impl ModuleTypes {
     /// `delete` of each of these distinct live ids, from the last to the first. It takes no memory,
     /// and answers `Ok`.
     ///
-    /// It is for the caller to see that nothing that stays names one of them any more. An id takes
-    /// constant time where its type is the last of its group when its turn comes, else time linear
-    /// in the number of the group's types. So where groups die whole and the ids ascend, it takes
-    /// time linear in the number of the ids.
+    /// It is for the caller to see that nothing that stays names one of them any more. Beside one
+    /// look-up by its value, a type takes constant time where it is the last of its group when its
+    /// turn comes, else time linear in the number of the group's types. So where groups die whole
+    /// and the ids ascend, no group is gone over more than once.
     pub fn delete_all(&mut self, ids: &[TypeId]) -> Result<(), AllocError>
         requires live { All (IsLive self.old.types.slots) ids.now }
         requires distinct { IsDistinct nat_eq ids.now }
