@@ -111,7 +111,7 @@ module _ (f : FieldMap) where
   others_kept s t start visits u h id n =
       h.sequences id ∙ ap (λ k. iterate (mapped_sequence f) k (sequence s id)) (none_counted id visits (λ m. n (reached_from_visited s start visits u id m)))
 
-  -- where no sequence stands in two, each that is reached is mapped once
+  -- where no sequence is named twice, each that is reached is mapped once
   pub once_mapped : (s t : Body) (start : ℕ) (visits : List ℕ) → Unfolds s start visits → IsMapped f visits s t → IsTree s start → (id : ℕ) → Reached s start id → sequence t id ≡ mapped_sequence f (sequence s id)
   once_mapped s t start visits u h tree id r =
       let e = unfolding_unique s start tree.0 visits tree.1 u in

@@ -17,6 +17,6 @@ module _ (f : Body) where
       then_rest : (id : ℕ) (rest visits others : List ℕ) → Unfolds id visits
           → UnfoldAll rest others → UnfoldAll (id ∷ rest) (visits ++ others)
 
--- no sequence is visited twice: none stands in two instructions
+-- no sequence is visited twice: none that is reached is named twice
 abbrev pub IsTree : Body → ℕ → Type 0
 IsTree f start = (visits : List ℕ) × Unfolds f start visits × IsDistinct nat_eq visits

@@ -16,12 +16,13 @@ use walrus_types::{Heap, HeapType};
 ///
 /// It renames the types that instructions name, those in their heap types, and the types of
 /// sequences. Not visited, and so not renamed, are the types in the reference types of `ref.null`
-/// and `select`, those of locals, and those in constant expressions.
+/// and `select`, those of locals, those in constant expressions, and the type of the function
+/// itself (`LocalFunction::ty`).
 ///
 /// A walk that ends with `Ok` leaves each sequence that is reached from its start renamed as often
 /// as it is visited, and nothing else of the body changes: other sequences, ids of sequences,
 /// locations and all that is not a type stay. A sequence that is named twice is visited twice, and
-/// renamed twice; where no sequence stands in two instructions, each is renamed once.
+/// renamed twice, be it by one instruction; where none is named twice, each is renamed once.
 /// [`rename_types_renames_the_body`](crate::laws::rename_types_renames_the_body) is the law.
 ///
 /// ```
