@@ -47,8 +47,8 @@ pub fn field_maps_map_the_body<V: VisitorMut>()
 
 /// What a full walk with [`RenameTypes`] leaves. The visitor keeps its names (`names`), and each
 /// sequence is renamed as often as the unfolding of the body visits it, and nothing else changes
-/// (`body`). So where no sequence is named twice, each that is reached is renamed once (`once`); and
-/// the others are as they were (`others`).
+/// (`body`). So where no sequence is named twice, each that is reached is renamed once (`once`);
+/// and the others are as they were (`others`).
 ///
 /// A caller of the walk has these of its own body:
 ///
