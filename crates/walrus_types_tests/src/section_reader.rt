@@ -52,7 +52,7 @@ fn push_again(reader: &mut SectionReader, group: &GroupAt) -> Result<(), ReadErr
     }
 }
 
-// `rt try --test --fail-alloc N` refuses the N-th allocation.
+// `scripts/refuse` refuses each request for memory in turn.
 #[test]
 fn a_group_is_read_as_if_it_had_not_been_refused(rt: HostRuntime) -> Result<(), Fail> {
     let alone = group_again(rt.alloc(), One(Func(&[])))?;

@@ -208,7 +208,7 @@ fn room(alloc: Global) -> Result<Vec<u8>, AllocError> {
     Ok(room)
 }
 
-// `rt try --test --fail-alloc N` refuses the N-th allocation.
+// `scripts/refuse` refuses each request for memory in turn.
 #[test]
 fn a_run_whose_memory_is_refused_prints_nothing(rt: HostRuntime) -> Result<(), Fail> {
     let alloc = rt.alloc();

@@ -1,5 +1,5 @@
 //! Refused growth: a refused call leaves the set as it was, and goes through when it is made again.
-//! `rt try --test --fail-alloc N` refuses the N-th allocation.
+//! `scripts/refuse` refuses each request for memory in turn.
 ghost use Rattle.std.specs.Prelude.{◌≡◌};
 
 use super::*;

@@ -107,7 +107,7 @@ fn put_again(rt: &impl Abort, ty: &Type, list: &mut Vec<TypeId>) -> Result<(), A
     ty.referenced_types(list)
 }
 
-// `rt try --test --fail-alloc N` refuses the N-th allocation.
+// `scripts/refuse` refuses each request for memory in turn.
 #[test]
 fn refused_ids_come_when_they_are_asked_for_again(rt: HostRuntime) -> Result<(), Fail> {
     let made = namer(rt.alloc())?;
