@@ -35,6 +35,3 @@ pub use decode::decode_types;
 pub use encode::encode_types;
 pub use error::{DecodeError, EncodeError, Expected, NotHeld, ReplaceError};
 pub use module::{module_types, replace_type_section, type_section};
-
-#[cfg(test)]
-mod tests;

@@ -47,8 +47,6 @@ mod line_reader;
 mod parse;
 mod print;
 mod section_builder;
-#[cfg(test)]
-mod tests;
 mod words;
 
 pub use error::TextError;

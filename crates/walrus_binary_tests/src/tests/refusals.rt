@@ -1,8 +1,8 @@
 //! Refused memory: a call that was refused goes through when it is made again.
 //! Each request for memory of these tests may be refused, one in a run, and they still pass.
 use super::*;
-use crate::{EncodeError, ReplaceError, encode_types, replace_type_section};
 use std::test::*;
+use walrus_binary::{EncodeError, ReplaceError, encode_types, replace_type_section};
 
 // The groups of the bytes. After a refusal the call is made again.
 fn decode_again(alloc: Global, bytes: &[u8]) -> Result<Vec<GroupAt>, DecodeError> {

@@ -1,8 +1,8 @@
 //! Refused memory: a call that was refused goes through when it is made again.
 //! Each request for memory of these tests may be refused, one in a run, and they still pass.
-use crate::{TextError, read_section, write_section};
 use std::alloc::{AllocError, Global};
 use std::test::Fail;
+use walrus_text::{TextError, read_section, write_section};
 use walrus_ty::GroupAt;
 
 // The groups of the text. After a refusal the call is made again.

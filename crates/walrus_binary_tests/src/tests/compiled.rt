@@ -1,7 +1,7 @@
 //! Modules that a compiler made of C: Debian clang 14.0.6, and its linker.
 use super::*;
-use crate::{encode_types, replace_type_section};
 use std::test::*;
+use walrus_binary::{encode_types, replace_type_section};
 
 // What `clang --target=wasm32 -O1 -c` makes of
 //

@@ -10,8 +10,8 @@ mod replacing;
 mod speed;
 mod unheld;
 
-use crate::{DecodeError, Expected, decode_types, type_section};
 use std::alloc::{AllocError, Global};
+use walrus_binary::{DecodeError, Expected, decode_types, type_section};
 use walrus_ty::{
     AbstractHeapType, CompAt, EntryAt, FieldAt, GroupAt, HeapAt, Listed, RefAt, StorageAt, ValAt,
 };

@@ -1,8 +1,8 @@
 //! Readers that give one byte at a time and then fail, and writers that fail.
-use crate::{TextError, read_section, write_output, write_section};
 use std::io;
 use std::io::{Error, ErrorKind, Read, Write};
 use std::test::Fail;
+use walrus_text::{TextError, read_section, write_output, write_section};
 
 /// Gives one byte at a time, so many times, and then fails.
 #[derive(Drop)]

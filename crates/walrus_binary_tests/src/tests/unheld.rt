@@ -1,7 +1,7 @@
 //! What the binary format has, and no record holds.
 use super::*;
-use crate::NotHeld;
 use std::test::*;
+use walrus_binary::NotHeld;
 
 fn not_held(offset: usize, what: NotHeld) -> Option<DecodeError> {
     Some(DecodeError::NotHeld { offset, what })

@@ -1,7 +1,7 @@
 //! The shortest texts.
 use super::*;
-use crate::encode_types;
 use std::test::*;
+use walrus_binary::encode_types;
 
 /// Whether the bytes are read as groups that have this text for their shortest.
 fn shortens(alloc: Global, bytes: &[u8], shortest: &[u8]) -> bool {

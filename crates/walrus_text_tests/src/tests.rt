@@ -2,9 +2,9 @@
 mod refusals;
 mod streams;
 
-use crate::{TextError, read_section, write_output, write_section};
 use std::alloc::{AllocError, Global};
 use std::test::Fail;
+use walrus_text::{TextError, read_section, write_output, write_section};
 
 /// The lines, with a line feed after each.
 fn text_of(alloc: Global, lines: &[&str]) -> Result<Vec<u8>, AllocError> {

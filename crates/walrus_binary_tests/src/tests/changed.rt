@@ -4,8 +4,8 @@
 //! another language: a byte is the first bad one where some text begins with the bytes before it,
 //! and none with it too. Of several supertypes it is the first of their count.
 use super::*;
-use crate::{encode_types, replace_type_section};
 use std::test::*;
+use walrus_binary::{encode_types, replace_type_section};
 
 /// Two function types. The bytes are their shortest text.
 const FUNCTIONS: [u8; 13] = [

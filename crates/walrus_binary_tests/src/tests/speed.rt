@@ -1,8 +1,8 @@
 //! Sections of a hundred thousand and of a million types. `scripts/measure_binary` tells how fast
 //! they are read and written.
 use super::*;
-use crate::encode_types;
 use std::test::*;
+use walrus_binary::encode_types;
 
 /// Two function types, a struct type with a supertype, and an array type.
 const TYPES: [u8; 29] = [

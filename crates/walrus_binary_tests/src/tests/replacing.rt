@@ -1,8 +1,8 @@
 //! Modules with another type section.
 //! The bytes are put together by hand from the specification's grammar of modules.
 use super::*;
-use crate::{ReplaceError, replace_type_section};
 use std::test::*;
+use walrus_binary::{ReplaceError, replace_type_section};
 
 fn becomes(alloc: Global, bytes: &[u8], content: &[u8], wanted: &[u8]) -> bool {
     match replace_type_section(alloc, bytes, content) {
