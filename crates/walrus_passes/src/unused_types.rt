@@ -21,7 +21,8 @@ use walrus_types::{ModuleTypes, TypeId};
 ///
 /// What stays keeps its id, its contents and its group, and is found as before. Groups that lost
 /// their types stay in the list of groups, without types. A table that [`ModuleTypes::emit`] writes
-/// without a name that misses its index stays one.
+/// without a name that misses its index stays one, and what it is then written as can be read again
+/// ([`emitted_section_can_be_read`](walrus_types::laws::emitted_section_can_be_read)).
 ///
 /// It takes time linear in the size of the table and the number of roots, however many groups die
 /// and however large they are.

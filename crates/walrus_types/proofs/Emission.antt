@@ -16,3 +16,4 @@ pub mod WrittenEntries
 pub mod EmittedTables
 pub mod WrittenAgain
 pub mod WrittenFew
+pub mod WellNamed

@@ -31,7 +31,8 @@ impl ModuleTypes {
     /// Empty groups are left out, and groups whose types all stand for entries of functions. A
     /// group that isn't explicit and whose type names no other live type is free: neighbouring free
     /// groups are sorted by their types, and groups with equal types keep their order. All other
-    /// groups stay where they are.
+    /// groups stay where they are. The section can be read again
+    /// ([`emitted_section_can_be_read`](crate::laws::emitted_section_can_be_read)).
     ///
     /// `TooMany` is answered where 2^32 types or more would be written, before anything else is
     /// looked at. `NoIndex` has the first type in the order of the section that names one which has

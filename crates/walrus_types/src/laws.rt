@@ -4,18 +4,18 @@
 //! A section is the list of the contents of its recursion groups, as `section_of` gives them for a
 //! list of `GroupAt`.
 ghost use Rattle.std.specs.List.{range_with_len};
-ghost use Rattle.std.specs.Prelude.{List, map, ℕ};
-ghost use Rattle.walrus_types.specs.TableEmission.{IsEmitted, type_groups, definition_at, is_entry_at};
+ghost use Rattle.std.specs.Prelude.{◌≡◌, ◌≤◌, ◌<◌, ◌^◌, List, false, length, map, ℕ};
+ghost use Rattle.walrus_types.specs.TableEmission.{IsEmitted, type_groups, definition_at, is_entry_at, written_types};
 ghost use Rattle.walrus_ty.specs.Indices.{IndexMap};
 ghost use Rattle.walrus_ty.specs.Lookups.{value_or_zero};
 ghost use Rattle.walrus_sections.specs.NormalForm.{IsNormalForm, image};
 ghost use Rattle.walrus_types.specs.ReaderState.{IsReadInto};
 ghost use Rattle.walrus_sections.specs.Refusal.{IsFirstMissing};
-ghost use Rattle.walrus_types.specs.Table.{Table};
+ghost use Rattle.walrus_types.specs.Table.{Table, rec_group_at};
 ghost use Rattle.walrus_ty.specs.declared.records.GroupAt.{GroupAt};
 ghost use Rattle.walrus_ty.specs.Records.{section_of};
 ghost use Rattle.walrus_ty.specs.Groups.{Section};
-ghost use Rattle.walrus_sections.specs.Section.{index_space};
+ghost use Rattle.walrus_sections.specs.Section.{IsWellNamed, index_space};
 
 pub mod calls;
 
@@ -44,4 +44,19 @@ pub fn read_table_can_be_written()
     ensures { (s : Section) (t : Table) (ids : List ℕ) (i k : ℕ) → IsReadInto s t ids →
         ¬ (IsFirstMissing (type_groups t.groups) (definition_at t.types.slots)
         (is_entry_at t.types.slots) i k) }
+{}
+
+/// A table that is emitted is written as a section that can be read: no name points past its own
+/// group, and 32 bits count the entries.
+///
+/// That a group which isn't explicit has one type at most is so for each table that calls make
+/// ([`every_table_is_sound`]). It has to be said here: two types of such a group would be written
+/// apart, and the first must not name the second. That fewer than 2^32 types are written is so
+/// wherever [`emit`](crate::ModuleTypes::emit) answers `Ok`, for else it answers `TooMany`. That
+/// each name has an index when it is written is part of `IsEmitted`.
+pub fn emitted_section_can_be_read()
+    ensures { (t : Table) (out : List GroupAt) (x : IndexMap) → IsEmitted t out x →
+        ((k : ℕ) → (rec_group_at t.groups k).is_explicit ≡ false →
+        length (rec_group_at t.groups k).types ≤ 1) →
+        written_types t < 2 ^ 32 → IsWellNamed (section_of out) }
 {}

@@ -1,0 +1,216 @@
+-- A table that is emitted is written as a section that can be read: what a type names stands below
+-- the end of its group, and no more definitions are written than the written groups have types.
+use Rattle.std.proofs.Common.{◌≡◌, ℕ, zero, suc, ◌+◌, ◌<◌, ◌≤◌, ◌^◌, ◌∙◌, refl, sym, ap, subst, arith, inl, inr, Bool, true, false, cond, not, List, [], ◌∷◌, ◌++◌, length, length-append, Contains, Some}
+use Rattle.std.specs.List.{list_any, slice_index_or}
+use Rattle.std.proofs.lemmas.Bool.{cases_Bool, cases_lt}
+use Rattle.std.proofs.lemmas.List.{get_or_default, get_or-map, length-map}
+use Rattle.std.proofs.lemmas.List.Elements.{Contains-append_left, Contains-append_right}
+use Rattle.std.proofs.lemmas.List.Folds.{list_any_at}
+use Rattle.std.proofs.lemmas.List.Sums.{sum_by-cons}
+use Rattle.std.proofs.lemmas.Option.{slice_get-get_or}
+use Rattle.walrus_ty.specs.declared.records.GroupAt.{GroupAt}
+use Rattle.walrus_ty.specs.Definition.{Definition, Names, names_of}
+use Rattle.walrus_ty.specs.Groups.{Section}
+use Rattle.walrus_ty.specs.Indices.{IndexMap}
+use Rattle.walrus_ty.specs.Lookups.{value_or_zero}
+use Rattle.walrus_ty.specs.Records.{section_of}
+use Rattle.walrus_ty.proofs.Names.Definitions.{named_before, names_same}
+use Rattle.walrus_sections.specs.Section.{IndexSpace, index_space, NamesBelowEnds, IsWellNamed}
+use Rattle.walrus_sections.specs.SlotMap.{TypeGroup}
+use Rattle.walrus_sections.specs.Emission.{no_group, group_at, IsMember, IsWritten, IsWrittenBefore, IsEmission}
+use Rattle.walrus_sections.specs.Refusal.{HasIndexBy, IsMissing, written_count}
+use Rattle.walrus_sections.proofs.Sections.Lying.{IsLaidOut}
+use Rattle.walrus_sections.proofs.Sections.Rows.{laid_out}
+use Rattle.walrus_sections.proofs.NormalForms.Fewer.{fewer}
+use Rattle.walrus_types.specs.Table.{Table, no_rec_group, rec_group_at}
+use Rattle.walrus_types.specs.TableEmission.{contents, type_groups, definition_at, is_entry_at, written_types, IsEmitted}
+
+-- each member of a `Rec` stands below the end of each
+below_rec_end :
+    (t : IndexSpace) → IsLaidOut t → (p q k u v : ℕ) → p < t.count → q < t.count →
+    t.rec_position p ≡ Some (k, u) → t.rec_position q ≡ Some (k, v) → q < t.end p
+below_rec_end t l p q k u v in_p in_q at_p at_q = elim (cases_lt p q) [
+  | inl h ↦ (elim (l.pair p q h in_q) [
+    | inl apart ↦ absurd (let z : k < k = apart.rises (k, u) (k, v) at_p at_q in omega (arith, z))
+    | inr both ↦ omega (arith, l.own q in_q, both.ends)
+  ])
+  | inr h ↦ omega (arith, h, l.own p in_p)
+]
+
+-- what is named
+
+module _ (gs : List TypeGroup) (definition : ℕ → Definition) (is_entry : ℕ → Bool) where
+  abbrev Written : ℕ → Type 0
+  Written = IsWritten gs is_entry
+
+  abbrev Member : ℕ → ℕ → ℕ → Type 0
+  Member = IsMember gs
+
+  -- of a group that isn't explicit there is only a first member
+  abbrev HasLoneTypes : Type 0
+  HasLoneTypes = (g u i : ℕ) → Member g u i → (group_at gs g).is_explicit ≡ false → u ≡ 0
+
+  module _ (n : Section) (m : ℕ → ℕ) (em : IsEmission gs definition is_entry n m) where
+    abbrev end_of : ℕ → ℕ
+    end_of i = (index_space n).end (m i)
+
+    own_end : (g u i : ℕ) → Written g → Member g u i → m i < end_of i
+    own_end g u i w is = (laid_out n).own (m i) (em.below g u i w is)
+
+    only_member :
+        HasLoneTypes → (g u i v j : ℕ) → Member g u i → Member g v j →
+        (group_at gs g).is_explicit ≡ false → j ≡ i
+    only_member lone g u i v j is other implicit =
+        let same : v ≡ u = omega (arith, lone g u i is implicit, lone g v j other implicit) in
+        sym other.is ∙ (ap (λ (a : ℕ). slice_index_or (group_at gs g).ids a 0) same ∙ is.is)
+
+    -- a type of the same group
+    mate_below :
+        HasLoneTypes → (g u i v j : ℕ) → Written g → Member g u i → Member g v j → m j < end_of i
+    mate_below lone g u i v j w is other = elim (cases_Bool (group_at gs g).is_explicit) [
+      | inl e ↦ (let at = em.rec g u i w is e in
+          let beside = em.whole g u i v j at.0 w is other e at.1 in
+          let in_i = em.below g u i w is in
+          let in_j = em.below g v j w other in
+          below_rec_end (index_space n) (laid_out n) (m i) (m j) at.0 u v in_i in_j at.1 beside)
+      | inr e ↦ (let same = only_member lone g u i v j is other e in
+          subst (λ (a : ℕ). m a < end_of i) (sym same) (own_end g u i w is))
+    ]
+
+    -- a type of a group that is written before
+    earlier_below :
+        (g u i h v j : ℕ) → Written g → Member g u i → Written h → Member h v j →
+        IsWrittenBefore gs definition h g → m j < end_of i
+    earlier_below g u i h v j w is w' other (inl x) =
+        let less = em.stands h v j g u i x.0 w' w other is x.1 in
+        omega (arith, own_end g u i w is, less)
+    earlier_below g u i h v j w is w' other (inr x) =
+        let less = em.inversions g u i h v j x.0 w w' is other x.1 in
+        omega (arith, own_end g u i w is, less)
+
+    indexed_below :
+        HasLoneTypes → (g u i j : ℕ) → Written g → Member g u i →
+        HasIndexBy gs definition is_entry g j → m j < end_of i
+    indexed_below lone g u i j w is has = elim has.by [
+      | inl e ↦ (let here = subst (λ (a : ℕ). Member a has.place j) e has.member in
+          mate_below lone g u i has.place j w is here)
+      | inr before ↦ earlier_below g u i has.home has.place j w is has.written has.member before
+    ]
+
+    abbrev IsComplete : Type 0
+    IsComplete = (g u t i k : ℕ) → ¬ (IsMissing gs definition is_entry g u t i k)
+
+    module _ (lone : HasLoneTypes) (complete : IsComplete) where
+      name_below :
+          (g u i j : ℕ) → Written g → Member g u i → Names (definition i) j → m j < end_of i
+      name_below g u i j w is name = elim (cases_lt (m j) (end_of i)) [
+        | inl h ↦ h
+        | inr h ↦ (let at = slice_get-get_or (names_of (definition i)) name.0 j name.1 in
+            absurd (complete g u name.0 i j (record {
+              written = w;
+              member = is;
+              name = at ∙ ap (λ (a : ℕ). Some a) name.2;
+              missing = λ has. (let z = indexed_below lone g u i j w is has in omega (arith, h, z));
+            })))
+      ]
+
+      names_below_ends : NamesBelowEnds (index_space n)
+      names_below_ends p in_p k name =
+          let o = em.onto p in_p in
+          let at = ap (index_space n).definition (sym o.5) ∙ em.same o.0 o.1 o.2 o.3 o.4 in
+          let before = named_before m (definition o.2) k (names_same k at name) in
+          let below = name_below o.0 o.1 o.2 before.0 o.3 o.4 before.1 in
+          omega (arith, below, before.2, ap (index_space n).end o.5)
+
+-- how many definitions are written
+
+past :
+    (x : TypeGroup) (gs : List TypeGroup) (g u i : ℕ) → IsMember (x ∷ gs) (suc g) u i →
+    IsMember gs g u i
+past x gs g u i is = record { group = omega (arith, is.group); place = is.place; is = is.is }
+
+module _ (is_entry : ℕ → Bool) where
+  abbrev has_written : TypeGroup → Bool
+  has_written g = list_any (λ i. not (is_entry i)) g.ids
+
+  -- the types of a group if it is written
+  abbrev ids_if_written : TypeGroup → List ℕ
+  ids_if_written g = cond (has_written g) g.ids []
+
+  abbrev written_ids : List TypeGroup → List ℕ
+  written_ids [] = []
+  written_ids (g ∷ gs) = ids_if_written g ++ written_ids gs
+
+  length_if : (b : Bool) (xs : List ℕ) → length (cond b xs []) ≡ cond b (length xs) 0
+  length_if true xs = refl
+  length_if false xs = refl
+
+  as_many : (gs : List TypeGroup) → length (written_ids gs) ≡ written_count is_entry gs
+  as_many [] = refl
+  as_many (g ∷ gs) =
+      let size : TypeGroup → ℕ = λ x. cond (has_written x) (length x.ids) 0 in
+      let more : written_count is_entry (g ∷ gs) ≡ size g + written_count is_entry gs =
+      sum_by-cons size g gs in
+      let both = length-append (ids_if_written g) (written_ids gs) in
+      omega (arith, both, length_if (has_written g) g.ids, as_many gs, more)
+
+  has_id :
+      (gs : List TypeGroup) (g u i : ℕ) → IsWritten gs is_entry g → IsMember gs g u i →
+      Contains (written_ids gs) i
+  has_id [] g u i w is = absurd (omega (arith, is.group))
+  has_id (x ∷ gs) zero u i (v, j, other, own) is =
+      let no_entry = ap not (ap is_entry other.is ∙ own) in
+      let test = list_any_at (λ a. not (is_entry a)) x.ids v 0 other.place no_entry in
+      let here : Contains x.ids i = (u, is.place, get_or_default x.ids u i 0 is.place ∙ is.is) in
+      let kept = subst (λ (b : Bool). Contains (cond b x.ids []) i) (sym test) here in
+      Contains-append_left (ids_if_written x) (written_ids gs) i kept
+  has_id (x ∷ gs) (suc g) u i (v, j, other, own) is =
+      let later = has_id gs g u i (v, j, past x gs g v j other, own) (past x gs g u i is) in
+      Contains-append_right (ids_if_written x) (written_ids gs) i later
+
+  count_at_most :
+      (gs : List TypeGroup) (definition : ℕ → Definition) (n : Section) (m : ℕ → ℕ) →
+      IsEmission gs definition is_entry n m → (index_space n).count ≤ written_count is_entry gs
+  count_at_most gs definition n m em =
+      let all : List ℕ = written_ids gs in
+      let few = fewer (length all) (index_space n).count (λ a. m (slice_index_or all a 0)) (λ p in_p.
+      (let o = em.onto p in_p in
+      let at = has_id gs o.0 o.1 o.2 o.3 o.4 in
+      (at.0, at.1, ap m (get_or_default all at.0 0 o.2 at.1 ∙ at.2) ∙ o.5))) in
+      omega (arith, few, as_many gs)
+
+-- the table
+
+abbrev HasSingles : Table → Type 0
+HasSingles t =
+    (k : ℕ) → (rec_group_at t.groups k).is_explicit ≡ false →
+    length (rec_group_at t.groups k).types ≤ 1
+
+module _ (t : Table) (single : HasSingles t) where
+  abbrev table_groups : List TypeGroup
+  table_groups = type_groups t.groups
+
+  first_only :
+      (g u i : ℕ) → IsMember table_groups g u i → (group_at table_groups g).is_explicit ≡ false →
+      u ≡ 0
+  first_only g u i is implicit =
+      let below : g < length t.groups = omega (arith, is.group, length-map t.groups contents) in
+      let same : group_at table_groups g ≡ contents (rec_group_at t.groups g) =
+      get_or-map contents t.groups g no_rec_group no_group below in
+      let few = single g (ap (λ (x : TypeGroup). x.is_explicit) (sym same) ∙ implicit) in
+      omega (arith, is.place, ap (λ (x : TypeGroup). length x.ids) same, few)
+
+  pub can_be_read :
+      (out : List GroupAt) (x : IndexMap) → IsEmitted t out x → written_types t < 2 ^ 32 →
+      IsWellNamed (section_of out)
+  can_be_read out x em bound =
+      let definition : ℕ → Definition = definition_at t.types.slots in
+      let is_entry : ℕ → Bool = is_entry_at t.types.slots in
+      let n : Section = section_of out in
+      let m : ℕ → ℕ = value_or_zero x.index in
+      let count = count_at_most is_entry table_groups definition n m em.section in
+      record {
+        few = omega (arith, count, bound);
+        below_ends =
+            names_below_ends table_groups definition is_entry n m em.section first_only em.complete;
+      }
