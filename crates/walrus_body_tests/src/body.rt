@@ -1,6 +1,8 @@
 //! The changing walk, on worked bodies.
 mod adder;
+mod calls;
 mod functions;
+mod log;
 mod rename_types;
 mod walks;
 

@@ -2,6 +2,7 @@
 ghost use Rattle.std.specs.Prelude.{◌≡◌, OnErr};
 ghost use Rattle.walrus_body.specs.Premises.{KeepsChildren};
 
+use super::calls::{HookCall, call_of};
 use std::marker::Model;
 use thiserror::Error;
 use walrus_body::VisitorMut;
@@ -11,44 +12,18 @@ use walrus_ir::{
 };
 use walrus_types::HeapType;
 
-// A hook call, as far as the tests look.
-#[derive(Clone, Copy, PartialEq, Debug)]
-pub(super) enum HookCall {
-    Start,
-    End,
-    Number(i32),
-    Dropping,
-    Block,
-    IfElse,
-    Try,
-    Tag,
-    Other,
-}
-
-fn call_of(instr: &Instr) -> HookCall {
-    match instr {
-        Instr::Const(x) => match x.value {
-            Value::I32(n) => HookCall::Number(n),
-            _ => HookCall::Other,
-        },
-        Instr::Drop(_) => HookCall::Dropping,
-        Instr::Block(_) => HookCall::Block,
-        Instr::IfElse(_) => HookCall::IfElse,
-        Instr::Try(_) => HookCall::Try,
-        _ => HookCall::Other,
-    }
-}
-
-// The log has no room left.
+// The log has no room for the hook call of this number, counted from zero.
 #[derive(PartialEq, Eq, Debug, Drop, Error)]
-#[error("full")]
-pub(super) struct Full;
+#[error("no room for call {0}")]
+pub(super) struct Full(pub(super) usize);
 
 // The hook calls so far. A call past the limit is refused.
 #[derive(Drop)]
 pub(super) struct Adder {
     pub(super) calls: Vec<HookCall>,
     pub(super) limit: usize,
+    // How many hook calls came, those that were refused among them.
+    pub(super) came: usize,
     // Whether a start hook adds a `drop` to its sequence.
     pub(super) at_start: bool,
     // Whether an end hook does.
@@ -57,7 +32,7 @@ pub(super) struct Adder {
 
 impl Model for Adder {
     ghost use Rattle.std.specs.Prelude.{List};
-    ghost use Rattle.walrus_body_tests.specs.declared.body.adder.HookCall.{HookCall};
+    ghost use Rattle.walrus_body_tests.specs.declared.body.calls.HookCall.{HookCall};
 
     ghost Value = { List HookCall };
 
@@ -68,12 +43,14 @@ impl Adder {
     fn add(&mut self, call: HookCall) -> Result<(), Full>
         ensures err { OnErr result (self.new ≡ self.old) }
     {
+        let number = self.came;
+        self.came = number.wrapping_add(1);
         if self.calls.len() >= self.limit {
-            return Err(Full);
+            return Err(Full(number));
         }
         match self.calls.push(call) {
             Ok(()) => Ok(()),
-            Err(_) => Err(Full),
+            Err(_) => Err(Full(number)),
         }
     }
 }
@@ -104,7 +81,7 @@ impl VisitorMut for Adder {
     ghost step = { λ _ _ _ _ _. Unit {0} };
 
     fn start_instr_seq_mut(&mut self, seq: &mut InstrSeq) -> Result<(), Full> {
-        self.add(HookCall::Start)?;
+        self.add(HookCall::Start(seq.id().index()))?;
         if self.at_start {
             add_drop(seq);
         }
@@ -112,7 +89,7 @@ impl VisitorMut for Adder {
     }
 
     fn end_instr_seq_mut(&mut self, seq: &mut InstrSeq) -> Result<(), Full> {
-        self.add(HookCall::End)?;
+        self.add(HookCall::End(seq.id().index()))?;
         if self.at_end {
             add_drop(seq);
         }
@@ -131,12 +108,12 @@ impl VisitorMut for Adder {
         Ok(())
     }
 
-    fn visit_tag_id_mut(&mut self, _id: &mut TagId) -> Result<(), Full> {
-        self.add(HookCall::Tag)
+    fn visit_tag_id_mut(&mut self, id: &mut TagId) -> Result<(), Full> {
+        self.add(HookCall::Tag(id.index()))
     }
 
-    fn visit_instr_seq_id_mut(&mut self, _id: &mut InstrSeqId) -> Result<(), Full> {
-        self.add(HookCall::Other)
+    fn visit_instr_seq_id_mut(&mut self, id: &mut InstrSeqId) -> Result<(), Full> {
+        self.add(HookCall::Seq(id.index()))
     }
 
     fn visit_heap_type_mut(&mut self, _ty: &mut HeapType) -> Result<(), Full> {
@@ -147,8 +124,8 @@ impl VisitorMut for Adder {
         self.add(HookCall::Other)
     }
 
-    fn visit_type_id_mut(&mut self, _id: &mut TypeId) -> Result<(), Full> {
-        self.add(HookCall::Other)
+    fn visit_type_id_mut(&mut self, id: &mut TypeId) -> Result<(), Full> {
+        self.add(HookCall::Ty(id.index()))
     }
 
     fn visit_table_id_mut(&mut self, _id: &mut TableId) -> Result<(), Full> {

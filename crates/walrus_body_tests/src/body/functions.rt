@@ -1,7 +1,7 @@
 //! The functions of the worked walks.
 use super::*;
 use walrus_ir::{Const, DropInstr, IfElse, LegacyCatch, Try, Value};
-use walrus_types::Listed;
+use walrus_types::{Listed, ModuleTypes};
 
 // Adds a sequence with these instructions. Sequences have the ids 0, 1, and so on.
 fn add(
@@ -36,6 +36,17 @@ fn with_locations(
     Ok(list)
 }
 
+// The builder of a function that takes and leaves nothing. It has the type 0, and its entry, the
+// sequence 0, has the type 1 and these instructions.
+fn begin(alloc: Global, entry: Vec<Instr>) -> Result<FunctionBuilder, AllocError> {
+    let located = with_locations(alloc, entry)?;
+    let mut types = ModuleTypes::new(alloc);
+    let mut f = FunctionBuilder::new(alloc, &mut types, &[], &[])?;
+    let mut body = f.func_body();
+    *body.instrs_mut() = located;
+    Ok(f)
+}
+
 fn number(n: i32) -> Instr {
     Instr::from(Const {
         value: Value::I32(n),
@@ -51,9 +62,34 @@ fn block(index: usize) -> Instr {
 }
 
 // Sequence 0 is the entry, 1 the block, 2 and 3 its arms, 4 the body of the `Try`, 5 and 6 its
-// handlers.
+// handlers. All but the entry have the type 0.
 pub(super) fn test_function(alloc: Global) -> Result<LocalFunction, Fail> {
-    let mut f = FunctionBuilder::without_entry(alloc, id(0));
+    let inner = InstrSeqType::MultiValue(id(0));
+    let entry = vec![in alloc;
+        number(1),
+        dropping(),
+        block(1),
+        number(6),
+        dropping(),
+        attempt(alloc)?,
+        number(10),
+        dropping(),
+    ]?;
+    let mut f = begin(alloc, entry)?;
+    let both = Instr::from(IfElse {
+        consequent: id(2),
+        alternative: id(3),
+    });
+    let inside = vec![in alloc; number(2), dropping(), both, number(5), dropping()]?;
+    add_typed(alloc, &mut f, inner, inside)?;
+    for n in [3, 4, 7, 8, 9] {
+        let instrs = vec![in alloc; number(n), dropping()]?;
+        add_typed(alloc, &mut f, inner, instrs)?;
+    }
+    Ok(f.local_func(Vec::new(alloc)))
+}
+
+fn attempt(alloc: Global) -> Result<Instr, AllocError> {
     let handlers = vec![in alloc;
         LegacyCatch::Catch {
             tag: id(0),
@@ -61,40 +97,15 @@ pub(super) fn test_function(alloc: Global) -> Result<LocalFunction, Fail> {
         },
         LegacyCatch::CatchAll { handler: id(6) },
     ]?;
-    let attempt = Instr::from(Try {
+    Ok(Instr::from(Try {
         seq: id(4),
         catches: Listed::from_vec(handlers),
-    });
-    let entry = vec![in alloc;
-        number(1),
-        dropping(),
-        block(1),
-        number(6),
-        dropping(),
-        attempt,
-        number(10),
-        dropping(),
-    ]?;
-    add(alloc, &mut f, entry)?;
-    let both = Instr::from(IfElse {
-        consequent: id(2),
-        alternative: id(3),
-    });
-    let inside = vec![in alloc; number(2), dropping(), both, number(5), dropping()]?;
-    add(alloc, &mut f, inside)?;
-    for n in [3, 4, 7, 8, 9] {
-        let instrs = vec![in alloc; number(n), dropping()]?;
-        add(alloc, &mut f, instrs)?;
-    }
-    Ok(f.local_func(Vec::new(alloc)))
+    }))
 }
 
-// Two blocks of the entry name the sequence 1, which holds the constant 5. The entry has a function
-// type.
+// Two blocks of the entry name the sequence 1, which holds the constant 5.
 pub(super) fn shared(alloc: Global) -> Result<LocalFunction, Fail> {
-    let mut f = FunctionBuilder::without_entry(alloc, id(0));
-    let ty = InstrSeqType::MultiValue(id(1));
-    add_typed(alloc, &mut f, ty, vec![in alloc; block(1), block(1)]?)?;
+    let mut f = begin(alloc, vec![in alloc; block(1), block(1)]?)?;
     add(alloc, &mut f, vec![in alloc; number(5)]?)?;
     Ok(f.local_func(Vec::new(alloc)))
 }

@@ -1,6 +1,8 @@
 //! Worked walks.
-use super::adder::{Adder, Full, HookCall};
+use super::adder::{Adder, Full};
+use super::calls::{HookCall, are_changed_before, words};
 use super::functions::{chain, empty_entry, instrs_of, shared, test_function};
+use super::log::walk_in_order;
 use super::*;
 use walrus_body::dfs_pre_order_mut;
 use walrus_ir::Value;
@@ -12,6 +14,7 @@ fn adder(alloc: Global, limit: usize) -> Adder {
     Adder {
         calls: Vec::new(alloc),
         limit,
+        came: 0,
         at_start: false,
         at_end: false,
     }
@@ -29,34 +32,6 @@ fn walk(
         Nesting::Cycle { .. } => Err(Fail::new("a cycle")),
         Nesting::Unknown(_) => Err(Fail::new("an unknown sequence")),
     }
-}
-
-// The words of the worked rows: starts and ends, instructions and tags.
-fn words(alloc: Global, calls: &[HookCall]) -> Result<String, Fail> {
-    let mut text = String::new(alloc);
-    for call in calls {
-        add_word(alloc, &mut text, *call)?;
-    }
-    Ok(text)
-}
-
-fn add_word(alloc: Global, text: &mut String, call: HookCall) -> Result<(), Fail> {
-    let word = match call {
-        HookCall::Start => "start ",
-        HookCall::End => "end ",
-        HookCall::Number(n) => {
-            text.push_str(format!(in alloc; "{n} ")?.as_str())?;
-            return Ok(());
-        }
-        HookCall::Dropping => "drop ",
-        HookCall::Block => "block ",
-        HookCall::IfElse => "if-else ",
-        HookCall::Try => "try ",
-        HookCall::Tag => "tag ",
-        HookCall::Other => return Ok(()),
-    };
-    text.push_str(word)?;
-    Ok(())
 }
 
 const FIRST: &str =
@@ -79,6 +54,25 @@ fn children_of_the_last_instruction_come_first(rt: HostRuntime) -> Result<(), Fa
     assert_eq!(rt; answer, Ok(()));
     let text = words(alloc, second.calls.as_slice())?;
     assert_eq!(rt; text.as_str(), SECOND);
+    Ok(())
+}
+
+const IN_ORDER: &str =
+    "start 1 drop block start 2 drop if-else start 3 drop end start 4 drop end 5 drop end 6 drop try tag start 7 drop end start 8 drop end start 9 drop end 10 drop end ";
+
+#[test]
+fn a_walk_in_order_sees_each_constant_changed_and_all_else_as_before(
+    rt: HostRuntime,
+) -> Result<(), Fail> {
+    let alloc = rt.alloc();
+    let mut func = test_function(alloc)?;
+    let before = walk_in_order(alloc, &func)?;
+    let text = words(alloc, before.as_slice())?;
+    assert_eq!(rt; text.as_str(), IN_ORDER);
+    let answer = walk(alloc, &mut adder(alloc, ALL), &mut func)?;
+    assert_eq!(rt; answer, Ok(()));
+    let after = walk_in_order(alloc, &func)?;
+    assert!(rt; are_changed_before(before.len(), &before, &after));
     Ok(())
 }
 
@@ -114,35 +108,23 @@ fn a_refused_hook_leaves_what_the_hooks_before_it_did(rt: HostRuntime) -> Result
         let mut func = shared(alloc)?;
         let mut visitor = adder(alloc, limit);
         let answer = walk(alloc, &mut visitor, &mut func)?;
-        assert_eq!(rt; answer, Err(WalkError::Hook(Full)));
+        assert_eq!(rt; answer, Err(WalkError::Hook(Full(limit))));
         assert_eq!(rt; visitor.calls.len(), limit);
         assert_eq!(rt; constant(&func)?, left);
     }
     Ok(())
 }
 
-fn changed(call: HookCall) -> HookCall {
-    match call {
-        HookCall::Number(n) => HookCall::Number(n.wrapping_add(1)),
-        other => other,
-    }
+// How many of the calls are for types.
+fn types(calls: &[HookCall]) -> usize {
+    calls
+        .iter()
+        .filter(|call| matches!(call, HookCall::Ty(_)))
+        .count()
 }
 
-// Whether the calls are the same, but that the constants of the first so many have changed.
-fn are_changed_before(limit: usize, old: &[HookCall], new: &[HookCall]) -> bool {
-    if old.len() != new.len() {
-        return false;
-    }
-    for i in 0..old.len() {
-        let wanted = if i < limit { changed(old[i]) } else { old[i] };
-        if new[i] != wanted {
-            return false;
-        }
-    }
-    true
-}
-
-// Every hook call in turn is refused: the log is that of the whole walk, cut there, and the body is
+// Every hook call in turn is refused, those for the types of the seven sequences among them: the
+// log is that of the whole walk, cut there, the error is that of the refused call, and the body is
 // changed by the calls before it alone, as another walk sees.
 #[test]
 fn a_refusing_hook_cuts_the_walk(rt: HostRuntime) -> Result<(), Fail> {
@@ -150,11 +132,12 @@ fn a_refusing_hook_cuts_the_walk(rt: HostRuntime) -> Result<(), Fail> {
     let mut whole = adder(alloc, ALL);
     let answer = walk(alloc, &mut whole, &mut test_function(alloc)?)?;
     assert_eq!(rt; answer, Ok(()));
+    assert_eq!(rt; types(whole.calls.as_slice()), 7);
     for limit in 0..whole.calls.len() {
         let mut func = test_function(alloc)?;
         let mut cut = adder(alloc, limit);
         let answer = walk(alloc, &mut cut, &mut func)?;
-        assert_eq!(rt; answer, Err(WalkError::Hook(Full)));
+        assert_eq!(rt; answer, Err(WalkError::Hook(Full(limit))));
         assert!(rt; cut.calls.as_slice() == &whole.calls[..limit]);
         let mut again = adder(alloc, ALL);
         let answer = walk(alloc, &mut again, &mut func)?;
@@ -172,9 +155,9 @@ fn an_instruction_that_the_start_hook_adds_is_visited(rt: HostRuntime) -> Result
     visitor.at_start = true;
     let answer = walk(alloc, &mut visitor, &mut func)?;
     assert_eq!(rt; answer, Ok(()));
-    let text = words(alloc, visitor.calls.as_slice())?;
-    assert_eq!(rt; text.as_str(), "start drop end ");
-    assert_eq!(rt; instrs_of(&func, 0)?.len(), 1);
+    let want = [HookCall::Start(0), HookCall::Dropping, HookCall::End(0)];
+    assert!(rt; visitor.calls.as_slice() == want.as_slice());
+    assert!(rt; matches!(instrs_of(&func, 0)?, [(Instr::Drop(_), _)]));
     Ok(())
 }
 
@@ -186,9 +169,9 @@ fn an_instruction_that_the_end_hook_adds_is_not(rt: HostRuntime) -> Result<(), F
     visitor.at_end = true;
     let answer = walk(alloc, &mut visitor, &mut func)?;
     assert_eq!(rt; answer, Ok(()));
-    let text = words(alloc, visitor.calls.as_slice())?;
-    assert_eq!(rt; text.as_str(), "start end ");
-    assert_eq!(rt; instrs_of(&func, 0)?.len(), 1);
+    let want = [HookCall::Start(0), HookCall::End(0)];
+    assert!(rt; visitor.calls.as_slice() == want.as_slice());
+    assert!(rt; matches!(instrs_of(&func, 0)?, [(Instr::Drop(_), _)]));
     Ok(())
 }
 

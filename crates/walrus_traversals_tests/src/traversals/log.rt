@@ -62,16 +62,18 @@ fn heap_call(heap_type: &HeapType) -> HookCall {
     }
 }
 
-/// The log has no room left.
+/// The log has no room for the hook call of this number, counted from zero.
 #[derive(PartialEq, Eq, Debug, Drop, Error)]
-#[error("full")]
-pub(super) struct Full;
+#[error("no room for call {0}")]
+pub(super) struct Full(pub(super) usize);
 
 /// The hook calls so far. A call past the limit is refused.
 #[derive(Drop)]
 pub(super) struct Log {
     pub(super) calls: Vec<HookCall>,
     pub(super) limit: usize,
+    // How many hook calls came, those that were refused among them.
+    came: usize,
 }
 
 impl Model for Log {
@@ -87,12 +89,14 @@ impl Log {
     fn add(&mut self, call: HookCall) -> Result<(), Full>
         ensures err { OnErr result (self.new ≡ self.old) }
     {
+        let number = self.came;
+        self.came = number.wrapping_add(1);
         if self.calls.len() >= self.limit {
-            return Err(Full);
+            return Err(Full(number));
         }
         match self.calls.push(call) {
             Ok(()) => Ok(()),
-            Err(_) => Err(Full),
+            Err(_) => Err(Full(number)),
         }
     }
 }
@@ -173,6 +177,7 @@ pub(super) fn walk(
     let mut log = Log {
         calls: Vec::new(alloc),
         limit,
+        came: 0,
     };
     let start = id(0);
     match check_nesting(alloc, func, start)? {

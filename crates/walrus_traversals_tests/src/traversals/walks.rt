@@ -110,7 +110,8 @@ fn sequences_are_visited_in_order(rt: HostRuntime) -> Result<(), Fail> {
     Ok(())
 }
 
-// Every hook call in turn is refused: the log is that of the whole walk, cut there.
+// Every hook call in turn is refused: the log is that of the whole walk, cut there, and the error is
+// that of the refused call.
 #[test]
 fn a_refusing_hook_cuts_the_walk(rt: HostRuntime) -> Result<(), Fail> {
     let alloc = rt.alloc();
@@ -119,7 +120,7 @@ fn a_refusing_hook_cuts_the_walk(rt: HostRuntime) -> Result<(), Fail> {
     assert_eq!(rt; answer, Ok(()));
     for limit in 0..whole.calls.len() {
         let (log, answer) = walk(alloc, &func, limit)?;
-        assert_eq!(rt; answer, Err(WalkError::Hook(Full)));
+        assert_eq!(rt; answer, Err(WalkError::Hook(Full(limit))));
         assert!(rt; log.calls.as_slice() == &whole.calls[..limit]);
     }
     Ok(())
@@ -177,7 +178,7 @@ fn fields_follow_their_instruction(rt: HostRuntime) -> Result<(), Fail> {
     ];
     assert!(rt; log.calls.as_slice() == want.as_slice());
     let (log, answer) = walk(alloc, &func, 3)?;
-    assert_eq!(rt; answer, Err(WalkError::Hook(Full)));
+    assert_eq!(rt; answer, Err(WalkError::Hook(Full(3))));
     assert!(rt; log.calls.as_slice() == &want[..3]);
     Ok(())
 }
@@ -260,7 +261,7 @@ fn errors_print(rt: HostRuntime) -> Result<(), Fail> {
     let alloc = rt.alloc();
     let memory: WalkError<Full> = WalkError::Memory;
     assert_eq!(rt; format!(in alloc; "{memory}")?.as_str(), "out of memory");
-    let hook = WalkError::Hook(Full);
-    assert_eq!(rt; format!(in alloc; "{hook}")?.as_str(), "full");
+    let hook = WalkError::Hook(Full(3));
+    assert_eq!(rt; format!(in alloc; "{hook}")?.as_str(), "no room for call 3");
     Ok(())
 }
