@@ -29,7 +29,9 @@ use walrus_types::{FunctionId, ModuleTypes, TypeId};
 ///
 /// ```
 /// let func = adapter(alloc, &mut types, &mut locals, import, ty)?;
-/// let wrapper = funcs.add(func)?;
+/// let Ok(wrapper) = funcs.add(func) else {
+///     return Err(Fail::new("out of memory"));
+/// };
 /// ```
 pub fn adapter(
     alloc: Global,

@@ -21,7 +21,9 @@ use walrus_types::FunctionId;
 /// # A function that must not be run
 ///
 /// ```
-/// let id = builder.finish(args, &mut funcs)?;
+/// let Ok(id) = builder.finish(args, &mut funcs) else {
+///     return Err(Fail::new("out of memory"));
+/// };
 /// snip(alloc, &mut funcs, id)?;
 /// ```
 pub fn snip(alloc: Global, funcs: &mut LocalFunctions, id: FunctionId) -> Result<(), AllocError>
@@ -43,6 +45,17 @@ pub fn snip(alloc: Global, funcs: &mut LocalFunctions, id: FunctionId) -> Result
 /// # Errors
 ///
 /// Where memory is refused. Then no function has changed.
+///
+/// # A body that leaves a constant
+///
+/// ```
+/// let mut builder = FunctionBuilder::without_entry(alloc, funcs.get(id).ty());
+/// let mut body = builder.dangling_instr_seq(InstrSeqType::Simple(Some(ValType::I32)))?;
+/// body.i32_const(8)?;
+/// let entry = body.id();
+/// builder.set_entry(entry);
+/// replace_with(alloc, &mut funcs, id, builder)?;
+/// ```
 pub fn replace_with(
     alloc: Global,
     funcs: &mut LocalFunctions,

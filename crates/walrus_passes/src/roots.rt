@@ -35,11 +35,11 @@ use walrus_types::{TypeId, ValType};
 ///
 /// ```
 /// let Some(mut roots) = used_types(alloc, &func, &locals)? else {
-///     return Ok(());
+///     return Err(Fail::new("not nested"));
 /// };
 /// init.referenced_types(&mut roots)?;
 /// assert!(rt; roots.iter().all(|id| types.contains(*id)));
-/// delete_unused_types(alloc, &mut types, roots.as_slice())?;
+/// let deleted = delete_unused_types(alloc, &mut types, roots.as_slice())?;
 /// ```
 pub fn used_types(
     alloc: Global,

@@ -68,3 +68,18 @@ fn an_adapter_has_an_entry_of_the_results(rt: HostRuntime) -> Result<(), Fail> {
     );
     Ok(())
 }
+
+#[test]
+fn an_adapter_finds_the_type_of_its_entry(rt: HostRuntime) -> Result<(), Fail> {
+    let mut types = ModuleTypes::new(rt.alloc());
+    let mut locals = ModuleLocals::new(rt.alloc());
+    types.add(&[], &[ValType::I64])?;
+    let held = types.add_entry_ty(&[ValType::I64])?;
+    let func = adapt(&rt, rt.alloc(), &mut types, &mut locals, 0)?;
+    let entry = Id::from_index(0);
+    assert!(rt; func.contains_block(entry));
+    assert_eq!(rt; func.block(entry).ty, InstrSeqType::MultiValue(held));
+    assert_eq!(rt; types.live_ids()?.len(), 2);
+    assert!(rt; types.contains(func.ty()) && types.contains(held));
+    Ok(())
+}

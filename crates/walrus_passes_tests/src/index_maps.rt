@@ -32,9 +32,12 @@ fn function(alloc: Global) -> GroupAt {
 
 // A struct, a function, and the struct again. As functions come first where sections are written,
 // the function gets the index 0, and the struct, under both of its old indices, the index 1.
+pub(crate) fn section(alloc: Global) -> Result<Vec<GroupAt>, AllocError> {
+    Ok(vec![in alloc; structure(alloc), function(alloc), structure(alloc)]?)
+}
+
 pub(crate) fn read(alloc: Global) -> Result<(ModuleTypes, Vec<TypeId>), ReadError> {
-    let groups = vec![in alloc; structure(alloc), function(alloc), structure(alloc)]?;
-    parse_types(alloc, HashKeys::fixed(), groups.as_slice())
+    parse_types(alloc, HashKeys::fixed(), section(alloc)?.as_slice())
 }
 
 // Whether these are the new indices.

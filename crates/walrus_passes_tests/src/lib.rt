@@ -15,6 +15,8 @@ mod index_maps;
 #[cfg(test)]
 mod refusals;
 #[cfg(test)]
+mod speed;
+#[cfg(test)]
 mod unused_types;
 #[cfg(test)]
 mod used_types;

@@ -4,8 +4,8 @@ use std::process::Abort;
 use std::test::Fail;
 use walrus_passes::delete_unused_types;
 use walrus_types::{
-    AddRecGroupError, CompositeType, Field, FieldType, Heap, Listed, ModuleTypes, Reference,
-    Storage, StructType, TypeId, Val, ValType,
+    AddRecGroupError, CompAt, CompositeType, EmitError, EntryAt, Field, FieldType, GroupAt, Heap,
+    Listed, ModuleTypes, Reference, Storage, StructType, TypeId, Val, ValType,
 };
 
 // A struct with a nullable reference to the type with this id, or without fields.
@@ -19,7 +19,7 @@ fn structure(alloc: Global, name: Option<usize>) -> Result<CompositeType, AllocE
     }))
 }
 
-fn reference_field(id: TypeId) -> FieldType {
+pub(crate) fn reference_field(id: TypeId) -> FieldType {
     Field {
         element_type: Storage::Val(Val::Ref(Reference {
             nullable: true,
@@ -100,6 +100,79 @@ fn a_group_is_kept_whole_with_what_its_members_name(rt: HostRuntime) -> Result<(
 }
 
 #[test]
+fn a_root_may_stand_twice(rt: HostRuntime) -> Result<(), Fail> {
+    let mut types = table(rt.alloc())?;
+    let root = TypeId::from_index(4);
+    assert!(rt; types.contains(root));
+    let deleted = delete_unused_types(rt.alloc(), &mut types, &[root, root])?;
+    assert!(rt; are(deleted.as_slice(), &[0, 1, 5]));
+    assert!(rt; are(types.live_ids()?.as_slice(), &[2, 3, 4]));
+    Ok(())
+}
+
+// The type 3 names 2, which is dead.
+#[test]
+fn a_name_of_a_dead_id_needs_nothing(rt: HostRuntime) -> Result<(), Fail> {
+    let mut types = table(rt.alloc())?;
+    let dead = TypeId::from_index(2);
+    assert!(rt; types.contains(dead));
+    types.delete(dead)?;
+    let deleted = delete_all_but(&rt, rt.alloc(), &mut types, 4)?;
+    assert!(rt; are(deleted.as_slice(), &[0, 1, 5]));
+    assert!(rt; are(types.live_ids()?.as_slice(), &[3, 4]));
+    let missing = EmitError::NoIndex {
+        from: TypeId::from_index(3),
+        to: dead,
+    };
+    assert!(rt; types.emit().is_err_and(|error| error == missing));
+    Ok(())
+}
+
+#[test]
+fn names_between_groups_follow_the_indices_that_are_left(rt: HostRuntime) -> Result<(), Fail> {
+    let mut types = table(rt.alloc())?;
+    delete_all_but(&rt, rt.alloc(), &mut types, 4)?;
+    let (groups, indices) = types.emit()?;
+    assert!(rt; groups == section_that_is_left(rt.alloc())?);
+    for (id, index) in [(2, 0), (3, 1), (4, 2)] {
+        let id = TypeId::from_index(id);
+        assert_eq!(rt; indices.get_type_index(id), Ok(index));
+    }
+    Ok(())
+}
+
+// The function type at the index 0, then the group, whose first type names that.
+fn section_that_is_left(alloc: Global) -> Result<Vec<GroupAt>, AllocError> {
+    let function = final_entry(CompAt::Function {
+        params: Listed::from_vec(vec![in alloc; Val::I32]?),
+        results: Listed::from_vec(Vec::new(alloc)),
+    });
+    let reference = Field {
+        element_type: Storage::Val(Val::Ref(Reference {
+            nullable: true,
+            heap_type: Heap::Concrete(0),
+        })),
+        mutable: false,
+    };
+    let first = final_entry(CompAt::Struct {
+        fields: Listed::from_vec(vec![in alloc; reference]?),
+    });
+    let second = final_entry(CompAt::Struct {
+        fields: Listed::from_vec(Vec::new(alloc)),
+    });
+    let group = Listed::from_vec(vec![in alloc; first, second]?);
+    Ok(vec![in alloc; GroupAt::Single(function), GroupAt::Rec(group)]?)
+}
+
+fn final_entry(comp: CompAt) -> EntryAt {
+    EntryAt {
+        comp,
+        is_final: true,
+        supertype: None,
+    }
+}
+
+#[test]
 fn an_entry_type_stays_where_it_is_a_root(rt: HostRuntime) -> Result<(), Fail> {
     deletes(&rt, rt.alloc(), 5, &[0, 1, 2, 3, 4], &[5])
 }
@@ -136,7 +209,7 @@ fn what_stays_is_found_and_what_died_is_not(rt: HostRuntime) -> Result<(), Fail>
 
 const LARGE: usize = 20_000;
 
-fn structures(
+pub(crate) fn structures(
     alloc: Global,
     count: usize,
 ) -> Result<Vec<(CompositeType, bool, Option<TypeId>)>, AllocError> {

@@ -1,16 +1,14 @@
 //! Which types a function uses.
-use crate::unused_types::{are, table};
 use std::alloc::{AllocError, Global};
 use std::process::Abort;
 use std::test::Fail;
 use walrus_functions::{BuildError, FunctionBuilder, LocalFunction};
 use walrus_ir::{
-    ArrayCopy, Block, BrOnCast, CallIndirect, ConstExpr, Id, Instr, InstrLocId, InstrSeqId,
-    InstrSeqType, LocalGet, LocalId, LocalSet, LocalTee, Loop, ModuleLocals, RefNull, RefTest,
-    Select,
+    ArrayCopy, Block, BrOnCast, CallIndirect, Id, Instr, InstrLocId, InstrSeqId, InstrSeqType,
+    LocalGet, LocalId, LocalSet, LocalTee, Loop, ModuleLocals, RefNull, RefTest, Select,
 };
-use walrus_passes::{delete_unused_types, used_types};
-use walrus_types::{Heap, HeapType, ModuleTypes, RefType, Reference, TypeId, Val, ValType};
+use walrus_passes::used_types;
+use walrus_types::{Heap, HeapType, RefType, Reference, TypeId, Val, ValType};
 
 const NOTHING: InstrSeqType = InstrSeqType::Simple(None);
 
@@ -220,37 +218,10 @@ fn a_body_that_is_not_nested_has_no_list(rt: HostRuntime) -> Result<(), Fail> {
 }
 
 // A function of the type 2 of the table of `unused_types`, which makes a struct of type 0.
-fn maker(alloc: Global) -> Result<LocalFunction, BuildError> {
+pub(crate) fn maker(alloc: Global) -> Result<LocalFunction, BuildError> {
     let mut f = FunctionBuilder::without_entry(alloc, ty(2));
     let mut body = f.dangling_instr_seq(InstrSeqType::MultiValue(ty(5)))?;
     body.struct_new(ty(0))?;
     enter(&mut f, 0);
     Ok(f.local_func(Vec::new(alloc)))
-}
-
-#[test]
-fn what_a_function_and_a_constant_use_is_kept(rt: HostRuntime) -> Result<(), Fail> {
-    let mut types = table(rt.alloc())?;
-    let locals = ModuleLocals::new(rt.alloc());
-    let func = maker(rt.alloc())?;
-    let mut roots = match used_types(rt.alloc(), &func, &locals)? {
-        Some(roots) => roots,
-        None => Vec::new(rt.alloc()),
-    };
-    ConstExpr::RefNull(reference(3)).referenced_types(&mut roots)?;
-    assert!(rt; hold_just(roots.as_slice(), &[2, 5, 0, 3]));
-    let deleted = delete_all_but_these(&rt, rt.alloc(), &mut types, roots.as_slice())?;
-    assert!(rt; are(deleted.as_slice(), &[1]));
-    assert!(rt; are(types.live_ids()?.as_slice(), &[0, 2, 3, 4, 5]));
-    Ok(())
-}
-
-fn delete_all_but_these(
-    rt: &impl Abort,
-    alloc: Global,
-    types: &mut ModuleTypes,
-    roots: &[TypeId],
-) -> Result<Vec<TypeId>, AllocError> {
-    assert!(rt; roots.iter().all(|id| types.contains(*id)));
-    delete_unused_types(alloc, types, roots)
 }
