@@ -10,6 +10,7 @@ mod examples;
 mod front_page;
 mod functions;
 mod nested;
+mod plain;
 mod refusals;
 
 use std::alloc::{AllocError, Global};

@@ -9,6 +9,8 @@
 #[cfg(test)]
 mod bodies;
 #[cfg(test)]
+mod clones;
+#[cfg(test)]
 mod conversions;
 #[cfg(test)]
 mod emission;

@@ -1,5 +1,6 @@
 //! Refused growth: a refused call leaves the set as it was, and goes through when it is made again.
-//! `scripts/refuse` refuses each request for memory in turn.
+//! `scripts/refuse` refuses each request for memory in turn, and for deletions all requests from one
+//! on.
 ghost use Rattle.std.specs.Prelude.{◌≡◌};
 
 use super::*;
@@ -66,178 +67,308 @@ fn a_replacement_with_a_refused_clone(rt: HostRuntime) -> Result<(), Fail> {
     Ok(())
 }
 
-// Inserts a new key. After a refusal the set must be as it was, and the call is made again.
-fn insert_new(rt: &impl Abort, set: &mut ArenaSet<Tagged>, key: u32) -> Result<usize, AllocError> {
-    let before = set.next_id().index();
-    if let Ok(id) = set.insert(make_tagged(key, 0)) {
-        return Ok(id.index());
+// What a set shows: its next id, the notes of the items that are live, and which id each key is
+// found by.
+type ShownSet = (usize, [Option<u32>; 20], [Option<usize>; 20]);
+
+// Places of items, and keys.
+const FIRST: [u32; 20] = [
+    0, 1, 2, 3, 4, 5, 6, 7, 8, 9, 10, 11, 12, 13, 14, 15, 16, 17, 18, 19,
+];
+
+fn note_in_set(set: &ArenaSet<Tagged>, at: u32) -> Option<u32> {
+    let at = at as usize;
+    if set.contains(Id::from_index(at)) {
+        Some(set[Id::from_index(at)].note)
+    } else {
+        None
     }
-    assert_eq!(rt; set.next_id().index(), before);
-    assert_eq!(rt; index_of(set, key), None);
-    Ok(set.insert(make_tagged(key, 0))?.index())
 }
 
-#[test]
-fn a_refused_insert_changes_nothing(rt: HostRuntime) -> Result<(), Fail> {
-    let mut set = ArenaSet::new(rt.alloc());
-    for key in 0..20u32 {
-        assert_eq!(rt; insert_new(&rt, &mut set, key)?, key as usize);
-        assert_eq!(rt; index_of(&set, key / 2), Some(key as usize / 2));
-    }
-    Ok(())
+fn shown_of_set(set: &ArenaSet<Tagged>) -> ShownSet {
+    let notes = FIRST.map(|at| note_in_set(set, at));
+    let found = FIRST.map(|key| index_of(set, key));
+    (set.next_id().index(), notes, found)
 }
 
-// Two values. The room is asked for again after a refusal.
-fn two_values(alloc: Global) -> Result<Vec<Tagged>, AllocError> {
+// Calls that take memory to add a value to a set, or to write one in it.
+#[derive(Clone, Copy)]
+enum SetCall {
+    Insert,
+    AllocAndRegister,
+    AllocUnique,
+    AllocDead,
+    AllocAll,
+    ReplaceAndRegister,
+}
+
+// Two values of this key. The room is asked for again after a refusal.
+fn two_values(alloc: Global, key: u32) -> Result<Vec<Tagged>, AllocError> {
     let mut values = Vec::new(alloc);
     if values.reserve(2).is_err() {
         values.reserve(2)?;
     }
-    values.push(make_tagged(1, 1))?;
-    values.push(make_tagged(1, 2))?;
+    values.push(make_tagged(key, 1))?;
+    values.push(make_tagged(key, 2))?;
     Ok(values)
 }
 
-// The number of ids of two more values. After a refusal the set must be as it was, and the call is
-// made again.
-fn add_two(
+// Makes the call for a value of this key, and answers the id of the value, or of the last one.
+fn call_set(
     rt: &impl Abort,
-    set: &mut ArenaSet<Tagged>,
     alloc: Global,
-) -> Result<usize, AllocError> {
-    let before = set.next_id().index();
-    if let Ok(ids) = set.alloc_all(two_values(alloc)?) {
-        return Ok(ids.len());
-    }
-    assert_eq!(rt; set.next_id().index(), before);
-    Ok(set.alloc_all(two_values(alloc)?)?.len())
-}
-
-#[test]
-fn a_refused_alloc_all_adds_none(rt: HostRuntime) -> Result<(), Fail> {
-    let mut set = ArenaSet::new(rt.alloc());
-    for round in 0..5usize {
-        assert_eq!(rt; set.next_id().index(), 2 * round);
-        assert_eq!(rt; add_two(&rt, &mut set, rt.alloc())?, 2);
-    }
-    Ok(())
-}
-
-fn count_run(ran: &Cell<u32>, key: u32) -> Tagged {
-    ran.set(ran.get().wrapping_add(1));
-    make_tagged(key, 0)
-}
-
-// After a refusal `make` did not run.
-#[test]
-fn a_refused_alloc_with_id_makes_nothing(rt: HostRuntime) -> Result<(), Fail> {
-    let mut arena = TombstoneArena::new(rt.alloc());
-    for round in 0..20u32 {
-        let ran = Cell::new(0u32);
-        let is_made = arena.alloc_with_id(|_| count_run(&ran, round)).is_ok();
-        assert_eq!(rt; ran.get(), u32::from(is_made));
-        if !is_made {
-            arena.alloc_with_id(|_| count_run(&ran, round))?;
-        }
-        assert_eq!(rt; ran.get(), 1);
-    }
-    assert_eq!(rt; arena.len(), 20);
-    Ok(())
-}
-
-// Adds an item. After a refusal the arena must be as it was, and the call is made again.
-fn alloc_one(
-    rt: &impl Abort,
-    arena: &mut TombstoneArena<Tagged>,
+    set: &mut ArenaSet<Tagged>,
+    call: SetCall,
     key: u32,
 ) -> Result<usize, AllocError> {
-    let before = arena.len();
-    if let Ok(id) = arena.alloc(make_tagged(key, 0)) {
-        return Ok(id.index());
+    let value = make_tagged(key, 3);
+    match call {
+        SetCall::Insert => Ok(set.insert(value)?.index()),
+        SetCall::AllocAndRegister => Ok(set.alloc_and_register(value)?.index()),
+        SetCall::AllocUnique => Ok(set.alloc_unique(value)?.index()),
+        SetCall::AllocDead => Ok(set.alloc_dead(value)?.index()),
+        SetCall::AllocAll => {
+            let ids = set.alloc_all(two_values(alloc, key)?)?;
+            assert_eq!(rt; ids.len(), 2);
+            Ok(ids[1].index())
+        }
+        SetCall::ReplaceAndRegister => {
+            assert!(rt; set.contains(Id::from_index(1)));
+            set.replace_and_register(Id::from_index(1), value)?;
+            Ok(1)
+        }
     }
-    assert_eq!(rt; arena.len(), before);
-    assert_eq!(rt; arena.next_id().index(), before);
-    Ok(arena.alloc(make_tagged(key, 0))?.index())
 }
 
-// An arena of twenty items.
-fn twenty_items(rt: &impl Abort, alloc: Global) -> Result<TombstoneArena<Tagged>, AllocError> {
-    let mut arena = TombstoneArena::new(alloc);
-    for key in 0..20u32 {
-        assert_eq!(rt; alloc_one(rt, &mut arena, key)?, key as usize);
+// Makes the call. After a refusal the set must show what it showed, and the call is made again.
+fn call_set_again(
+    rt: &impl Abort,
+    alloc: Global,
+    set: &mut ArenaSet<Tagged>,
+    call: SetCall,
+    key: u32,
+) -> Result<usize, AllocError> {
+    let before = shown_of_set(set);
+    if let Ok(at) = call_set(rt, alloc, set, call, key) {
+        return Ok(at);
     }
+    assert!(rt; shown_of_set(set) == before);
+    call_set(rt, alloc, set, call, key)
+}
+
+// A set of one value that is found, one that is not, and one that is dead.
+fn three_values(alloc: Global) -> Result<ArenaSet<Tagged>, AllocError> {
+    let mut set = ArenaSet::new(alloc);
+    set.insert(make_tagged(0, 0))?;
+    set.alloc_unique(make_tagged(1, 0))?;
+    set.alloc_dead(make_tagged(2, 0))?;
+    Ok(set)
+}
+
+// It is made again after a refusal.
+fn three_values_again(alloc: Global) -> Result<ArenaSet<Tagged>, AllocError> {
+    match three_values(alloc) {
+        Ok(set) => Ok(set),
+        Err(_) => three_values(alloc),
+    }
+}
+
+// Makes the call for the keys 3 to 10. It has to answer these ids, which have this note then, and
+// each key has to be found by its id or not at all.
+fn makes_eight(
+    rt: &impl Abort,
+    alloc: Global,
+    call: SetCall,
+    answers: [usize; 8],
+    note: Option<u32>,
+    is_found: bool,
+) -> Result<(), Fail> {
+    let mut set = three_values_again(alloc)?;
+    for round in 0..8u32 {
+        let key = round + 3;
+        let wanted = answers[round as usize];
+        let at = call_set_again(rt, alloc, &mut set, call, key)?;
+        assert_eq!(rt; at, wanted);
+        assert_eq!(rt; note_in_set(&set, at as u32), note);
+        assert_eq!(rt; index_of(&set, key), if is_found { Some(at) } else { None });
+    }
+    assert_eq!(rt; index_of(&set, 0), Some(0));
+    Ok(())
+}
+
+#[test]
+fn a_refused_call_of_a_set_changes_nothing(rt: HostRuntime) -> Result<(), Fail> {
+    let next = [3, 4, 5, 6, 7, 8, 9, 10];
+    let second = [4, 6, 8, 10, 12, 14, 16, 18];
+    let alloc = rt.alloc();
+    makes_eight(&rt, alloc, SetCall::Insert, next, Some(3), true)?;
+    makes_eight(&rt, alloc, SetCall::AllocAndRegister, next, Some(3), true)?;
+    makes_eight(&rt, alloc, SetCall::AllocUnique, next, Some(3), false)?;
+    makes_eight(&rt, alloc, SetCall::AllocDead, next, None, false)?;
+    makes_eight(&rt, alloc, SetCall::AllocAll, second, Some(2), false)?;
+    makes_eight(
+        &rt,
+        alloc,
+        SetCall::ReplaceAndRegister,
+        [1; 8],
+        Some(3),
+        true,
+    )
+}
+
+// What an arena shows: how many items are live, its next id, and the notes of these items.
+type ShownArena = (usize, usize, [Option<u32>; 20]);
+
+fn shown_of_arena(arena: &TombstoneArena<Tagged>) -> ShownArena {
+    let notes = FIRST.map(|at| Some(arena.get(Id::from_index(at as usize))?.note));
+    (arena.len(), arena.next_id().index(), notes)
+}
+
+// Calls that add to an arena.
+#[derive(Clone, Copy)]
+enum ArenaCall {
+    Alloc,
+    AllocWithId,
+    AllocAll,
+}
+
+fn count_run(ran: &Cell<u32>) -> Tagged {
+    ran.set(ran.get().wrapping_add(1));
+    make_tagged(0, 2)
+}
+
+// Makes the call, and answers the id of the item, or of the last one. It counts the runs of what
+// makes an item of its id.
+fn call_arena(
+    rt: &impl Abort,
+    alloc: Global,
+    arena: &mut TombstoneArena<Tagged>,
+    call: ArenaCall,
+    ran: &Cell<u32>,
+) -> Result<usize, AllocError> {
+    match call {
+        ArenaCall::Alloc => Ok(arena.alloc(make_tagged(0, 2))?.index()),
+        ArenaCall::AllocWithId => Ok(arena.alloc_with_id(|_| count_run(ran))?.index()),
+        ArenaCall::AllocAll => {
+            let ids = arena.alloc_all(two_values(alloc, 0)?)?;
+            assert_eq!(rt; ids.len(), 2);
+            Ok(ids[1].index())
+        }
+    }
+}
+
+// Makes the call. After a refusal the arena must show what it showed, no item was made of its id,
+// and the call is made again.
+fn call_arena_again(
+    rt: &impl Abort,
+    alloc: Global,
+    arena: &mut TombstoneArena<Tagged>,
+    call: ArenaCall,
+    ran: &Cell<u32>,
+) -> Result<usize, AllocError> {
+    let (before, runs) = (shown_of_arena(arena), ran.get());
+    if let Ok(at) = call_arena(rt, alloc, arena, call, ran) {
+        return Ok(at);
+    }
+    assert!(rt; shown_of_arena(arena) == before);
+    assert_eq!(rt; ran.get(), runs);
+    call_arena(rt, alloc, arena, call, ran)
+}
+
+// Makes the call eight times. It has to answer these ids, and to make so many items of their ids.
+fn adds_eight(
+    rt: &impl Abort,
+    alloc: Global,
+    call: ArenaCall,
+    answers: [usize; 8],
+    runs: u32,
+) -> Result<TombstoneArena<Tagged>, AllocError> {
+    let mut arena = TombstoneArena::new(alloc);
+    let ran = Cell::new(0u32);
+    for answer in answers {
+        assert_eq!(rt;
+            call_arena_again(rt, alloc, &mut arena, call, &ran)?,
+            answer
+        );
+        assert_eq!(rt; arena.next_id().index(), arena.len());
+        assert_eq!(rt; shown_of_arena(&arena).2[answer % 20], Some(2));
+    }
+    assert_eq!(rt; ran.get(), runs);
     Ok(arena)
 }
 
 #[test]
-fn a_refused_alloc_adds_nothing(rt: HostRuntime) -> Result<(), Fail> {
-    let arena = twenty_items(&rt, rt.alloc())?;
-    assert_eq!(rt; arena.next_id().index(), 20);
+fn a_refused_call_of_an_arena_adds_nothing(rt: HostRuntime) -> Result<(), Fail> {
+    let next = [0, 1, 2, 3, 4, 5, 6, 7];
+    let second = [1, 3, 5, 7, 9, 11, 13, 15];
+    adds_eight(&rt, rt.alloc(), ArenaCall::Alloc, next, 0)?;
+    adds_eight(&rt, rt.alloc(), ArenaCall::AllocWithId, next, 8)?;
+    adds_eight(&rt, rt.alloc(), ArenaCall::AllocAll, second, 0)?;
     Ok(())
 }
 
 #[test]
 fn refused_live_ids_are_listed_when_asked_again(rt: HostRuntime) -> Result<(), Fail> {
-    let arena = twenty_items(&rt, rt.alloc())?;
+    let next = [0, 1, 2, 3, 4, 5, 6, 7];
+    let arena = adds_eight(&rt, rt.alloc(), ArenaCall::Alloc, next, 0)?;
+    let before = shown_of_arena(&arena);
     let ids = match arena.live_ids() {
         Ok(ids) => ids,
         Err(_) => arena.live_ids()?,
     };
-    assert_eq!(rt; ids.len(), 20);
-    assert_eq!(rt; ids[19].index(), 19);
+    assert_eq!(rt; ids.len(), 8);
+    assert!(rt; ids.iter().zip(next).all(|(id, at)| id.index() == at));
+    assert!(rt; shown_of_arena(&arena) == before);
     Ok(())
 }
 
-// Adds a value without mapping it. After a refusal the set must be as it was, and the call is made
-// again.
-fn add_unique(rt: &impl Abort, set: &mut ArenaSet<Tagged>, key: u32) -> Result<usize, AllocError> {
-    let before = set.next_id().index();
-    if let Ok(id) = set.alloc_unique(make_tagged(key, 0)) {
-        return Ok(id.index());
+// An arena of the notes 0 to 3, and a set of the keys 0 to 3, each found by its id.
+fn four_each(alloc: Global) -> Result<(TombstoneArena<Tagged>, ArenaSet<Tagged>), AllocError> {
+    let mut arena = TombstoneArena::new(alloc);
+    let mut set = ArenaSet::new(alloc);
+    for key in 0..4u32 {
+        arena.alloc(make_tagged(key, key))?;
+        set.insert(make_tagged(key, key))?;
     }
-    assert_eq!(rt; set.next_id().index(), before);
-    Ok(set.alloc_unique(make_tagged(key, 0))?.index())
+    Ok((arena, set))
 }
 
-#[test]
-fn a_refused_alloc_unique_adds_nothing(rt: HostRuntime) -> Result<(), Fail> {
-    let mut set = ArenaSet::new(rt.alloc());
-    for key in 0..20u32 {
-        assert_eq!(rt; add_unique(&rt, &mut set, key)?, key as usize);
-        assert_eq!(rt; index_of(&set, key), None);
-    }
-    Ok(())
+#[tactic(auto, using(crate::proofs::ArenaLemmas::distinct_pair))]
+fn delete_three(rt: &impl Abort, arena: &mut TombstoneArena<Tagged>) -> Result<(), AllocError> {
+    let ids: [Id<Tagged>; 2] = [Id::from_index(3), Id::from_index(2)];
+    assert!(rt; arena.contains(Id::from_index(0)));
+    arena.delete(Id::from_index(0))?;
+    assert!(rt; arena.contains(ids[0]));
+    assert!(rt; arena.contains(ids[1]));
+    arena.delete_all(ids.as_slice())
 }
 
-// Writes a new key over the first item, whose key is `old`. After a refusal the set must be as it
-// was, and the call is made again.
-fn replace_first(
-    rt: &impl Abort,
-    set: &mut ArenaSet<Tagged>,
-    old: u32,
-    new: u32,
-) -> Result<(), AllocError> {
+#[tactic(auto, using(crate::proofs::ArenaLemmas::distinct_pair))]
+fn remove_three(rt: &impl Abort, set: &mut ArenaSet<Tagged>) -> Result<(), AllocError> {
+    let ids: [Id<Tagged>; 2] = [Id::from_index(3), Id::from_index(2)];
     assert!(rt; set.contains(Id::from_index(0)));
-    if set
-        .replace_and_register(Id::from_index(0), make_tagged(new, 0))
-        .is_ok()
-    {
-        return Ok(());
-    }
-    assert_eq!(rt; index_of(set, old), Some(0));
-    assert_eq!(rt; index_of(set, new), None);
-    assert!(rt; set.contains(Id::from_index(0)));
-    set.replace_and_register(Id::from_index(0), make_tagged(new, 0))
+    set.remove(Id::from_index(0))?;
+    assert!(rt; set.contains(ids[0]));
+    assert!(rt; set.contains(ids[1]));
+    set.remove_all(ids.as_slice())
 }
 
+// Every request may be refused once arena and set are there.
 #[test]
-fn a_refused_replacement_changes_nothing(rt: HostRuntime) -> Result<(), Fail> {
-    let mut set = ArenaSet::new(rt.alloc());
-    assert_eq!(rt; insert_new(&rt, &mut set, 0)?, 0);
-    for key in 0..20u32 {
-        replace_first(&rt, &mut set, key, key + 1)?;
-        assert_eq!(rt; index_of(&set, key), None);
-        assert_eq!(rt; index_of(&set, key + 1), Some(0));
-    }
+fn deletions_take_no_memory(rt: HostRuntime) -> Result<(), Fail> {
+    let (mut arena, mut set) = match four_each(rt.alloc()) {
+        Ok(both) => both,
+        Err(_) => return Ok(()),
+    };
+    assert_eq!(rt; delete_three(&rt, &mut arena), Ok(()));
+    assert_eq!(rt; arena.len(), 1);
+    assert_eq!(rt; arena.get(Id::from_index(1)).map(|item| item.note), Some(1));
+    assert_eq!(rt; arena.next_id().index(), 4);
+    assert_eq!(rt; remove_three(&rt, &mut set), Ok(()));
+    assert_eq!(rt; index_of(&set, 0), None);
+    assert_eq!(rt; index_of(&set, 1), Some(1));
+    assert_eq!(rt; index_of(&set, 2), None);
+    assert_eq!(rt; index_of(&set, 3), None);
+    assert_eq!(rt; set.next_id().index(), 4);
     Ok(())
 }

@@ -5,11 +5,11 @@ ghost use Rattle.walrus_functions.specs.Building.{function_of, IsKnown, Stays, S
 
 use super::*;
 use std::cell::Cell;
-use walrus_ir::{DropInstr, Instr, InstrLocId, InstrSeqId, LocalId, Unreachable};
+use walrus_ir::{Instr, InstrLocId, InstrSeqId, LocalId};
 use walrus_types::{FunctionId, ValType};
 
 // A function with an entry. It is made again after a refusal.
-fn begin_again(alloc: Global) -> Result<FunctionBuilder, AllocError>
+pub(super) fn begin_again(alloc: Global) -> Result<FunctionBuilder, AllocError>
     ensures { IfOk result (λ f. IsSome f.entry) }
 {
     match begin(alloc) {
@@ -26,8 +26,48 @@ fn text_again(alloc: Global, func: &LocalFunction) -> Result<String, AllocError>
     }
 }
 
-// A function that takes an `i32` and leaves an `i64`. After a refusal the table must have no type,
-// the function type, or that and the type of the body, and the call is made again.
+// A table with the function type that takes an `i64`. It is made again after a refusal.
+fn table_again(alloc: Global) -> Result<ModuleTypes, AllocError> {
+    let mut types = ModuleTypes::new(alloc);
+    if types.add(&[ValType::I64], &[]).is_err() {
+        types.add(&[ValType::I64], &[])?;
+    }
+    Ok(types)
+}
+
+// Whether the table has so many types, each alone in its group: that of `table_again`, the function
+// type from `i32` to `i64`, and that of its body.
+fn has_types(types: &ModuleTypes, count: usize) -> bool {
+    let found = [
+        types.find(&[ValType::I64], &[]),
+        types.find(&[ValType::I32], &[ValType::I64]),
+        types.find_for_function_entry(&[ValType::I64]),
+    ];
+    let wanted = [0, 1, 2].map(|at| if at < count {
+        Some(Id::from_index(at))
+    } else {
+        None
+    });
+    let live = [0, 1, 2, 3].map(|at| types.contains(Id::from_index(at)));
+    found == wanted
+        && live == [0, 1, 2, 3].map(|at| at < count)
+        && types.find(&[], &[]).is_none()
+        && are_alone(types, count)
+}
+
+// Whether there are so many groups, each of the type of its number alone.
+fn are_alone(types: &ModuleTypes, count: usize) -> bool {
+    for (at, group) in types.rec_groups().iter().enumerate() {
+        if group.is_explicit || group.types.as_slice() != [Id::from_index(at)].as_slice() {
+            return false;
+        }
+    }
+    types.rec_groups().len() == count
+}
+
+// A function that takes an `i32` and leaves an `i64`. After a refusal the table must have no more
+// types than before, the function type, or that and the type of the body, and the call is made
+// again.
 fn new_again(
     rt: &impl Abort,
     alloc: Global,
@@ -38,31 +78,18 @@ fn new_again(
     if let Ok(f) = FunctionBuilder::new(alloc, types, &params, &results) {
         return Ok(f);
     }
-    let has_ty = types.find(&params, &results).is_some();
-    let has_entry_ty = types.find_for_function_entry(&results).is_some();
-    assert!(rt; has_ty || !has_entry_ty);
-    assert_eq!(rt; types.contains(Id::from_index(0)), has_ty);
-    assert_eq!(rt; types.contains(Id::from_index(1)), has_entry_ty);
-    assert!(rt; !types.contains(Id::from_index(2)));
+    assert!(rt; has_types(types, 1) || has_types(types, 2) || has_types(types, 3));
     FunctionBuilder::new(alloc, types, &params, &results)
 }
 
 #[test]
 fn a_refused_new_leaves_up_to_two_types(rt: HostRuntime) -> Result<(), Fail> {
-    let mut types = ModuleTypes::new(rt.alloc());
+    let mut types = table_again(rt.alloc())?;
     let f = new_again(&rt, rt.alloc(), &mut types)?;
-    assert_eq!(rt;
-        types.find(&[ValType::I32], &[ValType::I64]),
-        Some(Id::from_index(0))
-    );
-    assert_eq!(rt;
-        types.find_for_function_entry(&[ValType::I64]),
-        Some(Id::from_index(1))
-    );
-    assert!(rt; !types.contains(Id::from_index(2)));
+    assert!(rt; has_types(&types, 3));
     assert_eq!(rt; f.entry(), Some(Id::from_index(0)));
     let func = f.local_func(Vec::new(rt.alloc()));
-    assert_eq!(rt; func.ty().index(), 0);
+    assert_eq!(rt; func.ty().index(), 1);
     assert_eq!(rt; func.block_count(), 1);
     Ok(())
 }
@@ -92,95 +119,6 @@ fn a_refused_dangling_sequence_is_not_there(rt: HostRuntime) -> Result<(), Fail>
     }
     assert_eq!(rt; f.local_func(Vec::new(rt.alloc())).block_count(), 20);
     Ok(())
-}
-
-// Calls that add an instruction without sequences inside.
-#[derive(Clone, Copy)]
-enum PlainCall {
-    Instr,
-    InstrAt,
-    Number,
-    BrTable,
-}
-
-fn labels(alloc: Global) -> Result<Vec<InstrSeqId>, AllocError> {
-    Ok(vec![in alloc; Id::from_index(5)]?)
-}
-
-fn add(alloc: Global, body: &mut InstrSeqBuilder<'_>, call: PlainCall) -> Result<(), BuildError>
-    requires { IsKnown body.old }
-    ensures same { Stays body.old body.new }
-    ensures known { StayKnown (function_of body.old) (function_of body.new) }
-{
-    match call {
-        PlainCall::Instr => body.instr(DropInstr {}),
-        PlainCall::InstrAt => body.instr_at(0, Unreachable {}),
-        PlainCall::Number => body.i32_const(7),
-        PlainCall::BrTable => body.br_table(labels(alloc)?, body.id()),
-    }
-}
-
-// Makes the call for the entry. After a refusal it must have no more instructions than before, and
-// the call is made again.
-fn add_again(
-    rt: &impl Abort,
-    alloc: Global,
-    f: &mut FunctionBuilder,
-    call: PlainCall,
-) -> Result<(), BuildError> {
-    assert!(rt; f.contains_seq(Id::from_index(0)));
-    let mut body = f.instr_seq(Id::from_index(0));
-    let before = body.instrs().len();
-    let answer = add(alloc, &mut body, call);
-    if answer.is_ok() {
-        return answer;
-    }
-    assert_eq!(rt; answer, Err(BuildError::Memory));
-    assert_eq!(rt; body.instrs().len(), before);
-    add(alloc, &mut body, call)
-}
-
-// Makes the call five times, and compares the text of the function.
-fn adds_five(rt: &impl Abort, alloc: Global, call: PlainCall, text: &str) -> Result<(), Fail> {
-    let mut f = begin_again(alloc)?;
-    for _ in 0..5 {
-        add_again(rt, alloc, &mut f, call)?;
-    }
-    let func = f.local_func(Vec::new(alloc));
-    assert_eq!(rt; text_again(alloc, &func)?.as_str(), text);
-    Ok(())
-}
-
-#[test]
-fn a_refused_instruction_is_not_added(rt: HostRuntime) -> Result<(), Fail> {
-    let text = "0: Drop(DropInstr) Drop(DropInstr) Drop(DropInstr) Drop(DropInstr) \
-        Drop(DropInstr)\n";
-    adds_five(&rt, rt.alloc(), PlainCall::Instr, text)
-}
-
-#[test]
-fn a_refused_instruction_goes_before_no_other(rt: HostRuntime) -> Result<(), Fail> {
-    let text = "0: Unreachable(Unreachable) Unreachable(Unreachable) Unreachable(Unreachable) \
-        Unreachable(Unreachable) Unreachable(Unreachable)\n";
-    adds_five(&rt, rt.alloc(), PlainCall::InstrAt, text)
-}
-
-#[test]
-fn a_refused_constant_is_not_added(rt: HostRuntime) -> Result<(), Fail> {
-    let text = "0: Const(Const { value: I32(7) }) Const(Const { value: I32(7) }) \
-        Const(Const { value: I32(7) }) Const(Const { value: I32(7) }) \
-        Const(Const { value: I32(7) })\n";
-    adds_five(&rt, rt.alloc(), PlainCall::Number, text)
-}
-
-#[test]
-fn a_refused_branch_table_is_not_added(rt: HostRuntime) -> Result<(), Fail> {
-    let text = "0: BrTable(BrTable { blocks: [Id(5)], default: Id(0) }) \
-        BrTable(BrTable { blocks: [Id(5)], default: Id(0) }) \
-        BrTable(BrTable { blocks: [Id(5)], default: Id(0) }) \
-        BrTable(BrTable { blocks: [Id(5)], default: Id(0) }) \
-        BrTable(BrTable { blocks: [Id(5)], default: Id(0) })\n";
-    adds_five(&rt, rt.alloc(), PlainCall::BrTable, text)
 }
 
 // Calls that add an instruction with sequences inside.
@@ -387,9 +325,12 @@ fn args_again(alloc: Global) -> Result<Vec<LocalId>, AllocError> {
 }
 
 // A function with a name and one instruction.
-fn named_again(rt: &impl Abort, alloc: Global) -> Result<FunctionBuilder, Fail> {
+fn named_again(alloc: Global) -> Result<FunctionBuilder, Fail> {
     let mut f = begin_again(alloc)?;
-    add_again(rt, alloc, &mut f, PlainCall::Instr)?;
+    let mut body = f.func_body();
+    if body.drop().is_err() {
+        body.drop()?;
+    }
     f.name(name_again(alloc)?);
     Ok(f)
 }
@@ -424,7 +365,7 @@ fn a_refused_finish_hands_the_function_back(rt: HostRuntime) -> Result<(), Fail>
     let alloc = rt.alloc();
     let mut funcs = LocalFunctions::new(alloc);
     for next in 0..5usize {
-        let f = named_again(&rt, alloc)?;
+        let f = named_again(alloc)?;
         let id = match f.finish(args_again(alloc)?, &mut funcs) {
             Ok(id) => id,
             Err(func) => add_back(&rt, alloc, &mut funcs, func, next)?,
@@ -441,7 +382,7 @@ fn a_refused_add_hands_the_function_back(rt: HostRuntime) -> Result<(), Fail> {
     let alloc = rt.alloc();
     let mut funcs = LocalFunctions::new(alloc);
     for next in 0..5usize {
-        let func = named_again(&rt, alloc)?.local_func(args_again(alloc)?);
+        let func = named_again(alloc)?.local_func(args_again(alloc)?);
         let id = match funcs.add(func) {
             Ok(id) => id,
             Err(func) => add_back(&rt, alloc, &mut funcs, func, next)?,

@@ -2,9 +2,10 @@
 use crate::fixtures::{field, list, reference, to};
 use std::alloc::{AllocError, Global};
 use std::test::Fail;
+use walrus_ty::SubType;
 use walrus_types::{
-    CompAt, CompositeType, FieldAt, FromRecordError, IdsToIndices, IndicesToIds, Listed, NoIndex,
-    StorageAt, ToRecordError, TypeId, Val, ValAt,
+    CompAt, CompositeType, EntryAt, FieldAt, FromRecordError, IdsToIndices, IndicesToIds, Listed,
+    NoIndex, StorageAt, ToRecordError, Type, TypeId, Val, ValAt,
 };
 
 // A function type whose parameter names index 1 and whose first result names index 0.
@@ -115,5 +116,61 @@ fn a_refused_struct_type_is_converted_when_it_is_given_again(rt: HostRuntime) ->
         read_again(alloc, &ill, &ids).err(),
         Some(FromRecordError::UnknownIndex(2))
     );
+    Ok(())
+}
+
+// A record with a supertype, whose function type has one parameter.
+fn entry_at(alloc: Global) -> Result<EntryAt, AllocError> {
+    Ok(EntryAt {
+        comp: function_at(alloc)?,
+        is_final: false,
+        supertype: Some(1),
+    })
+}
+
+// What the record says. It is read again after a refusal of memory.
+fn sub_type_again(
+    alloc: Global,
+    at: &EntryAt,
+    ids: &IndicesToIds,
+) -> Result<SubType, FromRecordError> {
+    match SubType::from_record(alloc, at, ids) {
+        Err(FromRecordError::Memory) => SubType::from_record(alloc, at, ids),
+        answer => answer,
+    }
+}
+
+// The record of the type. It is written again after a refusal of memory.
+fn record_again(
+    alloc: Global,
+    ty: &Type,
+    indices: &IdsToIndices,
+) -> Result<EntryAt, ToRecordError> {
+    match ty.to_record(alloc, indices) {
+        Err(ToRecordError::Memory) => ty.to_record(alloc, indices),
+        answer => answer,
+    }
+}
+
+#[test]
+fn a_refused_type_is_converted_when_it_is_given_again(rt: HostRuntime) -> Result<(), Fail> {
+    let alloc = rt.alloc();
+    let at = entry_at(alloc)?;
+    let said = sub_type_again(alloc, &at, &two_ids_again(alloc)?)?;
+    assert!(rt;
+        said.kind
+            .is_function_of(&[reference(3)], &[reference(5), Val::I32])
+    );
+    assert!(rt; !said.is_final);
+    assert_eq!(rt; said.supertype, Some(TypeId::from_index(3)));
+    let ty = Type::new(
+        alloc,
+        TypeId::from_index(9),
+        said.kind,
+        false,
+        said.supertype,
+    );
+    let record = record_again(alloc, &ty, &two_indices_again(alloc)?)?;
+    assert!(rt; record == at);
     Ok(())
 }

@@ -1,6 +1,6 @@
 //! Calls that give the next index.
 ghost use Rattle.std.specs.Prelude.{◌≡◌, ◌<◌, ◌+◌, ◌^◌, None, OnOk};
-ghost use Rattle.walrus_ty.specs.Indices.{GivesNext, type_indices};
+ghost use Rattle.walrus_ty.specs.Indices.{GivesNext, type_indices, func_indices, global_indices};
 
 use std::alloc::AllocError;
 use std::process::Abort;
@@ -83,15 +83,30 @@ fn a_refused_index_stands_for_nothing(rt: HostRuntime) -> Result<(), Fail> {
     Ok(())
 }
 
-// Lets five more type indices stand for the ids of their own number. After a refusal as many must
-// stand for an id as before, and the call is made again.
+// Whether so many type indices stand for the ids of their own number, and no others for any.
+fn are_numbered(ids: &IndicesToIds, count: usize) -> bool {
+    for index in 0..50usize {
+        let wanted = if index < count {
+            Ok(index)
+        } else {
+            Err(UnknownIndex(index as u32))
+        };
+        if get(ids, Kind::Ty, index as u32) != wanted {
+            return false;
+        }
+    }
+    ids.type_count() == count
+}
+
+// Lets five more type indices stand for the ids of their own number. After a refusal those before
+// must stand for their ids, and no others for any, and the call is made again.
 fn push_row_again(rt: &impl Abort, ids: &mut IndicesToIds, first: usize) -> Result<(), AllocError>
     requires { first < 100 }
 {
     if ids.push_types(first, 5).is_ok() {
         return Ok(());
     }
-    assert_eq!(rt; ids.type_count(), first);
+    assert!(rt; are_numbered(ids, first));
     ids.push_types(first, 5)
 }
 
@@ -100,10 +115,7 @@ fn a_refused_row_of_indices_stands_for_nothing(rt: HostRuntime) -> Result<(), Fa
     let mut ids = IndicesToIds::new(rt.alloc());
     for row in 0..9usize {
         push_row_again(&rt, &mut ids, 5 * row)?;
-        assert_eq!(rt; ids.type_count(), 5 * row + 5);
-    }
-    for index in 0..45u32 {
-        assert_eq!(rt; get(&ids, Kind::Ty, index), Ok(index as usize));
+        assert!(rt; are_numbered(&ids, 5 * row + 5));
     }
     Ok(())
 }
@@ -147,5 +159,59 @@ fn a_refused_index_is_given_when_it_is_asked_for_again(rt: HostRuntime) -> Resul
     assert!(rt; have_indices(&indices, 4));
     give_again(&rt, &mut indices, TypeId::from_index(1))?;
     assert!(rt; have_indices(&indices, 5));
+    Ok(())
+}
+
+// Gives the first index to this function. After a refusal it must have none, and the call is made
+// again.
+fn give_func(rt: &impl Abort, indices: &mut IdsToIndices, id: FunctionId) -> Result<(), AllocError>
+    requires fresh { (func_indices indices.old).index id ≡ None }
+    requires room { (func_indices indices.old).count < 2 ^ 32 }
+{
+    if indices.push_func(id).is_ok() {
+        return Ok(());
+    }
+    assert_eq!(rt; indices.get_func_index(id), Err(NoIndex::OfFunc(id)));
+    indices.push_func(id)
+}
+
+// The same for a global.
+fn give_global(rt: &impl Abort, indices: &mut IdsToIndices, id: GlobalId) -> Result<(), AllocError>
+    requires fresh { (global_indices indices.old).index id ≡ None }
+    requires room { (global_indices indices.old).count < 2 ^ 32 }
+{
+    if indices.push_global(id).is_ok() {
+        return Ok(());
+    }
+    assert_eq!(rt; indices.get_global_index(id), Err(NoIndex::OfGlobal(id)));
+    indices.push_global(id)
+}
+
+#[test]
+fn a_refused_index_of_another_kind_is_given_when_it_is_asked_for_again(
+    rt: HostRuntime,
+) -> Result<(), Fail> {
+    let (func, global) = (FunctionId::from_index(5), GlobalId::from_index(4));
+    let mut indices = IdsToIndices::new(rt.alloc());
+    give_func(&rt, &mut indices, FunctionId::from_index(5))?;
+    assert!(rt; have_indices(&indices, 0));
+    assert_eq!(rt; indices.get_func_index(func), Ok(0));
+    let mut indices = IdsToIndices::new(rt.alloc());
+    give_global(&rt, &mut indices, GlobalId::from_index(4))?;
+    assert!(rt; have_indices(&indices, 0));
+    assert_eq!(rt; indices.get_global_index(global), Ok(0));
+    Ok(())
+}
+
+#[test]
+#[tactic(auto, using(walrus_arena::proofs::ArenaLemmas::distinct_pair))]
+fn a_refused_row_of_types_is_given_when_it_is_asked_for_again(rt: HostRuntime) -> Result<(), Fail> {
+    let mut indices = IdsToIndices::new(rt.alloc());
+    let ids: [TypeId; 2] = [TypeId::from_index(5), TypeId::from_index(4)];
+    if indices.push_all_types(ids.as_slice()).is_err() {
+        assert!(rt; have_indices(&indices, 0));
+        indices.push_all_types(ids.as_slice())?;
+    }
+    assert!(rt; have_indices(&indices, 2));
     Ok(())
 }

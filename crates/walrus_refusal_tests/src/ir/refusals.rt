@@ -1,11 +1,11 @@
-//! Calls that read and write constant expressions, add locals, and clone instructions.
-use crate::fixtures::{list, reference};
+//! Calls that read and write constant expressions, add locals, and clone what bodies are made of.
+use crate::fixtures::{are, list, reference};
 use std::alloc::{AllocError, Global};
 use std::process::Abort;
 use std::test::Fail;
 use walrus_ir::{
-    BrTable, ConstExpr, ConstOp, ConstOpAt, Instr, InstrSeqId, InstrSeqType, LegacyCatch, LocalId,
-    ModuleLocals, Try, TryTable, TryTableCatch, Value,
+    BrTable, ConstExpr, ConstOp, ConstOpAt, Instr, InstrLocId, InstrSeq, InstrSeqId, InstrSeqType,
+    LegacyCatch, Local, LocalId, ModuleLocals, Try, TryTable, TryTableCatch, Value,
 };
 use walrus_types::{
     FromRecordError, Id, IdsToIndices, IndicesToIds, Listed, ModuleTypes, NoIndex, ToRecordError,
@@ -241,6 +241,104 @@ fn a_refused_clone_of_older_catches_comes_when_it_is_asked_for_again(
             }
         }
         _ => return Err(Fail::new("another instruction")),
+    }
+    Ok(())
+}
+
+// Adds three locals. After a refusal there must be those before and no others, and the call is made
+// again.
+fn add_three_again(
+    rt: &impl Abort,
+    locals: &mut ModuleLocals,
+    count: usize,
+) -> Result<Vec<LocalId>, AllocError> {
+    let types = [Val::I64, Val::I64, Val::I64];
+    if let Ok(ids) = locals.add_all(&types) {
+        return Ok(ids);
+    }
+    assert!(rt; has_locals(locals, count));
+    locals.add_all(&types)
+}
+
+#[test]
+fn refused_locals_are_not_added(rt: HostRuntime) -> Result<(), Fail> {
+    let mut locals = ModuleLocals::new(rt.alloc());
+    for round in 0..5usize {
+        let first = 3 * round;
+        let ids = add_three_again(&rt, &mut locals, first)?;
+        assert!(rt; are(ids.as_slice(), &[first, first + 1, first + 2]));
+        assert!(rt; has_locals(&locals, first + 3));
+    }
+    Ok(())
+}
+
+// The name `x`. It is made again after a refusal.
+fn name_again(alloc: Global) -> Result<String, AllocError> {
+    match String::from_str(alloc, "x") {
+        Ok(name) => Ok(name),
+        Err(_) => String::from_str(alloc, "x"),
+    }
+}
+
+#[test]
+fn a_refused_clone_of_a_local_comes_when_it_is_asked_for_again(
+    rt: HostRuntime,
+) -> Result<(), Fail> {
+    let mut source = Local::new(Id::from_index(4), Val::I64);
+    source.name = Some(name_again(rt.alloc())?);
+    let copy = match source.clone() {
+        Ok(copy) => copy,
+        Err(_) => source.clone()?,
+    };
+    assert!(rt; copy == source);
+    assert_eq!(rt; copy.id().index(), 4);
+    assert!(rt; copy.name.is_some_and(|name| name.as_str() == "x"));
+    Ok(())
+}
+
+#[test]
+fn a_refused_clone_of_an_expression_comes_when_it_is_asked_for_again(
+    rt: HostRuntime,
+) -> Result<(), Fail> {
+    let ops = [ConstOp::GlobalGet(Id::from_index(5)), ConstOp::I32Add];
+    let source = ConstExpr::Extended(Listed::from_vec(list(rt.alloc(), &ops)?));
+    let copy = match source.clone() {
+        Ok(copy) => copy,
+        Err(_) => source.clone()?,
+    };
+    assert!(rt; matches!(&copy, ConstExpr::Extended(of) if of.as_slice() == ops.as_slice()));
+    assert!(rt; copy == source);
+    Ok(())
+}
+
+// A sequence of one branch table.
+fn sequence(alloc: Global) -> Result<InstrSeq, AllocError> {
+    let ty = InstrSeqType::MultiValue(Id::from_index(6));
+    let mut seq = InstrSeq::new(alloc, Id::from_index(4), ty);
+    if seq.instrs.reserve(1).is_err() {
+        seq.instrs.reserve(1)?;
+    }
+    seq.instrs.push((branches(alloc)?, InstrLocId::new(8)))?;
+    Ok(seq)
+}
+
+#[test]
+fn a_refused_clone_of_a_sequence_comes_when_it_is_asked_for_again(
+    rt: HostRuntime,
+) -> Result<(), Fail> {
+    let source = sequence(rt.alloc())?;
+    let copy = match source.clone() {
+        Ok(copy) => copy,
+        Err(_) => source.clone()?,
+    };
+    assert_eq!(rt; copy.id().index(), 4);
+    assert_eq!(rt; copy.ty, InstrSeqType::MultiValue(Id::from_index(6)));
+    match copy.instrs.as_slice() {
+        [(Instr::BrTable(table), at)] => {
+            assert!(rt; are(table.blocks.as_slice(), &[4, 5]));
+            assert_eq!(rt; *at, InstrLocId::new(8));
+        }
+        _ => return Err(Fail::new("other instructions")),
     }
     Ok(())
 }

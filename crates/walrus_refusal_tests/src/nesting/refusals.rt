@@ -45,3 +45,24 @@ fn a_refused_check_of_an_unknown_sequence_is_made_again(rt: HostRuntime) -> Resu
     }
     Ok(())
 }
+
+#[test]
+fn a_refused_clone_of_an_answer_comes_when_it_is_asked_for_again(
+    rt: HostRuntime,
+) -> Result<(), Fail> {
+    let sequences: [&[usize]; 3] = [&[1], &[2], &[1]];
+    let source = answer(rt.alloc(), &sequences)?;
+    let copy = match source.clone() {
+        Ok(copy) => copy,
+        Err(_) => source.clone()?,
+    };
+    assert!(rt; copy == source);
+    match copy {
+        Nesting::Cycle { path, back_to } => {
+            assert!(rt; are(path.as_slice(), &[0, 1, 2]));
+            assert_eq!(rt; back_to, 1);
+        }
+        _ => return Err(Fail::new("no cycle")),
+    }
+    Ok(())
+}

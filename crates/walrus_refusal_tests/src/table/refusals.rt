@@ -1,9 +1,9 @@
-//! Calls that add types alone, and the list of live ids.
-use crate::fixtures::{are, field, reference};
+//! Calls that add types alone, the list of live ids, and deletions.
+use crate::fixtures::{add_pair, are, field, reference};
 use std::alloc::{AllocError, Global};
 use std::process::Abort;
 use std::test::Fail;
-use walrus_types::{CompositeType, FunctionType, ModuleTypes, Type, TypeId, Val};
+use walrus_types::{AddRecGroupError, CompositeType, FunctionType, ModuleTypes, Type, TypeId, Val};
 
 // Calls that add a type alone.
 #[derive(Clone, Copy)]
@@ -183,5 +183,77 @@ fn a_refused_list_of_ids_comes_when_it_is_asked_for_again(rt: HostRuntime) -> Re
     assert!(rt; types.contains(middle));
     types.delete(middle)?;
     assert!(rt; are(live_ids_again(&types)?.as_slice(), &[0, 1, 3, 4, 5]));
+    Ok(())
+}
+
+// Four function entries that stand alone, and two groups of two that name each other.
+fn eight_types(alloc: Global) -> Result<ModuleTypes, AddRecGroupError> {
+    let mut types = ModuleTypes::new(alloc);
+    for named in 0..4usize {
+        types.add_entry_ty(&[reference(named)])?;
+    }
+    add_pair(alloc, &mut types, 2)?;
+    add_pair(alloc, &mut types, 2)?;
+    Ok(types)
+}
+
+// The ids of these types that are live.
+fn live(types: &ModuleTypes) -> [bool; 8] {
+    [0, 1, 2, 3, 4, 5, 6, 7].map(|index| types.contains(TypeId::from_index(index)))
+}
+
+// How many types the groups have.
+fn group_sizes(types: &ModuleTypes) -> [Option<usize>; 7] {
+    [0, 1, 2, 3, 4, 5, 6].map(|at| Some(types.rec_groups().get(at)?.types.len()))
+}
+
+fn delete_alone(rt: &impl Abort, types: &mut ModuleTypes) -> Result<(), AllocError> {
+    assert!(rt; types.contains(TypeId::from_index(0)));
+    types.delete(TypeId::from_index(0))
+}
+
+#[tactic(auto, using(walrus_arena::proofs::ArenaLemmas::distinct_pair))]
+fn delete_two(rt: &impl Abort, types: &mut ModuleTypes) -> Result<(), AllocError> {
+    let ids: [TypeId; 2] = [TypeId::from_index(6), TypeId::from_index(1)];
+    assert!(rt; types.contains(ids[0]));
+    assert!(rt; types.contains(ids[1]));
+    types.delete_all(ids.as_slice())
+}
+
+fn try_delete(rt: &impl Abort, types: &mut ModuleTypes, at: usize) -> Result<bool, AllocError> {
+    assert!(rt; types.contains(TypeId::from_index(at)));
+    types.try_delete(TypeId::from_index(at))
+}
+
+fn delete_group(rt: &impl Abort, types: &mut ModuleTypes) -> Result<(), AllocError> {
+    assert!(rt; types.contains(TypeId::from_index(5)));
+    types.delete_entire_group(TypeId::from_index(5))
+}
+
+// Every request may be refused once the table is there.
+#[test]
+fn deletions_take_no_memory(rt: HostRuntime) -> Result<(), Fail> {
+    let mut types = match eight_types(rt.alloc()) {
+        Ok(types) => types,
+        Err(_) => return Ok(()),
+    };
+    assert_eq!(rt; delete_alone(&rt, &mut types), Ok(()));
+    assert_eq!(rt; delete_two(&rt, &mut types), Ok(()));
+    assert_eq!(rt;
+        live(&types),
+        [false, false, true, true, true, true, false, true]
+    );
+    assert_eq!(rt; try_delete(&rt, &mut types, 5), Ok(false));
+    assert_eq!(rt; try_delete(&rt, &mut types, 7), Ok(true));
+    assert_eq!(rt; delete_group(&rt, &mut types), Ok(()));
+    assert_eq!(rt;
+        live(&types),
+        [false, false, true, true, false, false, false, false]
+    );
+    let sizes = [Some(0), Some(0), Some(1), Some(1), Some(0), Some(0), None];
+    assert_eq!(rt; group_sizes(&types), sizes);
+    let found = [0, 1, 2, 3].map(|named| find(&types, AddCall::Entry, named));
+    let (third, fourth) = (TypeId::from_index(2), TypeId::from_index(3));
+    assert_eq!(rt; found, [None, None, Some(third), Some(fourth)]);
     Ok(())
 }

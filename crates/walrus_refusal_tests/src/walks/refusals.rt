@@ -90,6 +90,29 @@ fn a_refused_list_of_names_comes_when_it_is_asked_for_again(rt: HostRuntime) -> 
     Ok(())
 }
 
+// The ids of a body that is nested. They are asked for again after a refusal.
+fn ids_again(alloc: Global, func: &LocalFunction) -> Result<UsedIds, AllocError>
+    requires { IsNested func.now.body 0 }
+{
+    match UsedIds::of(alloc, func, Id::from_index(0)) {
+        Ok(ids) => Ok(ids),
+        Err(_) => UsedIds::of(alloc, func, Id::from_index(0)),
+    }
+}
+
+#[test]
+fn a_refused_collection_comes_when_it_is_asked_for_again(rt: HostRuntime) -> Result<(), Fail> {
+    let func = shared(rt.alloc())?;
+    match check_again(rt.alloc(), &func)? {
+        Nesting::Nested(_) => {
+            let ids = ids_again(rt.alloc(), &func)?;
+            assert!(rt; are_all(&ids));
+        }
+        _ => return Err(Fail::new("not nested")),
+    }
+    Ok(())
+}
+
 // The function type of the sequence, where there is one.
 fn type_of(func: &LocalFunction, index: usize) -> Option<usize> {
     let id = Id::from_index(index);

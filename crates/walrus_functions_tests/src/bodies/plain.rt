@@ -1,0 +1,2 @@
+//! Calls that add an instruction without sequences inside.
+mod refusals;

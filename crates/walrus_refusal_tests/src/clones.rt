@@ -1,0 +1,2 @@
+//! Clones of types and records, and lists of the types that a type names.
+mod refusals;

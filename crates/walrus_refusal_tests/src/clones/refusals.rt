@@ -1,0 +1,185 @@
+//! Clones, and lists that grow by an item.
+use crate::fixtures::{Piece, Shape, add_pair, are, field, list, reference, section_again, to};
+use Piece::{One, Two};
+use Shape::{Func, Struct};
+use std::alloc::{AllocError, Global};
+use std::process::Abort;
+use std::test::Fail;
+use walrus_types::{
+    CompositeType, FunctionType, Listed, ModuleTypes, RecGroup, StructType, Type, TypeId, Val,
+    ValAt, ValType,
+};
+
+// A clone of the value. It is cloned again after a refusal.
+fn clone_again<T: Clone>(value: &T) -> Result<T, AllocError> {
+    match value.clone() {
+        Ok(copy) => Ok(copy),
+        Err(_) => value.clone(),
+    }
+}
+
+fn function(alloc: Global) -> Result<FunctionType, AllocError> {
+    let params = list(alloc, &[reference(3)])?;
+    Ok(FunctionType::new(params, list(alloc, &[Val::I32, reference(5)])?))
+}
+
+fn structure(alloc: Global) -> Result<StructType, AllocError> {
+    let fields = list(alloc, &[field(reference(3)), field(Val::I32)])?;
+    Ok(StructType {
+        fields: Listed::from_vec(fields),
+    })
+}
+
+// The name `t`. It is made again after a refusal.
+fn name_again(alloc: Global) -> Result<String, AllocError> {
+    match String::from_str(alloc, "t") {
+        Ok(name) => Ok(name),
+        Err(_) => String::from_str(alloc, "t"),
+    }
+}
+
+// A type of this kind with a name and a supertype.
+fn named(alloc: Global, kind: CompositeType) -> Result<Type, AllocError> {
+    let supertype = Some(TypeId::from_index(2));
+    let mut ty = Type::new(alloc, TypeId::from_index(9), kind, false, supertype);
+    ty.name = Some(name_again(alloc)?);
+    Ok(ty)
+}
+
+#[test]
+fn a_refused_clone_of_a_list_comes_when_it_is_asked_for_again(rt: HostRuntime) -> Result<(), Fail> {
+    let vals = [reference(3), Val::I32];
+    let source = Listed::from_vec(list(rt.alloc(), &vals)?);
+    let copy = clone_again(&source)?;
+    assert!(rt; copy.as_slice() == vals.as_slice());
+    assert!(rt; source.as_slice() == vals.as_slice());
+    Ok(())
+}
+
+#[test]
+fn a_refused_clone_of_a_kind_comes_when_it_is_asked_for_again(rt: HostRuntime) -> Result<(), Fail> {
+    let alloc = rt.alloc();
+    let source = function(alloc)?;
+    let copy = clone_again(&source)?;
+    assert!(rt; copy == source);
+    assert!(rt; clone_again(&CompositeType::Function(source))? == CompositeType::Function(copy));
+    let source = structure(alloc)?;
+    let copy = clone_again(&source)?;
+    assert!(rt; copy == source);
+    assert!(rt; clone_again(&CompositeType::Struct(source))? == CompositeType::Struct(copy));
+    Ok(())
+}
+
+#[test]
+fn a_refused_clone_of_a_type_comes_when_it_is_asked_for_again(rt: HostRuntime) -> Result<(), Fail> {
+    let alloc = rt.alloc();
+    let source = named(alloc, CompositeType::Function(function(alloc)?))?;
+    let copy = clone_again(&source)?;
+    assert!(rt; copy == source);
+    assert_eq!(rt; copy.id().index(), 9);
+    assert!(rt; copy.name.is_some_and(|name| name.as_str() == "t"));
+    Ok(())
+}
+
+#[test]
+fn a_refused_clone_of_a_section_comes_when_it_is_asked_for_again(
+    rt: HostRuntime,
+) -> Result<(), Fail> {
+    let pieces = [
+        One(Func(Some(ValAt::I32))),
+        Two(Struct(Some(to(2))), Func(Some(to(1)))),
+    ];
+    let source = section_again(rt.alloc(), &pieces)?;
+    let copy = clone_again(&source)?;
+    assert!(rt; copy == source);
+    assert_eq!(rt; copy.len(), 2);
+    Ok(())
+}
+
+// A table with a group of two types. It is made again after a refusal.
+fn pair_again(alloc: Global) -> Result<ModuleTypes, Fail> {
+    let mut types = ModuleTypes::new(alloc);
+    if add_pair(alloc, &mut types, 2).is_err() {
+        add_pair(alloc, &mut types, 2)?;
+    }
+    Ok(types)
+}
+
+#[test]
+fn a_refused_clone_of_a_group_comes_when_it_is_asked_for_again(
+    rt: HostRuntime,
+) -> Result<(), Fail> {
+    let types = pair_again(rt.alloc())?;
+    match types.rec_groups() {
+        [group] => {
+            let copy: RecGroup = clone_again(group)?;
+            assert!(rt; copy.is_explicit);
+            assert!(rt; are(copy.types.as_slice(), &[0, 1]));
+        }
+        _ => return Err(Fail::new("other groups")),
+    }
+    Ok(())
+}
+
+// Puts the value at the end. After a refusal the list must be as it was, and the call is made
+// again.
+fn push_again(
+    rt: &impl Abort,
+    list: &mut Listed<ValType>,
+    value: ValType,
+) -> Result<(), AllocError> {
+    let count = list.len();
+    if list.push(value).is_ok() {
+        return Ok(());
+    }
+    assert!(rt; holds_numbered(list, count));
+    list.push(value)
+}
+
+// Whether the list has references to so many types in order.
+fn holds_numbered(list: &Listed<ValType>, count: usize) -> bool {
+    for (index, value) in list.as_slice().iter().enumerate() {
+        if *value != reference(index) {
+            return false;
+        }
+    }
+    list.len() == count
+}
+
+#[test]
+fn a_refused_item_is_not_in_its_list(rt: HostRuntime) -> Result<(), Fail> {
+    let mut list = Listed::from_vec(Vec::new(rt.alloc()));
+    for index in 0..10usize {
+        push_again(&rt, &mut list, reference(index))?;
+        assert!(rt; holds_numbered(&list, index + 1));
+    }
+    Ok(())
+}
+
+// Puts the types that the type names at the end. After a refusal the list must be as it was, and
+// the call is made again.
+fn name_types_again(
+    rt: &impl Abort,
+    ty: &Type,
+    list: &mut Vec<TypeId>,
+    before: &[usize],
+) -> Result<(), AllocError> {
+    if ty.referenced_types(list).is_ok() {
+        return Ok(());
+    }
+    assert!(rt; are(list.as_slice(), before));
+    ty.referenced_types(list)
+}
+
+#[test]
+fn refused_names_of_a_type_are_not_in_the_list(rt: HostRuntime) -> Result<(), Fail> {
+    let alloc = rt.alloc();
+    let made = named(alloc, CompositeType::Function(function(alloc)?))?;
+    let named = [2, 3, 5, 2, 3, 5, 2, 3, 5, 2, 3, 5];
+    let mut list = Vec::new(alloc);
+    for round in 0..4usize {
+        name_types_again(&rt, &made, &mut list, &named[..3 * round])?;
+    }
+    assert!(rt; are(list.as_slice(), &named));
+    Ok(())
+}
