@@ -22,21 +22,18 @@ fn table(alloc: Global, count: usize) -> Result<ModuleTypes, AddRecGroupError> {
 }
 
 #[test]
-#[ignore]
 fn small_table_is_built(rt: HostRuntime) -> Result<(), Fail> {
     assert_eq!(rt; table(rt.alloc(), SMALL)?.rec_groups().len(), SMALL + 2);
     Ok(())
 }
 
 #[test]
-#[ignore]
 fn large_table_is_built(rt: HostRuntime) -> Result<(), Fail> {
     assert_eq!(rt; table(rt.alloc(), LARGE)?.rec_groups().len(), LARGE + 2);
     Ok(())
 }
 
 #[test]
-#[ignore]
 fn small_table_dies(rt: HostRuntime) -> Result<(), Fail> {
     let mut types = table(rt.alloc(), SMALL)?;
     let deleted = delete_all_but(&rt, rt.alloc(), &mut types, 2 * SMALL)?;
@@ -45,7 +42,6 @@ fn small_table_dies(rt: HostRuntime) -> Result<(), Fail> {
 }
 
 #[test]
-#[ignore]
 fn large_table_dies(rt: HostRuntime) -> Result<(), Fail> {
     let mut types = table(rt.alloc(), LARGE)?;
     let deleted = delete_all_but(&rt, rt.alloc(), &mut types, 2 * LARGE)?;
