@@ -24,9 +24,28 @@ fn table_again(alloc: Global) -> Result<ModuleTypes, AddRecGroupError> {
     }
 }
 
-// Whether the types with these ids are live and those after them are not.
-fn has_six(types: &ModuleTypes) -> bool {
-    (0..6usize).all(|index| types.contains(TypeId::from_index(index)))
+// Which of the first seven ids are live.
+fn live(types: &ModuleTypes) -> [bool; 7] {
+    [0, 1, 2, 3, 4, 5, 6].map(|index| types.contains(TypeId::from_index(index)))
+}
+
+// Whether each group has so many types, and those of the fourth alone were given as a group.
+fn has_groups(types: &ModuleTypes, sizes: [usize; 5]) -> bool {
+    for (group, (at, size)) in types.rec_groups().iter().zip(sizes.iter().enumerate()) {
+        if group.types.len() != *size || group.is_explicit != (at == 3) {
+            return false;
+        }
+    }
+    types.rec_groups().len() == 5
+}
+
+// Whether the functions are found: the one that takes an `i32`, by its parameter, and the type of
+// the body, by its result, if it is there.
+fn finds(types: &ModuleTypes, has_body: bool) -> bool {
+    let body = if has_body { Some(TypeId::from_index(5)) } else { None };
+    types.find(&[ValType::I32], &[]) == Some(TypeId::from_index(2))
+        && types.find_for_function_entry(&[ValType::I32]) == body
+        && types.find(&[ValType::I64], &[]).is_none()
 }
 
 #[test]
@@ -35,11 +54,14 @@ fn a_refused_deletion_leaves_the_table(rt: HostRuntime) -> Result<(), Fail> {
     let deleted = match delete_all_but(&rt, rt.alloc(), &mut types, 4) {
         Ok(deleted) => deleted,
         Err(_) => {
-            assert!(rt; has_six(&types));
+            assert_eq!(rt; live(&types), [true, true, true, true, true, true, false]);
+            assert!(rt; has_groups(&types, [1, 1, 1, 2, 1]) && finds(&types, true));
             delete_all_but(&rt, rt.alloc(), &mut types, 4)?
         }
     };
     assert!(rt; are(deleted.as_slice(), &[0, 1, 5]));
+    assert_eq!(rt; live(&types), [false, false, true, true, true, false, false]);
+    assert!(rt; has_groups(&types, [0, 0, 1, 2, 0]) && finds(&types, false));
     Ok(())
 }
 

@@ -76,8 +76,7 @@ const FIRST: [u32; 20] = [
     0, 1, 2, 3, 4, 5, 6, 7, 8, 9, 10, 11, 12, 13, 14, 15, 16, 17, 18, 19,
 ];
 
-fn note_in_set(set: &ArenaSet<Tagged>, at: u32) -> Option<u32> {
-    let at = at as usize;
+fn note_in_set(set: &ArenaSet<Tagged>, at: usize) -> Option<u32> {
     if set.contains(Id::from_index(at)) {
         Some(set[Id::from_index(at)].note)
     } else {
@@ -86,7 +85,7 @@ fn note_in_set(set: &ArenaSet<Tagged>, at: u32) -> Option<u32> {
 }
 
 fn shown_of_set(set: &ArenaSet<Tagged>) -> ShownSet {
-    let notes = FIRST.map(|at| note_in_set(set, at));
+    let notes = FIRST.map(|at| note_in_set(set, at as usize));
     let found = FIRST.map(|key| index_of(set, key));
     (set.next_id().index(), notes, found)
 }
@@ -189,7 +188,7 @@ fn makes_eight(
         let wanted = answers[round as usize];
         let at = call_set_again(rt, alloc, &mut set, call, key)?;
         assert_eq!(rt; at, wanted);
-        assert_eq!(rt; note_in_set(&set, at as u32), note);
+        assert_eq!(rt; note_in_set(&set, at), note);
         assert_eq!(rt; index_of(&set, key), if is_found { Some(at) } else { None });
     }
     assert_eq!(rt; index_of(&set, 0), Some(0));
