@@ -65,13 +65,14 @@ fn block(index: usize) -> Instr {
 // handlers. All but the entry have the type 0.
 pub(super) fn test_function(alloc: Global) -> Result<LocalFunction, Fail> {
     let inner = InstrSeqType::MultiValue(id(0));
+    let attempt = with_handlers(alloc)?;
     let entry = vec![in alloc;
         number(1),
         dropping(),
         block(1),
         number(6),
         dropping(),
-        attempt(alloc)?,
+        attempt,
         number(10),
         dropping(),
     ]?;
@@ -89,7 +90,7 @@ pub(super) fn test_function(alloc: Global) -> Result<LocalFunction, Fail> {
     Ok(f.local_func(Vec::new(alloc)))
 }
 
-fn attempt(alloc: Global) -> Result<Instr, AllocError> {
+fn with_handlers(alloc: Global) -> Result<Instr, AllocError> {
     let handlers = vec![in alloc;
         LegacyCatch::Catch {
             tag: id(0),
