@@ -4,7 +4,9 @@ ghost use Rattle.std.specs.Prelude.{◌≡◌, ℕ, List, Option, Contains, map}
 ghost use Rattle.walrus_types.specs.Table.{Table};
 ghost use Rattle.walrus_types.specs.TypesById.{live_type};
 ghost use Rattle.walrus_functions.specs.Locals.{FunctionWithArgs};
+ghost use Rattle.walrus_ir.specs.ConstExpr.{referenced_ids};
 ghost use Rattle.walrus_ir.specs.Locals.{LocalVariable};
+ghost use Rattle.walrus_ir.specs.declared.const_expr.ConstExpr.{ConstExpr};
 ghost use Rattle.walrus_passes.specs.IndexMaps.{new_index, index_through};
 ghost use Rattle.walrus_passes.specs.NeededTypes.{Needed, Keeps};
 ghost use Rattle.walrus_passes.specs.UsedTypes.{UsesType};
@@ -17,6 +19,16 @@ pub fn used_types_are_kept()
         (locals : List LocalVariable) (f : FunctionWithArgs) →
         ((id : ℕ) → UsesType locals f id → Contains roots id) →
         (id : ℕ) → UsesType locals f id →
+        live_type new.types.slots id ≡ live_type old.types.slots id }
+{}
+
+/// What a constant expression names stays where it stands among the roots, as
+/// [`referenced_types`](walrus_ir::ConstExpr::referenced_types) puts it there.
+pub fn referenced_types_are_kept()
+    ensures { (old new : Table) (roots : List ℕ) → Keeps (Needed old roots) old new →
+        (init : ConstExpr) →
+        ((id : ℕ) → Contains (referenced_ids init) id → Contains roots id) →
+        (id : ℕ) → Contains (referenced_ids init) id →
         live_type new.types.slots id ≡ live_type old.types.slots id }
 {}
 
