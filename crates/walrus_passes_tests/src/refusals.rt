@@ -42,7 +42,11 @@ fn has_groups(types: &ModuleTypes, sizes: [usize; 5]) -> bool {
 // Whether the functions are found: the one that takes an `i32`, by its parameter, and the type of
 // the body, by its result, if it is there.
 fn finds(types: &ModuleTypes, has_body: bool) -> bool {
-    let body = if has_body { Some(TypeId::from_index(5)) } else { None };
+    let body = if has_body {
+        Some(TypeId::from_index(5))
+    } else {
+        None
+    };
     types.find(&[ValType::I32], &[]) == Some(TypeId::from_index(2))
         && types.find_for_function_entry(&[ValType::I32]) == body
         && types.find(&[ValType::I64], &[]).is_none()
@@ -60,7 +64,10 @@ fn a_refused_deletion_leaves_the_table(rt: HostRuntime) -> Result<(), Fail> {
         }
     };
     assert!(rt; are(deleted.as_slice(), &[0, 1, 5]));
-    assert_eq!(rt; live(&types), [false, false, true, true, true, false, false]);
+    assert_eq!(rt;
+        live(&types),
+        [false, false, true, true, true, false, false]
+    );
     assert!(rt; has_groups(&types, [0, 0, 1, 2, 0]) && finds(&types, false));
     Ok(())
 }
