@@ -121,19 +121,14 @@ fn a_refused_clone_of_a_group_comes_when_it_is_asked_for_again(
     Ok(())
 }
 
-// Puts the value at the end. After a refusal the list must be as it was, and the call is made
-// again.
-fn push_again(
-    rt: &impl Abort,
-    list: &mut Listed<ValType>,
-    value: ValType,
-) -> Result<(), AllocError> {
-    let count = list.len();
-    if list.push(value).is_ok() {
+// Puts a reference to the type of the next number at the end. After a refusal the list must be as
+// it was, and the call is made again.
+fn push_again(rt: &impl Abort, list: &mut Listed<ValType>, next: usize) -> Result<(), AllocError> {
+    if list.push(reference(next)).is_ok() {
         return Ok(());
     }
-    assert!(rt; holds_numbered(list, count));
-    list.push(value)
+    assert!(rt; holds_numbered(list, next));
+    list.push(reference(next))
 }
 
 // Whether the list has references to so many types in order.
@@ -150,7 +145,7 @@ fn holds_numbered(list: &Listed<ValType>, count: usize) -> bool {
 fn a_refused_item_is_not_in_its_list(rt: HostRuntime) -> Result<(), Fail> {
     let mut list = Listed::from_vec(Vec::new(rt.alloc()));
     for index in 0..10usize {
-        push_again(&rt, &mut list, reference(index))?;
+        push_again(&rt, &mut list, index)?;
         assert!(rt; holds_numbered(&list, index + 1));
     }
     Ok(())
