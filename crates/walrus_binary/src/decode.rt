@@ -18,7 +18,8 @@ use walrus_ty::GroupAt;
 /// (WebAssembly core specification, "Binary Format", "Type Section").
 ///
 /// Integers may be longer than they need to be, as far as the specification lets them. What an
-/// index stands for is not looked at. A count takes no memory for what doesn't follow it.
+/// index stands for is not looked at. A count takes memory for a thousand items at most before they
+/// are read, and for none where fewer bytes follow it than it counts.
 ///
 /// # Errors
 ///

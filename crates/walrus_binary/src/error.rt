@@ -132,12 +132,13 @@ pub enum Reason {
     NotHeld(NotHeld),
 }
 
-/// Where bytes stop being a text.
+/// Where bytes stop being a text. The reason comes first, since an answer keeps it where it keeps
+/// whole fields of what is read otherwise, and is then moved with fewer instructions.
 #[derive(Clone, Copy, PartialEq, Eq, Debug)]
 pub struct Fault {
+    pub reason: Reason,
     /// How many bytes are left there.
     pub left: usize,
-    pub reason: Reason,
 }
 
 /// Why a part of a section could not be read.

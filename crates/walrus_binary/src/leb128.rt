@@ -1,6 +1,6 @@
 //! Integers in LEB128.
 //! WebAssembly core specification, "Binary Format", integers.
-ghost use Rattle.std.specs.Prelude.{◌≡◌, ◌≤◌, ◌<◌, ◌^◌, ◌++◌, ℕ, IfOk, OnOk};
+ghost use Rattle.std.specs.Prelude.{◌≡◌, ◌≤◌, ◌<◌, ◌^◌, ◌++◌, ℕ, IfOk, IfSome, OnOk, Ok};
 ghost use Rattle.walrus_binary.specs.Leb128.{IsU32, IsS33};
 ghost use Rattle.walrus_binary.specs.Steps.Writing.{IsEnough, integer_text, u32_text, s33_text};
 ghost use Rattle.walrus_binary.specs.Steps.Reading.{Gives, integer_at, u32_at, s33_at};
@@ -12,9 +12,13 @@ use std::alloc::AllocError;
 const U32_LIMIT: u64 = 1 << 32;
 
 /// A `u32` at the front, and the bytes after it.
+#[inline(always)]
 pub fn read_u32(bytes: &[u8]) -> Result<(u32, &[u8]), ReadError>
     ensures { Gives (λ x. (x.0, x.1.now)) result (u32_at bytes.now) }
 {
+    if let Some(read) = read_short(0x80, bytes) {
+        return Ok(read);
+    }
     let (number, rest) = read_integer(0x80, U32_LIMIT, bytes)?;
     Ok((number as u32, rest))
 }
@@ -31,8 +35,28 @@ pub fn read_size(bytes: &[u8]) -> Result<(u32, &[u8]), Fault>
 pub fn read_s33(bytes: &[u8]) -> Result<(u32, &[u8]), ReadError>
     ensures { Gives (λ x. (x.0, x.1.now)) result (s33_at bytes.now) }
 {
+    if let Some(read) = read_short(0x40, bytes) {
+        return Ok(read);
+    }
     let (number, rest) = read_integer(0x40, U32_LIMIT, bytes)?;
     Ok((number as u32, rest))
+}
+
+/// A number of one byte or two whose last is below `end`, as most are: what `read_integer` answers
+/// too, which costs more.
+#[inline(always)]
+#[tactic(auto, unfolding(crate::specs::Steps::Reading::integer_at))]
+fn read_short(end: u8, bytes: &[u8]) -> Option<(u32, &[u8])>
+    requires { end ≤ 0x80 }
+    ensures { IfSome result (λ x. integer_at end (2 ^ 32) bytes.now ≡ Ok (x.0, x.1.now)) }
+{
+    match bytes {
+        [byte, rest @ ..] if *byte < end => Some((u32::from(*byte), rest)),
+        [low, high, rest @ ..] if *low >= 0x80 && *high < end => {
+            Some((u32::from(*high) * 0x80 + u32::from(*low - 0x80), rest))
+        }
+        _ => None,
+    }
 }
 
 /// A number below `limit` whose last byte is below `end`.

@@ -45,6 +45,7 @@ fn read_function(alloc: Global, bytes: &[u8]) -> Result<(CompAt, &[u8]), ReadErr
     Ok((CompAt::Function { params, results }, rest))
 }
 
+#[inline(always)]
 #[tactic(auto, unfolding(crate::specs::Steps::Reading::field_at))]
 fn read_field(bytes: &[u8]) -> Result<(FieldAt, &[u8]), ReadError>
     ensures { Gives (λ x. (x.0, x.1.now)) result (field_at bytes.now) }
@@ -60,6 +61,7 @@ fn read_field(bytes: &[u8]) -> Result<(FieldAt, &[u8]), ReadError>
     ))
 }
 
+#[inline(always)]
 #[tactic(auto, unfolding(crate::specs::Steps::Reading::storage_at))]
 fn read_storage(bytes: &[u8]) -> Result<(StorageAt, &[u8]), ReadError>
     ensures { Gives (λ x. (x.0, x.1.now)) result (storage_at bytes.now) }
@@ -75,6 +77,7 @@ fn read_storage(bytes: &[u8]) -> Result<(StorageAt, &[u8]), ReadError>
     }
 }
 
+#[inline(always)]
 #[tactic(auto, unfolding(crate::specs::Steps::Reading::mutability_at))]
 fn read_mutability(bytes: &[u8]) -> Result<(bool, &[u8]), ReadError>
     ensures { Gives (λ x. (x.0, x.1.now)) result (mutability_at bytes.now) }

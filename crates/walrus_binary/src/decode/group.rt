@@ -10,6 +10,7 @@ use crate::leb128::read_u32;
 use std::alloc::Global;
 use walrus_ty::{EntryAt, GroupAt, Listed};
 
+#[inline(always)]
 #[tactic(auto, unfolding(crate::specs::Steps::Reading::group_at))]
 fn read_group(alloc: Global, bytes: &[u8]) -> Result<(GroupAt, &[u8]), ReadError>
     ensures { Gives (λ x. (x.0, x.1.now)) result (group_at bytes.now) }
@@ -27,6 +28,7 @@ fn read_group(alloc: Global, bytes: &[u8]) -> Result<(GroupAt, &[u8]), ReadError
     }
 }
 
+#[inline(always)]
 #[tactic(auto, unfolding(crate::specs::Steps::Reading::entry_at))]
 fn read_entry(alloc: Global, bytes: &[u8]) -> Result<(EntryAt, &[u8]), ReadError>
     ensures { Gives (λ x. (x.0, x.1.now)) result (entry_at bytes.now) }
@@ -48,6 +50,7 @@ fn read_entry(alloc: Global, bytes: &[u8]) -> Result<(EntryAt, &[u8]), ReadError
 }
 
 /// What stands behind `sub` or `sub final`.
+#[inline(always)]
 #[tactic(auto, unfolding(crate::specs::Steps::Reading::declared_at))]
 fn read_declared(alloc: Global, is_final: bool, bytes: &[u8]) -> Result<(EntryAt, &[u8]), ReadError>
     ensures { Gives (λ x. (x.0, x.1.now)) result (declared_at is_final bytes.now) }

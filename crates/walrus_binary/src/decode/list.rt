@@ -18,7 +18,10 @@ pub trait Decode: Sized {
         ensures { Gives (λ x. (x.0, x.1.now)) result (reading bytes.now) };
 }
 
-/// How many there are, and then as many; no memory is taken for what isn't there.
+/// For how many items room is taken at most before they are read.
+const MOST_RESERVED: usize = 1000;
+
+/// How many there are, and then as many. A count that fewer bytes follow takes no memory.
 #[tactic(auto, unfolding(crate::specs::Steps::Reading::vec_at))]
 pub fn read_vec<T: Decode + Drop>(alloc: Global, bytes: &[u8]) -> Result<(Vec<T>, &[u8]), ReadError>
     ensures { Gives (λ x. (x.0.items, x.1.now)) result (vec_at T.reading bytes.now) }
@@ -34,7 +37,7 @@ fn read_items<T: Decode + Drop>(
 ) -> Result<(Vec<T>, &[u8]), ReadError>
     ensures { Gives (λ x. (x.0.items, x.1.now)) result (items_at T.reading count bytes.now) }
 {
-    let mut items = Vec::new(alloc);
+    let mut items = Vec::with_capacity(alloc, room(count, bytes.len()))?;
     let mut rest = bytes;
     for _ in 0..count {
         let (item, after) = T::read(alloc, rest)?;
@@ -42,4 +45,14 @@ fn read_items<T: Decode + Drop>(
         rest = after;
     }
     Ok((items, rest))
+}
+
+/// For how many items room is taken before they are read, where so many bytes are left: none where
+/// there are fewer bytes than items, since the last items are then missing.
+fn room(count: u32, left: usize) -> usize {
+    let count = count as usize;
+    if count > left {
+        return 0;
+    }
+    count.min(MOST_RESERVED)
 }

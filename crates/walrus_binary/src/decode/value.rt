@@ -8,6 +8,7 @@ use crate::leb128::{read_s33, read_u32};
 use walrus_ty::{AbstractHeapType, HeapAt, RefAt, ValAt};
 
 /// A value type at the front, and the bytes after it.
+#[inline(always)]
 #[tactic(auto, unfolding(crate::specs::Steps::Reading::val_at))]
 pub fn read_val(bytes: &[u8]) -> Result<(ValAt, &[u8]), ReadError>
     ensures { Gives (λ x. (x.0, x.1.now)) result (val_at bytes.now) }
