@@ -2,7 +2,7 @@
 //! Each request for memory of these tests may be refused, one in a run, and they still pass.
 use super::*;
 use std::test::*;
-use walrus_binary::{EncodeError, ReplaceError, encode_types, replace_type_section};
+use walrus_binary::{EncodeError, ReplaceError, encode_types, module_types, replace_type_section};
 
 // The groups of the bytes. After a refusal the call is made again.
 fn decode_again(alloc: Global, bytes: &[u8]) -> Result<Vec<GroupAt>, DecodeError> {
@@ -40,6 +40,29 @@ fn a_refused_decode_reads_again(rt: HostRuntime) -> Result<(), Fail> {
     assert_eq!(rt; sizes(&groups[0]), [1, 2, 1]);
     assert_eq!(rt; sizes(&groups[1]), [2, 0, 0]);
     assert_eq!(rt; sizes(&groups[2]), [1, 1, 0]);
+    Ok(())
+}
+
+// The groups of the module. After a refusal the call is made again.
+fn module_types_again(alloc: Global, bytes: &[u8]) -> Result<Vec<GroupAt>, DecodeError> {
+    match module_types(alloc, bytes) {
+        Err(DecodeError::Memory) => module_types(alloc, bytes),
+        other => other,
+    }
+}
+
+#[test]
+fn a_refused_module_is_read_again(rt: HostRuntime) -> Result<(), Fail> {
+    let bytes = [
+        0, 0x61, 0x73, 0x6D, 1, 0, 0, 0, 1, 11, 2, 0x60, 2, 0x7F, 0x7E, 1, 0x6F, 0x5F, 1, 0x78, 1,
+        3, 1, 0,
+    ];
+    let groups = module_types_again(rt.alloc(), &bytes)
+        .ok()
+        .ok_or("the second call reads")?;
+    assert_eq!(rt; groups.len(), 2);
+    assert_eq!(rt; sizes(&groups[0]), [1, 2, 1]);
+    assert_eq!(rt; sizes(&groups[1]), [1, 1, 0]);
     Ok(())
 }
 

@@ -4,27 +4,32 @@ use super::*;
 use std::test::*;
 use walrus_binary::encode_types;
 
-/// Two function types, a struct type with a supertype, and an array type.
-const TYPES: [u8; 29] = [
+/// Two function types, a struct type with a supertype, and an array type: 7 bytes each.
+const SHORT: [u8; 29] = [
     0x60, 3, 0x7F, 0x7E, 0x63, 5, 1, 0x7C, 0x60, 1, 0x7F, 0, 0x50, 1, 0xC0, 0x01, 0x5F, 3, 0x7F, 0,
     0x64, 0xC0, 0x01, 0, 0x7B, 1, 0x5E, 0x6B, 0,
 ];
 
-/// How often the types stand in the small section, which has 100,000 types.
-const SMALL: usize = 25_000;
+/// A struct type of ten fields with a supertype, and a function type of eight parameters: 30 bytes
+/// each.
+const LONG: [u8; 60] = [
+    0x50, 1, 0xC0, 0x01, 0x5F, 10, 0x7F, 0, 0x64, 0xC0, 0x01, 0, 0x7B, 1, 0x63, 0xC0, 0x01, 1,
+    0x7E, 1, 0x78, 1, 0x6B, 0, 0x63, 0x85, 0xA0, 0x02, 1, 0x7C, 0, 0x64, 0xC0, 0x01, 1, 0x60, 8,
+    0x7F, 0x63, 0xC0, 0x01, 0x64, 0x85, 0xA0, 0x02, 0x7E, 0x63, 0x85, 0x02, 0x63, 0xC0, 0x01, 0x7C,
+    0x64, 0x85, 0x02, 1, 0x63, 0xC0, 0x01,
+];
 
-const SMALL_COUNT: [u8; 3] = [0xA0, 0x8D, 0x06];
+/// The count of the small sections, which have 100,000 types.
+const SMALL: [u8; 3] = [0xA0, 0x8D, 0x06];
 
-/// How often the types stand in the large section, which has 1,000,000 types.
-const LARGE: usize = 250_000;
-
-const LARGE_COUNT: [u8; 3] = [0xC0, 0x84, 0x3D];
+/// The count of the large sections, which have 1,000,000 types.
+const LARGE: [u8; 3] = [0xC0, 0x84, 0x3D];
 
 /// A section of this count and of the types so often.
-fn section(alloc: Global, count: &[u8], times: usize) -> Result<Vec<u8>, AllocError> {
+fn section(alloc: Global, count: &[u8], types: &[u8], times: usize) -> Result<Vec<u8>, AllocError> {
     let mut bytes = count.to_vec(alloc)?;
     for _ in 0..times {
-        bytes.extend_from_slice(&TYPES)?;
+        bytes.extend_from_slice(types)?;
     }
     Ok(bytes)
 }
@@ -49,41 +54,85 @@ fn is_written(alloc: Global, bytes: &[u8]) -> bool {
 }
 
 #[test]
-fn small_section_is_built(rt: HostRuntime) -> Result<(), Fail> {
-    assert_eq!(rt; section(rt.alloc(), &SMALL_COUNT, SMALL)?.len(), 725_003);
+fn small_section_of_short_types_is_built(rt: HostRuntime) -> Result<(), Fail> {
+    let bytes = section(rt.alloc(), &SMALL, &SHORT, 25_000)?;
+    assert_eq!(rt; bytes.len(), 725_003);
     Ok(())
 }
 
 #[test]
-fn large_section_is_built(rt: HostRuntime) -> Result<(), Fail> {
-    assert_eq!(rt; section(rt.alloc(), &LARGE_COUNT, LARGE)?.len(), 7_250_003);
+fn large_section_of_short_types_is_built(rt: HostRuntime) -> Result<(), Fail> {
+    let bytes = section(rt.alloc(), &LARGE, &SHORT, 250_000)?;
+    assert_eq!(rt; bytes.len(), 7_250_003);
     Ok(())
 }
 
 #[test]
-fn small_section_is_read(rt: HostRuntime) -> Result<(), Fail> {
-    let bytes = section(rt.alloc(), &SMALL_COUNT, SMALL)?;
+fn small_section_of_short_types_is_read(rt: HostRuntime) -> Result<(), Fail> {
+    let bytes = section(rt.alloc(), &SMALL, &SHORT, 25_000)?;
     assert_eq!(rt; group_count(rt.alloc(), &bytes), Some(100_000));
     Ok(())
 }
 
 #[test]
-fn large_section_is_read(rt: HostRuntime) -> Result<(), Fail> {
-    let bytes = section(rt.alloc(), &LARGE_COUNT, LARGE)?;
+fn large_section_of_short_types_is_read(rt: HostRuntime) -> Result<(), Fail> {
+    let bytes = section(rt.alloc(), &LARGE, &SHORT, 250_000)?;
     assert_eq!(rt; group_count(rt.alloc(), &bytes), Some(1_000_000));
     Ok(())
 }
 
 #[test]
-fn small_section_is_written(rt: HostRuntime) -> Result<(), Fail> {
-    let bytes = section(rt.alloc(), &SMALL_COUNT, SMALL)?;
+fn small_section_of_short_types_is_written(rt: HostRuntime) -> Result<(), Fail> {
+    let bytes = section(rt.alloc(), &SMALL, &SHORT, 25_000)?;
     assert!(rt; is_written(rt.alloc(), &bytes));
     Ok(())
 }
 
 #[test]
-fn large_section_is_written(rt: HostRuntime) -> Result<(), Fail> {
-    let bytes = section(rt.alloc(), &LARGE_COUNT, LARGE)?;
+fn large_section_of_short_types_is_written(rt: HostRuntime) -> Result<(), Fail> {
+    let bytes = section(rt.alloc(), &LARGE, &SHORT, 250_000)?;
+    assert!(rt; is_written(rt.alloc(), &bytes));
+    Ok(())
+}
+
+#[test]
+fn small_section_of_long_types_is_built(rt: HostRuntime) -> Result<(), Fail> {
+    let bytes = section(rt.alloc(), &SMALL, &LONG, 50_000)?;
+    assert_eq!(rt; bytes.len(), 3_000_003);
+    Ok(())
+}
+
+#[test]
+fn large_section_of_long_types_is_built(rt: HostRuntime) -> Result<(), Fail> {
+    let bytes = section(rt.alloc(), &LARGE, &LONG, 500_000)?;
+    assert_eq!(rt; bytes.len(), 30_000_003);
+    Ok(())
+}
+
+#[test]
+fn small_section_of_long_types_is_read(rt: HostRuntime) -> Result<(), Fail> {
+    let bytes = section(rt.alloc(), &SMALL, &LONG, 50_000)?;
+    assert_eq!(rt; group_count(rt.alloc(), &bytes), Some(100_000));
+    Ok(())
+}
+
+#[test]
+fn large_section_of_long_types_is_read(rt: HostRuntime) -> Result<(), Fail> {
+    let bytes = section(rt.alloc(), &LARGE, &LONG, 500_000)?;
+    assert_eq!(rt; group_count(rt.alloc(), &bytes), Some(1_000_000));
+    Ok(())
+}
+
+#[test]
+fn small_section_of_long_types_is_written(rt: HostRuntime) -> Result<(), Fail> {
+    let bytes = section(rt.alloc(), &SMALL, &LONG, 50_000)?;
+    assert!(rt; is_written(rt.alloc(), &bytes));
+    Ok(())
+}
+
+#[test]
+fn large_section_of_long_types_is_written(rt: HostRuntime) -> Result<(), Fail> {
+    let bytes = section(rt.alloc(), &LARGE, &LONG, 500_000)?;
     assert!(rt; is_written(rt.alloc(), &bytes));
     Ok(())
 }
