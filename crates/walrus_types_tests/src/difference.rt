@@ -4,7 +4,7 @@ use Piece::{Many, One};
 use Shape::{Func, Struct};
 use std::alloc::{AllocError, Global};
 use std::test::Fail;
-use walrus_types::{ValAt, first_difference};
+use walrus_types::{HashKeys, ValAt, entries_before, first_difference, normalise};
 
 const INT: Shape<'static> = Struct(&[ValAt::I32]);
 
@@ -40,5 +40,21 @@ fn the_end_of_the_shorter_one_is_told(rt: HostRuntime) -> Result<(), Fail> {
     assert_eq!(rt; place(rt.alloc(), &two, &one)?, Some(1));
     assert_eq!(rt; place(rt.alloc(), &one, &two)?, Some(1));
     assert_eq!(rt; place(rt.alloc(), &[], &one)?, Some(0));
+    Ok(())
+}
+
+#[test]
+fn all_entries_of_the_groups_before_count(rt: HostRuntime) -> Result<(), Fail> {
+    let pair = [INT, FUNC];
+    let section = section(rt.alloc(), &[One(FUNC), Many(&pair), Many(&[]), One(INT)])?;
+    let groups = section.as_slice();
+    let (_, places) = normalise(rt.alloc(), HashKeys::fixed(), groups)?;
+    assert_eq!(rt; places.len(), 4);
+    assert_eq!(rt; groups.len(), 4);
+    assert_eq!(rt; entries_before(groups, 0), 0);
+    assert_eq!(rt; entries_before(groups, 1), 1);
+    assert_eq!(rt; entries_before(groups, 2), 3);
+    assert_eq!(rt; entries_before(groups, 3), 3);
+    assert_eq!(rt; entries_before(groups, 4), 4);
     Ok(())
 }
