@@ -211,11 +211,11 @@ pub record Stopped (bytes : List ℕ) (f : Fault) : Type 0 where
   pub place : f.left ≡ length left
   pub stuck : IsSeenAtOnce f.reason → (b : ℕ) (rest other : List ℕ) (groups : List GroupAt) → left ≡ b ∷ rest → IsTypes (front ++ b ∷ other) groups → ⊥
 
-whole_err : {P : Type 0} (r : Reading (List GroupAt)) (g : List GroupAt × List ℕ → Result (List GroupAt) Fault) (f : Fault) → (r >>= g) ≡ Err f → (r ≡ failed f → P) → ((x : List GroupAt) (rest : List ℕ) → r ≡ Ok (x, rest) → g (x, rest) ≡ Err f → P) → P
+pub whole_err : {P : Type 0} (r : Reading (List GroupAt)) (g : List GroupAt × List ℕ → Result (List GroupAt) Fault) (f : Fault) → (r >>= g) ≡ Err f → (r ≡ failed f → P) → ((x : List GroupAt) (rest : List ℕ) → r ≡ Ok (x, rest) → g (x, rest) ≡ Err f → P) → P
 whole_err (Ok x) g f e h k = k x.0 x.1 refl e
 whole_err (Err d) g f e h k = h (let same : d ≡ f = cc in ap (λ k. failed {A = List GroupAt} k) same)
 
-err_left : (bytes : List ℕ) (r : Reason) (f : Fault) (x : Result (List GroupAt) Fault) → x ≡ Err (stop bytes r) → x ≡ Err f → f.left ≡ length bytes
+pub err_left : (bytes : List ℕ) (r : Reason) (f : Fault) (x : Result (List GroupAt) Fault) → x ≡ Err (stop bytes r) → x ≡ Err f → f.left ≡ length bytes
 err_left bytes r f x e h = let same : stop bytes r ≡ f = cc in sym (ap (λ (k : Fault). k.left) same)
 
 not_both : (x : Result (List GroupAt) Fault) (f : Fault) (gs : List GroupAt) → x ≡ Err f → x ≡ Ok gs → ⊥

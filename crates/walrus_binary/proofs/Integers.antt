@@ -4,7 +4,7 @@ use Rattle.walrus_binary.specs.Leb128.{IsInteger, last, more, IsU32, IsS33}
 use Rattle.walrus_binary.specs.Steps.Reading.{◌>>=◌, integer_at, u32_at, s33_at}
 use Rattle.walrus_binary.proofs.Basics.{Takes, IsSound, IsComplete, bind_ok, chosen, guard_ok, value_is, rest_is}
 
-both_true : (a b : Bool) → (a && b) ≡ true → (a ≡ true) × (b ≡ true)
+pub both_true : (a b : Bool) → (a && b) ≡ true → (a ≡ true) × (b ≡ true)
 both_true true true e = (refl, refl)
 both_true true false e = absurd cc
 both_true false b e = absurd cc

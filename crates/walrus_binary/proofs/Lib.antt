@@ -7,6 +7,8 @@ pub mod Composites
 pub mod Groups
 pub mod Faults
 pub mod FirstFaults
+pub mod Beginnings
+pub mod SectionBeginnings
 pub mod Sections
 pub mod Shortest
 pub mod Least

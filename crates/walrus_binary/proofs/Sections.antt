@@ -7,13 +7,15 @@ use Rattle.walrus_binary.specs.declared.error.Reason.TheVariants as reason
 use Rattle.walrus_binary.specs.declared.error.NotHeld.TheVariants as held
 use Rattle.walrus_binary.specs.declared.error.Fault.{Fault}
 use Rattle.walrus_binary.specs.Grammar.{IsRecType, IsTypes}
-use Rattle.walrus_binary.specs.Faults.{IsNoText, BeginsNoText, IsSeenThere, error_offset}
+use Rattle.walrus_binary.specs.Faults.{IsNoText, BeginsNoText, GoesOn, IsBegun, text, several_supertypes, IsSeenThere, error_offset}
 use Rattle.walrus_binary.specs.Steps.Reading.{vec_at, group_at, types_at, IsSeenAtOnce}
 use Rattle.walrus_binary.specs.Steps.Refusals.{with_reason, refusal}
 use Rattle.walrus_binary.proofs.Basics.{rest_is}
 use Rattle.walrus_binary.proofs.Lists.{vec_complete}
 use Rattle.walrus_binary.proofs.Groups.{group_complete, types_again}
 use Rattle.walrus_binary.proofs.FirstFaults.{types_stop}
+use Rattle.walrus_binary.proofs.Beginnings.{Tail, nothing, supertypes, tail_bytes, Fills, Begun}
+use Rattle.walrus_binary.proofs.SectionBeginnings.{types_begun}
 
 abbrev read : List GroupAt → Result (List GroupAt) Fault
 read gs = Ok gs
@@ -82,3 +84,30 @@ stuck_there bytes f e =
     let s = types_stop bytes f e in
     placed (λ offset. IsSeenThere (refusal (length bytes) f) → offset < length bytes → BeginsNoText (take (offset + 1) bytes)) (length bytes - f.left) f.reason
     (λ seen lt. sees bytes s.front s.left f s.parts s.place s.stuck (seen_at_once (length bytes - f.left) f.reason seen) lt)
+
+-- ---- the bytes before it
+
+begins_all : (front : List ℕ) (tail : Tail) → ((more : List ℕ) → Fills tail more → GoesOn IsTypes (front ++ more))
+    → IsBegun (front ++ tail_bytes tail)
+begins_all front nothing goes_on = text (front ++ []) (goes_on [] refl)
+begins_all front (supertypes is_final count least h several) goes_on =
+    several_supertypes front count is_final least (λ more entry k. goes_on more (entry, k)) h several
+
+before : (bytes front tail left : List ℕ) (f : Fault) → bytes ≡ front ++ (tail ++ left) → f.left ≡ length left
+    → IsBegun (front ++ tail) → IsBegun (take (length bytes - f.left) bytes)
+before bytes front tail left f parts place h =
+    let again : bytes ≡ (front ++ tail) ++ left = parts ∙ sym (append_assoc front tail left) in
+    let long : length bytes ≡ length (front ++ tail) + length left =
+        ap (λ (u : List ℕ). length u) again ∙ length-append (front ++ tail) left in
+    let many : length bytes - f.left ≡ length (front ++ tail) = omega (arith, long, place) in
+    let taken : take (length bytes - f.left) bytes ≡ front ++ tail =
+        rw many (ap (λ (u : List ℕ). take (length (front ++ tail)) u) again
+        ∙ take_at (front ++ tail) left (length (front ++ tail)) refl) in
+    subst IsBegun (sym taken) h
+
+pub begun_before : (bytes : List ℕ) (f : Fault) → types_at bytes ≡ Err f
+    → IfSome (error_offset (refusal (length bytes) f)) (λ offset. IsBegun (take offset bytes))
+begun_before bytes f e =
+    let b = types_begun bytes f e in
+    placed (λ offset. IsBegun (take offset bytes)) (length bytes - f.left) f.reason
+    (before bytes b.front (tail_bytes b.tail) b.left f b.parts b.place (begins_all b.front b.tail b.goes_on))

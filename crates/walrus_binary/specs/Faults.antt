@@ -1,11 +1,13 @@
 -- Where bytes stop being a text of a type section, as an error says it.
 -- None of it is of the WebAssembly specification.
-use Rattle.std.specs.Prelude.{ℕ, List, ◌++◌, Option, Some, None}
+use Rattle.std.specs.Prelude.{ℕ, ◌≤◌, Bool, List, [], ◌∷◌, ◌++◌, Option, Some, None}
+use Rattle.walrus_ty.specs.declared.records.EntryAt.{EntryAt}
 use Rattle.walrus_ty.specs.declared.records.GroupAt.{GroupAt}
 use Rattle.walrus_binary.specs.declared.error.DecodeError.{DecodeError}
 use Rattle.walrus_binary.specs.declared.error.DecodeError.TheVariants as decode
 use Rattle.walrus_binary.specs.declared.error.NotHeld.TheVariants as held
-use Rattle.walrus_binary.specs.Grammar.{IsTypes}
+use Rattle.walrus_binary.specs.Leb128.{IsU32}
+use Rattle.walrus_binary.specs.Grammar.{sub_code, IsSubType, IsTypes}
 
 -- no bytes are a text of it
 abbrev pub HasNoText : {A : Type 0} → (List ℕ → A → Type 0) → A → Type 0
@@ -18,6 +20,23 @@ IsNoText bytes = (groups : List GroupAt) → IsTypes bytes groups → ⊥
 -- no text begins with these bytes
 abbrev pub BeginsNoText : List ℕ → Type 0
 BeginsNoText front = (more : List ℕ) → IsNoText (front ++ more)
+
+-- some text begins with these bytes
+pub record GoesOn {A : Type 0} (IsText : List ℕ → A → Type 0) (front : List ℕ) : Type 0 where
+  pub more : List ℕ
+  pub value : A
+  pub is_text : IsText (front ++ more) value
+
+-- Some text of groups begins with the bytes; or they begin a definition of several supertypes, which
+-- no record holds: they end in its first byte and the first bytes of its count, which is two or more
+-- however it ends, and where that definition begins, every other one goes on.
+pub data IsBegun : List ℕ → Type 0 where
+  text : (front : List ℕ) → GoesOn IsTypes front → IsBegun front
+  several_supertypes :
+      (front count : List ℕ) (is_final : Bool) (least : ℕ)
+      → ((text : List ℕ) (entry : EntryAt) → IsSubType text entry → GoesOn IsTypes (front ++ text))
+      → IsU32 (count ++ 0 ∷ []) least → 2 ≤ least
+      → IsBegun (front ++ sub_code is_final ∷ count)
 
 -- the place that an error names
 abbrev pub error_offset : DecodeError → Option ℕ

@@ -1,7 +1,8 @@
 //! Reading what a type section has after its id and size.
 ghost use Rattle.std.specs.Prelude.{◌≡◌, ◌+◌, ◌<◌, ◌≤◌, length, take, IfOk, IfErr, IfSome};
 ghost use Rattle.walrus_binary.specs.Grammar.{IsTypes};
-ghost use Rattle.walrus_binary.specs.Faults.{IsNoText, BeginsNoText, IsSeenThere, error_offset};
+ghost use Rattle.walrus_binary.specs.Faults.{IsNoText, BeginsNoText, IsBegun, IsSeenThere,
+    error_offset};
 ghost use Rattle.walrus_binary.specs.Steps.Reading.{Gives, types_at};
 
 mod composite;
@@ -45,6 +46,9 @@ pub fn decode_types(alloc: Global, bytes: &[u8]) -> Result<Vec<GroupAt>, DecodeE
     // and with the byte there no text goes on.
     ensures stuck { IfErr result (λ e. IfSome (error_offset e) (λ offset.
         IsSeenThere e → offset < length bytes.now → BeginsNoText (take (offset + 1) bytes.now))) }
+    // With the bytes before it some text goes on.
+    ensures begun { IfErr result (λ e. IfSome (error_offset e) (λ offset.
+        IsBegun (take offset bytes.now))) }
 {
     match read_types(alloc, bytes) {
         Ok(groups) => Ok(groups),

@@ -1,0 +1,266 @@
+-- Where reading stops, a text goes on with the bytes before: how parts of a text do, integers and
+-- lists. Only a count of two supertypes or more may be begun behind bytes that go on.
+use Rattle.std.proofs.Common.{◌≡◌, ℕ, zero, suc, ◌^◌, ◌<◌, ◌≤◌, ◌*◌, ◌+◌, ◌-◌, ◌/◌, Bool, true, nat_lt, ◌&&◌, List, [], ◌∷◌, ◌++◌, length, Ok, Err, refl, sym, ap, subst, ◌∙◌, append_assoc, append-nil, arith, inl, inr, ltb-true, ltb-false}
+use Rattle.walrus_ty.specs.declared.records.EntryAt.{EntryAt}
+use Rattle.walrus_binary.specs.declared.error.Expected.TheVariants as expected
+use Rattle.walrus_binary.specs.declared.error.Reason.{Reason}
+use Rattle.walrus_binary.specs.declared.error.Reason.TheVariants as reason
+use Rattle.walrus_binary.specs.declared.error.Fault.{Fault}
+use Rattle.walrus_binary.specs.Leb128.{IsInteger, last, more, IsU32, IsS33}
+use Rattle.walrus_binary.specs.Grammar.{AreItems, none, next, IsVec, counted, sub_code, IsSubType}
+use Rattle.walrus_binary.specs.Faults.{GoesOn}
+use Rattle.walrus_binary.specs.Steps.Reading.{◌>>=◌, integer_at, u32_at, s33_at, items_at, vec_at}
+use Rattle.walrus_binary.proofs.Basics.{Reading, Takes, IsSound, done, chosen}
+use Rattle.walrus_binary.proofs.Integers.{both_true, u32_sound}
+use Rattle.walrus_binary.proofs.Faults.{failed, here, left_is, map_err, step_err}
+
+-- ---- what goes on
+
+-- What stands between bytes that go on and the place where reading stopped: nothing, or the first
+-- byte of a definition and the first bytes of its count of supertypes.
+pub data Tail : Type 0 where
+  nothing : Tail
+  supertypes :
+      (is_final : Bool) (count : List ℕ) (least : ℕ) → IsU32 (count ++ 0 ∷ []) least → 2 ≤ least
+      → Tail
+
+abbrev pub tail_bytes : Tail → List ℕ
+tail_bytes nothing = []
+tail_bytes (supertypes is_final count least h several) = sub_code is_final ∷ count
+
+-- what may stand in its place
+abbrev pub Fills : Tail → List ℕ → Type 0
+Fills nothing text = text ≡ []
+Fills (supertypes is_final count least h several) text = (entry : EntryAt) × IsSubType text entry
+
+-- Reading stopped behind `front` and a tail, and `front` goes on with what may stand in its place.
+pub record Begun {A : Type 0} (IsText : List ℕ → A → Type 0) (bytes : List ℕ) (f : Fault) : Type 0 where
+  pub front : List ℕ
+  pub tail : Tail
+  pub left : List ℕ
+  pub parts : bytes ≡ front ++ (tail_bytes tail ++ left)
+  pub place : f.left ≡ length left
+  pub goes_on : (text : List ℕ) → Fills tail text → GoesOn IsText (front ++ text)
+
+abbrev pub StopsInText : {A : Type 0} → (List ℕ → A → Type 0) → (List ℕ → Reading A) → Type 0
+StopsInText IsText reads = (bytes : List ℕ) (f : Fault) → reads bytes ≡ failed f → Begun IsText bytes f
+
+-- ---- how parts go on
+
+-- A part goes on to a whole, which has bytes before it, and others behind it.
+extend : {A B : Type 0} (IsA : List ℕ → A → Type 0) (IsB : List ℕ → B → Type 0)
+    → (pre : List ℕ) (post : A → List ℕ) (make : A → B)
+    → ((t : List ℕ) (a : A) → IsA t a → IsB (pre ++ (t ++ post a)) (make a))
+    → (x : List ℕ) → GoesOn IsA x → GoesOn IsB (pre ++ x)
+extend IsA IsB pre post make made x g =
+    let end = post g.value in
+    let is : (pre ++ x) ++ (g.more ++ end) ≡ pre ++ ((x ++ g.more) ++ end) =
+        append_assoc pre x (g.more ++ end)
+        ∙ ap (λ (u : List ℕ). pre ++ u) (sym (append_assoc x g.more end)) in
+    record {
+      more = g.more ++ end;
+      value = make g.value;
+      is_text = subst (λ (u : List ℕ). IsB u (make g.value)) (sym is) (made (x ++ g.more) g.value g.is_text);
+    }
+
+-- in a part behind which others stand
+pub within : {A B : Type 0} (IsA : List ℕ → A → Type 0) (IsB : List ℕ → B → Type 0)
+    → (pre : List ℕ) (post : A → List ℕ) (make : A → B)
+    → ((t : List ℕ) (a : A) → IsA t a → IsB (pre ++ (t ++ post a)) (make a))
+    → (bytes whole : List ℕ) (f : Fault) → whole ≡ pre ++ bytes → Begun IsA bytes f → Begun IsB whole f
+within IsA IsB pre post make made bytes whole f is b =
+    let over = append_assoc pre b.front (tail_bytes b.tail ++ b.left) in
+    record {
+      front = pre ++ b.front;
+      tail = b.tail;
+      left = b.left;
+      parts = is ∙ ap (λ (u : List ℕ). pre ++ u) b.parts ∙ sym over;
+      place = b.place;
+      goes_on = λ text fills.
+          subst (λ (u : List ℕ). GoesOn IsB u) (sym (append_assoc pre b.front text))
+          (extend IsA IsB pre post make made (b.front ++ text) (b.goes_on text fills));
+    }
+
+-- in the last part
+pub inside : {A B : Type 0} (IsA : List ℕ → A → Type 0) (IsB : List ℕ → B → Type 0)
+    → (pre : List ℕ) (make : A → B) → ((t : List ℕ) (a : A) → IsA t a → IsB (pre ++ t) (make a))
+    → (bytes whole : List ℕ) (f : Fault) → whole ≡ pre ++ bytes → Begun IsA bytes f → Begun IsB whole f
+inside {A = A} IsA IsB pre make made =
+    within IsA IsB pre (λ (a : A). []) make
+    (λ t a h. subst (λ (u : List ℕ). IsB (pre ++ u) (make a)) (sym (append-nil t)) (made t a h))
+
+-- by these last bytes
+pub ends_with : {A : Type 0} (IsText : List ℕ → A → Type 0)
+    → (bytes : List ℕ) (f : Fault) (front left end : List ℕ) (value : A)
+    → bytes ≡ front ++ left → f.left ≡ length left → IsText (front ++ end) value → Begun IsText bytes f
+ends_with IsText bytes f front left end value parts place h =
+    record {
+      front = front;
+      tail = nothing;
+      left = left;
+      parts = parts;
+      place = place;
+      goes_on = λ text empty.
+          let same : front ++ text ≡ front = ap (λ (u : List ℕ). front ++ u) empty ∙ append-nil front in
+          record {
+            more = end;
+            value = value;
+            is_text = subst (λ (u : List ℕ). IsText (u ++ end) value) (sym same) h;
+          };
+    }
+
+-- where nothing of it was read yet
+pub at_once : {A : Type 0} (IsText : List ℕ → A → Type 0)
+    → (text : List ℕ) (value : A) → IsText text value
+    → (bytes : List ℕ) (r : Reason) (f : Fault) → here {A = A} bytes r ≡ failed f → Begun IsText bytes f
+at_once IsText text value h bytes r f e =
+    ends_with IsText bytes f [] bytes text value refl (left_is bytes r f e) h
+
+-- two parts
+pub pair_begun : {A B C : Type 0} (IsA : List ℕ → A → Type 0) (IsB : List ℕ → B → Type 0)
+    → (IsC : List ℕ → C → Type 0) (p : List ℕ → Reading A) (q : List ℕ → Reading B) (m : A → B → C)
+    → IsSound IsA p → StopsInText IsA p → StopsInText IsB q → (text : List ℕ) (value : B) → IsB text value
+    → ((s t : List ℕ) (a : A) (b : B) → IsA s a → IsB t b → IsC (s ++ t) (m a b))
+    → StopsInText IsC (λ bytes. p bytes >>= (λ x. q x.1 >>= (λ y. done (m x.0 y.0) y.1)))
+pair_begun {A = A} IsA IsB IsC p q m sound first second text value is_text made bytes f e =
+    step_err (p bytes) (λ x. q x.1 >>= (λ y. done (m x.0 y.0) y.1)) f e
+    (λ h. within IsA IsC [] (λ (a : A). text) (λ a. m a value) (λ s a k. made s text a value k is_text)
+    bytes bytes f refl (first bytes f h))
+    (λ x rest h k.
+    let t = sound bytes x rest h in
+    inside IsB IsC t.text (m x) (λ u b j. made t.text u x b t.is_text j) rest bytes f t.parts
+    (second rest f (map_err (q rest) (m x) f k)))
+
+-- ---- integers
+
+-- Reading an integer stopped behind `front`, which the byte 0 ends.
+pub record Unended (end limit : ℕ) (bytes : List ℕ) (f : Fault) : Type 0 where
+  pub front : List ℕ
+  pub left : List ℕ
+  pub value : ℕ
+  pub parts : bytes ≡ front ++ left
+  pub place : f.left ≡ length left
+  pub is_integer : IsInteger end limit (front ++ 0 ∷ []) value
+
+unended_here : (end limit : ℕ) (bytes : List ℕ) (r : Reason) (f : Fault) → 0 < end → 0 < limit
+    → here {A = ℕ} bytes r ≡ failed f → Unended end limit bytes f
+unended_here end limit bytes r f from room e =
+    record {
+      front = [];
+      left = bytes;
+      value = 0;
+      parts = refl;
+      place = left_is bytes r f e;
+      is_integer = last limit 0 (omega arith) from room;
+    }
+
+behind_byte : (end limit b : ℕ) (bytes : List ℕ) (f : Fault) → 0x80 ≤ b → b < 0x100 → 0x80 < limit
+    → Unended end (limit / 0x80) bytes f → Unended end limit (b ∷ bytes) f
+behind_byte end limit b bytes f big byte wide u =
+    record {
+      front = b ∷ u.front;
+      left = u.left;
+      value = u.value * 0x80 + (b - 0x80);
+      parts = ap (λ (k : List ℕ). b ∷ k) u.parts;
+      place = u.place;
+      is_integer = more limit b u.value (u.front ++ 0 ∷ []) big byte wide u.is_integer;
+    }
+
+pub integer_unended : (end limit : ℕ) (bytes : List ℕ) (f : Fault) → 0 < end → 0 < limit
+    → integer_at end limit bytes ≡ failed f → Unended end limit bytes f
+unfolding integer_at
+integer_unended end limit [] f from room e =
+    unended_here end limit [] (reason.Expected expected.Integer) f from room e
+integer_unended end limit (b ∷ bytes) f from room e =
+    elim (chosen (nat_lt b 0x80) _ _ (failed f) e) [
+      | inl low ↦
+          elim (chosen (nat_lt b end && nat_lt b limit) _ _ (failed f) low.1) [
+            | inl ok ↦ absurd (let k = ok.1 in cc)
+            | inr out ↦
+                unended_here end limit (b ∷ bytes) (reason.Expected expected.Integer) f from room out.1
+          ]
+      | inr big ↦
+          elim (chosen (nat_lt b 0x100 && nat_lt 0x80 limit) _ _ (failed f) big.1) [
+            | inl ok ↦
+                let k = both_true (nat_lt b 0x100) (nat_lt 0x80 limit) ok.0 in
+                let wide : 0x80 < limit = ltb-true 0x80 limit k.1 in
+                behind_byte end limit b bytes f (ltb-false b 0x80 big.0) (ltb-true b 0x100 k.0) wide
+                (integer_unended end (limit / 0x80) bytes f from (omega (arith, wide))
+                (map_err (integer_at end (limit / 0x80) bytes) (λ high. high * 0x80 + (b - 0x80)) f ok.1))
+            | inr out ↦
+                unended_here end limit (b ∷ bytes) (reason.Expected expected.Integer) f from room out.1
+          ]
+    ]
+
+unended_begun : (end limit : ℕ) (bytes : List ℕ) (f : Fault) → Unended end limit bytes f
+    → Begun (IsInteger end limit) bytes f
+unended_begun end limit bytes f u =
+    ends_with (IsInteger end limit) bytes f u.front u.left (0 ∷ []) u.value u.parts u.place u.is_integer
+
+pub u32_begun : StopsInText IsU32 u32_at
+u32_begun bytes f e =
+    unended_begun 0x80 (2 ^ 32) bytes f (integer_unended 0x80 (2 ^ 32) bytes f (omega arith) (omega arith) e)
+
+pub s33_begun : StopsInText IsS33 s33_at
+s33_begun bytes f e =
+    unended_begun 0x40 (2 ^ 32) bytes f (integer_unended 0x40 (2 ^ 32) bytes f (omega arith) (omega arith) e)
+
+-- ---- lists
+
+-- so many items
+abbrev AreSo : {A : Type 0} → (List ℕ → A → Type 0) → ℕ → List ℕ → List A → Type 0
+AreSo IsText n text items = AreItems IsText text items × (length items ≡ n)
+
+-- with a text
+record Listed {A : Type 0} (IsText : List ℕ → A → Type 0) (n : ℕ) : Type 0 where
+  text : List ℕ
+  items : List A
+  are : AreItems IsText text items
+  many : length items ≡ n
+
+copies : {A : Type 0} (IsText : List ℕ → A → Type 0) (text : List ℕ) (value : A) → IsText text value
+    → (n : ℕ) → Listed IsText n
+copies IsText text value h zero = record { text = []; items = []; are = none; many = refl }
+copies IsText text value h (suc n) =
+    let l = copies IsText text value h n in
+    record {
+      text = text ++ l.text;
+      items = value ∷ l.items;
+      are = next text l.text value l.items h l.are;
+      many = ap suc l.many;
+    }
+
+items_begun : {A : Type 0} (IsText : List ℕ → A → Type 0) (at : List ℕ → Reading A) → IsSound IsText at
+    → StopsInText IsText at → (text : List ℕ) (value : A) → IsText text value
+    → (n : ℕ) → StopsInText (AreSo IsText n) (items_at at n)
+unfolding items_at
+items_begun IsText at sound begun text value h zero bytes f e = absurd cc
+items_begun {A = A} IsText at sound begun text value h (suc n) bytes f e =
+    let l = copies IsText text value h n in
+    step_err (at bytes) (λ x. items_at at n x.1 >>= (λ xs. done (x.0 ∷ xs.0) xs.1)) f e
+    (λ q. within IsText (AreSo IsText (suc n)) [] (λ (a : A). l.text) (λ a. a ∷ l.items)
+    (λ t a k. (next t l.text a l.items k l.are, ap suc l.many)) bytes bytes f refl (begun bytes f q))
+    (λ x rest i q.
+    let t = sound bytes x rest i in
+    inside (AreSo IsText n) (AreSo IsText (suc n)) t.text (λ xs. x ∷ xs)
+    (λ u xs k. (next t.text u x xs t.is_text k.0, ap suc k.1)) rest bytes f t.parts
+    (items_begun IsText at sound begun text value h n rest f
+    (map_err (items_at at n rest) (λ xs. x ∷ xs) f q)))
+
+pub vec_begun : {A : Type 0} (IsText : List ℕ → A → Type 0) (at : List ℕ → Reading A) → IsSound IsText at
+    → StopsInText IsText at → (text : List ℕ) (value : A) → IsText text value
+    → StopsInText (IsVec IsText) (vec_at at)
+unfolding vec_at
+vec_begun IsText at sound begun text value h bytes f e =
+    step_err (u32_at bytes) (λ n. items_at at n.0 n.1) f e
+    (λ q. within IsU32 (IsVec IsText) [] (λ n. (copies IsText text value h n).text)
+    (λ n. (copies IsText text value h n).items)
+    (λ t n k.
+    let l = copies IsText text value h n in
+    counted t l.text l.items (subst (λ m. IsU32 t m) (sym l.many) k) l.are)
+    bytes bytes f refl (u32_begun bytes f q))
+    (λ n rest i q.
+    let t = u32_sound bytes n rest i in
+    inside (AreSo IsText n) (IsVec IsText) t.text (λ xs. xs)
+    (λ u xs k. counted t.text u xs (subst (λ m. IsU32 t.text m) (sym k.1) t.is_text) k.0)
+    rest bytes f t.parts (items_begun IsText at sound begun text value h n rest f q))
