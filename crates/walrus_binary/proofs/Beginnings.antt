@@ -1,6 +1,6 @@
 -- Where reading stops, a text goes on with the bytes before: how parts of a text do, integers and
 -- lists. Only a count of two supertypes or more may be begun behind bytes that go on.
-use Rattle.std.proofs.Common.{◌≡◌, ℕ, zero, suc, ◌^◌, ◌<◌, ◌≤◌, ◌*◌, ◌+◌, ◌-◌, ◌/◌, Bool, true, nat_lt, ◌&&◌, List, [], ◌∷◌, ◌++◌, length, Ok, Err, refl, sym, ap, subst, ◌∙◌, append_assoc, append-nil, arith, inl, inr, ltb-true, ltb-false}
+use Rattle.std.proofs.Common.{◌≡◌, ℕ, zero, suc, ◌^◌, ◌<◌, ◌≤◌, ◌*◌, ◌+◌, ◌-◌, ◌/◌, Bool, nat_lt, ◌&&◌, List, [], ◌∷◌, ◌++◌, length, refl, sym, ap, subst, ◌∙◌, append_assoc, append-nil, arith, inl, inr, ltb-true, ltb-false}
 use Rattle.walrus_ty.specs.declared.records.EntryAt.{EntryAt}
 use Rattle.walrus_binary.specs.declared.error.Expected.TheVariants as expected
 use Rattle.walrus_binary.specs.declared.error.Reason.{Reason}
@@ -10,7 +10,7 @@ use Rattle.walrus_binary.specs.Leb128.{IsInteger, last, more, IsU32, IsS33}
 use Rattle.walrus_binary.specs.Grammar.{AreItems, none, next, IsVec, counted, sub_code, IsSubType}
 use Rattle.walrus_binary.specs.Faults.{GoesOn}
 use Rattle.walrus_binary.specs.Steps.Reading.{◌>>=◌, integer_at, u32_at, s33_at, items_at, vec_at}
-use Rattle.walrus_binary.proofs.Basics.{Reading, Takes, IsSound, done, chosen}
+use Rattle.walrus_binary.proofs.Basics.{Reading, IsSound, done, chosen}
 use Rattle.walrus_binary.proofs.Integers.{both_true, u32_sound}
 use Rattle.walrus_binary.proofs.Faults.{failed, here, left_is, map_err, step_err}
 
@@ -55,8 +55,8 @@ extend : {A B : Type 0} (IsA : List ℕ → A → Type 0) (IsB : List ℕ → B 
 extend IsA IsB pre post make made x g =
     let end = post g.value in
     let is : (pre ++ x) ++ (g.more ++ end) ≡ pre ++ ((x ++ g.more) ++ end) =
-        append_assoc pre x (g.more ++ end)
-        ∙ ap (λ (u : List ℕ). pre ++ u) (sym (append_assoc x g.more end)) in
+    append_assoc pre x (g.more ++ end)
+    ∙ ap (λ (u : List ℕ). pre ++ u) (sym (append_assoc x g.more end)) in
     record {
       more = g.more ++ end;
       value = make g.value;

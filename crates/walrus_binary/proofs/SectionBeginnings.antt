@@ -1,12 +1,10 @@
 -- Where the reading of a section stops, a text goes on with the bytes before.
-use Rattle.std.proofs.Common.{◌≡◌, ℕ, zero, suc, ◌^◌, ◌<◌, ◌≤◌, ◌⊎◌, inl, inr, Bool, true, false, cond, nat_lt, nat_le, nat_eq, eqb-true, ◌||◌, List, [], ◌∷◌, ◌++◌, length, take, take_at, Option, Some, None, Result, Ok, Err, refl, sym, ap, subst, ◌∙◌, append_assoc, append-nil, length-append, arith}
-use Rattle.walrus_ty.specs.Definition.{supertype_names}
+use Rattle.std.proofs.Common.{◌≡◌, ℕ, zero, suc, ◌^◌, ◌≤◌, ◌⊎◌, inl, inr, Bool, true, false, nat_lt, nat_le, nat_eq, eqb-true, ◌||◌, List, [], ◌∷◌, ◌++◌, length, Option, Some, None, Ok, Err, refl, sym, ap, subst, ◌∙◌, append_assoc, append-nil, arith}
 use Rattle.walrus_ty.specs.declared.ty.value.AbstractHeapType.{AbstractHeapType}
 use Rattle.walrus_ty.specs.declared.ty.value.AbstractHeapType.TheVariants as abstract
 use Rattle.walrus_ty.specs.declared.ty.value.Heap.{Heap}
 use Rattle.walrus_ty.specs.declared.ty.value.Heap.TheVariants as heap
 use Rattle.walrus_ty.specs.declared.ty.value.Reference.{Reference}
-use Rattle.walrus_ty.specs.declared.ty.value.Val.{Val}
 use Rattle.walrus_ty.specs.declared.ty.value.Val.TheVariants as val
 use Rattle.walrus_ty.specs.declared.ty.value.Storage.{Storage}
 use Rattle.walrus_ty.specs.declared.ty.value.Storage.TheVariants as storage
@@ -14,7 +12,6 @@ use Rattle.walrus_ty.specs.declared.ty.value.Field.{Field}
 use Rattle.walrus_ty.specs.declared.records.CompAt.{CompAt}
 use Rattle.walrus_ty.specs.declared.records.CompAt.TheVariants as comp
 use Rattle.walrus_ty.specs.declared.records.EntryAt.{EntryAt}
-use Rattle.walrus_ty.specs.declared.records.GroupAt.{GroupAt}
 use Rattle.walrus_ty.specs.declared.records.GroupAt.TheVariants as group
 use Rattle.walrus_binary.specs.declared.error.Expected.TheVariants as expected
 use Rattle.walrus_binary.specs.declared.error.NotHeld.TheVariants as held
@@ -24,7 +21,7 @@ use Rattle.walrus_binary.specs.declared.error.Fault.{Fault}
 use Rattle.walrus_binary.specs.Leb128.{last, IsU32, IsS33}
 use Rattle.walrus_binary.specs.Grammar.{none, next, IsVec, counted, IsHeapType, abstract_type, index, exact_index, reference, IsRefType, written_out, abbreviated, IsValType, i32, ref, IsStorageType, i8, value, mutability_code, IsFieldType, field, IsCompType, array, struct, function, sub_code, IsSubType, declared, plain, IsRecType, rec, single, IsTypes}
 use Rattle.walrus_binary.specs.Steps.Reading.{◌>>=◌, wanted, u32_at, s33_at, vec_at, heap_type_of, index_at, abstract_or, heap_at, abbreviated_or, reference_at, val_at, storage_at, mutability_at, field_at, function_at, comp_at, supertype_at, declared_at, entry_at, group_at, types_at}
-use Rattle.walrus_binary.proofs.Basics.{Reading, done, which}
+use Rattle.walrus_binary.proofs.Basics.{done, which}
 use Rattle.walrus_binary.proofs.Integers.{u32_sound}
 use Rattle.walrus_binary.proofs.Lists.{vec_sound}
 use Rattle.walrus_binary.proofs.Values.{val_sound}
@@ -32,7 +29,7 @@ use Rattle.walrus_binary.proofs.Composites.{storage_sound, field_sound}
 use Rattle.walrus_binary.proofs.Groups.{IsSupertype, supertype_sound, entry_sound, group_sound}
 use Rattle.walrus_binary.proofs.Faults.{failed, here, map_err, step_err}
 use Rattle.walrus_binary.proofs.FirstFaults.{whole_err, err_left}
-use Rattle.walrus_binary.proofs.Beginnings.{Tail, nothing, supertypes, Begun, StopsInText, within, inside, ends_with, at_once, pair_begun, Unended, integer_unended, u32_begun, s33_begun, vec_begun}
+use Rattle.walrus_binary.proofs.Beginnings.{supertypes, Begun, StopsInText, within, inside, ends_with, at_once, pair_begun, integer_unended, u32_begun, s33_begun, vec_begun}
 
 -- a byte that was told
 tagged : (b k : ℕ) (bytes : List ℕ) → nat_eq b k ≡ true → b ∷ bytes ≡ k ∷ bytes
@@ -224,7 +221,7 @@ count_begun bytes f front left zero parts place h =
 count_begun bytes f front left (suc zero) parts place h =
     let one = next (0 ∷ []) [] 0 [] zero_count none in
     let text : IsSupertype ((front ++ 0 ∷ []) ++ 0 ∷ []) (Some 0) =
-        counted (front ++ 0 ∷ []) (0 ∷ []) (0 ∷ []) h one in
+    counted (front ++ 0 ∷ []) (0 ∷ []) (0 ∷ []) h one in
     inl (ends_with IsSupertype bytes f front left (0 ∷ 0 ∷ []) (Some 0) parts place
     (subst (λ (u : List ℕ). IsSupertype u (Some 0)) (append_assoc front (0 ∷ []) (0 ∷ [])) text))
 count_begun bytes f front left (suc (suc n)) parts place h =
@@ -299,9 +296,9 @@ begins_declared is_final b bytes f is (inr c) =
       parts = is ∙ ap (λ (u : List ℕ). sub_code is_final ∷ u) c.parts;
       place = c.place;
       goes_on = λ text filled. record {
-          more = [];
-          value = filled.0;
-          is_text = subst (λ (u : List ℕ). IsSubType u filled.0) (sym (append-nil text)) filled.1;
+        more = [];
+        value = filled.0;
+        is_text = subst (λ (u : List ℕ). IsSubType u filled.0) (sym (append-nil text)) filled.1;
       };
     }
 

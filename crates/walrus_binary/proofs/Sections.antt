@@ -1,5 +1,7 @@
 -- What the reading of a section says of its bytes.
-use Rattle.std.proofs.Common.{◌≡◌, ℕ, ◌+◌, ◌-◌, ◌<◌, ◌≤◌, List, [], ◌∷◌, ◌++◌, length, take, Result, Ok, Err, refl, sym, ap, subst, ◌∙◌, append_assoc, append-nil, length-append, take_at, arith}
+use Rattle.std.proofs.Common.{◌≡◌, ℕ, ◌+◌, ◌-◌, ◌<◌, ◌≤◌, List, [], ◌∷◌, ◌++◌, length, take, Result, Ok, Err, refl, sym, ap, subst, ◌∙◌, append_assoc, append-nil, length-append, take_at, drop, take-append-drop, inl, inr, arith}
+use Rattle.std.proofs.lemmas.Bool.{cases_lt}
+use Rattle.std.proofs.lemmas.List.{take-take}
 use Rattle.std.specs.Prelude.{IfSome}
 use Rattle.walrus_ty.specs.declared.records.GroupAt.{GroupAt}
 use Rattle.walrus_binary.specs.declared.error.Reason.{Reason}
@@ -7,14 +9,14 @@ use Rattle.walrus_binary.specs.declared.error.Reason.TheVariants as reason
 use Rattle.walrus_binary.specs.declared.error.NotHeld.TheVariants as held
 use Rattle.walrus_binary.specs.declared.error.Fault.{Fault}
 use Rattle.walrus_binary.specs.Grammar.{IsRecType, IsTypes}
-use Rattle.walrus_binary.specs.Faults.{IsNoText, BeginsNoText, GoesOn, IsBegun, text, several_supertypes, IsSeenThere, error_offset}
+use Rattle.walrus_binary.specs.Faults.{IsNoText, BeginsNoText, GoesOn, IsFirstBad, IsBegun, begins_text, begins_several_supertypes, IsSeenThere, error_offset}
 use Rattle.walrus_binary.specs.Steps.Reading.{vec_at, group_at, types_at, IsSeenAtOnce}
 use Rattle.walrus_binary.specs.Steps.Refusals.{with_reason, refusal}
 use Rattle.walrus_binary.proofs.Basics.{rest_is}
 use Rattle.walrus_binary.proofs.Lists.{vec_complete}
 use Rattle.walrus_binary.proofs.Groups.{group_complete, types_again}
 use Rattle.walrus_binary.proofs.FirstFaults.{types_stop}
-use Rattle.walrus_binary.proofs.Beginnings.{Tail, nothing, supertypes, tail_bytes, Fills, Begun}
+use Rattle.walrus_binary.proofs.Beginnings.{Tail, nothing, supertypes, tail_bytes, Fills}
 use Rattle.walrus_binary.proofs.SectionBeginnings.{types_begun}
 
 abbrev read : List GroupAt → Result (List GroupAt) Fault
@@ -89,20 +91,20 @@ stuck_there bytes f e =
 
 begins_all : (front : List ℕ) (tail : Tail) → ((more : List ℕ) → Fills tail more → GoesOn IsTypes (front ++ more))
     → IsBegun (front ++ tail_bytes tail)
-begins_all front nothing goes_on = text (front ++ []) (goes_on [] refl)
+begins_all front nothing goes_on = begins_text (front ++ []) (goes_on [] refl)
 begins_all front (supertypes is_final count least h several) goes_on =
-    several_supertypes front count is_final least (λ more entry k. goes_on more (entry, k)) h several
+    begins_several_supertypes front count is_final least (λ more entry k. goes_on more (entry, k)) h several
 
 before : (bytes front tail left : List ℕ) (f : Fault) → bytes ≡ front ++ (tail ++ left) → f.left ≡ length left
     → IsBegun (front ++ tail) → IsBegun (take (length bytes - f.left) bytes)
 before bytes front tail left f parts place h =
     let again : bytes ≡ (front ++ tail) ++ left = parts ∙ sym (append_assoc front tail left) in
     let long : length bytes ≡ length (front ++ tail) + length left =
-        ap (λ (u : List ℕ). length u) again ∙ length-append (front ++ tail) left in
+    ap (λ (u : List ℕ). length u) again ∙ length-append (front ++ tail) left in
     let many : length bytes - f.left ≡ length (front ++ tail) = omega (arith, long, place) in
     let taken : take (length bytes - f.left) bytes ≡ front ++ tail =
-        rw many (ap (λ (u : List ℕ). take (length (front ++ tail)) u) again
-        ∙ take_at (front ++ tail) left (length (front ++ tail)) refl) in
+    rw many (ap (λ (u : List ℕ). take (length (front ++ tail)) u) again
+    ∙ take_at (front ++ tail) left (length (front ++ tail)) refl) in
     subst IsBegun (sym taken) h
 
 pub begun_before : (bytes : List ℕ) (f : Fault) → types_at bytes ≡ Err f
@@ -111,3 +113,31 @@ begun_before bytes f e =
     let b = types_begun bytes f e in
     placed (λ offset. IsBegun (take offset bytes)) (length bytes - f.left) f.reason
     (before bytes b.front (tail_bytes b.tail) b.left f b.parts b.place (begins_all b.front b.tail b.goes_on))
+
+-- ---- the first bad byte
+
+no_earlier : (bytes : List ℕ) (a b : ℕ) → a < b → GoesOn IsTypes (take b bytes)
+    → BeginsNoText (take (a + 1) bytes) → ⊥
+no_earlier bytes a b lt g bad =
+    let early : List ℕ = take (a + 1) bytes in
+    let rest : List ℕ = drop (a + 1) (take b bytes) in
+    let is : take b bytes ≡ early ++ rest =
+    sym (take-append-drop (a + 1) (take b bytes))
+    ∙ ap (λ (u : List ℕ). u ++ rest) (take-take (a + 1) b bytes (omega (arith, lt))) in
+    let longer : IsTypes ((early ++ rest) ++ g.more) g.value =
+    subst (λ (u : List ℕ). IsTypes (u ++ g.more) g.value) is g.is_text in
+    bad (rest ++ g.more) g.value
+    (subst (λ (u : List ℕ). IsTypes u g.value) (append_assoc early rest g.more) longer)
+
+-- no bad byte is before another
+no_other : (bytes : List ℕ) (a b : ℕ) → IsFirstBad bytes a → IsFirstBad bytes b → b ≤ a
+no_other bytes a b h k =
+    elim (cases_lt a b) [
+      | inl lt ↦
+          let inner : a < length bytes = omega (arith, lt, k.place) in
+          absurd (no_earlier bytes a b lt k.begun (h.stuck inner))
+      | inr le ↦ le
+    ]
+
+pub one_first_bad_byte : (bytes : List ℕ) (a b : ℕ) → IsFirstBad bytes a → IsFirstBad bytes b → a ≡ b
+one_first_bad_byte bytes a b h k = omega (arith, no_other bytes a b h k, no_other bytes b a k h)

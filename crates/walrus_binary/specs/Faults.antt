@@ -1,6 +1,6 @@
 -- Where bytes stop being a text of a type section, as an error says it.
 -- None of it is of the WebAssembly specification.
-use Rattle.std.specs.Prelude.{ℕ, ◌≤◌, Bool, List, [], ◌∷◌, ◌++◌, Option, Some, None}
+use Rattle.std.specs.Prelude.{ℕ, ◌+◌, ◌<◌, ◌≤◌, Bool, List, [], ◌∷◌, ◌++◌, length, take, Option, Some, None}
 use Rattle.walrus_ty.specs.declared.records.EntryAt.{EntryAt}
 use Rattle.walrus_ty.specs.declared.records.GroupAt.{GroupAt}
 use Rattle.walrus_binary.specs.declared.error.DecodeError.{DecodeError}
@@ -21,18 +21,26 @@ IsNoText bytes = (groups : List GroupAt) → IsTypes bytes groups → ⊥
 abbrev pub BeginsNoText : List ℕ → Type 0
 BeginsNoText front = (more : List ℕ) → IsNoText (front ++ more)
 
--- some text begins with these bytes
+-- a text begins with these bytes
 pub record GoesOn {A : Type 0} (IsText : List ℕ → A → Type 0) (front : List ℕ) : Type 0 where
   pub more : List ℕ
   pub value : A
   pub is_text : IsText (front ++ more) value
 
--- Some text of groups begins with the bytes; or they begin a definition of several supertypes, which
--- no record holds: they end in its first byte and the first bytes of its count, which is two or more
--- however it ends, and where that definition begins, every other one goes on.
+-- The bytes are no text, and the byte at this place is the first bad one: a text begins with the
+-- bytes before it, and none with it too. At the end of the bytes, a text begins with all of them.
+pub record IsFirstBad (bytes : List ℕ) (offset : ℕ) : Type 0 where
+  pub refused : IsNoText bytes
+  pub place : offset ≤ length bytes
+  pub begun : GoesOn IsTypes (take offset bytes)
+  pub stuck : offset < length bytes → BeginsNoText (take (offset + 1) bytes)
+
+-- A text begins with the bytes; or they begin a definition of several supertypes, which no record
+-- holds: they end in its first byte and the first bytes of its count, which is two or more however
+-- it goes on, and each definition may stand where that one begins.
 pub data IsBegun : List ℕ → Type 0 where
-  text : (front : List ℕ) → GoesOn IsTypes front → IsBegun front
-  several_supertypes :
+  begins_text : (front : List ℕ) → GoesOn IsTypes front → IsBegun front
+  begins_several_supertypes :
       (front count : List ℕ) (is_final : Bool) (least : ℕ)
       → ((text : List ℕ) (entry : EntryAt) → IsSubType text entry → GoesOn IsTypes (front ++ text))
       → IsU32 (count ++ 0 ∷ []) least → 2 ≤ least

@@ -1,8 +1,8 @@
 //! Reading what a type section has after its id and size.
 ghost use Rattle.std.specs.Prelude.{◌≡◌, ◌+◌, ◌<◌, ◌≤◌, length, take, IfOk, IfErr, IfSome};
 ghost use Rattle.walrus_binary.specs.Grammar.{IsTypes};
-ghost use Rattle.walrus_binary.specs.Faults.{IsNoText, BeginsNoText, IsBegun, IsSeenThere,
-    error_offset};
+ghost use Rattle.walrus_binary.specs.Faults.{IsNoText, BeginsNoText, IsBegun};
+ghost use Rattle.walrus_binary.specs.Faults.{IsSeenThere, error_offset};
 ghost use Rattle.walrus_binary.specs.Steps.Reading.{Gives, types_at};
 
 mod composite;
@@ -25,8 +25,9 @@ use walrus_ty::GroupAt;
 /// # Errors
 ///
 /// [`DecodeError::Malformed`] and [`DecodeError::NotHeld`] say at which byte the bytes stop being a
-/// text of groups: no text begins with the bytes up to that one and with it. Only several
-/// supertypes are told at the first byte of their count, with which a text may still go on.
+/// text of groups: some text begins with the bytes before it, and none with it too. Only several
+/// supertypes are told at the first byte of their count, with which a text may still go on; and a
+/// count of them that isn't ended is told where it stops being an integer.
 /// [`DecodeError::Memory`] comes where memory was refused.
 ///
 /// # A section of one function type
@@ -46,7 +47,7 @@ pub fn decode_types(alloc: Global, bytes: &[u8]) -> Result<Vec<GroupAt>, DecodeE
     // and with the byte there no text goes on.
     ensures stuck { IfErr result (λ e. IfSome (error_offset e) (λ offset.
         IsSeenThere e → offset < length bytes.now → BeginsNoText (take (offset + 1) bytes.now))) }
-    // With the bytes before it some text goes on.
+    // With the bytes before it some text goes on, unless they begin several supertypes.
     ensures begun { IfErr result (λ e. IfSome (error_offset e) (λ offset.
         IsBegun (take offset bytes.now))) }
 {

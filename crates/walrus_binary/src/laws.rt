@@ -1,6 +1,7 @@
 //! Laws of the texts of type sections and of modules. Each function does nothing; its clause is a
 //! theorem, which a caller gets by calling it.
 ghost use Rattle.std.specs.Prelude.{◌≡◌, ◌∷◌, ◌++◌, ℕ, List, []};
+ghost use Rattle.walrus_binary.specs.Faults.{IsFirstBad};
 ghost use Rattle.walrus_binary.specs.Grammar.{IsTypes};
 ghost use Rattle.walrus_binary.specs.Modules.{Section, section, IsModule, IsTypeSectionAt};
 ghost use Rattle.walrus_ty.specs.declared.records.GroupAt.{GroupAt};
@@ -14,6 +15,11 @@ pub fn one_section()
 pub fn no_longer_text()
     ensures { (bytes more : List ℕ) (a b : List GroupAt) → IsTypes bytes a →
         IsTypes (bytes ++ more) b → more ≡ [] }
+{}
+
+/// Bytes have one first bad byte at most: where two are named, they are the same.
+pub fn one_first_bad_byte()
+    ensures { (bytes : List ℕ) (a b : ℕ) → IsFirstBad bytes a → IsFirstBad bytes b → a ≡ b }
 {}
 
 /// Bytes are a module of one list of sections at most.

@@ -7,7 +7,8 @@
 //!   [`module_types`] reads those of a module.
 //! - [`encode_types`] writes the shortest text of groups.
 //! - [`laws`] has the theorems: bytes are a text of one list of groups at most, no text is the
-//!   beginning of a longer one, and bytes are a module of one list of sections at most.
+//!   beginning of a longer one, bytes have one first bad byte at most, and they are a module of one
+//!   list of sections at most.
 //!
 //! Whether the bytes are read as groups that have this text for their shortest:
 //!
