@@ -9,7 +9,7 @@ use walrus_ir::{
 };
 use walrus_types::{
     FromRecordError, Id, IdsToIndices, IndicesToIds, Listed, ModuleTypes, NoIndex, ToRecordError,
-    Val, ValType,
+    TypeId, Val, ValType,
 };
 
 // Global index 0 stands for the global 5.
@@ -308,6 +308,38 @@ fn a_refused_clone_of_an_expression_comes_when_it_is_asked_for_again(
     };
     assert!(rt; matches!(&copy, ConstExpr::Extended(of) if of.as_slice() == ops.as_slice()));
     assert!(rt; copy == source);
+    Ok(())
+}
+
+// Puts the types that the expression names at the end. After a refusal the list must be as it was,
+// and the call is made again.
+fn name_types_again(
+    rt: &impl Abort,
+    init: &ConstExpr,
+    list: &mut Vec<TypeId>,
+    before: &[usize],
+) -> Result<(), AllocError> {
+    if init.referenced_types(list).is_ok() {
+        return Ok(());
+    }
+    assert!(rt; are(list.as_slice(), before));
+    init.referenced_types(list)
+}
+
+#[test]
+fn refused_names_of_an_expression_are_not_in_the_list(rt: HostRuntime) -> Result<(), Fail> {
+    let alloc = rt.alloc();
+    let ops = [
+        ConstOp::StructNew(Id::from_index(3)),
+        ConstOp::ArrayNew(Id::from_index(5)),
+    ];
+    let init = ConstExpr::Extended(Listed::from_vec(list(alloc, &ops)?));
+    let named = [3, 5, 3, 5, 3, 5, 3, 5];
+    let mut names = Vec::new(alloc);
+    for round in 0..4usize {
+        name_types_again(&rt, &init, &mut names, &named[..2 * round])?;
+    }
+    assert!(rt; are(names.as_slice(), &named));
     Ok(())
 }
 
