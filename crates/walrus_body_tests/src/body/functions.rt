@@ -64,7 +64,6 @@ fn block(index: usize) -> Instr {
 // Sequence 0 is the entry, 1 the block, 2 and 3 its arms, 4 the body of the `Try`, 5 and 6 its
 // handlers. All but the entry have the type 0.
 pub(super) fn test_function(alloc: Global) -> Result<LocalFunction, Fail> {
-    let inner = InstrSeqType::MultiValue(id(0));
     let attempt = with_handlers(alloc)?;
     let entry = vec![in alloc;
         number(1),
@@ -82,12 +81,21 @@ pub(super) fn test_function(alloc: Global) -> Result<LocalFunction, Fail> {
         alternative: id(3),
     });
     let inside = vec![in alloc; number(2), dropping(), both, number(5), dropping()]?;
-    add_typed(alloc, &mut f, inner, inside)?;
+    add_inner(alloc, &mut f, inside)?;
     for n in [3, 4, 7, 8, 9] {
         let instrs = vec![in alloc; number(n), dropping()]?;
-        add_typed(alloc, &mut f, inner, instrs)?;
+        add_inner(alloc, &mut f, instrs)?;
     }
     Ok(f.local_func(Vec::new(alloc)))
+}
+
+// Adds a sequence of the type 0 with these instructions.
+fn add_inner(
+    alloc: Global,
+    f: &mut FunctionBuilder,
+    instrs: Vec<Instr>,
+) -> Result<InstrSeqId, BuildError> {
+    add_typed(alloc, f, InstrSeqType::MultiValue(id(0)), instrs)
 }
 
 fn with_handlers(alloc: Global) -> Result<Instr, AllocError> {
