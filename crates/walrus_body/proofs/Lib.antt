@@ -8,6 +8,7 @@ pub mod Depths
 pub mod Composing
 pub mod Counting
 pub mod Determined
+pub mod Existing
 pub mod Mapping
 pub mod Unfoldings
 pub mod Mapped

@@ -2,10 +2,11 @@
 //! which a caller gets by calling it.
 ghost use Rattle.std.specs.Prelude.{◌≡◌, ◌↔◌, ℕ, List, Contains};
 ghost use Rattle.walrus_functions.specs.Body.{Body, sequence};
-ghost use Rattle.walrus_functions.specs.Nesting.{Reached};
+ghost use Rattle.walrus_functions.specs.Nesting.{IsNested, Reached};
 ghost use Rattle.walrus_body.specs.Counting.{CutWalk, IsFunction};
 ghost use Rattle.walrus_body.specs.Extents.{Full, Partial};
 ghost use Rattle.walrus_body.specs.FieldMaps.{FieldMap, MapsFields, IsMapped};
+ghost use Rattle.walrus_body.specs.Premises.{HasSteps, KeepsNesting};
 ghost use Rattle.walrus_body.specs.Renaming.{renamed_at, renamed_sequence};
 ghost use Rattle.walrus_body.specs.Unfolding.{Unfolds, IsTree};
 ghost use Rattle.walrus_body.specs.Walks.{Walks};
@@ -23,6 +24,15 @@ pub fn partial_walks_are_cut<V: VisitorMut>()
 pub fn full_walks_are_determined<V: VisitorMut>()
     ensures { IsFunction V.step → (s t u : V × Body) (id : ℕ) →
         Walks V.step s id Full t → Walks V.step s id Full u → t ≡ u }
+{}
+
+/// Where a visitor has a step at each hook, whatever the hook is given, and no step changes which
+/// sequences stand in which, there is a full walk over every sequence from which the body is nested.
+/// Where the step is a function besides, there is just one
+/// ([`full_walks_are_determined`]).
+pub fn nested_sequences_have_a_full_walk<V: VisitorMut>()
+    ensures { HasSteps V.step → KeepsNesting V.step → (s : V × Body) (id : ℕ) →
+        IsNested s.1 id → (t : V × Body) × Walks V.step s id Full t }
 {}
 
 /// The unfolding of a body lists the sequences that a changing walk visits, in order, each as often
