@@ -1,5 +1,6 @@
 //! Bodies of a hundred thousand and of a million instructions, a tenth of them blocks, each block in
 //! the sequence of the one before. `scripts/measure_bodies` tells how the time of these tests grows.
+use crate::assertions::assert_equal;
 use std::alloc::{AllocError, Global};
 use std::test::Fail;
 use walrus_body::{RenameTypes, dfs_pre_order_mut};
@@ -67,41 +68,41 @@ fn reached(alloc: Global, func: &LocalFunction) -> Result<Option<usize>, AllocEr
 
 #[test]
 fn small_body_is_built(rt: HostRuntime) -> Result<(), Fail> {
-    assert_eq!(rt; deep(rt.alloc(), SMALL)?.block_count(), SMALL + 1);
+    assert_equal(&rt, deep(rt.alloc(), SMALL)?.block_count(), SMALL + 1);
     Ok(())
 }
 
 #[test]
 fn large_body_is_built(rt: HostRuntime) -> Result<(), Fail> {
-    assert_eq!(rt; deep(rt.alloc(), LARGE)?.block_count(), LARGE + 1);
+    assert_equal(&rt, deep(rt.alloc(), LARGE)?.block_count(), LARGE + 1);
     Ok(())
 }
 
 #[test]
 fn small_body_is_checked(rt: HostRuntime) -> Result<(), Fail> {
     let func = deep(rt.alloc(), SMALL)?;
-    assert_eq!(rt; reached(rt.alloc(), &func)?, Some(SMALL + 1));
+    assert_equal(&rt, reached(rt.alloc(), &func)?, Some(SMALL + 1));
     Ok(())
 }
 
 #[test]
 fn large_body_is_checked(rt: HostRuntime) -> Result<(), Fail> {
     let func = deep(rt.alloc(), LARGE)?;
-    assert_eq!(rt; reached(rt.alloc(), &func)?, Some(LARGE + 1));
+    assert_equal(&rt, reached(rt.alloc(), &func)?, Some(LARGE + 1));
     Ok(())
 }
 
 #[test]
 fn small_body_is_walked(rt: HostRuntime) -> Result<(), Fail> {
     let func = deep(rt.alloc(), SMALL)?;
-    assert_eq!(rt; named_locals(rt.alloc(), &func)?, Some(4 * SMALL));
+    assert_equal(&rt, named_locals(rt.alloc(), &func)?, Some(4 * SMALL));
     Ok(())
 }
 
 #[test]
 fn large_body_is_walked(rt: HostRuntime) -> Result<(), Fail> {
     let func = deep(rt.alloc(), LARGE)?;
-    assert_eq!(rt; named_locals(rt.alloc(), &func)?, Some(4 * LARGE));
+    assert_equal(&rt, named_locals(rt.alloc(), &func)?, Some(4 * LARGE));
     Ok(())
 }
 

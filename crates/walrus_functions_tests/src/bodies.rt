@@ -13,6 +13,7 @@ mod nested;
 mod plain;
 mod refusals;
 
+use crate::assertions::assert_equal;
 use std::alloc::{AllocError, Global};
 use std::process::Abort;
 use std::test::Fail;
@@ -47,9 +48,9 @@ fn builds<F: FnOnce(&mut InstrSeqBuilder<'_>) -> Result<(), BuildError>>(
     let mut f = begin(alloc)?;
     let mut entry = f.func_body();
     let answer = fill(&mut entry);
-    assert_eq!(rt; answer, outcome);
+    assert_equal(rt, answer, outcome);
     let func = f.local_func(Vec::new(alloc));
-    assert_eq!(rt; to_text(alloc, &func)?.as_str(), text);
+    assert_equal(rt, to_text(alloc, &func)?.as_str(), text);
     Ok(())
 }
 

@@ -1,4 +1,5 @@
 //! Small sections judged.
+use crate::assertions::assert_equal;
 use std::alloc::{AllocError, Global};
 use std::test::Fail;
 use walrus_sections::{ReadError, first_error, is_normal_form};
@@ -68,10 +69,10 @@ fn a_group_that_cannot_be_read(rt: HostRuntime) -> Result<(), Fail> {
         index: 5,
         end: 4,
     });
-    assert_eq!(rt; first_error(&[link(alloc, 5)?], 3), bad_index);
-    assert_eq!(rt; first_error(&[link(alloc, 3)?], 3), None);
+    assert_equal(&rt, first_error(&[link(alloc, 5)?], 3), bad_index);
+    assert_equal(&rt, first_error(&[link(alloc, 3)?], 3), None);
     let too_many = Some(ReadError::TooMany);
-    assert_eq!(rt; first_error(&[func(alloc)], 4294967295), too_many);
-    assert_eq!(rt; first_error(&[func(alloc)], 4294967294), None);
+    assert_equal(&rt, first_error(&[func(alloc)], 4294967295), too_many);
+    assert_equal(&rt, first_error(&[func(alloc)], 4294967294), None);
     Ok(())
 }

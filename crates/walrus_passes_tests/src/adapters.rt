@@ -1,4 +1,5 @@
 //! Functions that call another one of their type.
+use crate::assertions::assert_equal;
 use crate::bodies::{are, text_of};
 use std::alloc::{AllocError, Global};
 use std::process::Abort;
@@ -35,14 +36,15 @@ fn an_adapter_reads_its_parameters_and_calls(rt: HostRuntime) -> Result<(), Fail
     locals.add(ValType::V128)?;
     types.add(&[ValType::I32, ValType::F64], &[ValType::I64])?;
     let func = adapt(&rt, rt.alloc(), &mut types, &mut locals, 0)?;
-    assert_eq!(rt; func.ty(), TypeId::from_index(0));
-    assert_eq!(rt; func.entry(), Some(Id::from_index(0)));
-    assert_eq!(rt; func.block_count(), 1);
+    assert_equal(&rt, func.ty(), TypeId::from_index(0));
+    assert_equal(&rt, func.entry(), Some(Id::from_index(0)));
+    assert_equal(&rt, func.block_count(), 1);
     assert!(rt; are(func.args.as_slice(), &[1, 2]));
-    assert_eq!(rt;
+    assert_equal(
+        &rt,
         text_of(rt.alloc(), &func, 0)?.as_str(),
         "LocalGet(LocalGet { local: Id(1) });LocalGet(LocalGet { local: Id(2) });\
-        Call(Call { func: Id(9) });"
+        Call(Call { func: Id(9) });",
     );
     assert!(rt; has_type(&locals, 1, ValType::I32));
     assert!(rt; has_type(&locals, 2, ValType::F64));
@@ -58,13 +60,15 @@ fn an_adapter_has_an_entry_of_the_results(rt: HostRuntime) -> Result<(), Fail> {
     assert!(rt; func.args.is_empty());
     let entry = Id::from_index(0);
     assert!(rt; func.contains_block(entry));
-    assert_eq!(rt;
+    assert_equal(
+        &rt,
         func.block(entry).ty,
-        InstrSeqType::MultiValue(TypeId::from_index(1))
+        InstrSeqType::MultiValue(TypeId::from_index(1)),
     );
-    assert_eq!(rt;
+    assert_equal(
+        &rt,
         types.find_for_function_entry(&[ValType::I64]),
-        Some(TypeId::from_index(1))
+        Some(TypeId::from_index(1)),
     );
     Ok(())
 }
@@ -78,8 +82,8 @@ fn an_adapter_finds_the_type_of_its_entry(rt: HostRuntime) -> Result<(), Fail> {
     let func = adapt(&rt, rt.alloc(), &mut types, &mut locals, 0)?;
     let entry = Id::from_index(0);
     assert!(rt; func.contains_block(entry));
-    assert_eq!(rt; func.block(entry).ty, InstrSeqType::MultiValue(held));
-    assert_eq!(rt; types.live_ids()?.len(), 2);
+    assert_equal(&rt, func.block(entry).ty, InstrSeqType::MultiValue(held));
+    assert_equal(&rt, types.live_ids()?.len(), 2);
     assert!(rt; types.contains(func.ty()) && types.contains(held));
     Ok(())
 }

@@ -1,6 +1,7 @@
 //! Functions whose body is replaced.
 ghost use Rattle.std.specs.Prelude.{IfOk, IsSome};
 
+use crate::assertions::assert_equal;
 use std::alloc::{AllocError, Global};
 use std::process::Abort;
 use std::test::Fail;
@@ -86,11 +87,11 @@ pub(crate) fn is(
     let id: FunctionId = Id::from_index(index);
     assert!(rt; funcs.contains(id));
     let func = funcs.get(id);
-    assert_eq!(rt; func.name(), Some("f"));
+    assert_equal(rt, func.name(), Some("f"));
     assert!(rt; are(func.args.as_slice(), &[3]));
-    assert_eq!(rt; func.ty().index(), 0);
-    assert_eq!(rt; func.block_count(), 1);
-    assert_eq!(rt; text_of(alloc, func, 0)?.as_str(), text);
+    assert_equal(rt, func.ty().index(), 0);
+    assert_equal(rt, func.block_count(), 1);
+    assert_equal(rt, text_of(alloc, func, 0)?.as_str(), text);
     Ok(())
 }
 
@@ -111,12 +112,13 @@ fn a_snipped_entry_keeps_its_type(rt: HostRuntime) -> Result<(), Fail> {
     let id: FunctionId = Id::from_index(0);
     assert!(rt; funcs.contains(id));
     let func = funcs.get(id);
-    assert_eq!(rt; func.entry(), Some(Id::from_index(0)));
+    assert_equal(&rt, func.entry(), Some(Id::from_index(0)));
     let entry = Id::from_index(0);
     assert!(rt; func.contains_block(entry));
-    assert_eq!(rt;
+    assert_equal(
+        &rt,
         func.block(entry).ty,
-        InstrSeqType::MultiValue(TypeId::from_index(1))
+        InstrSeqType::MultiValue(TypeId::from_index(1)),
     );
     Ok(())
 }

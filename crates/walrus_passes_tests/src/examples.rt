@@ -1,5 +1,6 @@
 //! What stands on the first page of the repository, and the examples in the documentation of
 //! `walrus_passes`: their lines are those of the tests here.
+use crate::assertions::assert_equal;
 use crate::bodies::{SNIPPED, function, text_of};
 use crate::index_maps::section;
 use crate::unused_types::{are, table};
@@ -21,7 +22,7 @@ fn only_used_types_are_written(rt: HostRuntime) -> Result<(), Fail> {
     delete_unused_types(rt.alloc(), &mut types, &[used])?;
     let (groups, _) = types.emit()?;
     let section = encode_types(rt.alloc(), groups.as_slice())?;
-    assert_eq!(rt; section.as_slice(), [1, 0x60, 1, 0x7F, 0].as_slice());
+    assert_equal(&rt, section.as_slice(), [1, 0x60, 1, 0x7F, 0].as_slice());
     Ok(())
 }
 
@@ -33,7 +34,7 @@ fn a_struct_that_nothing_names_is_deleted(rt: HostRuntime) -> Result<(), Fail> {
     let pair = types.add_struct(fields)?;
     let used = types.add(&[ValType::I32], &[])?;
     let deleted = delete_unused_types(alloc, &mut types, &[used])?;
-    assert_eq!(rt; deleted.as_slice(), [pair].as_slice());
+    assert_equal(&rt, deleted.as_slice(), [pair].as_slice());
     Ok(())
 }
 
@@ -72,7 +73,7 @@ fn a_function_that_must_not_be_run_is_snipped(rt: HostRuntime) -> Result<(), Fai
     };
     snip(alloc, &mut funcs, id)?;
     assert!(rt; funcs.contains(id));
-    assert_eq!(rt; text_of(alloc, funcs.get(id), 0)?.as_str(), SNIPPED);
+    assert_equal(&rt, text_of(alloc, funcs.get(id), 0)?.as_str(), SNIPPED);
     Ok(())
 }
 
@@ -90,9 +91,10 @@ fn a_function_gets_a_body_of_its_own_type(rt: HostRuntime) -> Result<(), Fail> {
     builder.set_entry(entry);
     replace_with(alloc, &mut funcs, id, builder)?;
     assert!(rt; funcs.contains(id));
-    assert_eq!(rt;
+    assert_equal(
+        &rt,
         text_of(alloc, funcs.get(id), 0)?.as_str(),
-        "Const(Const { value: I32(8) });"
+        "Const(Const { value: I32(8) });",
     );
     Ok(())
 }
@@ -109,9 +111,10 @@ fn a_wrapper_of_an_import_calls_it(rt: HostRuntime) -> Result<(), Fail> {
     let Ok(wrapper) = funcs.add(func) else {
         return Err(Fail::new("out of memory"));
     };
-    assert_eq!(rt;
+    assert_equal(
+        &rt,
         text_of(alloc, funcs.get(wrapper), 0)?.as_str(),
-        "Call(Call { func: Id(9) });"
+        "Call(Call { func: Id(9) });",
     );
     Ok(())
 }
@@ -127,7 +130,7 @@ fn new_indices_are_those_of_the_normal_form(rt: HostRuntime) -> Result<(), Fail>
     let new = new_indices(alloc, ids.as_slice(), &indices)?;
     let (normal, places) = normalise(alloc, keys, groups)?;
     assert!(rt; written == normal);
-    assert_eq!(rt; new.len(), places.len());
+    assert_equal(&rt, new.len(), places.len());
     assert!(rt;
         new.iter()
             .zip(&places)

@@ -7,6 +7,8 @@
 #[cfg(test)]
 mod adapters;
 #[cfg(test)]
+mod assertions;
+#[cfg(test)]
 mod bodies;
 #[cfg(test)]
 mod examples;

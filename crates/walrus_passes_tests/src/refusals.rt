@@ -1,6 +1,7 @@
 //! Refused memory: what a refused call leaves, and that it goes through when it is made again.
 //! Each request for memory of these tests may be refused, one in a run, and they still pass.
 use crate::adapters::adapt;
+use crate::assertions::assert_equal;
 use crate::bodies::{BUILT, SNIPPED, are as are_locals, function, is, snip_first, text_of};
 use crate::index_maps::{are as are_indices, read};
 use crate::unused_types::{are, delete_all_but, table};
@@ -58,15 +59,20 @@ fn a_refused_deletion_leaves_the_table(rt: HostRuntime) -> Result<(), Fail> {
     let deleted = match delete_all_but(&rt, rt.alloc(), &mut types, 4) {
         Ok(deleted) => deleted,
         Err(_) => {
-            assert_eq!(rt; live(&types), [true, true, true, true, true, true, false]);
+            assert_equal(
+                &rt,
+                live(&types),
+                [true, true, true, true, true, true, false],
+            );
             assert!(rt; has_groups(&types, [1, 1, 1, 2, 1]) && finds(&types, true));
             delete_all_but(&rt, rt.alloc(), &mut types, 4)?
         }
     };
     assert!(rt; are(deleted.as_slice(), &[0, 1, 5]));
-    assert_eq!(rt;
+    assert_equal(
+        &rt,
         live(&types),
-        [false, false, true, true, true, false, false]
+        [false, false, true, true, true, false, false],
     );
     assert!(rt; has_groups(&types, [0, 0, 1, 2, 0]) && finds(&types, false));
     Ok(())
@@ -180,7 +186,7 @@ fn adapt_again(
     let first: LocalId = Id::from_index(0);
     let second: LocalId = Id::from_index(1);
     let third: LocalId = Id::from_index(2);
-    assert_eq!(rt; locals.contains(first), locals.contains(second));
+    assert_equal(rt, locals.contains(first), locals.contains(second));
     assert!(rt; !locals.contains(third));
     assert!(rt; types.contains(Id::from_index(0)));
     assert!(rt; !types.contains(Id::from_index(2)));
@@ -206,14 +212,15 @@ fn a_refused_adapter_is_made_again(rt: HostRuntime) -> Result<(), Fail> {
     let mut types = types_again(rt.alloc())?;
     let mut locals = ModuleLocals::new(rt.alloc());
     let func = adapt_again(&rt, rt.alloc(), &mut types, &mut locals)?;
-    assert_eq!(rt; func.ty().index(), 0);
+    assert_equal(&rt, func.ty().index(), 0);
     let text = text_again(rt.alloc(), &func)?;
     let args = func.args.as_slice();
     let has_first = are_locals(args, &[0, 1]);
     assert!(rt; has_first || are_locals(args, &[2, 3]));
-    assert_eq!(rt;
+    assert_equal(
+        &rt,
         text.as_str(),
-        if has_first { WITH_FIRST } else { WITH_NEXT }
+        if has_first { WITH_FIRST } else { WITH_NEXT },
     );
     Ok(())
 }

@@ -1,5 +1,6 @@
 //! Large tables of types that die. `scripts/measure_passes` runs these tests, and tells how their
 //! time grows.
+use crate::assertions::assert_equal;
 use crate::unused_types::{delete_all_but, reference_field, structures};
 use std::alloc::Global;
 use std::test::Fail;
@@ -23,13 +24,13 @@ fn table(alloc: Global, count: usize) -> Result<ModuleTypes, AddRecGroupError> {
 
 #[test]
 fn small_table_is_built(rt: HostRuntime) -> Result<(), Fail> {
-    assert_eq!(rt; table(rt.alloc(), SMALL)?.rec_groups().len(), SMALL + 2);
+    assert_equal(&rt, table(rt.alloc(), SMALL)?.rec_groups().len(), SMALL + 2);
     Ok(())
 }
 
 #[test]
 fn large_table_is_built(rt: HostRuntime) -> Result<(), Fail> {
-    assert_eq!(rt; table(rt.alloc(), LARGE)?.rec_groups().len(), LARGE + 2);
+    assert_equal(&rt, table(rt.alloc(), LARGE)?.rec_groups().len(), LARGE + 2);
     Ok(())
 }
 
@@ -37,7 +38,7 @@ fn large_table_is_built(rt: HostRuntime) -> Result<(), Fail> {
 fn small_table_dies(rt: HostRuntime) -> Result<(), Fail> {
     let mut types = table(rt.alloc(), SMALL)?;
     let deleted = delete_all_but(&rt, rt.alloc(), &mut types, 2 * SMALL)?;
-    assert_eq!(rt; deleted.len(), 2 * SMALL);
+    assert_equal(&rt, deleted.len(), 2 * SMALL);
     Ok(())
 }
 
@@ -45,6 +46,6 @@ fn small_table_dies(rt: HostRuntime) -> Result<(), Fail> {
 fn large_table_dies(rt: HostRuntime) -> Result<(), Fail> {
     let mut types = table(rt.alloc(), LARGE)?;
     let deleted = delete_all_but(&rt, rt.alloc(), &mut types, 2 * LARGE)?;
-    assert_eq!(rt; deleted.len(), 2 * LARGE);
+    assert_equal(&rt, deleted.len(), 2 * LARGE);
     Ok(())
 }

@@ -1,4 +1,5 @@
 //! Which types are deleted.
+use crate::assertions::assert_equal;
 use std::alloc::{AllocError, Global};
 use std::process::Abort;
 use std::test::Fail;
@@ -136,7 +137,7 @@ fn names_between_groups_follow_the_indices_that_are_left(rt: HostRuntime) -> Res
     assert!(rt; groups == section_that_is_left(rt.alloc())?);
     for (id, index) in [(2, 0), (3, 1), (4, 2)] {
         let id = TypeId::from_index(id);
-        assert_eq!(rt; indices.get_type_index(id), Ok(index));
+        assert_equal(&rt, indices.get_type_index(id), Ok(index));
     }
     Ok(())
 }
@@ -183,7 +184,7 @@ fn without_roots_all_types_die(rt: HostRuntime) -> Result<(), Fail> {
     let deleted = delete_unused_types(rt.alloc(), &mut types, &[])?;
     assert!(rt; are(deleted.as_slice(), &[0, 1, 2, 3, 4, 5]));
     assert!(rt; types.live_ids()?.is_empty());
-    assert_eq!(rt; types.rec_groups().len(), 5);
+    assert_equal(&rt, types.rec_groups().len(), 5);
     assert!(rt;
         types
             .rec_groups()
@@ -197,13 +198,18 @@ fn without_roots_all_types_die(rt: HostRuntime) -> Result<(), Fail> {
 fn what_stays_is_found_and_what_died_is_not(rt: HostRuntime) -> Result<(), Fail> {
     let mut types = table(rt.alloc())?;
     delete_all_but(&rt, rt.alloc(), &mut types, 4)?;
-    assert_eq!(rt;
+    assert_equal(
+        &rt,
         types.find(&[ValType::I32], &[]),
-        Some(TypeId::from_index(2))
+        Some(TypeId::from_index(2)),
     );
-    assert_eq!(rt; types.find_for_function_entry(&[ValType::I32]), None);
-    assert_eq!(rt; types.add(&[ValType::I32], &[])?, TypeId::from_index(2));
-    assert_eq!(rt; types.add_entry_ty(&[ValType::I32])?, TypeId::from_index(6));
+    assert_equal(&rt, types.find_for_function_entry(&[ValType::I32]), None);
+    assert_equal(&rt, types.add(&[ValType::I32], &[])?, TypeId::from_index(2));
+    assert_equal(
+        &rt,
+        types.add_entry_ty(&[ValType::I32])?,
+        TypeId::from_index(6),
+    );
     Ok(())
 }
 
@@ -226,11 +232,11 @@ fn a_large_group_dies_whole_and_in_order(rt: HostRuntime) -> Result<(), Fail> {
     let mut types = ModuleTypes::new(alloc);
     types.add_rec_group(LARGE, |_| structures(alloc, LARGE))?;
     let kept = types.add(&[ValType::I32], &[])?;
-    assert_eq!(rt; kept.index(), LARGE);
+    assert_equal(&rt, kept.index(), LARGE);
     let deleted = delete_all_but(&rt, alloc, &mut types, LARGE)?;
-    assert_eq!(rt; deleted.len(), LARGE);
+    assert_equal(&rt, deleted.len(), LARGE);
     for (i, id) in deleted.iter().enumerate() {
-        assert_eq!(rt; id.index(), i);
+        assert_equal(&rt, id.index(), i);
     }
     assert!(rt; are(types.live_ids()?.as_slice(), &[LARGE]));
     Ok(())

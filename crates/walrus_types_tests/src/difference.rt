@@ -1,4 +1,5 @@
 //! The first place where two sections differ.
+use crate::assertions::assert_equal;
 use crate::fixtures::{Piece, Shape, section};
 use Piece::{Many, One};
 use Shape::{Func, Struct};
@@ -19,7 +20,7 @@ fn place<'x>(alloc: Global, a: &[Piece<'x>], b: &[Piece<'x>]) -> Result<Option<u
 #[test]
 fn equal_sections_differ_nowhere(rt: HostRuntime) -> Result<(), Fail> {
     let pieces = [One(FUNC), One(INT)];
-    assert_eq!(rt; place(rt.alloc(), &pieces, &pieces)?, None);
+    assert_equal(&rt, place(rt.alloc(), &pieces, &pieces)?, None);
     Ok(())
 }
 
@@ -28,8 +29,8 @@ fn another_group_is_told(rt: HostRuntime) -> Result<(), Fail> {
     let ints = [INT];
     let alone = [One(FUNC), One(INT), One(FUNC)];
     let grouped = [One(FUNC), Many(&ints), One(FUNC)];
-    assert_eq!(rt; place(rt.alloc(), &alone, &grouped)?, Some(1));
-    assert_eq!(rt; place(rt.alloc(), &grouped, &alone)?, Some(1));
+    assert_equal(&rt, place(rt.alloc(), &alone, &grouped)?, Some(1));
+    assert_equal(&rt, place(rt.alloc(), &grouped, &alone)?, Some(1));
     Ok(())
 }
 
@@ -37,9 +38,9 @@ fn another_group_is_told(rt: HostRuntime) -> Result<(), Fail> {
 fn the_end_of_the_shorter_one_is_told(rt: HostRuntime) -> Result<(), Fail> {
     let two = [One(FUNC), One(INT)];
     let one = [One(FUNC)];
-    assert_eq!(rt; place(rt.alloc(), &two, &one)?, Some(1));
-    assert_eq!(rt; place(rt.alloc(), &one, &two)?, Some(1));
-    assert_eq!(rt; place(rt.alloc(), &[], &one)?, Some(0));
+    assert_equal(&rt, place(rt.alloc(), &two, &one)?, Some(1));
+    assert_equal(&rt, place(rt.alloc(), &one, &two)?, Some(1));
+    assert_equal(&rt, place(rt.alloc(), &[], &one)?, Some(0));
     Ok(())
 }
 
@@ -49,12 +50,12 @@ fn all_entries_of_the_groups_before_count(rt: HostRuntime) -> Result<(), Fail> {
     let section = section(rt.alloc(), &[One(FUNC), Many(&pair), Many(&[]), One(INT)])?;
     let groups = section.as_slice();
     let (_, places) = normalise(rt.alloc(), HashKeys::fixed(), groups)?;
-    assert_eq!(rt; places.len(), 4);
-    assert_eq!(rt; groups.len(), 4);
-    assert_eq!(rt; entries_before(groups, 0), 0);
-    assert_eq!(rt; entries_before(groups, 1), 1);
-    assert_eq!(rt; entries_before(groups, 2), 3);
-    assert_eq!(rt; entries_before(groups, 3), 3);
-    assert_eq!(rt; entries_before(groups, 4), 4);
+    assert_equal(&rt, places.len(), 4);
+    assert_equal(&rt, groups.len(), 4);
+    assert_equal(&rt, entries_before(groups, 0), 0);
+    assert_equal(&rt, entries_before(groups, 1), 1);
+    assert_equal(&rt, entries_before(groups, 2), 3);
+    assert_equal(&rt, entries_before(groups, 3), 3);
+    assert_equal(&rt, entries_before(groups, 4), 4);
     Ok(())
 }

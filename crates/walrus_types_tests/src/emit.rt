@@ -1,4 +1,5 @@
 //! Tables made by hand, and the sections that they are written as.
+use crate::assertions::assert_equal;
 use crate::fixtures::{Piece, Shape, section};
 use Piece::One;
 use Shape::{Func, Struct};
@@ -74,16 +75,21 @@ fn gives(
     let (groups, indices) = types.emit()?;
     assert!(rt; groups == wanted);
     for (place, id) in ids.iter().enumerate() {
-        assert_eq!(rt;
+        assert_equal(
+            rt,
             indices.get_type_index(*id).map(|index| index as usize),
-            Ok(place)
+            Ok(place),
         );
     }
     Ok(())
 }
 
 fn misses(rt: &impl Abort, types: &ModuleTypes, from: TypeId, to: TypeId) {
-    assert_eq!(rt; types.emit().err(), Some(EmitError::NoIndex { from, to }));
+    assert_equal(
+        rt,
+        types.emit().err(),
+        Some(EmitError::NoIndex { from, to }),
+    );
 }
 
 #[test]
@@ -133,7 +139,7 @@ fn a_type_that_was_written_over_another_comes_twice(rt: HostRuntime) -> Result<(
     let other = add_struct(rt.alloc(), &mut types, Val::I32)?;
     assert!(rt; write_over(&mut types, func, other)?);
     assert!(rt; types.contains(other));
-    assert_eq!(rt; types.get(other).id(), func);
+    assert_equal(&rt, types.get(other).id(), func);
     gives(
         &rt,
         rt.alloc(),

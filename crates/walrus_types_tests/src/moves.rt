@@ -1,4 +1,5 @@
 //! Sections that moves join, and sections that differ.
+use crate::assertions::assert_equal;
 use crate::fixtures::{Piece, Shape, section, to};
 use Piece::{Many, One};
 use Shape::{Func, Open, Struct};
@@ -157,11 +158,12 @@ fn bad(index: u32) -> Result<bool, ReadError> {
 fn the_first_refusal_is_answered(rt: HostRuntime) -> Result<(), Fail> {
     let alloc = rt.alloc();
     let (one, two) = ([to(1)], [to(2)]);
-    assert_eq!(rt; are_same(alloc, &[One(Struct(&one))], &[]), bad(1));
-    assert_eq!(rt; are_same(alloc, &[], &[One(Struct(&one))]), bad(1));
-    assert_eq!(rt;
+    assert_equal(&rt, are_same(alloc, &[One(Struct(&one))], &[]), bad(1));
+    assert_equal(&rt, are_same(alloc, &[], &[One(Struct(&one))]), bad(1));
+    assert_equal(
+        &rt,
         are_same(alloc, &[One(Struct(&one))], &[One(Struct(&two))]),
-        bad(1)
+        bad(1),
     );
     Ok(())
 }

@@ -1,6 +1,7 @@
 //! Sections whose normal form is known, and refusals of sections.
 mod short_sections;
 
+use crate::assertions::assert_equal;
 use crate::fixtures::{Piece, Shape, section, to};
 use Piece::{Many, One};
 use Shape::{Bytes, Func, Open, Struct};
@@ -21,7 +22,7 @@ fn gives<'x>(
     let wanted = section(alloc, wanted)?;
     let (output, places) = normalise(alloc, HashKeys::fixed(), groups.as_slice())?;
     assert!(rt; output == wanted);
-    assert_eq!(rt; places.as_slice(), map);
+    assert_equal(rt, places.as_slice(), map);
     assert!(rt; is_normal_form(alloc, groups.as_slice(), wanted.as_slice(), map)?);
     Ok(())
 }
@@ -39,7 +40,7 @@ fn is_refused(
 ) -> Result<(), Fail> {
     let groups = section(alloc, pieces)?;
     let refused = normalise(alloc, HashKeys::fixed(), groups.as_slice()).err();
-    assert_eq!(rt; refused, Some(wanted));
+    assert_equal(rt, refused, Some(wanted));
     Ok(())
 }
 

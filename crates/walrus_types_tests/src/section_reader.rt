@@ -1,4 +1,5 @@
 //! That sections are read, what is read of them, and which refusal comes.
+use crate::assertions::assert_equal;
 use crate::fixtures::{Piece, Shape, entry, group, section, to};
 use Piece::{Many, One};
 use Shape::{Func, Struct};
@@ -31,7 +32,7 @@ fn is_refused(
 ) -> Result<(), Fail> {
     let groups = section(alloc, pieces)?;
     let refused = parse_types(alloc, HashKeys::fixed(), groups.as_slice()).err();
-    assert_eq!(rt; refused, Some(wanted));
+    assert_equal(rt, refused, Some(wanted));
     Ok(())
 }
 
@@ -64,7 +65,7 @@ fn a_group_is_read_as_if_it_had_not_been_refused(rt: HostRuntime) -> Result<(), 
     }
     let (types, ids) = reader.finish();
     assert!(rt; are(ids.as_slice(), &[0, 1, 0, 3, 0, 5, 0, 7, 0, 9]));
-    assert_eq!(rt; types.rec_groups().len(), 6);
+    assert_equal(&rt, types.rec_groups().len(), 6);
     assert!(rt; is(&types.rec_groups()[5], &[9], true));
     Ok(())
 }
@@ -80,12 +81,12 @@ fn a_refused_group_leaves_the_reader(rt: HostRuntime) -> Result<(), Fail> {
         index: 5,
         end: 2,
     };
-    assert_eq!(rt; refused, Err(expected));
+    assert_equal(&rt, refused, Err(expected));
     reader.push_group(&group(alloc, Many(&[Struct(&[to(1)])]))?)?;
     let (types, ids) = reader.finish();
     assert!(rt; are(ids.as_slice(), &[0, 1]));
     let groups = types.rec_groups();
-    assert_eq!(rt; groups.len(), 2);
+    assert_equal(&rt, groups.len(), 2);
     assert!(rt; is(&groups[0], &[0], false));
     assert!(rt; is(&groups[1], &[1], true));
     Ok(())
@@ -109,8 +110,8 @@ fn an_empty_group_is_kept(rt: HostRuntime) -> Result<(), Fail> {
     let alloc = rt.alloc();
     let groups = section(alloc, &[Many(&[])])?;
     let (types, ids) = parse_types(alloc, HashKeys::fixed(), groups.as_slice())?;
-    assert_eq!(rt; ids.len(), 0);
-    assert_eq!(rt; types.rec_groups().len(), 1);
+    assert_equal(&rt, ids.len(), 0);
+    assert_equal(&rt, types.rec_groups().len(), 1);
     assert!(rt; is(&types.rec_groups()[0], &[], true));
     Ok(())
 }
@@ -153,7 +154,7 @@ fn a_field_is_refused_before_a_supertype(rt: HostRuntime) -> Result<(), Fail> {
         end: 1,
     };
     let refused = parse_types(alloc, HashKeys::fixed(), &[GroupAt::Single(both)]).err();
-    assert_eq!(rt; refused, Some(expected));
+    assert_equal(&rt, refused, Some(expected));
     Ok(())
 }
 
@@ -166,10 +167,10 @@ fn refusals_print_what_is_wrong(rt: HostRuntime) -> Result<(), Fail> {
         end: 1,
     };
     let text = format!(in alloc; "{}", bad)?;
-    assert_eq!(rt; text.as_str(), "entry 0 names 1, end 1");
+    assert_equal(&rt, text.as_str(), "entry 0 names 1, end 1");
     let text = format!(in alloc; "{}", ReadError::TooMany)?;
-    assert_eq!(rt; text.as_str(), "too many entries");
+    assert_equal(&rt, text.as_str(), "too many entries");
     let text = format!(in alloc; "{}", ReadError::Memory)?;
-    assert_eq!(rt; text.as_str(), "out of memory");
+    assert_equal(&rt, text.as_str(), "out of memory");
     Ok(())
 }

@@ -4,6 +4,7 @@
 //! another language: a byte is the first bad one where some text begins with the bytes before it,
 //! and none with it too. Of several supertypes it is the first of their count.
 use super::*;
+use crate::assertions::assert_equal;
 use std::test::*;
 use walrus_binary::{encode_types, replace_type_section};
 
@@ -79,7 +80,7 @@ fn have_text(alloc: Global, groups: &[GroupAt], bytes: &[u8]) -> bool {
 fn sections_cut_short(rt: HostRuntime) -> Result<(), Fail> {
     let sections: [&[u8]; 3] = [&FUNCTIONS, &RECURSION, &PADDED];
     for bytes in sections {
-        assert_eq!(rt; bad_byte(rt.alloc(), bytes)?, None);
+        assert_equal(&rt, bad_byte(rt.alloc(), bytes)?, None);
         assert!(rt; stops_at_each_end(rt.alloc(), bytes)?);
     }
     Ok(())
@@ -102,9 +103,10 @@ fn changed_functions(rt: HostRuntime) -> Result<(), Fail> {
         1891, 263, 1783, 719, 1067, 787, 1536, 2294, 1914, 2304, 3061, 3314, 2870,
     ];
     for at in 0..FUNCTIONS.len() {
-        assert_eq!(rt;
+        assert_equal(
+            &rt,
             changes(rt.alloc(), &FUNCTIONS, at)?,
-            (read[at], places[at])
+            (read[at], places[at]),
         );
     }
     Ok(())
@@ -120,9 +122,10 @@ fn changed_recursion(rt: HostRuntime) -> Result<(), Fail> {
         3829, 4083, 2311, 2560, 4826,
     ];
     for at in 0..RECURSION.len() {
-        assert_eq!(rt;
+        assert_equal(
+            &rt,
             changes(rt.alloc(), &RECURSION, at)?,
-            (read[at], places[at])
+            (read[at], places[at]),
         );
     }
     Ok(())
@@ -136,7 +139,11 @@ fn changed_padding(rt: HostRuntime) -> Result<(), Fail> {
         4461, 4589, 4717, 4605,
     ];
     for at in 0..PADDED.len() {
-        assert_eq!(rt; changes(rt.alloc(), &PADDED, at)?, (read[at], places[at]));
+        assert_equal(
+            &rt,
+            changes(rt.alloc(), &PADDED, at)?,
+            (read[at], places[at]),
+        );
     }
     Ok(())
 }
@@ -194,9 +201,10 @@ fn changed_modules(rt: HostRuntime) -> Result<(), Fail> {
         5608, 0, 0,
     ];
     for at in 0..MODULE.len() {
-        assert_eq!(rt;
+        assert_equal(
+            &rt,
             module_changes(rt.alloc(), &MODULE, at)?,
-            (read[at], places[at])
+            (read[at], places[at]),
         );
     }
     Ok(())
@@ -208,7 +216,11 @@ fn changed_modules_without_types(rt: HostRuntime) -> Result<(), Fail> {
         0, 0, 0, 0, 0, 0, 0, 0, 0, 5, 0, 0, 2, 0, 0, 0, 0, 0, 0, 0, 0, 0,
     ];
     for at in 0..MODULE.len() {
-        assert_eq!(rt; count_without_types(rt.alloc(), &MODULE, at)?, count[at]);
+        assert_equal(
+            &rt,
+            count_without_types(rt.alloc(), &MODULE, at)?,
+            count[at],
+        );
     }
     Ok(())
 }

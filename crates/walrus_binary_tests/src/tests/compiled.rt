@@ -1,5 +1,6 @@
 //! Modules that a compiler made of C: Debian clang 14.0.6, and its linker.
 use super::*;
+use crate::assertions::assert_equal;
 use std::test::*;
 use walrus_binary::{encode_types, replace_type_section};
 
@@ -119,7 +120,7 @@ fn types_of_an_object(rt: HostRuntime) -> Result<(), Fail> {
     let new = rewrite_types(rt.alloc(), &ARITHMETIC)?;
     assert!(rt; has_types(rt.alloc(), &new, &types));
     let wanted = with_short_size(rt.alloc(), &ARITHMETIC, 21)?;
-    assert_eq!(rt; new.as_slice(), wanted.as_slice());
+    assert_equal(&rt, new.as_slice(), wanted.as_slice());
     Ok(())
 }
 
@@ -137,7 +138,7 @@ fn types_of_vectors_and_several_results(rt: HostRuntime) -> Result<(), Fail> {
     let new = rewrite_types(rt.alloc(), &VECTORS)?;
     assert!(rt; has_types(rt.alloc(), &new, &types));
     let wanted = with_short_size(rt.alloc(), &VECTORS, 14)?;
-    assert_eq!(rt; new.as_slice(), wanted.as_slice());
+    assert_equal(&rt, new.as_slice(), wanted.as_slice());
     Ok(())
 }
 
@@ -152,6 +153,6 @@ fn types_of_a_linked_module(rt: HostRuntime) -> Result<(), Fail> {
     assert!(rt; has_types(rt.alloc(), &APPLY, &types));
     let new = rewrite_types(rt.alloc(), &APPLY)?;
     assert!(rt; has_types(rt.alloc(), &new, &types));
-    assert_eq!(rt; new.as_slice(), APPLY.as_slice());
+    assert_equal(&rt, new.as_slice(), APPLY.as_slice());
     Ok(())
 }

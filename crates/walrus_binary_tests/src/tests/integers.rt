@@ -1,5 +1,6 @@
 //! Integers at their limits.
 use super::*;
+use crate::assertions::assert_equal;
 use std::test::*;
 
 #[test]
@@ -13,37 +14,42 @@ fn a_count_may_be_padded(rt: HostRuntime) {
 #[test]
 fn a_count_has_five_bytes_at_most(rt: HostRuntime) {
     let bytes = [0x80, 0x80, 0x80, 0x80, 0x80, 0x00];
-    assert_eq!(rt;
+    assert_equal(
+        &rt,
         error_of(rt.alloc(), &bytes),
-        malformed(4, Expected::Integer)
+        malformed(4, Expected::Integer),
     );
 }
 
 #[test]
 fn unused_bits_of_a_count_are_clear(rt: HostRuntime) {
     let first = [0x80, 0x80, 0x80, 0x80, 0x10];
-    assert_eq!(rt;
+    assert_equal(
+        &rt,
         error_of(rt.alloc(), &first),
-        malformed(4, Expected::Integer)
+        malformed(4, Expected::Integer),
     );
     let last = [0x80, 0x80, 0x80, 0x80, 0x40];
-    assert_eq!(rt;
+    assert_equal(
+        &rt,
         error_of(rt.alloc(), &last),
-        malformed(4, Expected::Integer)
+        malformed(4, Expected::Integer),
     );
 }
 
 #[test]
 fn the_greatest_count_takes_no_memory(rt: HostRuntime) {
     let bytes = [0xFF, 0xFF, 0xFF, 0xFF, 0x0F];
-    assert_eq!(rt;
+    assert_equal(
+        &rt,
         error_of(rt.alloc(), &bytes),
-        malformed(5, Expected::RecType)
+        malformed(5, Expected::RecType),
     );
     let params = [1, 0x60, 0xFF, 0xFF, 0xFF, 0xFF, 0x0F, 0x7F, 0x7F, 0x7F];
-    assert_eq!(rt;
+    assert_equal(
+        &rt,
         error_of(rt.alloc(), &params),
-        malformed(10, Expected::ValType)
+        malformed(10, Expected::ValType),
     );
 }
 
@@ -52,16 +58,18 @@ fn an_index_is_signed(rt: HostRuntime) {
     let short = [1, 0x5E, 0x64, 0x3F, 0];
     assert!(rt; reads_group(rt.alloc(), &short, array_of(false, HeapAt::Concrete(63))));
     let bit = [1, 0x5E, 0x64, 0x40, 0];
-    assert_eq!(rt;
+    assert_equal(
+        &rt,
         error_of(rt.alloc(), &bit),
-        malformed(3, Expected::HeapType)
+        malformed(3, Expected::HeapType),
     );
     let long = [1, 0x5E, 0x64, 0xC0, 0x00, 0];
     assert!(rt; reads_group(rt.alloc(), &long, array_of(false, HeapAt::Concrete(64))));
     let negative = [1, 0x5E, 0x64, 0xF0, 0x7F, 0];
-    assert_eq!(rt;
+    assert_equal(
+        &rt,
         error_of(rt.alloc(), &negative),
-        malformed(4, Expected::Integer)
+        malformed(4, Expected::Integer),
     );
 }
 
@@ -71,19 +79,22 @@ fn an_index_has_32_bits_and_a_sign(rt: HostRuntime) {
     let index = HeapAt::Concrete(0xFFFF_FFFF);
     assert!(rt; reads_group(rt.alloc(), &greatest, array_of(false, index)));
     let negative = [1, 0x5E, 0x64, 0xFF, 0xFF, 0xFF, 0xFF, 0x7F, 0];
-    assert_eq!(rt;
+    assert_equal(
+        &rt,
         error_of(rt.alloc(), &negative),
-        malformed(7, Expected::Integer)
+        malformed(7, Expected::Integer),
     );
     let unused = [1, 0x5E, 0x64, 0xFF, 0xFF, 0xFF, 0xFF, 0x2F, 0];
-    assert_eq!(rt;
+    assert_equal(
+        &rt,
         error_of(rt.alloc(), &unused),
-        malformed(7, Expected::Integer)
+        malformed(7, Expected::Integer),
     );
     let longer = [1, 0x5E, 0x64, 0x80, 0x80, 0x80, 0x80, 0x80, 0x00, 0];
-    assert_eq!(rt;
+    assert_equal(
+        &rt,
         error_of(rt.alloc(), &longer),
-        malformed(7, Expected::Integer)
+        malformed(7, Expected::Integer),
     );
 }
 
@@ -92,9 +103,10 @@ fn an_exact_index_is_unsigned(rt: HostRuntime) {
     let bytes = [1, 0x5E, 0x64, 0x62, 0x40, 0];
     assert!(rt; reads_group(rt.alloc(), &bytes, array_of(false, HeapAt::Exact(64))));
     let unused = [1, 0x5E, 0x64, 0x62, 0xFF, 0xFF, 0xFF, 0xFF, 0x1F, 0];
-    assert_eq!(rt;
+    assert_equal(
+        &rt,
         error_of(rt.alloc(), &unused),
-        malformed(8, Expected::Integer)
+        malformed(8, Expected::Integer),
     );
 }
 
@@ -127,15 +139,17 @@ fn a_supertype_is_unsigned(rt: HostRuntime) {
     });
     assert!(rt; reads_group(rt.alloc(), &greatest, group));
     let unused = [1, 0x50, 1, 0xFF, 0xFF, 0xFF, 0xFF, 0x1F, 0x5E, 0x78, 0];
-    assert_eq!(rt;
+    assert_equal(
+        &rt,
         error_of(rt.alloc(), &unused),
-        malformed(7, Expected::Integer)
+        malformed(7, Expected::Integer),
     );
     let longer = [
         1, 0x50, 1, 0x80, 0x80, 0x80, 0x80, 0x80, 0x00, 0x5E, 0x78, 0,
     ];
-    assert_eq!(rt;
+    assert_equal(
+        &rt,
         error_of(rt.alloc(), &longer),
-        malformed(7, Expected::Integer)
+        malformed(7, Expected::Integer),
     );
 }

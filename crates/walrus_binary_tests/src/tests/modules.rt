@@ -1,6 +1,7 @@
 //! Where the type section of a module stands, and what is no module.
 //! The bytes are put together by hand from the specification's grammar of modules.
 use super::*;
+use crate::assertions::assert_equal;
 use std::test::*;
 
 fn stands_at(bytes: &[u8], start: usize, end: usize) -> bool {
@@ -59,42 +60,43 @@ fn a_module_without_types(rt: HostRuntime) {
 #[test]
 fn no_section_comes_before_an_earlier_one(rt: HostRuntime) {
     let types = [0, 0x61, 0x73, 0x6D, 1, 0, 0, 0, 2, 1, 0, 1, 1, 0];
-    assert_eq!(rt; fault(&types), malformed(11, Expected::LaterSection));
+    assert_equal(&rt, fault(&types), malformed(11, Expected::LaterSection));
     let tags = [0, 0x61, 0x73, 0x6D, 1, 0, 0, 0, 6, 1, 0, 13, 1, 0];
-    assert_eq!(rt; fault(&tags), malformed(11, Expected::LaterSection));
+    assert_equal(&rt, fault(&tags), malformed(11, Expected::LaterSection));
     let counts = [0, 0x61, 0x73, 0x6D, 1, 0, 0, 0, 10, 1, 0, 12, 1, 0];
-    assert_eq!(rt; fault(&counts), malformed(11, Expected::LaterSection));
+    assert_equal(&rt, fault(&counts), malformed(11, Expected::LaterSection));
     let codes = [0, 0x61, 0x73, 0x6D, 1, 0, 0, 0, 11, 1, 0, 10, 1, 0];
-    assert_eq!(rt; fault(&codes), malformed(11, Expected::LaterSection));
+    assert_equal(&rt, fault(&codes), malformed(11, Expected::LaterSection));
 }
 
 #[test]
 fn no_second_type_section(rt: HostRuntime) {
     let next = [0, 0x61, 0x73, 0x6D, 1, 0, 0, 0, 1, 1, 0, 1, 1, 0];
-    assert_eq!(rt; fault(&next), malformed(11, Expected::LaterSection));
+    assert_equal(&rt, fault(&next), malformed(11, Expected::LaterSection));
     let behind_custom = [0, 0x61, 0x73, 0x6D, 1, 0, 0, 0, 1, 1, 0, 0, 1, 0, 1, 1, 0];
-    assert_eq!(rt;
+    assert_equal(
+        &rt,
         fault(&behind_custom),
-        malformed(14, Expected::LaterSection)
+        malformed(14, Expected::LaterSection),
     );
 }
 
 #[test]
 fn no_other_ids(rt: HostRuntime) {
     let bytes = [0, 0x61, 0x73, 0x6D, 1, 0, 0, 0, 14, 1, 0];
-    assert_eq!(rt; fault(&bytes), malformed(8, Expected::SectionId));
+    assert_equal(&rt, fault(&bytes), malformed(8, Expected::SectionId));
     let last = [0, 0x61, 0x73, 0x6D, 1, 0, 0, 0, 1, 0, 0xFF];
-    assert_eq!(rt; fault(&last), malformed(10, Expected::SectionId));
+    assert_equal(&rt, fault(&last), malformed(10, Expected::SectionId));
 }
 
 #[test]
 fn sizes_end_within_the_module(rt: HostRuntime) {
     let one_more = [0, 0x61, 0x73, 0x6D, 1, 0, 0, 0, 1, 5, 1, 0x60, 0, 0];
-    assert_eq!(rt; fault(&one_more), malformed(14, Expected::Content));
+    assert_equal(&rt, fault(&one_more), malformed(14, Expected::Content));
     let greatest = [
         0, 0x61, 0x73, 0x6D, 1, 0, 0, 0, 0, 0xFF, 0xFF, 0xFF, 0xFF, 0x0F, 1,
     ];
-    assert_eq!(rt; fault(&greatest), malformed(15, Expected::Content));
+    assert_equal(&rt, fault(&greatest), malformed(15, Expected::Content));
 }
 
 #[test]
@@ -106,23 +108,23 @@ fn sizes_may_be_padded_to_five_bytes(rt: HostRuntime) {
     let six = [
         0, 0x61, 0x73, 0x6D, 1, 0, 0, 0, 1, 0x81, 0x80, 0x80, 0x80, 0x80, 0x00, 0,
     ];
-    assert_eq!(rt; fault(&six), malformed(13, Expected::Integer));
+    assert_equal(&rt, fault(&six), malformed(13, Expected::Integer));
     let wide = [
         0, 0x61, 0x73, 0x6D, 1, 0, 0, 0, 1, 0x81, 0x80, 0x80, 0x80, 0x10, 0,
     ];
-    assert_eq!(rt; fault(&wide), malformed(13, Expected::Integer));
+    assert_equal(&rt, fault(&wide), malformed(13, Expected::Integer));
 }
 
 #[test]
 fn headers_are_exact(rt: HostRuntime) {
     let text = [0x28, 0x6D, 0x6F, 0x64, 0x75, 0x6C, 0x65, 0x29];
-    assert_eq!(rt; fault(&text), malformed(0, Expected::Magic));
+    assert_equal(&rt, fault(&text), malformed(0, Expected::Magic));
     let magic = [0, 0x61, 0x73, 0x6E, 1, 0, 0, 0];
-    assert_eq!(rt; fault(&magic), malformed(3, Expected::Magic));
+    assert_equal(&rt, fault(&magic), malformed(3, Expected::Magic));
     let component = [0, 0x61, 0x73, 0x6D, 0x0D, 0, 1, 0];
-    assert_eq!(rt; fault(&component), malformed(4, Expected::Version));
+    assert_equal(&rt, fault(&component), malformed(4, Expected::Version));
     let later = [0, 0x61, 0x73, 0x6D, 1, 0, 0, 1];
-    assert_eq!(rt; fault(&later), malformed(7, Expected::Version));
+    assert_equal(&rt, fault(&later), malformed(7, Expected::Version));
 }
 
 // What is expected where a module of a custom section, a type section and a function section ends.
@@ -146,7 +148,7 @@ fn each_truncation_is_told(rt: HostRuntime) {
             Some(expected) => malformed(len, expected),
             None => None,
         };
-        assert_eq!(rt; fault(&bytes[..len]), wanted);
+        assert_equal(&rt, fault(&bytes[..len]), wanted);
     }
     assert!(rt; has_none(&bytes[..8]));
     assert!(rt; has_none(&bytes[..12]));

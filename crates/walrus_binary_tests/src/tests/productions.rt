@@ -1,5 +1,6 @@
 //! Each production with a text, and with bytes that are none.
 use super::*;
+use crate::assertions::assert_equal;
 use std::test::*;
 
 #[test]
@@ -36,9 +37,10 @@ fn references_to_types(rt: HostRuntime) {
     let exact = [1, 0x5E, 0x63, 0x62, 0x05, 0];
     assert!(rt; reads_group(rt.alloc(), &exact, array_of(true, HeapAt::Exact(5))));
     let no_type = [1, 0x5E, 0x63, 0x7F, 0];
-    assert_eq!(rt;
+    assert_equal(
+        &rt,
         error_of(rt.alloc(), &no_type),
-        malformed(3, Expected::HeapType)
+        malformed(3, Expected::HeapType),
     );
 }
 
@@ -50,9 +52,10 @@ fn function_types(rt: HostRuntime) -> Result<(), Fail> {
     let group = GroupAt::Single(plain(function(rt.alloc(), &params, &results)?));
     assert!(rt; reads_group(rt.alloc(), &bytes, group));
     let packed = [1, 0x60, 1, 0x78, 0];
-    assert_eq!(rt;
+    assert_equal(
+        &rt,
         error_of(rt.alloc(), &packed),
-        malformed(3, Expected::ValType)
+        malformed(3, Expected::ValType),
     );
     Ok(())
 }
@@ -73,19 +76,22 @@ fn struct_types(rt: HostRuntime) -> Result<(), Fail> {
     let bytes = [1, 0x5F, 3, 0x78, 0, 0x77, 1, 0x7F, 0];
     assert!(rt; reads_group(rt.alloc(), &bytes, group));
     let mutability = [1, 0x5F, 1, 0x78, 2];
-    assert_eq!(rt;
+    assert_equal(
+        &rt,
         error_of(rt.alloc(), &mutability),
-        malformed(4, Expected::Mutability)
+        malformed(4, Expected::Mutability),
     );
     let no_type = [1, 0x5F, 1, 0x79, 0];
-    assert_eq!(rt;
+    assert_equal(
+        &rt,
         error_of(rt.alloc(), &no_type),
-        malformed(3, Expected::ValType)
+        malformed(3, Expected::ValType),
     );
     let no_comp = [1, 0x61, 0];
-    assert_eq!(rt;
+    assert_equal(
+        &rt,
         error_of(rt.alloc(), &no_comp),
-        malformed(1, Expected::CompType)
+        malformed(1, Expected::CompType),
     );
     Ok(())
 }
@@ -99,9 +105,10 @@ fn array_types(rt: HostRuntime) {
     let group = GroupAt::Single(plain(CompAt::Array { field }));
     assert!(rt; reads_group(rt.alloc(), &[1, 0x5E, 0x7D, 1], group));
     let mutability = [1, 0x5E, 0x7D, 0x7D];
-    assert_eq!(rt;
+    assert_equal(
+        &rt,
         error_of(rt.alloc(), &mutability),
-        malformed(3, Expected::Mutability)
+        malformed(3, Expected::Mutability),
     );
 }
 
@@ -110,9 +117,10 @@ fn values_of_no_type(rt: HostRuntime) {
     // The empty block type, an exact index without a reference, and an index without one.
     for code in [0x40, 0x62, 0x05] {
         let bytes = [1, 0x60, 0, 1, code];
-        assert_eq!(rt;
+        assert_equal(
+            &rt,
             error_of(rt.alloc(), &bytes),
-            malformed(4, Expected::ValType)
+            malformed(4, Expected::ValType),
         );
     }
 }
@@ -139,14 +147,16 @@ fn declared_types(rt: HostRuntime) {
 #[test]
 fn a_declared_type_has_no_second_head(rt: HostRuntime) {
     let open = [1, 0x50, 0, 0x50, 0, 0x5E, 0x78, 0];
-    assert_eq!(rt;
+    assert_equal(
+        &rt,
         error_of(rt.alloc(), &open),
-        malformed(3, Expected::CompType)
+        malformed(3, Expected::CompType),
     );
     let group = [1, 0x4F, 1, 0, 0x4E, 0];
-    assert_eq!(rt;
+    assert_equal(
+        &rt,
         error_of(rt.alloc(), &group),
-        malformed(4, Expected::CompType)
+        malformed(4, Expected::CompType),
     );
 }
 
@@ -159,9 +169,10 @@ fn recursion_groups(rt: HostRuntime) -> Result<(), Fail> {
     let none = GroupAt::Rec(Listed::from_vec(Vec::new(rt.alloc())));
     assert!(rt; reads_group(rt.alloc(), &[1, 0x4E, 0], none));
     let nested = [1, 0x4E, 1, 0x4E, 0];
-    assert_eq!(rt;
+    assert_equal(
+        &rt,
         error_of(rt.alloc(), &nested),
-        malformed(3, Expected::CompType)
+        malformed(3, Expected::CompType),
     );
     Ok(())
 }
@@ -169,5 +180,9 @@ fn recursion_groups(rt: HostRuntime) -> Result<(), Fail> {
 #[test]
 fn nothing_stands_behind_the_groups(rt: HostRuntime) {
     let bytes = [1, 0x5E, 0x78, 0, 0x5E];
-    assert_eq!(rt; error_of(rt.alloc(), &bytes), malformed(4, Expected::End));
+    assert_equal(
+        &rt,
+        error_of(rt.alloc(), &bytes),
+        malformed(4, Expected::End),
+    );
 }

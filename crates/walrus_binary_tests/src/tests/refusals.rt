@@ -1,6 +1,7 @@
 //! Refused memory: a call that was refused goes through when it is made again.
 //! Each request for memory of these tests may be refused, one in a run, and they still pass.
 use super::*;
+use crate::assertions::assert_equal;
 use std::test::*;
 use walrus_binary::{EncodeError, ReplaceError, encode_types, module_types, replace_type_section};
 
@@ -36,10 +37,10 @@ fn a_refused_decode_reads_again(rt: HostRuntime) -> Result<(), Fail> {
     let groups = decode_again(rt.alloc(), &bytes)
         .ok()
         .ok_or("the second call reads")?;
-    assert_eq!(rt; groups.len(), 3);
-    assert_eq!(rt; sizes(&groups[0]), [1, 2, 1]);
-    assert_eq!(rt; sizes(&groups[1]), [2, 0, 0]);
-    assert_eq!(rt; sizes(&groups[2]), [1, 1, 0]);
+    assert_equal(&rt, groups.len(), 3);
+    assert_equal(&rt, sizes(&groups[0]), [1, 2, 1]);
+    assert_equal(&rt, sizes(&groups[1]), [2, 0, 0]);
+    assert_equal(&rt, sizes(&groups[2]), [1, 1, 0]);
     Ok(())
 }
 
@@ -60,9 +61,9 @@ fn a_refused_module_is_read_again(rt: HostRuntime) -> Result<(), Fail> {
     let groups = module_types_again(rt.alloc(), &bytes)
         .ok()
         .ok_or("the second call reads")?;
-    assert_eq!(rt; groups.len(), 2);
-    assert_eq!(rt; sizes(&groups[0]), [1, 2, 1]);
-    assert_eq!(rt; sizes(&groups[1]), [1, 1, 0]);
+    assert_equal(&rt, groups.len(), 2);
+    assert_equal(&rt, sizes(&groups[0]), [1, 2, 1]);
+    assert_equal(&rt, sizes(&groups[1]), [1, 1, 0]);
     Ok(())
 }
 
@@ -85,10 +86,10 @@ fn a_refused_encode_writes_again(rt: HostRuntime) -> Result<(), Fail> {
     let written = encode_again(rt.alloc(), &groups)
         .ok()
         .ok_or("the second call writes")?;
-    assert_eq!(rt; written.as_slice(), bytes.as_slice());
-    assert_eq!(rt; groups.len(), 2);
-    assert_eq!(rt; sizes(&groups[0]), [1, 9, 0]);
-    assert_eq!(rt; sizes(&groups[1]), [1, 1, 0]);
+    assert_equal(&rt, written.as_slice(), bytes.as_slice());
+    assert_equal(&rt, groups.len(), 2);
+    assert_equal(&rt, sizes(&groups[0]), [1, 9, 0]);
+    assert_equal(&rt, sizes(&groups[1]), [1, 1, 0]);
     Ok(())
 }
 
@@ -109,6 +110,6 @@ fn a_refused_replacement_is_made_again(rt: HostRuntime) -> Result<(), Fail> {
     let wanted = [
         0, 0x61, 0x73, 0x6D, 1, 0, 0, 0, 1, 4, 1, 0x60, 0, 0, 3, 1, 0,
     ];
-    assert_eq!(rt; new.as_slice(), wanted.as_slice());
+    assert_equal(&rt, new.as_slice(), wanted.as_slice());
     Ok(())
 }

@@ -1,6 +1,7 @@
 //! Modules with another type section.
 //! The bytes are put together by hand from the specification's grammar of modules.
 use super::*;
+use crate::assertions::assert_equal;
 use std::test::*;
 use walrus_binary::{ReplaceError, replace_type_section};
 
@@ -82,9 +83,10 @@ fn what_is_no_module_is_refused(rt: HostRuntime) {
         offset: 11,
         expected: Expected::LaterSection,
     };
-    assert_eq!(rt;
+    assert_equal(
+        &rt,
         replace_type_section(rt.alloc(), &twice, &[0]).err(),
-        Some(ReplaceError::NoModule(error))
+        Some(ReplaceError::NoModule(error)),
     );
 }
 
@@ -96,6 +98,6 @@ fn replacement_errors_say_what(rt: HostRuntime) -> Result<(), Fail> {
     };
     let error = ReplaceError::NoModule(error);
     let text = format!(in rt.alloc(); "{error}")?;
-    assert_eq!(rt; text.as_str(), "byte 11: expected a later section");
+    assert_equal(&rt, text.as_str(), "byte 11: expected a later section");
     Ok(())
 }

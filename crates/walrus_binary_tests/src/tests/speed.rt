@@ -1,6 +1,7 @@
 //! Sections of a hundred thousand and of a million types. `scripts/measure_binary` tells how fast
 //! they are read and written.
 use super::*;
+use crate::assertions::assert_equal;
 use std::test::*;
 use walrus_binary::encode_types;
 
@@ -56,28 +57,28 @@ fn is_written(alloc: Global, bytes: &[u8]) -> bool {
 #[test]
 fn small_section_of_short_types_is_built(rt: HostRuntime) -> Result<(), Fail> {
     let bytes = section(rt.alloc(), &SMALL, &SHORT, 25_000)?;
-    assert_eq!(rt; bytes.len(), 725_003);
+    assert_equal(&rt, bytes.len(), 725_003);
     Ok(())
 }
 
 #[test]
 fn large_section_of_short_types_is_built(rt: HostRuntime) -> Result<(), Fail> {
     let bytes = section(rt.alloc(), &LARGE, &SHORT, 250_000)?;
-    assert_eq!(rt; bytes.len(), 7_250_003);
+    assert_equal(&rt, bytes.len(), 7_250_003);
     Ok(())
 }
 
 #[test]
 fn small_section_of_short_types_is_read(rt: HostRuntime) -> Result<(), Fail> {
     let bytes = section(rt.alloc(), &SMALL, &SHORT, 25_000)?;
-    assert_eq!(rt; group_count(rt.alloc(), &bytes), Some(100_000));
+    assert_equal(&rt, group_count(rt.alloc(), &bytes), Some(100_000));
     Ok(())
 }
 
 #[test]
 fn large_section_of_short_types_is_read(rt: HostRuntime) -> Result<(), Fail> {
     let bytes = section(rt.alloc(), &LARGE, &SHORT, 250_000)?;
-    assert_eq!(rt; group_count(rt.alloc(), &bytes), Some(1_000_000));
+    assert_equal(&rt, group_count(rt.alloc(), &bytes), Some(1_000_000));
     Ok(())
 }
 
@@ -98,28 +99,28 @@ fn large_section_of_short_types_is_written(rt: HostRuntime) -> Result<(), Fail> 
 #[test]
 fn small_section_of_long_types_is_built(rt: HostRuntime) -> Result<(), Fail> {
     let bytes = section(rt.alloc(), &SMALL, &LONG, 50_000)?;
-    assert_eq!(rt; bytes.len(), 3_000_003);
+    assert_equal(&rt, bytes.len(), 3_000_003);
     Ok(())
 }
 
 #[test]
 fn large_section_of_long_types_is_built(rt: HostRuntime) -> Result<(), Fail> {
     let bytes = section(rt.alloc(), &LARGE, &LONG, 500_000)?;
-    assert_eq!(rt; bytes.len(), 30_000_003);
+    assert_equal(&rt, bytes.len(), 30_000_003);
     Ok(())
 }
 
 #[test]
 fn small_section_of_long_types_is_read(rt: HostRuntime) -> Result<(), Fail> {
     let bytes = section(rt.alloc(), &SMALL, &LONG, 50_000)?;
-    assert_eq!(rt; group_count(rt.alloc(), &bytes), Some(100_000));
+    assert_equal(&rt, group_count(rt.alloc(), &bytes), Some(100_000));
     Ok(())
 }
 
 #[test]
 fn large_section_of_long_types_is_read(rt: HostRuntime) -> Result<(), Fail> {
     let bytes = section(rt.alloc(), &LARGE, &LONG, 500_000)?;
-    assert_eq!(rt; group_count(rt.alloc(), &bytes), Some(1_000_000));
+    assert_equal(&rt, group_count(rt.alloc(), &bytes), Some(1_000_000));
     Ok(())
 }
 

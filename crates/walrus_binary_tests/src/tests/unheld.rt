@@ -1,5 +1,6 @@
 //! What the binary format has, and no record holds.
 use super::*;
+use crate::assertions::assert_equal;
 use std::test::*;
 use walrus_binary::NotHeld;
 
@@ -10,51 +11,65 @@ fn not_held(offset: usize, what: NotHeld) -> Option<DecodeError> {
 #[test]
 fn several_supertypes(rt: HostRuntime) {
     let bytes = [1, 0x50, 2, 0, 1, 0x5E, 0x78, 0];
-    assert_eq!(rt;
+    assert_equal(
+        &rt,
         error_of(rt.alloc(), &bytes),
-        not_held(2, NotHeld::Supertypes)
+        not_held(2, NotHeld::Supertypes),
     );
 }
 
 #[test]
 fn shared_types(rt: HostRuntime) {
     let comp = [1, 0x65, 0x5E, 0x78, 0];
-    assert_eq!(rt; error_of(rt.alloc(), &comp), not_held(1, NotHeld::Shared));
+    assert_equal(
+        &rt,
+        error_of(rt.alloc(), &comp),
+        not_held(1, NotHeld::Shared),
+    );
     let heap_type = [1, 0x5E, 0x63, 0x65, 0x6E, 0];
-    assert_eq!(rt;
+    assert_equal(
+        &rt,
         error_of(rt.alloc(), &heap_type),
-        not_held(3, NotHeld::Shared)
+        not_held(3, NotHeld::Shared),
     );
 }
 
 #[test]
 fn continuations(rt: HostRuntime) {
     let comp = [1, 0x5D, 0];
-    assert_eq!(rt;
+    assert_equal(
+        &rt,
         error_of(rt.alloc(), &comp),
-        not_held(1, NotHeld::Continuation)
+        not_held(1, NotHeld::Continuation),
     );
     let heap_type = [1, 0x5E, 0x63, 0x68, 0];
-    assert_eq!(rt;
+    assert_equal(
+        &rt,
         error_of(rt.alloc(), &heap_type),
-        not_held(3, NotHeld::Continuation)
+        not_held(3, NotHeld::Continuation),
     );
     let reference = [1, 0x5E, 0x75, 0];
-    assert_eq!(rt;
+    assert_equal(
+        &rt,
         error_of(rt.alloc(), &reference),
-        not_held(2, NotHeld::Continuation)
+        not_held(2, NotHeld::Continuation),
     );
 }
 
 #[test]
 fn descriptors(rt: HostRuntime) {
     let with = [1, 0x4D, 1, 0x5F, 0];
-    assert_eq!(rt;
+    assert_equal(
+        &rt,
         error_of(rt.alloc(), &with),
-        not_held(1, NotHeld::Descriptor)
+        not_held(1, NotHeld::Descriptor),
     );
     let of = [1, 0x4C, 0, 0x5F, 0];
-    assert_eq!(rt; error_of(rt.alloc(), &of), not_held(1, NotHeld::Descriptor));
+    assert_equal(
+        &rt,
+        error_of(rt.alloc(), &of),
+        not_held(1, NotHeld::Descriptor),
+    );
 }
 
 #[test]
@@ -64,12 +79,16 @@ fn errors_say_where(rt: HostRuntime) -> Result<(), Fail> {
         expected: Expected::HeapType,
     };
     let text = format!(in rt.alloc(); "{malformed}")?;
-    assert_eq!(rt; text.as_str(), "byte 3: expected a heap type");
+    assert_equal(&rt, text.as_str(), "byte 3: expected a heap type");
     let unheld = DecodeError::NotHeld {
         offset: 2,
         what: NotHeld::Supertypes,
     };
     let text = format!(in rt.alloc(); "{unheld}")?;
-    assert_eq!(rt; text.as_str(), "byte 2: no record for several supertypes");
+    assert_equal(
+        &rt,
+        text.as_str(),
+        "byte 2: no record for several supertypes",
+    );
     Ok(())
 }

@@ -1,6 +1,7 @@
 //! Types of a body change places.
 use super::functions::add_typed;
 use super::*;
+use crate::assertions::assert_equal;
 use walrus_body::{
     HeapType, InstrSeqType, Nesting, RenameTypes, TypeId, check_nesting, dfs_pre_order_mut,
     used_ids,
@@ -58,9 +59,17 @@ fn is_renamed(
 fn two_types_change_places(rt: HostRuntime) -> Result<(), Fail> {
     let alloc = rt.alloc();
     let mut func = body(alloc)?;
-    assert_eq!(rt; types(alloc, &func)?.as_slice(), [1, 0, 2, 0, 1].as_slice());
+    assert_equal(
+        &rt,
+        types(alloc, &func)?.as_slice(),
+        [1, 0, 2, 0, 1].as_slice(),
+    );
     let names: Vec<TypeId> = vec![in alloc; id(1), id(0)]?;
     assert!(rt; is_renamed(alloc, &mut func, names)?);
-    assert_eq!(rt; types(alloc, &func)?.as_slice(), [0, 1, 2, 1, 0].as_slice());
+    assert_equal(
+        &rt,
+        types(alloc, &func)?.as_slice(),
+        [0, 1, 2, 1, 0].as_slice(),
+    );
     Ok(())
 }

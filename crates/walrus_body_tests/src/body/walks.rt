@@ -4,6 +4,7 @@ use super::calls::{HookCall, are_changed_before, words};
 use super::functions::{chain, empty_entry, instrs_of, shared, test_function};
 use super::log::walk_in_order;
 use super::*;
+use crate::assertions::assert_equal;
 use walrus_body::dfs_pre_order_mut;
 use walrus_ir::Value;
 use walrus_traversals::{Nesting, WalkError, check_nesting};
@@ -46,14 +47,14 @@ fn children_of_the_last_instruction_come_first(rt: HostRuntime) -> Result<(), Fa
     let mut func = test_function(alloc)?;
     let mut first = adder(alloc, ALL);
     let answer = walk(alloc, &mut first, &mut func)?;
-    assert_eq!(rt; answer, Ok(()));
+    assert_equal(&rt, answer, Ok(()));
     let text = words(alloc, first.calls.as_slice())?;
-    assert_eq!(rt; text.as_str(), FIRST);
+    assert_equal(&rt, text.as_str(), FIRST);
     let mut second = adder(alloc, ALL);
     let answer = walk(alloc, &mut second, &mut func)?;
-    assert_eq!(rt; answer, Ok(()));
+    assert_equal(&rt, answer, Ok(()));
     let text = words(alloc, second.calls.as_slice())?;
-    assert_eq!(rt; text.as_str(), SECOND);
+    assert_equal(&rt, text.as_str(), SECOND);
     Ok(())
 }
 
@@ -68,9 +69,9 @@ fn a_walk_in_order_sees_each_constant_changed_and_all_else_as_before(
     let mut func = test_function(alloc)?;
     let before = walk_in_order(alloc, &func)?;
     let text = words(alloc, before.as_slice())?;
-    assert_eq!(rt; text.as_str(), IN_ORDER);
+    assert_equal(&rt, text.as_str(), IN_ORDER);
     let answer = walk(alloc, &mut adder(alloc, ALL), &mut func)?;
-    assert_eq!(rt; answer, Ok(()));
+    assert_equal(&rt, answer, Ok(()));
     let after = walk_in_order(alloc, &func)?;
     assert!(rt; are_changed_before(before.len(), &before, &after));
     Ok(())
@@ -93,9 +94,9 @@ fn a_shared_sequence_is_changed_twice(rt: HostRuntime) -> Result<(), Fail> {
     let mut func = shared(alloc)?;
     let mut visitor = adder(alloc, ALL);
     let answer = walk(alloc, &mut visitor, &mut func)?;
-    assert_eq!(rt; answer, Ok(()));
-    assert_eq!(rt; visitor.calls.len(), 15);
-    assert_eq!(rt; constant(&func)?, 7);
+    assert_equal(&rt, answer, Ok(()));
+    assert_equal(&rt, visitor.calls.len(), 15);
+    assert_equal(&rt, constant(&func)?, 7);
     Ok(())
 }
 
@@ -108,9 +109,9 @@ fn a_refused_hook_leaves_what_the_hooks_before_it_did(rt: HostRuntime) -> Result
         let mut func = shared(alloc)?;
         let mut visitor = adder(alloc, limit);
         let answer = walk(alloc, &mut visitor, &mut func)?;
-        assert_eq!(rt; answer, Err(WalkError::Hook(Full(limit))));
-        assert_eq!(rt; visitor.calls.len(), limit);
-        assert_eq!(rt; constant(&func)?, left);
+        assert_equal(&rt, answer, Err(WalkError::Hook(Full(limit))));
+        assert_equal(&rt, visitor.calls.len(), limit);
+        assert_equal(&rt, constant(&func)?, left);
     }
     Ok(())
 }
@@ -131,17 +132,17 @@ fn a_refusing_hook_cuts_the_walk(rt: HostRuntime) -> Result<(), Fail> {
     let alloc = rt.alloc();
     let mut whole = adder(alloc, ALL);
     let answer = walk(alloc, &mut whole, &mut test_function(alloc)?)?;
-    assert_eq!(rt; answer, Ok(()));
-    assert_eq!(rt; types(whole.calls.as_slice()), 7);
+    assert_equal(&rt, answer, Ok(()));
+    assert_equal(&rt, types(whole.calls.as_slice()), 7);
     for limit in 0..whole.calls.len() {
         let mut func = test_function(alloc)?;
         let mut cut = adder(alloc, limit);
         let answer = walk(alloc, &mut cut, &mut func)?;
-        assert_eq!(rt; answer, Err(WalkError::Hook(Full(limit))));
+        assert_equal(&rt, answer, Err(WalkError::Hook(Full(limit))));
         assert!(rt; cut.calls.as_slice() == &whole.calls[..limit]);
         let mut again = adder(alloc, ALL);
         let answer = walk(alloc, &mut again, &mut func)?;
-        assert_eq!(rt; answer, Ok(()));
+        assert_equal(&rt, answer, Ok(()));
         assert!(rt; are_changed_before(limit, &whole.calls, &again.calls));
     }
     Ok(())
@@ -154,7 +155,7 @@ fn an_instruction_that_the_start_hook_adds_is_visited(rt: HostRuntime) -> Result
     let mut visitor = adder(alloc, ALL);
     visitor.at_start = true;
     let answer = walk(alloc, &mut visitor, &mut func)?;
-    assert_eq!(rt; answer, Ok(()));
+    assert_equal(&rt, answer, Ok(()));
     let want = [HookCall::Start(0), HookCall::Dropping, HookCall::End(0)];
     assert!(rt; visitor.calls.as_slice() == want.as_slice());
     assert!(rt; matches!(instrs_of(&func, 0)?, [(Instr::Drop(_), _)]));
@@ -168,7 +169,7 @@ fn an_instruction_that_the_end_hook_adds_is_not(rt: HostRuntime) -> Result<(), F
     let mut visitor = adder(alloc, ALL);
     visitor.at_end = true;
     let answer = walk(alloc, &mut visitor, &mut func)?;
-    assert_eq!(rt; answer, Ok(()));
+    assert_equal(&rt, answer, Ok(()));
     let want = [HookCall::Start(0), HookCall::End(0)];
     assert!(rt; visitor.calls.as_slice() == want.as_slice());
     assert!(rt; matches!(instrs_of(&func, 0)?, [(Instr::Drop(_), _)]));
@@ -181,8 +182,8 @@ fn a_body_of_ten_thousand_levels_is_walked(rt: HostRuntime) -> Result<(), Fail> 
     let mut func = chain(alloc, 10_000)?;
     let mut visitor = adder(alloc, ALL);
     let answer = walk(alloc, &mut visitor, &mut func)?;
-    assert_eq!(rt; answer, Ok(()));
+    assert_equal(&rt, answer, Ok(()));
     // of each sequence a start and an end, and of each block the instruction and its sequence
-    assert_eq!(rt; visitor.calls.len(), 40_002);
+    assert_equal(&rt, visitor.calls.len(), 40_002);
     Ok(())
 }

@@ -1,5 +1,6 @@
 //! The entry of a function, sequences that nothing names yet, and texts of errors.
 use super::*;
+use crate::assertions::assert_equal;
 use walrus_ir::{Block, DropInstr};
 
 #[test]
@@ -10,24 +11,25 @@ fn the_type_of_a_body_is_not_written(rt: HostRuntime) -> Result<(), Fail> {
     assert!(rt; types.contains(entry_ty));
     assert!(rt; types.get(entry_ty).is_for_function_entry());
     let (groups, _) = types.emit()?;
-    assert_eq!(rt; groups.len(), 1);
-    assert_eq!(rt; f.local_func(Vec::new(rt.alloc())).ty().index(), 0);
+    assert_equal(&rt, groups.len(), 1);
+    assert_equal(&rt, f.local_func(Vec::new(rt.alloc())).ty().index(), 0);
     Ok(())
 }
 
 #[test]
 fn a_dangling_sequence_becomes_the_entry(rt: HostRuntime) -> Result<(), Fail> {
     let mut f = FunctionBuilder::without_entry(rt.alloc(), Id::from_index(3));
-    assert_eq!(rt; f.entry(), None);
+    assert_equal(&rt, f.entry(), None);
     let mut dangling = f.dangling_instr_seq(NOTHING)?;
     dangling.drop()?;
     let id = dangling.id();
     f.set_entry(id);
-    assert_eq!(rt; f.func_body_id(), id);
+    assert_equal(&rt, f.func_body_id(), id);
     let func = f.local_func(Vec::new(rt.alloc()));
-    assert_eq!(rt;
+    assert_equal(
+        &rt,
         to_text(rt.alloc(), &func)?.as_str(),
-        "0: Drop(DropInstr)\n"
+        "0: Drop(DropInstr)\n",
     );
     Ok(())
 }
@@ -55,14 +57,14 @@ fn instructions_are_read(rt: HostRuntime) -> Result<(), Fail> {
     let id = f.func_body_id();
     let mut body = f.instr_seq(id);
     body.drop()?;
-    assert_eq!(rt; body.instrs().len(), 1);
+    assert_equal(&rt, body.instrs().len(), 1);
     assert!(rt; body.builder().contains_seq(id));
     assert!(rt; !f.contains_seq(Id::from_index(1)));
     Ok(())
 }
 
 fn prints(rt: &impl Abort, alloc: Global, error: BuildError, text: &str) -> Result<(), AllocError> {
-    assert_eq!(rt; error.to_string(alloc)?.as_str(), text);
+    assert_equal(rt, error.to_string(alloc)?.as_str(), text);
     Ok(())
 }
 

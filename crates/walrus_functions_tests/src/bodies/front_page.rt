@@ -2,6 +2,7 @@
 ghost use Rattle.walrus_functions.specs.Building.{function_of, IsKnown, Stays, StayKnown};
 
 use super::*;
+use crate::assertions::assert_equal;
 use walrus_ir::{BinaryOp, InstrSeqId, LocalId, UnaryOp};
 use walrus_types::ValType;
 
@@ -70,6 +71,6 @@ fn a_sum_by_counting(rt: HostRuntime) -> Result<(), Fail> {
     let mut types = ModuleTypes::new(rt.alloc());
     let builder = sum_by_counting(rt.alloc(), &mut types, first, second)?;
     let func = builder.local_func(vec![in rt.alloc(); first, second]?);
-    assert_eq!(rt; to_text(rt.alloc(), &func)?.as_str(), text);
+    assert_equal(&rt, to_text(rt.alloc(), &func)?.as_str(), text);
     Ok(())
 }

@@ -1,13 +1,14 @@
 //! Functions that have a body.
 use super::*;
+use crate::assertions::assert_equal;
 
 #[test]
 fn functions_are_numbered_from_zero(rt: HostRuntime) -> Result<(), Fail> {
     let mut funcs = LocalFunctions::new(rt.alloc());
     let first = begin(rt.alloc())?.finish(Vec::new(rt.alloc()), &mut funcs);
-    assert_eq!(rt; first.ok(), Some(Id::from_index(0)));
+    assert_equal(&rt, first.ok(), Some(Id::from_index(0)));
     let second = begin(rt.alloc())?.finish(Vec::new(rt.alloc()), &mut funcs);
-    assert_eq!(rt; second.ok(), Some(Id::from_index(1)));
+    assert_equal(&rt, second.ok(), Some(Id::from_index(1)));
     assert!(rt; !funcs.contains(Id::from_index(2)));
     Ok(())
 }
@@ -18,10 +19,10 @@ fn functions_have_parameters(rt: HostRuntime) -> Result<(), Fail> {
     let args = vec![in rt.alloc(); Id::from_index(7)]?;
     let id = Id::from_index(0);
     let added = begin(rt.alloc())?.finish(args, &mut funcs);
-    assert_eq!(rt; added.ok(), Some(id));
-    assert_eq!(rt; funcs.get(id).args.len(), 1);
+    assert_equal(&rt, added.ok(), Some(id));
+    assert_equal(&rt, funcs.get(id).args.len(), 1);
     funcs.get_mut(id).args.clear();
-    assert_eq!(rt; funcs.get(id).args.len(), 0);
+    assert_equal(&rt, funcs.get(id).args.len(), 0);
     Ok(())
 }
 
@@ -30,9 +31,9 @@ fn the_last_name_stays(rt: HostRuntime) -> Result<(), Fail> {
     let mut f = begin(rt.alloc())?;
     f.name(String::from_str(rt.alloc(), "g")?);
     f.name(String::from_str(rt.alloc(), "f")?);
-    assert_eq!(rt; f.local_func(Vec::new(rt.alloc())).name(), Some("f"));
+    assert_equal(&rt, f.local_func(Vec::new(rt.alloc())).name(), Some("f"));
     let unnamed = begin(rt.alloc())?.local_func(Vec::new(rt.alloc()));
-    assert_eq!(rt; unnamed.name(), None);
+    assert_equal(&rt, unnamed.name(), None);
     Ok(())
 }
 
@@ -43,9 +44,9 @@ fn a_block_is_written(rt: HostRuntime) -> Result<(), Fail> {
     body.unreachable()?;
     let mut func = f.local_func(Vec::new(rt.alloc()));
     let entry = func.entry_block();
-    assert_eq!(rt; func.entry(), Some(entry));
+    assert_equal(&rt, func.entry(), Some(entry));
     func.block_mut(entry).instrs.clear();
     assert!(rt; func.contains_block(entry));
-    assert_eq!(rt; func.block(entry).instrs.len(), 0);
+    assert_equal(&rt, func.block(entry).instrs.len(), 0);
     Ok(())
 }

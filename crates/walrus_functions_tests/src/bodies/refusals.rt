@@ -4,6 +4,7 @@ ghost use Rattle.std.specs.Prelude.{◌≤◌, IfOk, IsSome};
 ghost use Rattle.walrus_functions.specs.Building.{function_of, IsKnown, Stays, StayKnown};
 
 use super::*;
+use crate::assertions::assert_equal;
 use std::cell::Cell;
 use walrus_ir::{Instr, InstrLocId, InstrSeqId, LocalId};
 use walrus_types::{FunctionId, ValType};
@@ -87,10 +88,10 @@ fn a_refused_new_leaves_up_to_two_types(rt: HostRuntime) -> Result<(), Fail> {
     let mut types = table_again(rt.alloc())?;
     let f = new_again(&rt, rt.alloc(), &mut types)?;
     assert!(rt; has_types(&types, 3));
-    assert_eq!(rt; f.entry(), Some(Id::from_index(0)));
+    assert_equal(&rt, f.entry(), Some(Id::from_index(0)));
     let func = f.local_func(Vec::new(rt.alloc()));
-    assert_eq!(rt; func.ty().index(), 1);
-    assert_eq!(rt; func.block_count(), 1);
+    assert_equal(&rt, func.ty().index(), 1);
+    assert_equal(&rt, func.block_count(), 1);
     Ok(())
 }
 
@@ -114,10 +115,10 @@ fn a_refused_dangling_sequence_is_not_there(rt: HostRuntime) -> Result<(), Fail>
     let mut f = FunctionBuilder::without_entry(rt.alloc(), Id::from_index(0));
     for next in 0..20usize {
         assert!(rt; !f.contains_seq(Id::from_index(next)));
-        assert_eq!(rt; dangling_again(&rt, &mut f, next)?, next);
+        assert_equal(&rt, dangling_again(&rt, &mut f, next)?, next);
         assert!(rt; f.contains_seq(Id::from_index(next)));
     }
-    assert_eq!(rt; f.local_func(Vec::new(rt.alloc())).block_count(), 20);
+    assert_equal(&rt, f.local_func(Vec::new(rt.alloc())).block_count(), 20);
     Ok(())
 }
 
@@ -240,10 +241,10 @@ fn nest_once(rt: &impl Abort, f: &mut FunctionBuilder, call: NestedCall) -> Resu
     assert!(rt; f.contains_seq(Id::from_index(0)));
     let mut entry = f.instr_seq(Id::from_index(0));
     let answer = nest(&mut entry, call, &first, &second);
-    assert_eq!(rt; steps_shown(f, Id::from_index(next)), first.get());
-    assert_eq!(rt; steps_shown(f, Id::from_index(next + 1)), second.get());
+    assert_equal(rt, steps_shown(f, Id::from_index(next)), first.get());
+    assert_equal(rt, steps_shown(f, Id::from_index(next + 1)), second.get());
     assert!(rt; !f.contains_seq(Id::from_index(next + 2)));
-    assert_eq!(rt; has_added(rt, f, call, next), answer.is_ok());
+    assert_equal(rt, has_added(rt, f, call, next), answer.is_ok());
     answer
 }
 
@@ -259,8 +260,8 @@ fn nest_again(
     if answer.is_ok() {
         return answer;
     }
-    assert_eq!(rt; answer, Err(BuildError::Memory));
-    assert_eq!(rt; steps_shown(f, Id::from_index(0)), before);
+    assert_equal(rt, answer, Err(BuildError::Memory));
+    assert_equal(rt, steps_shown(f, Id::from_index(0)), before);
     nest_once(rt, f, call)
 }
 
@@ -272,7 +273,7 @@ fn nests_nine(rt: &impl Abort, alloc: Global, call: NestedCall) -> Result<(), Fa
     }
     let func = f.local_func(Vec::new(alloc));
     assert!(rt; func.contains_block(Id::from_index(0)));
-    assert_eq!(rt; func.block(Id::from_index(0)).instrs.len(), 9);
+    assert_equal(rt, func.block(Id::from_index(0)).instrs.len(), 9);
     Ok(())
 }
 
@@ -337,10 +338,14 @@ fn named_again(alloc: Global) -> Result<FunctionBuilder, Fail> {
 
 // The function of `named_again` and `args_again` must be whole.
 fn is_whole(rt: &impl Abort, alloc: Global, func: &LocalFunction) -> Result<(), Fail> {
-    assert_eq!(rt; func.name(), Some("f"));
-    assert_eq!(rt; func.entry(), Some(Id::from_index(0)));
-    assert_eq!(rt; func.args.as_slice(), [Id::from_index(7)].as_slice());
-    assert_eq!(rt; text_again(alloc, func)?.as_str(), "0: Drop(DropInstr)\n");
+    assert_equal(rt, func.name(), Some("f"));
+    assert_equal(rt, func.entry(), Some(Id::from_index(0)));
+    assert_equal(rt, func.args.as_slice(), [Id::from_index(7)].as_slice());
+    assert_equal(
+        rt,
+        text_again(alloc, func)?.as_str(),
+        "0: Drop(DropInstr)\n",
+    );
     Ok(())
 }
 
@@ -370,7 +375,7 @@ fn a_refused_finish_hands_the_function_back(rt: HostRuntime) -> Result<(), Fail>
             Ok(id) => id,
             Err(func) => add_back(&rt, alloc, &mut funcs, func, next)?,
         };
-        assert_eq!(rt; id.index(), next);
+        assert_equal(&rt, id.index(), next);
         assert!(rt; funcs.contains(id));
         is_whole(&rt, alloc, funcs.get(id))?;
     }
@@ -387,7 +392,7 @@ fn a_refused_add_hands_the_function_back(rt: HostRuntime) -> Result<(), Fail> {
             Ok(id) => id,
             Err(func) => add_back(&rt, alloc, &mut funcs, func, next)?,
         };
-        assert_eq!(rt; id.index(), next);
+        assert_equal(&rt, id.index(), next);
         assert!(rt; funcs.contains(id));
         is_whole(&rt, alloc, funcs.get(id))?;
     }

@@ -1,5 +1,6 @@
 //! How many operators on two values there are, each with a printed name of its own.
 use super::see;
+use crate::assertions::assert_equal;
 use std::collections::HashSet;
 use std::test::Fail;
 use walrus_ir::BinaryOp;
@@ -297,6 +298,6 @@ fn there_are_220(rt: HostRuntime) -> Result<(), Fail> {
     see(&rt, alloc, &mut seen, &DOT_PRODUCTS)?;
     see(&rt, alloc, &mut seen, &WIDE_PRODUCTS)?;
     see(&rt, alloc, &mut seen, &RELAXED)?;
-    assert_eq!(rt; seen.len(), 220);
+    assert_equal(&rt, seen.len(), 220);
     Ok(())
 }

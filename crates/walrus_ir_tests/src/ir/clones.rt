@@ -1,4 +1,5 @@
 //! That instructions with lists can be cloned.
+use crate::assertions::assert_equal;
 use std::alloc::Global;
 use std::test::Fail;
 use walrus_ir::{
@@ -19,7 +20,7 @@ fn a_table_of_branches(rt: HostRuntime) -> Result<(), Fail> {
     let targets: [InstrSeqId; 2] = [Id::from_index(4), Id::from_index(5)];
     if let Instr::BrTable(table) = &copy {
         assert!(rt; table.blocks.as_slice() == targets.as_slice());
-        assert_eq!(rt; table.default.index(), 6);
+        assert_equal(&rt, table.default.index(), 6);
     }
     assert!(rt; matches!(copy, Instr::BrTable(_)));
     Ok(())
@@ -37,7 +38,7 @@ fn make_try(alloc: Global) -> Result<Instr, Fail> {
 fn an_older_try(rt: HostRuntime) -> Result<(), Fail> {
     let copy = make_try(rt.alloc())?.clone()?;
     if let Instr::Try(t) = &copy {
-        assert_eq!(rt; t.seq.index(), 4);
+        assert_equal(&rt, t.seq.index(), 4);
         assert!(rt;
             matches!(
                 t.catches.as_slice(),
@@ -63,7 +64,7 @@ fn make_try_table(alloc: Global) -> Result<Instr, Fail> {
 fn a_table_of_catches(rt: HostRuntime) -> Result<(), Fail> {
     let copy = make_try_table(rt.alloc())?.clone()?;
     if let Instr::TryTable(t) = &copy {
-        assert_eq!(rt; t.seq.index(), 4);
+        assert_equal(&rt, t.seq.index(), 4);
         assert!(rt; matches!(t.catches.as_slice(), [TryTableCatch::CatchAll { label: _ }]));
     }
     assert!(rt; matches!(copy, Instr::TryTable(_)));
@@ -77,8 +78,8 @@ fn a_sequence(rt: HostRuntime) -> Result<(), Fail> {
     seq.instrs.push((make_table(alloc)?, InstrLocId::new(8)))?;
     seq.end = InstrLocId::new(9);
     let copy = seq.clone()?;
-    assert_eq!(rt; copy.id().index(), 3);
-    assert_eq!(rt; copy.instrs.len(), 1);
+    assert_equal(&rt, copy.id().index(), 3);
+    assert_equal(&rt, copy.instrs.len(), 1);
     assert!(rt; copy.end == InstrLocId::new(9));
     Ok(())
 }

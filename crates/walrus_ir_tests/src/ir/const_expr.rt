@@ -1,4 +1,5 @@
 //! That expressions are read and written, in which form, and which name a refusal has.
+use crate::assertions::assert_equal;
 use std::alloc::{AllocError, Global};
 use std::test::Fail;
 use walrus_ir::{
@@ -65,7 +66,7 @@ fn all_other_lists_are_extended(rt: HostRuntime) -> Result<(), Fail> {
 fn an_unknown_global_is_named(rt: HostRuntime) -> Result<(), Fail> {
     let ids = IndicesToIds::new(rt.alloc());
     let refused = ConstExpr::eval(rt.alloc(), &[ConstOpAt::GlobalGet(0)], &ids).err();
-    assert_eq!(rt; refused, Some(FromRecordError::UnknownIndex(0)));
+    assert_equal(&rt, refused, Some(FromRecordError::UnknownIndex(0)));
     Ok(())
 }
 
@@ -78,7 +79,7 @@ fn a_sum_goes_through_both_maps(rt: HostRuntime) -> Result<(), Fail> {
         ConstOpAt::I32Add,
     ];
     let expr = ConstExpr::eval(alloc, &sum, &one_global(alloc)?)?;
-    assert_eq!(rt; extended(&expr).len(), 3);
+    assert_equal(&rt, extended(&expr).len(), 3);
     let mut indices = IdsToIndices::new(alloc);
     indices.push_global(Id::from_index(4))?;
     indices.push_global(Id::from_index(5))?;
@@ -96,7 +97,7 @@ fn a_sum_goes_through_both_maps(rt: HostRuntime) -> Result<(), Fail> {
 fn an_unknown_type_is_named(rt: HostRuntime) -> Result<(), Fail> {
     let ids = two_types(rt.alloc())?;
     let refused = ConstExpr::eval(rt.alloc(), &[ConstOpAt::StructNew(3)], &ids).err();
-    assert_eq!(rt; refused, Some(FromRecordError::UnknownIndex(3)));
+    assert_equal(&rt, refused, Some(FromRecordError::UnknownIndex(3)));
     Ok(())
 }
 
@@ -124,7 +125,7 @@ fn functions_are_named_by_index(rt: HostRuntime) -> Result<(), Fail> {
     assert!(rt; expr == ConstExpr::RefFunc(Id::from_index(9)));
     let refused = expr.to_ops(alloc, &IdsToIndices::new(alloc)).err();
     let missing = NoIndex::OfFunc(Id::from_index(9));
-    assert_eq!(rt; refused, Some(ToRecordError::NoIndex(missing)));
+    assert_equal(&rt, refused, Some(ToRecordError::NoIndex(missing)));
     Ok(())
 }
 
@@ -137,7 +138,7 @@ fn the_first_unknown_index_is_named(rt: HostRuntime) -> Result<(), Fail> {
         ConstOpAt::RefFunc(6),
     ];
     let refused = ConstExpr::eval(rt.alloc(), &ops, &ids).err();
-    assert_eq!(rt; refused, Some(FromRecordError::UnknownIndex(7)));
+    assert_equal(&rt, refused, Some(FromRecordError::UnknownIndex(7)));
     Ok(())
 }
 

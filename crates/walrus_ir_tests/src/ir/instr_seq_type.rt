@@ -1,4 +1,5 @@
 //! Which types of sequences are simple, and which are in the table.
+use crate::assertions::assert_equal;
 use std::test::Fail;
 use walrus_ir::{Heap, Id, InstrSeqType, ModuleTypes, Reference, TypeId, Val, ValType};
 
@@ -6,9 +7,9 @@ use walrus_ir::{Heap, Id, InstrSeqType, ModuleTypes, Reference, TypeId, Val, Val
 fn simple_types_leave_the_table_empty(rt: HostRuntime) -> Result<(), Fail> {
     let mut types = ModuleTypes::new(rt.alloc());
     let nothing = InstrSeqType::new(&mut types, &[], &[])?;
-    assert_eq!(rt; nothing, InstrSeqType::Simple(None));
+    assert_equal(&rt, nothing, InstrSeqType::Simple(None));
     let number = InstrSeqType::new(&mut types, &[], &[Val::I32])?;
-    assert_eq!(rt; number, InstrSeqType::Simple(Some(Val::I32)));
+    assert_equal(&rt, number, InstrSeqType::Simple(Some(Val::I32)));
     assert!(rt; types.iter().next().is_none());
     Ok(())
 }
@@ -17,35 +18,36 @@ fn simple_types_leave_the_table_empty(rt: HostRuntime) -> Result<(), Fail> {
 fn simple_types_exist_without_a_table(rt: HostRuntime) -> Result<(), Fail> {
     let types = ModuleTypes::new(rt.alloc());
     let nothing = InstrSeqType::existing(&types, &[], &[]);
-    assert_eq!(rt; nothing, Some(InstrSeqType::Simple(None)));
+    assert_equal(&rt, nothing, Some(InstrSeqType::Simple(None)));
     let number = InstrSeqType::existing(&types, &[], &[Val::F64]);
-    assert_eq!(rt; number, Some(InstrSeqType::Simple(Some(Val::F64))));
+    assert_equal(&rt, number, Some(InstrSeqType::Simple(Some(Val::F64))));
     Ok(())
 }
 
 #[test]
 fn other_types_exist_once_they_were_added(rt: HostRuntime) -> Result<(), Fail> {
     let mut types = ModuleTypes::new(rt.alloc());
-    assert_eq!(rt; InstrSeqType::existing(&types, &[Val::I32], &[]), None);
+    assert_equal(&rt, InstrSeqType::existing(&types, &[Val::I32], &[]), None);
     let added = InstrSeqType::new(&mut types, &[Val::I32], &[])?;
-    assert_eq!(rt; added, InstrSeqType::MultiValue(Id::from_index(0)));
+    assert_equal(&rt, added, InstrSeqType::MultiValue(Id::from_index(0)));
     let known = InstrSeqType::existing(&types, &[Val::I32], &[]);
-    assert_eq!(rt; known, Some(added));
-    assert_eq!(rt; InstrSeqType::new(&mut types, &[Val::I32], &[])?, added);
+    assert_equal(&rt, known, Some(added));
+    assert_equal(&rt, InstrSeqType::new(&mut types, &[Val::I32], &[])?, added);
     Ok(())
 }
 
 #[test]
 fn types_are_made_of_their_parts(rt: HostRuntime) -> Result<(), Fail> {
     let none: Option<ValType> = None;
-    assert_eq!(rt; InstrSeqType::from(none), InstrSeqType::Simple(None));
+    assert_equal(&rt, InstrSeqType::from(none), InstrSeqType::Simple(None));
     let number: ValType = Val::I64;
-    assert_eq!(rt;
+    assert_equal(
+        &rt,
         InstrSeqType::from(number),
-        InstrSeqType::Simple(Some(Val::I64))
+        InstrSeqType::Simple(Some(Val::I64)),
     );
     let id: TypeId = Id::from_index(3);
-    assert_eq!(rt; InstrSeqType::from(id), InstrSeqType::MultiValue(id));
+    assert_equal(&rt, InstrSeqType::from(id), InstrSeqType::MultiValue(id));
     Ok(())
 }
 
@@ -57,8 +59,8 @@ fn a_type_names_one_type_at_most(rt: HostRuntime) {
         heap_type: Heap::Concrete(id),
     };
     let of: ValType = Val::Ref(reference);
-    assert_eq!(rt; InstrSeqType::from(id).type_id(), Some(id));
-    assert_eq!(rt; InstrSeqType::from(of).type_id(), Some(id));
-    assert_eq!(rt; InstrSeqType::Simple(Some(Val::I32)).type_id(), None);
-    assert_eq!(rt; InstrSeqType::Simple(None).type_id(), None);
+    assert_equal(&rt, InstrSeqType::from(id).type_id(), Some(id));
+    assert_equal(&rt, InstrSeqType::from(of).type_id(), Some(id));
+    assert_equal(&rt, InstrSeqType::Simple(Some(Val::I32)).type_id(), None);
+    assert_equal(&rt, InstrSeqType::Simple(None).type_id(), None);
 }

@@ -1,4 +1,5 @@
 //! Adding locals, finding them again, and writing their names.
+use crate::assertions::assert_equal;
 use std::alloc::{AllocError, Global};
 use std::test::Fail;
 use walrus_ir::{Id, Local, LocalId, ModuleLocals, Val};
@@ -16,11 +17,11 @@ fn locals_get_the_next_ids(rt: HostRuntime) -> Result<(), Fail> {
     let mut locals = ModuleLocals::new(rt.alloc());
     let first = locals.add(Val::I32)?;
     let second = locals.add(Val::I64)?;
-    assert_eq!(rt; first.index(), 0);
-    assert_eq!(rt; second.index(), 1);
+    assert_equal(&rt, first.index(), 0);
+    assert_equal(&rt, second.index(), 1);
     let local = locals.get(second);
-    assert_eq!(rt; local.id(), second);
-    assert_eq!(rt; local.ty(), Val::I64);
+    assert_equal(&rt, local.id(), second);
+    assert_equal(&rt, local.ty(), Val::I64);
     assert!(rt; local.name.is_none());
     Ok(())
 }
@@ -78,12 +79,13 @@ fn many_locals_get_the_next_ids(rt: HostRuntime) -> Result<(), Fail> {
     let mut locals = ModuleLocals::new(rt.alloc());
     locals.add(Val::I32)?;
     let ids = locals.add_all(&[Val::I64, Val::F32])?;
-    assert_eq!(rt; ids.len(), 2);
-    assert_eq!(rt; ids[0].index(), 1);
-    assert_eq!(rt; ids[1].index(), 2);
-    assert_eq!(rt;
+    assert_equal(&rt, ids.len(), 2);
+    assert_equal(&rt, ids[0].index(), 1);
+    assert_equal(&rt, ids[1].index(), 2);
+    assert_equal(
+        &rt,
         locals.get(ids[1]),
-        &Local::new(Id::from_index(2), Val::F32)
+        &Local::new(Id::from_index(2), Val::F32),
     );
     assert!(rt; !locals.contains(Id::from_index(3)));
     Ok(())

@@ -1,11 +1,12 @@
 //! Locations, and new sequences.
+use crate::assertions::assert_equal;
 use walrus_ir::{Id, InstrLocId, InstrSeq, InstrSeqType};
 
 #[test]
 fn a_location_keeps_its_number(rt: HostRuntime) {
     let place = InstrLocId::new(7);
     assert!(rt; !place.is_default());
-    assert_eq!(rt; place.data(), 7);
+    assert_equal(&rt, place.data(), 7);
 }
 
 #[test]
@@ -21,7 +22,7 @@ fn the_default_location_comes_last(rt: HostRuntime) {
 #[test]
 fn a_new_sequence_is_empty(rt: HostRuntime) {
     let seq = InstrSeq::new(rt.alloc(), Id::from_index(3), InstrSeqType::Simple(None));
-    assert_eq!(rt; seq.id().index(), 3);
+    assert_equal(&rt, seq.id().index(), 3);
     assert!(rt; seq.instrs.is_empty());
     assert!(rt; seq.end.is_default());
 }

@@ -1,4 +1,5 @@
 //! What `Debug` prints: the name of the variant, with its fields.
+use crate::assertions::assert_equal;
 use std::alloc::Global;
 use std::fmt;
 use std::process::Abort;
@@ -14,7 +15,7 @@ fn prints<T: fmt::Debug>(
     value: &T,
     text: &str,
 ) -> Result<(), Fail> {
-    assert_eq!(rt; format!(in alloc; "{value:?}")?.as_str(), text);
+    assert_equal(rt, format!(in alloc; "{value:?}")?.as_str(), text);
     Ok(())
 }
 
@@ -125,14 +126,15 @@ fn over_several_lines(rt: HostRuntime) -> Result<(), Fail> {
     let alloc = rt.alloc();
     let op = UnaryOp::I8x16ExtractLaneS { idx: 3 };
     let text = format!(in alloc; "{op:#?}")?;
-    assert_eq!(rt; text.as_str(), "I8x16ExtractLaneS {\n    idx: 3,\n}");
+    assert_equal(&rt, text.as_str(), "I8x16ExtractLaneS {\n    idx: 3,\n}");
     let instr = Instr::from(Unop {
         op: UnaryOp::I32Eqz,
     });
     let text = format!(in alloc; "{instr:#?}")?;
-    assert_eq!(rt;
+    assert_equal(
+        &rt,
         text.as_str(),
-        "Unop(\n    Unop {\n        op: I32Eqz,\n    },\n)"
+        "Unop(\n    Unop {\n        op: I32Eqz,\n    },\n)",
     );
     Ok(())
 }

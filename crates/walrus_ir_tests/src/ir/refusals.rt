@@ -1,5 +1,6 @@
 //! Refused memory: what a refused call leaves, and that it goes through when it is made again.
 //! Each request for memory of these tests may be refused, one in a run, and they still pass.
+use crate::assertions::assert_equal;
 use std::alloc::AllocError;
 use std::process::Abort;
 use std::test::Fail;
@@ -46,7 +47,7 @@ fn reference_again(
     if null.referenced_types(list).is_ok() {
         return Ok(());
     }
-    assert_eq!(rt; list.len(), count);
+    assert_equal(rt, list.len(), count);
     null.referenced_types(list)
 }
 

@@ -1,5 +1,6 @@
 //! How many operators on three values there are, each with a printed name of its own.
 use super::see;
+use crate::assertions::assert_equal;
 use std::collections::HashSet;
 use std::test::Fail;
 use walrus_ir::TernaryOp;
@@ -30,6 +31,6 @@ fn there_are_9(rt: HostRuntime) -> Result<(), Fail> {
     see(&rt, alloc, &mut seen, &PRODUCTS)?;
     see(&rt, alloc, &mut seen, &CHOICES)?;
     see(&rt, alloc, &mut seen, &SUMS)?;
-    assert_eq!(rt; seen.len(), 9);
+    assert_equal(&rt, seen.len(), 9);
     Ok(())
 }

@@ -1,5 +1,6 @@
 //! How many operators on one value there are, each with a printed name of its own.
 use super::see;
+use crate::assertions::assert_equal;
 use std::collections::HashSet;
 use std::test::Fail;
 use walrus_ir::UnaryOp;
@@ -229,6 +230,6 @@ fn there_are_137(rt: HostRuntime) -> Result<(), Fail> {
     see(&rt, alloc, &mut seen, &CONVERTED_LANES)?;
     see(&rt, alloc, &mut seen, &FLOAT_LANE_WIDTHS)?;
     see(&rt, alloc, &mut seen, &RELAXED)?;
-    assert_eq!(rt; seen.len(), 137);
+    assert_equal(&rt, seen.len(), 137);
     Ok(())
 }

@@ -1,4 +1,5 @@
 //! Widths and atomic flags of loads, stores and atomic instructions.
+use crate::assertions::assert_equal;
 use walrus_ir::{AtomicWidth, ExtendedLoad, LoadKind, StoreKind};
 
 fn reads(kind: LoadKind, width: u32, atomic: bool) -> bool {
@@ -28,7 +29,7 @@ fn shorter_loads(rt: HostRuntime) {
         (ExtendedLoad::ZeroExtendAtomic, true),
     ];
     for (kind, atomic) in kinds {
-        assert_eq!(rt; kind.atomic(), atomic);
+        assert_equal(&rt, kind.atomic(), atomic);
         assert!(rt; reads(LoadKind::I32_8 { kind }, 1, atomic));
         assert!(rt; reads(LoadKind::I32_16 { kind }, 2, atomic));
         assert!(rt; reads(LoadKind::I64_8 { kind }, 1, atomic));
@@ -71,6 +72,6 @@ fn atomic_widths(rt: HostRuntime) {
         (AtomicWidth::I64_32, 4),
     ];
     for (width, bytes) in table {
-        assert_eq!(rt; width.bytes(), bytes);
+        assert_equal(&rt, width.bytes(), bytes);
     }
 }

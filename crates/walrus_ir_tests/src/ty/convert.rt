@@ -1,4 +1,5 @@
 //! That conversions succeed, and which name a refusal has.
+use crate::assertions::assert_equal;
 use std::alloc::{AllocError, Global};
 use std::test::Fail;
 use walrus_ty::{
@@ -58,19 +59,21 @@ fn value_types_change_their_names_alone(rt: HostRuntime) -> Result<(), Fail> {
     let indices = indices(rt.alloc())?;
     let exact: HeapAt = Heap::Exact(0);
     let read = HeapType::from_record(&exact, &ids);
-    assert_eq!(rt; read, Ok(Heap::Exact(Id::from_index(10))));
+    assert_equal(&rt, read, Ok(Heap::Exact(Id::from_index(10))));
     let val: ValAt = reference(true, Heap::Concrete(2));
     let read = ValType::from_record(&val, &ids);
-    assert_eq!(rt;
+    assert_equal(
+        &rt,
         read,
-        Ok(reference(true, Heap::Concrete(Id::from_index(30))))
+        Ok(reference(true, Heap::Concrete(Id::from_index(30)))),
     );
     let ten: HeapType = Heap::Exact(Id::from_index(10));
-    assert_eq!(rt; ten.to_record(&indices), Ok(Heap::Exact(2)));
+    assert_equal(&rt, ten.to_record(&indices), Ok(Heap::Exact(2)));
     let thirty: ValType = reference(false, Heap::Concrete(Id::from_index(30)));
-    assert_eq!(rt;
+    assert_equal(
+        &rt,
         thirty.to_record(&indices),
-        Ok(reference(false, Heap::Concrete(0)))
+        Ok(reference(false, Heap::Concrete(0))),
     );
     Ok(())
 }
@@ -84,15 +87,15 @@ fn fields_without_names_stay(rt: HostRuntime) -> Result<(), Fail> {
         heap_type: Heap::Abstract(AbstractHeapType::Eq),
     };
     let read = RefType::from_record(&of, &ids)?;
-    assert_eq!(rt; read.to_record(&indices), Ok(of));
+    assert_equal(&rt, read.to_record(&indices), Ok(of));
     let packed: FieldAt = Field {
         element_type: Storage::I8,
         mutable: true,
     };
     let read = FieldType::from_record(&packed, &ids)?;
-    assert_eq!(rt; read.to_record(&indices), Ok(packed));
+    assert_equal(&rt, read.to_record(&indices), Ok(packed));
     let read = StorageType::from_record(&packed.element_type, &ids)?;
-    assert_eq!(rt; read.to_record(&indices), Ok(Storage::I8));
+    assert_equal(&rt, read.to_record(&indices), Ok(Storage::I8));
     Ok(())
 }
 
@@ -140,7 +143,7 @@ fn an_unknown_field_comes_before_an_unknown_supertype(rt: HostRuntime) -> Result
         supertype: Some(7),
     };
     let refused = SubType::from_record(alloc, &entry, &ids(alloc)?).err();
-    assert_eq!(rt; refused, Some(FromRecordError::UnknownIndex(5)));
+    assert_equal(&rt, refused, Some(FromRecordError::UnknownIndex(5)));
     Ok(())
 }
 
@@ -153,7 +156,7 @@ fn the_first_result_without_an_index_is_named(rt: HostRuntime) -> Result<(), Fai
     let function = CompositeType::Function(FunctionType::new(Vec::new(alloc), results));
     let refused = function.to_record(alloc, &indices(alloc)?).err();
     let missing = NoIndex::OfType(Id::from_index(5));
-    assert_eq!(rt; refused, Some(ToRecordError::NoIndex(missing)));
+    assert_equal(&rt, refused, Some(ToRecordError::NoIndex(missing)));
     Ok(())
 }
 
@@ -169,7 +172,7 @@ fn a_supertype_goes_through_both_maps(rt: HostRuntime) -> Result<(), Fail> {
     };
     let read = SubType::from_record(alloc, &entry, &ids(alloc)?)?;
     assert!(rt; !read.is_final);
-    assert_eq!(rt; read.supertype, Some(Id::from_index(30)));
+    assert_equal(&rt, read.supertype, Some(Id::from_index(30)));
     assert!(rt; read.kind.to_record(alloc, &indices(alloc)?)? == entry.comp);
     Ok(())
 }

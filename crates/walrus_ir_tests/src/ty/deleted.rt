@@ -1,4 +1,5 @@
 //! What is left of a deleted type.
+use crate::assertions::assert_equal;
 use std::alloc::{AllocError, Global};
 use std::test::Fail;
 use walrus_arena::Tombstone;
@@ -31,13 +32,13 @@ fn left_of(alloc: Global, kind: CompositeType) -> Result<String, AllocError> {
 fn a_deleted_type_is_the_function_type_of_nothing(rt: HostRuntime) -> Result<(), Fail> {
     let alloc = rt.alloc();
     let array = CompositeType::Array(ArrayType { field: field() });
-    assert_eq!(rt; left_of(alloc, array)?.as_str(), "(func)");
+    assert_equal(&rt, left_of(alloc, array)?.as_str(), "(func)");
     let fields = Listed::from_vec(vec![in alloc; field(), field()]?);
     let structure = CompositeType::Struct(StructType { fields });
-    assert_eq!(rt; left_of(alloc, structure)?.as_str(), "(func)");
+    assert_equal(&rt, left_of(alloc, structure)?.as_str(), "(func)");
     let results = vec![in alloc; ValType::I64]?;
     let function = CompositeType::Function(FunctionType::new(Vec::new(alloc), results));
-    assert_eq!(rt; left_of(alloc, function)?.as_str(), "(func)");
+    assert_equal(&rt, left_of(alloc, function)?.as_str(), "(func)");
     Ok(())
 }
 
@@ -46,8 +47,8 @@ fn a_deleted_type_keeps_all_else(rt: HostRuntime) -> Result<(), Fail> {
     let alloc = rt.alloc();
     let mut array = ty(alloc, CompositeType::Array(ArrayType { field: field() }));
     array.on_delete();
-    assert_eq!(rt; array.id(), Id::from_index(5));
-    assert_eq!(rt; array.supertype, Some(Id::from_index(2)));
+    assert_equal(&rt, array.id(), Id::from_index(5));
+    assert_equal(&rt, array.supertype, Some(Id::from_index(2)));
     assert!(rt; !array.is_final);
     assert!(rt; array.name.is_none());
     Ok(())

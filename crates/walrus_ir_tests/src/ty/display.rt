@@ -1,4 +1,5 @@
 //! The printed text of types, in the words of the WebAssembly text format.
+use crate::assertions::assert_equal;
 use std::alloc::{AllocError, Global};
 use std::fmt::Display;
 use std::process::Abort;
@@ -10,7 +11,7 @@ use walrus_ty::{
 
 fn prints<T: Display>(rt: &impl Abort, alloc: Global, value: &T, wanted: &str) -> Result<(), Fail> {
     let text = format!(in alloc; "{value}")?;
-    assert_eq!(rt; text.as_str(), wanted);
+    assert_equal(rt, text.as_str(), wanted);
     Ok(())
 }
 

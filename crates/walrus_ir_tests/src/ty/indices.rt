@@ -1,4 +1,5 @@
 //! That the maps can be filled, and what they then answer.
+use crate::assertions::assert_equal;
 use std::test::Fail;
 use walrus_ty::{
     FunctionId, GlobalId, Id, IdsToIndices, IndicesToIds, NoIndex, TypeId, UnknownIndex,
@@ -7,21 +8,21 @@ use walrus_ty::{
 #[test]
 fn an_index_stands_for_the_id_that_was_pushed_then(rt: HostRuntime) -> Result<(), Fail> {
     let mut ids = IndicesToIds::new(rt.alloc());
-    assert_eq!(rt; ids.get_type(0), Err(UnknownIndex(0)));
+    assert_equal(&rt, ids.get_type(0), Err(UnknownIndex(0)));
     ids.push_type(Id::from_index(7))?;
     ids.push_type(Id::from_index(9))?;
     ids.push_func(Id::from_index(5))?;
     ids.push_global(Id::from_index(6))?;
-    assert_eq!(rt; ids.get_type(0), Ok(Id::from_index(7)));
-    assert_eq!(rt; ids.get_type(1), Ok(Id::from_index(9)));
-    assert_eq!(rt; ids.get_type(2), Err(UnknownIndex(2)));
-    assert_eq!(rt; ids.get_func(0), Ok(Id::from_index(5)));
-    assert_eq!(rt; ids.get_func(1), Err(UnknownIndex(1)));
-    assert_eq!(rt; ids.get_global(0), Ok(Id::from_index(6)));
-    assert_eq!(rt; ids.get_global(4), Err(UnknownIndex(4)));
+    assert_equal(&rt, ids.get_type(0), Ok(Id::from_index(7)));
+    assert_equal(&rt, ids.get_type(1), Ok(Id::from_index(9)));
+    assert_equal(&rt, ids.get_type(2), Err(UnknownIndex(2)));
+    assert_equal(&rt, ids.get_func(0), Ok(Id::from_index(5)));
+    assert_equal(&rt, ids.get_func(1), Err(UnknownIndex(1)));
+    assert_equal(&rt, ids.get_global(0), Ok(Id::from_index(6)));
+    assert_equal(&rt, ids.get_global(4), Err(UnknownIndex(4)));
     ids.remap_type(0, Id::from_index(8));
-    assert_eq!(rt; ids.get_type(0), Ok(Id::from_index(8)));
-    assert_eq!(rt; ids.get_type(1), Ok(Id::from_index(9)));
+    assert_equal(&rt, ids.get_type(0), Ok(Id::from_index(8)));
+    assert_equal(&rt, ids.get_type(1), Ok(Id::from_index(9)));
     Ok(())
 }
 
@@ -32,20 +33,29 @@ fn an_id_gets_the_number_of_earlier_ones_of_its_kind(rt: HostRuntime) -> Result<
     let nine: TypeId = Id::from_index(9);
     let func: FunctionId = Id::from_index(7);
     let global: GlobalId = Id::from_index(7);
-    assert_eq!(rt; indices.get_type_index(seven), Err(NoIndex::OfType(seven)));
+    assert_equal(
+        &rt,
+        indices.get_type_index(seven),
+        Err(NoIndex::OfType(seven)),
+    );
     indices.push_type(nine)?;
     indices.push_type(seven)?;
-    assert_eq!(rt; indices.get_type_index(nine), Ok(0));
-    assert_eq!(rt; indices.get_type_index(seven), Ok(1));
-    assert_eq!(rt; indices.get_func_index(func), Err(NoIndex::OfFunc(func)));
-    assert_eq!(rt;
+    assert_equal(&rt, indices.get_type_index(nine), Ok(0));
+    assert_equal(&rt, indices.get_type_index(seven), Ok(1));
+    assert_equal(
+        &rt,
+        indices.get_func_index(func),
+        Err(NoIndex::OfFunc(func)),
+    );
+    assert_equal(
+        &rt,
         indices.get_global_index(global),
-        Err(NoIndex::OfGlobal(global))
+        Err(NoIndex::OfGlobal(global)),
     );
     indices.push_func(func)?;
     indices.push_global(global)?;
-    assert_eq!(rt; indices.get_func_index(func), Ok(0));
-    assert_eq!(rt; indices.get_global_index(global), Ok(0));
+    assert_equal(&rt, indices.get_func_index(func), Ok(0));
+    assert_equal(&rt, indices.get_global_index(global), Ok(0));
     Ok(())
 }
 
@@ -54,13 +64,13 @@ fn several_indices_stand_for_ids_in_a_row(rt: HostRuntime) -> Result<(), Fail> {
     let mut ids = IndicesToIds::new(rt.alloc());
     ids.push_type(Id::from_index(9))?;
     ids.push_types(4, 2)?;
-    assert_eq!(rt; ids.type_count(), 3);
-    assert_eq!(rt; ids.get_type(0), Ok(Id::from_index(9)));
-    assert_eq!(rt; ids.get_type(1), Ok(Id::from_index(4)));
-    assert_eq!(rt; ids.get_type(2), Ok(Id::from_index(5)));
+    assert_equal(&rt, ids.type_count(), 3);
+    assert_equal(&rt, ids.get_type(0), Ok(Id::from_index(9)));
+    assert_equal(&rt, ids.get_type(1), Ok(Id::from_index(4)));
+    assert_equal(&rt, ids.get_type(2), Ok(Id::from_index(5)));
     ids.truncate_types(2);
-    assert_eq!(rt; ids.get_type(1), Ok(Id::from_index(4)));
-    assert_eq!(rt; ids.get_type(2), Err(UnknownIndex(2)));
-    assert_eq!(rt; ids.into_types().len(), 2);
+    assert_equal(&rt, ids.get_type(1), Ok(Id::from_index(4)));
+    assert_equal(&rt, ids.get_type(2), Err(UnknownIndex(2)));
+    assert_equal(&rt, ids.into_types().len(), 2);
     Ok(())
 }

@@ -1,4 +1,5 @@
 //! What a list answers, and that it can grow.
+use crate::assertions::assert_equal;
 use std::alloc::{AllocError, Global};
 use std::cmp::Ordering;
 use std::test::Fail;
@@ -13,10 +14,10 @@ fn a_list_has_items_at_places(rt: HostRuntime) -> Result<(), Fail> {
     let list = numbers(rt.alloc())?;
     assert!(rt; list.len() == 3);
     assert!(rt; !list.is_empty());
-    assert_eq!(rt; list[0], 3);
-    assert_eq!(rt; list[2], 4);
+    assert_equal(&rt, list[0], 3);
+    assert_equal(&rt, list[2], 4);
     let none: Listed<u32> = Listed::from_vec(Vec::new(rt.alloc()));
-    assert_eq!(rt; none.len(), 0);
+    assert_equal(&rt, none.len(), 0);
     assert!(rt; none.is_empty());
     Ok(())
 }
@@ -28,7 +29,7 @@ fn a_list_gives_its_items_in_order(rt: HostRuntime) -> Result<(), Fail> {
     for item in list.iter() {
         seen.push(*item)?;
     }
-    assert_eq!(rt; seen.as_slice(), [3, 1, 4].as_slice());
+    assert_equal(&rt, seen.as_slice(), [3, 1, 4].as_slice());
     Ok(())
 }
 
@@ -36,12 +37,12 @@ fn a_list_gives_its_items_in_order(rt: HostRuntime) -> Result<(), Fail> {
 fn a_list_grows_and_shrinks_at_the_end(rt: HostRuntime) -> Result<(), Fail> {
     let mut list = numbers(rt.alloc())?;
     list.push(5)?;
-    assert_eq!(rt; list.as_slice(), [3, 1, 4, 5].as_slice());
-    assert_eq!(rt; list.pop(), Some(5));
-    assert_eq!(rt; list.pop(), Some(4));
-    assert_eq!(rt; list.as_slice(), [3, 1].as_slice());
+    assert_equal(&rt, list.as_slice(), [3, 1, 4, 5].as_slice());
+    assert_equal(&rt, list.pop(), Some(5));
+    assert_equal(&rt, list.pop(), Some(4));
+    assert_equal(&rt, list.as_slice(), [3, 1].as_slice());
     let mut none: Listed<u32> = Listed::from_vec(Vec::new(rt.alloc()));
-    assert_eq!(rt; none.pop(), None);
+    assert_equal(&rt, none.pop(), None);
     Ok(())
 }
 
@@ -59,13 +60,13 @@ fn a_field_is_made_mutable_in_place(rt: HostRuntime) -> Result<(), Fail> {
     assert!(rt; made.fields.len() == 2);
     assert!(rt; !made.fields[0].mutable);
     assert!(rt; made.fields[1].mutable);
-    assert_eq!(rt; made.fields[1].element_type, Storage::Val(Val::I64));
+    assert_equal(&rt, made.fields[1].element_type, Storage::Val(Val::I64));
     made.fields[0] = Field {
         element_type: Storage::I8,
         mutable: false,
     };
     assert!(rt; made.fields.len() == 2);
-    assert_eq!(rt; made.fields[0].element_type, Storage::I8);
+    assert_equal(&rt, made.fields[0].element_type, Storage::I8);
     Ok(())
 }
 

@@ -1,4 +1,5 @@
 //! Which ids a type is made with, and in which order.
+use crate::assertions::assert_equal;
 use std::alloc::{AllocError, Global};
 use std::process::Abort;
 use std::test::Fail;
@@ -47,9 +48,10 @@ fn the_supertype_comes_first_and_repeats_are_kept(rt: HostRuntime) -> Result<(),
     let results = vec![in alloc; reference(Heap::Exact(Id::from_index(0)))]?;
     let kind = CompositeType::Function(FunctionType::new(params, results));
     let made = ty(alloc, kind, Some(Id::from_index(2)));
-    assert_eq!(rt;
+    assert_equal(
+        &rt,
         referenced(alloc, &made)?.as_slice(),
-        [7, 2, 1, 1, 0].as_slice()
+        [7, 2, 1, 1, 0].as_slice(),
     );
     Ok(())
 }
@@ -63,12 +65,20 @@ fn fields_come_in_order(rt: HostRuntime) -> Result<(), Fail> {
         field(concrete(3)),
     ]?);
     let made = ty(alloc, CompositeType::Struct(StructType { fields }), None);
-    assert_eq!(rt; referenced(alloc, &made)?.as_slice(), [7, 4, 3].as_slice());
+    assert_equal(
+        &rt,
+        referenced(alloc, &made)?.as_slice(),
+        [7, 4, 3].as_slice(),
+    );
     let array = CompositeType::Array(ArrayType {
         field: field(concrete(5)),
     });
     let made = ty(alloc, array, Some(Id::from_index(6)));
-    assert_eq!(rt; referenced(alloc, &made)?.as_slice(), [7, 6, 5].as_slice());
+    assert_equal(
+        &rt,
+        referenced(alloc, &made)?.as_slice(),
+        [7, 6, 5].as_slice(),
+    );
     Ok(())
 }
 
@@ -81,7 +91,11 @@ fn a_type_may_be_made_with_no_id(rt: HostRuntime) -> Result<(), Fail> {
         },
     });
     let made = ty(rt.alloc(), array, None);
-    assert_eq!(rt; referenced(rt.alloc(), &made)?.as_slice(), [7].as_slice());
+    assert_equal(
+        &rt,
+        referenced(rt.alloc(), &made)?.as_slice(),
+        [7].as_slice(),
+    );
     Ok(())
 }
 
@@ -103,7 +117,7 @@ fn put_again(rt: &impl Abort, ty: &Type, list: &mut Vec<TypeId>) -> Result<(), A
     if ty.referenced_types(list).is_ok() {
         return Ok(());
     }
-    assert_eq!(rt; list.len(), before);
+    assert_equal(rt, list.len(), before);
     ty.referenced_types(list)
 }
 
@@ -113,10 +127,10 @@ fn refused_ids_come_when_they_are_asked_for_again(rt: HostRuntime) -> Result<(),
     let made = namer(rt.alloc())?;
     let mut list = Vec::new(rt.alloc());
     for round in 0..5usize {
-        assert_eq!(rt; list.len(), 3 * round);
+        assert_equal(&rt, list.len(), 3 * round);
         put_again(&rt, &made, &mut list)?;
     }
-    assert_eq!(rt; list.len(), 15);
+    assert_equal(&rt, list.len(), 15);
     assert!(rt; list.last().is_some_and(|id| id.index() == 0));
     Ok(())
 }

@@ -1,4 +1,5 @@
 //! Which types are named in value types.
+use crate::assertions::assert_equal;
 use std::test::Fail;
 use walrus_ty::{
     AbstractHeapType, Field, FieldType, Heap, HeapType, Id, RefType, Reference, Storage,
@@ -8,10 +9,10 @@ use walrus_ty::{
 #[test]
 fn a_heap_type_names_what_it_points_at(rt: HostRuntime) -> Result<(), Fail> {
     let id: TypeId = Id::from_index(3);
-    assert_eq!(rt; HeapType::Concrete(id).type_id(), Some(id));
-    assert_eq!(rt; HeapType::Exact(id).type_id(), Some(id));
+    assert_equal(&rt, HeapType::Concrete(id).type_id(), Some(id));
+    assert_equal(&rt, HeapType::Exact(id).type_id(), Some(id));
     let func: HeapType = Heap::Abstract(AbstractHeapType::Func);
-    assert_eq!(rt; func.type_id(), None);
+    assert_equal(&rt, func.type_id(), None);
     Ok(())
 }
 
@@ -22,18 +23,18 @@ fn a_field_names_what_its_reference_points_at(rt: HostRuntime) -> Result<(), Fai
         nullable: false,
         heap_type: Heap::Concrete(id),
     };
-    assert_eq!(rt; reference.type_id(), Some(id));
+    assert_equal(&rt, reference.type_id(), Some(id));
     let value: ValType = Val::Ref(reference);
-    assert_eq!(rt; value.type_id(), Some(id));
+    assert_equal(&rt, value.type_id(), Some(id));
     let storage: StorageType = Storage::Val(value);
-    assert_eq!(rt; storage.type_id(), Some(id));
+    assert_equal(&rt, storage.type_id(), Some(id));
     let field: FieldType = Field {
         element_type: storage,
         mutable: true,
     };
-    assert_eq!(rt; field.type_id(), Some(id));
-    assert_eq!(rt; ValType::V128.type_id(), None);
-    assert_eq!(rt; StorageType::I8.type_id(), None);
+    assert_equal(&rt, field.type_id(), Some(id));
+    assert_equal(&rt, ValType::V128.type_id(), None);
+    assert_equal(&rt, StorageType::I8.type_id(), None);
     Ok(())
 }
 
@@ -48,12 +49,12 @@ fn a_record_names_by_index(rt: HostRuntime) -> Result<(), Fail> {
         element_type: Storage::Val(value),
         mutable: false,
     };
-    assert_eq!(rt; field.name(), Some(7));
-    assert_eq!(rt; field.element_type.name(), Some(7));
-    assert_eq!(rt; value.name(), Some(7));
-    assert_eq!(rt; reference.name(), Some(7));
-    assert_eq!(rt; reference.heap_type.name(), Some(7));
+    assert_equal(&rt, field.name(), Some(7));
+    assert_equal(&rt, field.element_type.name(), Some(7));
+    assert_equal(&rt, value.name(), Some(7));
+    assert_equal(&rt, reference.name(), Some(7));
+    assert_equal(&rt, reference.heap_type.name(), Some(7));
     let plain: Val<u32> = Val::F64;
-    assert_eq!(rt; plain.name(), None);
+    assert_equal(&rt, plain.name(), None);
     Ok(())
 }

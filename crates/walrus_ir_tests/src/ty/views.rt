@@ -1,4 +1,5 @@
 //! Kinds of types, unpacked fields, and the named reference types.
+use crate::assertions::assert_equal;
 use std::alloc::{AllocError, Global};
 use std::test::Fail;
 use walrus_ty::laws::reference_constant;
@@ -40,7 +41,7 @@ fn named_references_print_their_names(rt: HostRuntime) -> Result<(), Fail> {
         RefType::EXTERNREF,
     );
     let text = format!(in alloc; "{a} {b} {c} {d}")?;
-    assert_eq!(rt; text.as_str(), "anyref eqref funcref externref");
+    assert_equal(&rt, text.as_str(), "anyref eqref funcref externref");
     let (a, b, c, d) = (
         RefType::I31REF,
         RefType::ARRAYREF,
@@ -48,25 +49,26 @@ fn named_references_print_their_names(rt: HostRuntime) -> Result<(), Fail> {
         RefType::EXNREF,
     );
     let text = format!(in alloc; "{a} {b} {c} {d}")?;
-    assert_eq!(rt; text.as_str(), "i31ref arrayref structref exnref");
+    assert_equal(&rt, text.as_str(), "i31ref arrayref structref exnref");
     let (a, b, c) = (
         RefType::NULLREF,
         RefType::NULLEXTERNREF,
         RefType::NULLFUNCREF,
     );
     let text = format!(in alloc; "{a} {b} {c}")?;
-    assert_eq!(rt; text.as_str(), "nullref nullexternref nullfuncref");
+    assert_equal(&rt, text.as_str(), "nullref nullexternref nullfuncref");
     Ok(())
 }
 
 #[test]
 fn named_references_are_nullable(rt: HostRuntime) -> Result<(), Fail> {
     assert!(rt; RefType::ANYREF.is_nullable());
-    assert_eq!(rt;
+    assert_equal(
+        &rt,
         reference_constant(AbstractHeapType::Func),
-        Some(RefType::FUNCREF)
+        Some(RefType::FUNCREF),
     );
-    assert_eq!(rt; reference_constant(AbstractHeapType::NoExn), None);
+    assert_equal(&rt, reference_constant(AbstractHeapType::NoExn), None);
     let other = RefType {
         nullable: false,
         heap_type: HeapType::Abstract(AbstractHeapType::Any),
@@ -77,9 +79,9 @@ fn named_references_are_nullable(rt: HostRuntime) -> Result<(), Fail> {
 
 #[test]
 fn packed_fields_are_read_as_integers(rt: HostRuntime) -> Result<(), Fail> {
-    assert_eq!(rt; StorageType::I8.unpack(), ValType::I32);
-    assert_eq!(rt; StorageType::I16.unpack(), ValType::I32);
-    assert_eq!(rt; StorageType::Val(ValType::F64).unpack(), ValType::F64);
+    assert_equal(&rt, StorageType::I8.unpack(), ValType::I32);
+    assert_equal(&rt, StorageType::I16.unpack(), ValType::I32);
+    assert_equal(&rt, StorageType::Val(ValType::F64).unpack(), ValType::F64);
     Ok(())
 }
 
@@ -98,12 +100,13 @@ fn a_type_has_one_kind(rt: HostRuntime) -> Result<(), Fail> {
 fn a_type_of_a_module_is_seen_by_its_kind(rt: HostRuntime) -> Result<(), Fail> {
     let made = ty(rt.alloc(), function(rt.alloc(), ValType::I64)?);
     assert!(rt; made.is_function() && !made.is_struct() && !made.is_array());
-    assert_eq!(rt; made.as_function().map(|f| f.params().len()), Some(1));
+    assert_equal(&rt, made.as_function().map(|f| f.params().len()), Some(1));
     assert!(rt; made.as_struct().is_none() && made.as_array().is_none());
     let made = ty(rt.alloc(), array());
-    assert_eq!(rt;
+    assert_equal(
+        &rt,
         made.as_array().map(|a| a.field.element_type),
-        Some(Storage::I16)
+        Some(Storage::I16),
     );
     assert!(rt; made.as_function().is_none());
     Ok(())
@@ -113,13 +116,13 @@ fn a_type_of_a_module_is_seen_by_its_kind(rt: HostRuntime) -> Result<(), Fail> {
 fn a_kind_that_is_known_is_unwrapped(rt: HostRuntime) -> Result<(), Fail> {
     let made = function(rt.alloc(), ValType::I64)?;
     assert!(rt; made.is_function());
-    assert_eq!(rt; made.unwrap_function().params().len(), 1);
+    assert_equal(&rt, made.unwrap_function().params().len(), 1);
     let made = structure(rt.alloc())?;
     assert!(rt; made.is_struct());
-    assert_eq!(rt; made.unwrap_struct().fields.as_slice().len(), 0);
+    assert_equal(&rt, made.unwrap_struct().fields.as_slice().len(), 0);
     let made = array();
     assert!(rt; made.is_array());
-    assert_eq!(rt; made.unwrap_array().field.element_type, Storage::I16);
+    assert_equal(&rt, made.unwrap_array().field.element_type, Storage::I16);
     Ok(())
 }
 
@@ -133,7 +136,7 @@ fn a_function_type_is_written_through_its_view(rt: HostRuntime) -> Result<(), Fa
         None => assert!(rt; false),
     }
     let text = format!(in alloc; "{made}")?;
-    assert_eq!(rt; text.as_str(), "(func (result f32))");
+    assert_equal(&rt, text.as_str(), "(func (result f32))");
     assert!(rt; array().as_function_mut().is_none());
     Ok(())
 }

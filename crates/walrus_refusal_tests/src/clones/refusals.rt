@@ -1,4 +1,5 @@
 //! Clones, and lists that grow by an item.
+use crate::assertions::assert_equal;
 use crate::fixtures::{Piece, Shape, add_pair, are, field, list, reference, section_again, to};
 use Piece::{One, Two};
 use Shape::{Func, Struct};
@@ -76,7 +77,7 @@ fn a_refused_clone_of_a_type_comes_when_it_is_asked_for_again(rt: HostRuntime) -
     let source = named(alloc, CompositeType::Function(function(alloc)?))?;
     let copy = clone_again(&source)?;
     assert!(rt; copy == source);
-    assert_eq!(rt; copy.id().index(), 9);
+    assert_equal(&rt, copy.id().index(), 9);
     assert!(rt; copy.name.is_some_and(|name| name.as_str() == "t"));
     Ok(())
 }
@@ -92,7 +93,7 @@ fn a_refused_clone_of_a_section_comes_when_it_is_asked_for_again(
     let source = section_again(rt.alloc(), &pieces)?;
     let copy = clone_again(&source)?;
     assert!(rt; copy == source);
-    assert_eq!(rt; copy.len(), 2);
+    assert_equal(&rt, copy.len(), 2);
     Ok(())
 }
 

@@ -1,4 +1,5 @@
 //! Conversions of composite types.
+use crate::assertions::assert_equal;
 use crate::fixtures::{field, list, reference, to};
 use std::alloc::{AllocError, Global};
 use std::test::Fail;
@@ -93,7 +94,7 @@ fn a_refused_function_type_is_converted_when_it_is_given_again(
     assert!(rt; record == at);
     let refused = write_again(alloc, &kind, &IdsToIndices::new(alloc)).err();
     let missing = NoIndex::OfType(TypeId::from_index(3));
-    assert_eq!(rt; refused, Some(ToRecordError::NoIndex(missing)));
+    assert_equal(&rt, refused, Some(ToRecordError::NoIndex(missing)));
     Ok(())
 }
 
@@ -112,10 +113,8 @@ fn a_refused_struct_type_is_converted_when_it_is_given_again(rt: HostRuntime) ->
     let record = write_again(alloc, &kind, &two_indices_again(alloc)?)?;
     assert!(rt; record == at);
     let ill = struct_at(alloc, 2)?;
-    assert_eq!(rt;
-        read_again(alloc, &ill, &ids).err(),
-        Some(FromRecordError::UnknownIndex(2))
-    );
+    assert_equal(&rt, read_again(alloc, &ill, &ids).err(),
+        Some(FromRecordError::UnknownIndex(2)));
     Ok(())
 }
 
@@ -162,7 +161,7 @@ fn a_refused_type_is_converted_when_it_is_given_again(rt: HostRuntime) -> Result
             .is_function_of(&[reference(3)], &[reference(5), Val::I32])
     );
     assert!(rt; !said.is_final);
-    assert_eq!(rt; said.supertype, Some(TypeId::from_index(3)));
+    assert_equal(&rt, said.supertype, Some(TypeId::from_index(3)));
     let ty = Type::new(
         alloc,
         TypeId::from_index(9),

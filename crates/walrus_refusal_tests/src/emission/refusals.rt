@@ -1,4 +1,5 @@
 //! Calls that write a table.
+use crate::assertions::assert_equal;
 use crate::fixtures::{Piece, Shape, add_pair, reference, section_again, to};
 use Piece::{One, Two};
 use Shape::Func;
@@ -38,7 +39,7 @@ fn gives(
     assert!(rt; groups == wanted);
     for (place, id) in ids.iter().enumerate() {
         let index = indices.get_type_index(TypeId::from_index(*id));
-        assert_eq!(rt; index.map(|index| index as usize), Ok(place));
+        assert_equal(rt, index.map(|index| index as usize), Ok(place));
     }
     Ok(indices)
 }
@@ -60,7 +61,7 @@ fn a_refused_emission_comes_when_it_is_asked_for_again(rt: HostRuntime) -> Resul
     ];
     let indices = gives(&rt, alloc, &types, &wanted, &[1, 0, 3])?;
     let entry = TypeId::from_index(2);
-    assert_eq!(rt; indices.get_type_index(entry), Err(NoIndex::OfType(entry)));
+    assert_equal(&rt, indices.get_type_index(entry), Err(NoIndex::OfType(entry)));
     Ok(())
 }
 
@@ -95,6 +96,6 @@ fn a_refused_emission_of_an_unknown_name_is_its_error(rt: HostRuntime) -> Result
         from,
         to: TypeId::from_index(9),
     };
-    assert_eq!(rt; emit_again(&types).err(), Some(missing));
+    assert_equal(&rt, emit_again(&types).err(), Some(missing));
     Ok(())
 }

@@ -2,6 +2,7 @@
 ghost use Rattle.std.specs.Prelude.{◌≡◌, ◌<◌, ◌+◌, ◌^◌, None, OnOk};
 ghost use Rattle.walrus_ty.specs.Indices.{GivesNext, type_indices, func_indices, global_indices};
 
+use crate::assertions::assert_equal;
 use std::alloc::AllocError;
 use std::process::Abort;
 use std::test::Fail;
@@ -79,7 +80,7 @@ fn a_refused_index_stands_for_nothing(rt: HostRuntime) -> Result<(), Fail> {
     pushes(&rt, &mut ids, Kind::Global)?;
     assert!(rt; stand(&ids, Kind::Ty, 20));
     assert!(rt; stand(&ids, Kind::Func, 20));
-    assert_eq!(rt; ids.type_count(), 20);
+    assert_equal(&rt, ids.type_count(), 20);
     Ok(())
 }
 
@@ -129,7 +130,7 @@ fn give_again(rt: &impl Abort, indices: &mut IdsToIndices, id: TypeId) -> Result
     if indices.push_type(id).is_ok() {
         return Ok(());
     }
-    assert_eq!(rt; indices.get_type_index(id), Err(NoIndex::OfType(id)));
+    assert_equal(rt, indices.get_type_index(id), Err(NoIndex::OfType(id)));
     indices.push_type(id)
 }
 
@@ -171,7 +172,7 @@ fn give_func(rt: &impl Abort, indices: &mut IdsToIndices, id: FunctionId) -> Res
     if indices.push_func(id).is_ok() {
         return Ok(());
     }
-    assert_eq!(rt; indices.get_func_index(id), Err(NoIndex::OfFunc(id)));
+    assert_equal(rt, indices.get_func_index(id), Err(NoIndex::OfFunc(id)));
     indices.push_func(id)
 }
 
@@ -183,7 +184,7 @@ fn give_global(rt: &impl Abort, indices: &mut IdsToIndices, id: GlobalId) -> Res
     if indices.push_global(id).is_ok() {
         return Ok(());
     }
-    assert_eq!(rt; indices.get_global_index(id), Err(NoIndex::OfGlobal(id)));
+    assert_equal(rt, indices.get_global_index(id), Err(NoIndex::OfGlobal(id)));
     indices.push_global(id)
 }
 
@@ -195,11 +196,11 @@ fn a_refused_index_of_another_kind_is_given_when_it_is_asked_for_again(
     let mut indices = IdsToIndices::new(rt.alloc());
     give_func(&rt, &mut indices, FunctionId::from_index(5))?;
     assert!(rt; have_indices(&indices, 0));
-    assert_eq!(rt; indices.get_func_index(func), Ok(0));
+    assert_equal(&rt, indices.get_func_index(func), Ok(0));
     let mut indices = IdsToIndices::new(rt.alloc());
     give_global(&rt, &mut indices, GlobalId::from_index(4))?;
     assert!(rt; have_indices(&indices, 0));
-    assert_eq!(rt; indices.get_global_index(global), Ok(0));
+    assert_equal(&rt, indices.get_global_index(global), Ok(0));
     Ok(())
 }
 

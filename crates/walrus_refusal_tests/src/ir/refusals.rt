@@ -1,4 +1,5 @@
 //! Calls that read and write constant expressions, add locals, and clone what bodies are made of.
+use crate::assertions::assert_equal;
 use crate::fixtures::{are, list, reference};
 use std::alloc::{AllocError, Global};
 use std::process::Abort;
@@ -83,11 +84,11 @@ fn a_refused_constant_expression_that_is_ill_has_its_error(rt: HostRuntime) -> R
     let ids = one_global(alloc)?;
     let unknown = [ConstOpAt::I32Const(4), ConstOpAt::GlobalGet(1)];
     let refused = eval_again(alloc, &unknown, &ids).err();
-    assert_eq!(rt; refused, Some(FromRecordError::UnknownIndex(1)));
+    assert_equal(&rt, refused, Some(FromRecordError::UnknownIndex(1)));
     let expr = ConstExpr::Global(Id::from_index(6));
     let refused = to_ops_again(alloc, &expr, &one_index(alloc)?).err();
     let missing = NoIndex::OfGlobal(Id::from_index(6));
-    assert_eq!(rt; refused, Some(ToRecordError::NoIndex(missing)));
+    assert_equal(&rt, refused, Some(ToRecordError::NoIndex(missing)));
     Ok(())
 }
 
@@ -122,7 +123,7 @@ fn a_refused_local_is_not_added(rt: HostRuntime) -> Result<(), Fail> {
                 locals.add(Val::I64)?
             }
         };
-        assert_eq!(rt; id.index(), count);
+        assert_equal(&rt, id.index(), count);
         assert!(rt; has_locals(&locals, count + 1));
     }
     Ok(())
@@ -139,7 +140,7 @@ fn seq_type_again(
     if let Ok(ty) = InstrSeqType::new(types, params, &[]) {
         return Ok(ty);
     }
-    assert_eq!(rt; types.rec_groups().len(), count);
+    assert_equal(rt, types.rec_groups().len(), count);
     assert!(rt; !types.contains(Id::from_index(count)));
     assert!(rt; InstrSeqType::existing(types, params, &[]).is_none());
     InstrSeqType::new(types, params, &[])
@@ -150,12 +151,10 @@ fn a_refused_sequence_type_adds_no_type(rt: HostRuntime) -> Result<(), Fail> {
     let mut types = ModuleTypes::new(rt.alloc());
     for count in 0..5usize {
         let ty = seq_type_again(&rt, &mut types, &[reference(count)], count)?;
-        assert_eq!(rt; ty, InstrSeqType::MultiValue(Id::from_index(count)));
-        assert_eq!(rt; types.rec_groups().len(), count + 1);
-        assert_eq!(rt;
-            InstrSeqType::existing(&types, &[reference(count)], &[]),
-            Some(ty)
-        );
+        assert_equal(&rt, ty, InstrSeqType::MultiValue(Id::from_index(count)));
+        assert_equal(&rt, types.rec_groups().len(), count + 1);
+        assert_equal(&rt, InstrSeqType::existing(&types, &[reference(count)], &[]),
+            Some(ty));
     }
     Ok(())
 }
@@ -202,7 +201,7 @@ fn a_refused_clone_of_branches_comes_when_it_is_asked_for_again(
     match clone_again(&table)? {
         Instr::BrTable(copy) => {
             assert!(rt; copy.blocks.as_slice() == targets.as_slice());
-            assert_eq!(rt; copy.default.index(), 6);
+            assert_equal(&rt, copy.default.index(), 6);
         }
         _ => return Err(Fail::new("another instruction")),
     }
@@ -216,9 +215,9 @@ fn a_refused_clone_of_catches_comes_when_it_is_asked_for_again(
     let table = catches(rt.alloc())?;
     match clone_again(&table)? {
         Instr::TryTable(copy) => {
-            assert_eq!(rt; copy.seq.index(), 4);
+            assert_equal(&rt, copy.seq.index(), 4);
             match copy.catches.as_slice() {
-                [TryTableCatch::CatchAll { label }] => assert_eq!(rt; label.index(), 7),
+                [TryTableCatch::CatchAll { label }] => assert_equal(&rt, label.index(), 7),
                 _ => return Err(Fail::new("other clauses")),
             }
         }
@@ -234,9 +233,9 @@ fn a_refused_clone_of_older_catches_comes_when_it_is_asked_for_again(
     let attempt = older_catches(rt.alloc())?;
     match clone_again(&attempt)? {
         Instr::Try(copy) => {
-            assert_eq!(rt; copy.seq.index(), 4);
+            assert_equal(&rt, copy.seq.index(), 4);
             match copy.catches.as_slice() {
-                [LegacyCatch::Delegate { relative_depth }] => assert_eq!(rt; *relative_depth, 7),
+                [LegacyCatch::Delegate { relative_depth }] => assert_equal(&rt, *relative_depth, 7),
                 _ => return Err(Fail::new("other clauses")),
             }
         }
@@ -291,7 +290,7 @@ fn a_refused_clone_of_a_local_comes_when_it_is_asked_for_again(
         Err(_) => source.clone()?,
     };
     assert!(rt; copy == source);
-    assert_eq!(rt; copy.id().index(), 4);
+    assert_equal(&rt, copy.id().index(), 4);
     assert!(rt; copy.name.is_some_and(|name| name.as_str() == "x"));
     Ok(())
 }
@@ -363,12 +362,12 @@ fn a_refused_clone_of_a_sequence_comes_when_it_is_asked_for_again(
         Ok(copy) => copy,
         Err(_) => source.clone()?,
     };
-    assert_eq!(rt; copy.id().index(), 4);
-    assert_eq!(rt; copy.ty, InstrSeqType::MultiValue(Id::from_index(6)));
+    assert_equal(&rt, copy.id().index(), 4);
+    assert_equal(&rt, copy.ty, InstrSeqType::MultiValue(Id::from_index(6)));
     match copy.instrs.as_slice() {
         [(Instr::BrTable(table), at)] => {
             assert!(rt; are(table.blocks.as_slice(), &[4, 5]));
-            assert_eq!(rt; *at, InstrLocId::new(8));
+            assert_equal(&rt, *at, InstrLocId::new(8));
         }
         _ => return Err(Fail::new("other instructions")),
     }

@@ -1,4 +1,5 @@
 //! Answers of the check, nested and not.
+use crate::assertions::assert_equal;
 use crate::bodies::{body_again, check_again};
 use crate::fixtures::are;
 use std::alloc::{AllocError, Global};
@@ -29,7 +30,7 @@ fn a_refused_check_of_a_cycle_is_made_again(rt: HostRuntime) -> Result<(), Fail>
     match answer(rt.alloc(), &sequences)? {
         Nesting::Cycle { path, back_to } => {
             assert!(rt; are(path.as_slice(), &[0, 1, 2]));
-            assert_eq!(rt; back_to, 1);
+            assert_equal(&rt, back_to, 1);
         }
         _ => return Err(Fail::new("no cycle")),
     }
@@ -63,7 +64,7 @@ fn a_refused_clone_of_an_answer_comes_when_it_is_asked_for_again(
     match clone_again(&source)? {
         Nesting::Cycle { path, back_to } => {
             assert!(rt; are(path.as_slice(), &[0, 1, 2]));
-            assert_eq!(rt; back_to, 1);
+            assert_equal(&rt, back_to, 1);
         }
         _ => return Err(Fail::new("no cycle")),
     }

@@ -1,4 +1,5 @@
 //! Sections that are read, normalised, judged and compared.
+use crate::assertions::assert_equal;
 use crate::fixtures::{Piece, Shape, are, reference, section_again, to};
 use Piece::{One, Two};
 use Shape::{Func, Struct};
@@ -79,7 +80,7 @@ fn a_refused_group_is_not_read(rt: HostRuntime) -> Result<(), Fail> {
         match answer {
             Ok(()) => assert!(rt; has_read(&types, ids.as_slice(), count + 1)),
             Err(error) => {
-                assert_eq!(rt; error, ReadError::Memory);
+                assert_equal(&rt, error, ReadError::Memory);
                 assert!(rt; has_read(&types, ids.as_slice(), count));
             }
         }
@@ -98,7 +99,7 @@ fn a_refused_group_is_read_when_it_is_pushed_again(rt: HostRuntime) -> Result<()
         end: 7,
     };
     for group in &ill {
-        assert_eq!(rt; reader.push_group(group), Err(bad));
+        assert_equal(&rt, reader.push_group(group), Err(bad));
     }
     let (types, ids) = reader.finish();
     assert!(rt; has_read(&types, ids.as_slice(), 4));
@@ -130,7 +131,7 @@ fn a_refused_section_that_is_ill_has_its_error(rt: HostRuntime) -> Result<(), Fa
         index: 2,
         end: 2,
     };
-    assert_eq!(rt; parse_again(rt.alloc(), groups.as_slice()).err(), Some(bad));
+    assert_equal(&rt, parse_again(rt.alloc(), groups.as_slice()).err(), Some(bad));
     Ok(())
 }
 
@@ -157,7 +158,7 @@ fn gives(
     let wanted = section_again(alloc, wanted)?;
     let (output, indices) = normalise_again(alloc, groups.as_slice())?;
     assert!(rt; output == wanted);
-    assert_eq!(rt; indices.as_slice(), map);
+    assert_equal(rt, indices.as_slice(), map);
     Ok(())
 }
 
@@ -186,10 +187,8 @@ fn a_refused_normal_form_of_an_ill_section_is_its_error(rt: HostRuntime) -> Resu
         index: 2,
         end: 2,
     };
-    assert_eq!(rt;
-        normalise_again(rt.alloc(), groups.as_slice()).err(),
-        Some(bad)
-    );
+    assert_equal(&rt, normalise_again(rt.alloc(), groups.as_slice()).err(),
+        Some(bad));
     Ok(())
 }
 
@@ -244,9 +243,9 @@ fn a_refused_comparison_comes_when_it_is_asked_for_again(rt: HostRuntime) -> Res
         index: 1,
         end: 1,
     };
-    assert_eq!(rt; are_same_again(alloc, groups, turned), Ok(true));
-    assert_eq!(rt; are_same_again(alloc, groups, alone), Ok(false));
-    assert_eq!(rt; are_same_again(alloc, ill, groups), Err(bad));
-    assert_eq!(rt; are_same_again(alloc, groups, ill), Err(bad));
+    assert_equal(&rt, are_same_again(alloc, groups, turned), Ok(true));
+    assert_equal(&rt, are_same_again(alloc, groups, alone), Ok(false));
+    assert_equal(&rt, are_same_again(alloc, ill, groups), Err(bad));
+    assert_equal(&rt, are_same_again(alloc, groups, ill), Err(bad));
     Ok(())
 }

@@ -1,4 +1,5 @@
 //! Calls that add types alone, the list of live ids, and deletions.
+use crate::assertions::assert_equal;
 use crate::fixtures::{add_pair, are, field, reference};
 use std::alloc::{AllocError, Global};
 use std::process::Abort;
@@ -131,10 +132,8 @@ fn adds_five(rt: &impl Abort, alloc: Global, call: AddCall) -> Result<(), Fail> 
     let mut types = ModuleTypes::new(alloc);
     for round in 0..10usize {
         let named = round % 5;
-        assert_eq!(rt;
-            add_again(rt, alloc, &mut types, call, named)?.index(),
-            named
-        );
+        assert_equal(rt, add_again(rt, alloc, &mut types, call, named)?.index(),
+            named);
         assert!(rt; has_types(&types, call, if round < 5 { round + 1 } else { 5 }));
     }
     Ok(())
@@ -237,23 +236,19 @@ fn deletions_take_no_memory(rt: HostRuntime) -> Result<(), Fail> {
         Ok(types) => types,
         Err(_) => return Ok(()),
     };
-    assert_eq!(rt; delete_alone(&rt, &mut types), Ok(()));
-    assert_eq!(rt; delete_two(&rt, &mut types), Ok(()));
-    assert_eq!(rt;
-        live(&types),
-        [false, false, true, true, true, true, false, true]
-    );
-    assert_eq!(rt; try_delete(&rt, &mut types, 5), Ok(false));
-    assert_eq!(rt; try_delete(&rt, &mut types, 7), Ok(true));
-    assert_eq!(rt; delete_group(&rt, &mut types), Ok(()));
-    assert_eq!(rt;
-        live(&types),
-        [false, false, true, true, false, false, false, false]
-    );
+    assert_equal(&rt, delete_alone(&rt, &mut types), Ok(()));
+    assert_equal(&rt, delete_two(&rt, &mut types), Ok(()));
+    assert_equal(&rt, live(&types),
+        [false, false, true, true, true, true, false, true]);
+    assert_equal(&rt, try_delete(&rt, &mut types, 5), Ok(false));
+    assert_equal(&rt, try_delete(&rt, &mut types, 7), Ok(true));
+    assert_equal(&rt, delete_group(&rt, &mut types), Ok(()));
+    assert_equal(&rt, live(&types),
+        [false, false, true, true, false, false, false, false]);
     let sizes = [Some(0), Some(0), Some(1), Some(1), Some(0), Some(0), None];
-    assert_eq!(rt; group_sizes(&types), sizes);
+    assert_equal(&rt, group_sizes(&types), sizes);
     let found = [0, 1, 2, 3].map(|named| find(&types, AddCall::Entry, named));
     let (third, fourth) = (TypeId::from_index(2), TypeId::from_index(3));
-    assert_eq!(rt; found, [None, None, Some(third), Some(fourth)]);
+    assert_equal(&rt, found, [None, None, Some(third), Some(fourth)]);
     Ok(())
 }

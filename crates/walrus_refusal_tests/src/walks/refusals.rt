@@ -1,6 +1,7 @@
 //! Walks that collect names, and walks that rename.
 ghost use Rattle.walrus_functions.specs.Nesting.{IsNested};
 
+use crate::assertions::assert_equal;
 use crate::bodies::{body_again, check_again};
 use crate::fixtures::{begin, list};
 use std::alloc::{AllocError, Global};
@@ -192,7 +193,7 @@ fn rename_another(
 fn a_refused_changing_walk_leaves_what_came_before(rt: HostRuntime) -> Result<(), Fail> {
     let mut visitor = renaming(rt.alloc(), [3, 2, 1, 0])?;
     let func = rename_another(&rt, rt.alloc(), &mut visitor)?;
-    assert_eq!(rt; walked_types(&func), [Some(3), Some(1), Some(2), Some(0)]);
+    assert_equal(&rt, walked_types(&func), [Some(3), Some(1), Some(2), Some(0)]);
     Ok(())
 }
 
@@ -216,6 +217,6 @@ fn join_again(
 fn a_refused_changing_walk_goes_through_when_it_is_made_again(rt: HostRuntime) -> Result<(), Fail> {
     let mut visitor = renaming(rt.alloc(), [7; 4])?;
     let func = join_again(&rt, rt.alloc(), &mut visitor)?;
-    assert_eq!(rt; walked_types(&func), [Some(7); 4]);
+    assert_equal(&rt, walked_types(&func), [Some(7); 4]);
     Ok(())
 }

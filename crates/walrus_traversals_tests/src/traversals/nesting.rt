@@ -1,5 +1,6 @@
 //! Worked answers of the nesting check.
 use super::*;
+use crate::assertions::assert_equal;
 use walrus_ir::{Br, IfElse, LegacyCatch, Loop, Try, TryTable, TryTableCatch};
 use walrus_traversals::{Nesting, check_nesting};
 use walrus_types::Listed;
@@ -40,7 +41,7 @@ fn a_sequence_named_twice_stands_once(rt: HostRuntime) -> Result<(), Fail> {
         Vec::new(alloc),
     ]?;
     let want = Nesting::Nested(ids(alloc, &[2, 1, 0])?);
-    assert_eq!(rt; check(alloc, sequences, 0)?, want);
+    assert_equal(&rt, check(alloc, sequences, 0)?, want);
     Ok(())
 }
 
@@ -54,7 +55,7 @@ fn a_cycle_is_answered(rt: HostRuntime) -> Result<(), Fail> {
     ]?;
     let path = ids(alloc, &[0, 1, 2])?;
     let want = Nesting::Cycle { path, back_to: 1 };
-    assert_eq!(rt; check(alloc, sequences, 0)?, want);
+    assert_equal(&rt, check(alloc, sequences, 0)?, want);
     Ok(())
 }
 
@@ -64,7 +65,7 @@ fn a_sequence_that_holds_itself_is_a_cycle(rt: HostRuntime) -> Result<(), Fail> 
     let sequences = vec![in alloc; vec![in alloc; block(0)]?]?;
     let path = ids(alloc, &[0])?;
     let want = Nesting::Cycle { path, back_to: 0 };
-    assert_eq!(rt; check(alloc, sequences, 0)?, want);
+    assert_equal(&rt, check(alloc, sequences, 0)?, want);
     Ok(())
 }
 
@@ -73,7 +74,7 @@ fn an_unknown_sequence_is_answered(rt: HostRuntime) -> Result<(), Fail> {
     let alloc = rt.alloc();
     let sequences = vec![in alloc; vec![in alloc; loop_of(9)]?]?;
     let want = Nesting::Unknown(ids(alloc, &[0, 9])?);
-    assert_eq!(rt; check(alloc, sequences, 0)?, want);
+    assert_equal(&rt, check(alloc, sequences, 0)?, want);
     Ok(())
 }
 
@@ -82,7 +83,7 @@ fn an_unknown_start_is_answered(rt: HostRuntime) -> Result<(), Fail> {
     let alloc = rt.alloc();
     let sequences = vec![in alloc; Vec::new(alloc)]?;
     let want = Nesting::Unknown(ids(alloc, &[5])?);
-    assert_eq!(rt; check(alloc, sequences, 5)?, want);
+    assert_equal(&rt, check(alloc, sequences, 5)?, want);
     Ok(())
 }
 
@@ -92,7 +93,7 @@ fn a_branch_is_no_child(rt: HostRuntime) -> Result<(), Fail> {
     let branch = Instr::Br(Br { block: id(0) });
     let sequences = vec![in alloc; vec![in alloc; branch]?]?;
     let want = Nesting::Nested(ids(alloc, &[0])?);
-    assert_eq!(rt; check(alloc, sequences, 0)?, want);
+    assert_equal(&rt, check(alloc, sequences, 0)?, want);
     Ok(())
 }
 
@@ -102,11 +103,11 @@ fn the_first_fault_decides(rt: HostRuntime) -> Result<(), Fail> {
     let alloc = rt.alloc();
     let sequences = vec![in alloc; vec![in alloc; loop_of(9), block(0)]?]?;
     let want = Nesting::Unknown(ids(alloc, &[0, 9])?);
-    assert_eq!(rt; check(alloc, sequences, 0)?, want);
+    assert_equal(&rt, check(alloc, sequences, 0)?, want);
     let sequences = vec![in alloc; vec![in alloc; block(0), loop_of(9)]?]?;
     let path = ids(alloc, &[0])?;
     let want = Nesting::Cycle { path, back_to: 0 };
-    assert_eq!(rt; check(alloc, sequences, 0)?, want);
+    assert_equal(&rt, check(alloc, sequences, 0)?, want);
     Ok(())
 }
 
@@ -137,7 +138,7 @@ fn handlers_are_children_and_labels_are_not(rt: HostRuntime) -> Result<(), Fail>
         vec![in alloc; table]?,
     ]?;
     let want = Nesting::Nested(ids(alloc, &[1, 2, 3, 0])?);
-    assert_eq!(rt; check(alloc, sequences, 0)?, want);
+    assert_equal(&rt, check(alloc, sequences, 0)?, want);
     Ok(())
 }
 
@@ -163,12 +164,12 @@ fn each_sequence_is_entered_once(rt: HostRuntime) -> Result<(), Fail> {
     let alloc = rt.alloc();
     let sequences = levels(alloc, Vec::new(alloc))?;
     match check(alloc, sequences, 0)? {
-        Nesting::Nested(list) => assert_eq!(rt; list.len(), 61),
-        other => assert_eq!(rt; other, Nesting::Nested(Vec::new(alloc))),
+        Nesting::Nested(list) => assert_equal(&rt, list.len(), 61),
+        other => assert_equal(&rt, other, Nesting::Nested(Vec::new(alloc))),
     }
     let sequences = levels(alloc, vec![in alloc; block(99)]?)?;
     let want = Nesting::Unknown(ids(alloc, &[0, 99])?);
-    assert_eq!(rt; check(alloc, sequences, 0)?, want);
+    assert_equal(&rt, check(alloc, sequences, 0)?, want);
     Ok(())
 }
 
@@ -177,8 +178,8 @@ fn depth_is_bounded_by_memory_alone(rt: HostRuntime) -> Result<(), Fail> {
     let alloc = rt.alloc();
     let func = chain(alloc, 10_000)?;
     match check_nesting(alloc, &func, id(0))? {
-        Nesting::Nested(list) => assert_eq!(rt; list.len(), 10_001),
-        other => assert_eq!(rt; other, Nesting::Nested(Vec::new(alloc))),
+        Nesting::Nested(list) => assert_equal(&rt, list.len(), 10_001),
+        other => assert_equal(&rt, other, Nesting::Nested(Vec::new(alloc))),
     }
     Ok(())
 }

@@ -1,5 +1,6 @@
 //! Worked collections of ids.
 use super::*;
+use crate::assertions::assert_equal;
 use walrus_ir::{
     BrIf, Call, CallIndirect, LocalGet, MemoryInit, RefCast, RefNull, TableInit, Throw, TryTable,
     TryTableCatch,
@@ -88,25 +89,30 @@ fn collected(alloc: Global) -> Result<UsedIds, Fail> {
 fn each_kind_has_its_list(rt: HostRuntime) -> Result<(), Fail> {
     let alloc = rt.alloc();
     let ids = collected(alloc)?;
-    assert_eq!(rt;
+    assert_equal(
+        &rt,
         indices(alloc, ids.functions.as_slice())?.as_slice(),
-        [5, 5].as_slice()
+        [5, 5].as_slice(),
     );
-    assert_eq!(rt;
+    assert_equal(
+        &rt,
         indices(alloc, ids.types.as_slice())?.as_slice(),
-        [9, 6, 11].as_slice()
+        [9, 6, 11].as_slice(),
     );
-    assert_eq!(rt;
+    assert_equal(
+        &rt,
         indices(alloc, ids.tables.as_slice())?.as_slice(),
-        [7, 3].as_slice()
+        [7, 3].as_slice(),
     );
-    assert_eq!(rt;
+    assert_equal(
+        &rt,
         indices(alloc, ids.tags.as_slice())?.as_slice(),
-        [4, 12].as_slice()
+        [4, 12].as_slice(),
     );
-    assert_eq!(rt;
+    assert_equal(
+        &rt,
         indices(alloc, ids.instr_seqs.as_slice())?.as_slice(),
-        [1].as_slice()
+        [1].as_slice(),
     );
     Ok(())
 }
@@ -115,23 +121,27 @@ fn each_kind_has_its_list(rt: HostRuntime) -> Result<(), Fail> {
 fn each_kind_has_its_list_too(rt: HostRuntime) -> Result<(), Fail> {
     let alloc = rt.alloc();
     let ids = collected(alloc)?;
-    assert_eq!(rt;
+    assert_equal(
+        &rt,
         indices(alloc, ids.locals.as_slice())?.as_slice(),
-        [8].as_slice()
+        [8].as_slice(),
     );
-    assert_eq!(rt;
+    assert_equal(
+        &rt,
         indices(alloc, ids.memories.as_slice())?.as_slice(),
-        [1].as_slice()
+        [1].as_slice(),
     );
-    assert_eq!(rt;
+    assert_equal(
+        &rt,
         indices(alloc, ids.data_segments.as_slice())?.as_slice(),
-        [2].as_slice()
+        [2].as_slice(),
     );
-    assert_eq!(rt;
+    assert_equal(
+        &rt,
         indices(alloc, ids.elements.as_slice())?.as_slice(),
-        [4].as_slice()
+        [4].as_slice(),
     );
-    assert_eq!(rt; ids.globals.len(), 0);
+    assert_equal(&rt, ids.globals.len(), 0);
     Ok(())
 }
 

@@ -1,6 +1,7 @@
 //! Worked walks.
 use super::log::{Full, HookCall, walk};
 use super::*;
+use crate::assertions::assert_equal;
 use walrus_ir::{
     BrOnCast, Const, DropInstr, IfElse, LegacyCatch, Select, Try, TryTable, TryTableCatch, Value,
 };
@@ -104,9 +105,9 @@ fn sequences_are_visited_in_order(rt: HostRuntime) -> Result<(), Fail> {
     let alloc = rt.alloc();
     let func = test_function(alloc)?;
     let (log, answer) = walk(alloc, &func, ALL)?;
-    assert_eq!(rt; answer, Ok(()));
+    assert_equal(&rt, answer, Ok(()));
     let text = words(alloc, log.calls.as_slice())?;
-    assert_eq!(rt; text.as_str(), IN_ORDER);
+    assert_equal(&rt, text.as_str(), IN_ORDER);
     Ok(())
 }
 
@@ -117,10 +118,10 @@ fn a_refusing_hook_cuts_the_walk(rt: HostRuntime) -> Result<(), Fail> {
     let alloc = rt.alloc();
     let func = test_function(alloc)?;
     let (whole, answer) = walk(alloc, &func, ALL)?;
-    assert_eq!(rt; answer, Ok(()));
+    assert_equal(&rt, answer, Ok(()));
     for limit in 0..whole.calls.len() {
         let (log, answer) = walk(alloc, &func, limit)?;
-        assert_eq!(rt; answer, Err(WalkError::Hook(Full(limit))));
+        assert_equal(&rt, answer, Err(WalkError::Hook(Full(limit))));
         assert!(rt; log.calls.as_slice() == &whole.calls[..limit]);
     }
     Ok(())
@@ -149,11 +150,12 @@ fn labels_of_a_try_table_are_not_entered(rt: HostRuntime) -> Result<(), Fail> {
     add(alloc, &mut f, typed(INNER), Vec::new(alloc))?;
     let func = f.local_func(Vec::new(alloc));
     let (log, answer) = walk(alloc, &func, ALL)?;
-    assert_eq!(rt; answer, Ok(()));
+    assert_equal(&rt, answer, Ok(()));
     let text = words(alloc, log.calls.as_slice())?;
-    assert_eq!(rt;
+    assert_equal(
+        &rt,
         text.as_str(),
-        "start 1 drop try-table tag start 5 drop end 99 drop end "
+        "start 1 drop try-table tag start 5 drop end 99 drop end ",
     );
     Ok(())
 }
@@ -167,7 +169,7 @@ fn fields_follow_their_instruction(rt: HostRuntime) -> Result<(), Fail> {
     b.call_indirect(id(0), id(1))?;
     let func = f.local_func(Vec::new(alloc));
     let (log, answer) = walk(alloc, &func, ALL)?;
-    assert_eq!(rt; answer, Ok(()));
+    assert_equal(&rt, answer, Ok(()));
     let want = [
         HookCall::Start(0),
         HookCall::Ty(1),
@@ -178,7 +180,7 @@ fn fields_follow_their_instruction(rt: HostRuntime) -> Result<(), Fail> {
     ];
     assert!(rt; log.calls.as_slice() == want.as_slice());
     let (log, answer) = walk(alloc, &func, 3)?;
-    assert_eq!(rt; answer, Err(WalkError::Hook(Full(3))));
+    assert_equal(&rt, answer, Err(WalkError::Hook(Full(3))));
     assert!(rt; log.calls.as_slice() == &want[..3]);
     Ok(())
 }
@@ -203,7 +205,7 @@ fn heap_types_are_reported_whole(rt: HostRuntime) -> Result<(), Fail> {
     add(alloc, &mut f, ty, vec![in alloc; cast, select]?)?;
     let func = f.local_func(Vec::new(alloc));
     let (log, answer) = walk(alloc, &func, ALL)?;
-    assert_eq!(rt; answer, Ok(()));
+    assert_equal(&rt, answer, Ok(()));
     let want = [
         HookCall::Start(0),
         HookCall::AbstractHeap(AbstractHeapType::Func),
@@ -232,11 +234,12 @@ fn a_shared_sequence_is_visited_each_time(rt: HostRuntime) -> Result<(), Fail> {
     add(alloc, &mut f, typed(INNER), vec![in alloc; number(5)]?)?;
     let func = f.local_func(Vec::new(alloc));
     let (log, answer) = walk(alloc, &func, ALL)?;
-    assert_eq!(rt; answer, Ok(()));
+    assert_equal(&rt, answer, Ok(()));
     let text = words(alloc, log.calls.as_slice())?;
-    assert_eq!(rt;
+    assert_equal(
+        &rt,
         text.as_str(),
-        "start block start 5 end block start 5 end end "
+        "start block start 5 end block start 5 end end ",
     );
     Ok(())
 }
@@ -246,13 +249,13 @@ fn depth_of_a_walk_is_bounded_by_memory_alone(rt: HostRuntime) -> Result<(), Fai
     let alloc = rt.alloc();
     let func = chain(alloc, 10_000)?;
     let (log, answer) = walk(alloc, &func, ALL)?;
-    assert_eq!(rt; answer, Ok(()));
+    assert_equal(&rt, answer, Ok(()));
     let starts = log
         .calls
         .iter()
         .filter(|call| matches!(call, HookCall::Start(_)))
         .count();
-    assert_eq!(rt; starts, 10_001);
+    assert_equal(&rt, starts, 10_001);
     Ok(())
 }
 
@@ -260,8 +263,16 @@ fn depth_of_a_walk_is_bounded_by_memory_alone(rt: HostRuntime) -> Result<(), Fai
 fn errors_print(rt: HostRuntime) -> Result<(), Fail> {
     let alloc = rt.alloc();
     let memory: WalkError<Full> = WalkError::Memory;
-    assert_eq!(rt; format!(in alloc; "{memory}")?.as_str(), "out of memory");
+    assert_equal(
+        &rt,
+        format!(in alloc; "{memory}")?.as_str(),
+        "out of memory",
+    );
     let hook = WalkError::Hook(Full(3));
-    assert_eq!(rt; format!(in alloc; "{hook}")?.as_str(), "no room for call 3");
+    assert_equal(
+        &rt,
+        format!(in alloc; "{hook}")?.as_str(),
+        "no room for call 3",
+    );
     Ok(())
 }

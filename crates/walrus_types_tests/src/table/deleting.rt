@@ -1,5 +1,6 @@
 //! Deletions, which take no memory and answer `Ok`.
 use super::*;
+use crate::assertions::assert_equal;
 
 // An explicit group of structs, each with a reference to the type with this id, or without fields.
 pub(super) fn add_namers(
@@ -73,7 +74,7 @@ fn a_type_that_dies_leaves_its_group(rt: HostRuntime) -> Result<(), Fail> {
 fn types_that_name_each_other_stay(rt: HostRuntime) -> Result<(), Fail> {
     let mut types = ModuleTypes::new(rt.alloc());
     add_namers(rt.alloc(), &mut types, &[Some(1), Some(0)])?;
-    assert_eq!(rt; try_delete(&rt, &mut types, 0), Ok(false));
+    assert_equal(&rt, try_delete(&rt, &mut types, 0), Ok(false));
     assert!(rt; types.contains(TypeId::from_index(0)));
     assert!(rt; types.contains(TypeId::from_index(1)));
     Ok(())
@@ -83,7 +84,7 @@ fn types_that_name_each_other_stay(rt: HostRuntime) -> Result<(), Fail> {
 fn a_whole_group_dies(rt: HostRuntime) -> Result<(), Fail> {
     let mut types = ModuleTypes::new(rt.alloc());
     add_namers(rt.alloc(), &mut types, &[Some(1), Some(0)])?;
-    assert_eq!(rt; delete_group(&rt, &mut types, 0), Ok(()));
+    assert_equal(&rt, delete_group(&rt, &mut types, 0), Ok(()));
     assert!(rt; !types.contains(TypeId::from_index(0)));
     assert!(rt; !types.contains(TypeId::from_index(1)));
     assert!(rt; has_one_empty_group(&types));
@@ -94,10 +95,10 @@ fn a_whole_group_dies(rt: HostRuntime) -> Result<(), Fail> {
 fn a_type_dies_after_the_last_that_names_it(rt: HostRuntime) -> Result<(), Fail> {
     let mut types = ModuleTypes::new(rt.alloc());
     add_namers(rt.alloc(), &mut types, &[Some(1), None, Some(2)])?;
-    assert_eq!(rt; try_delete(&rt, &mut types, 1), Ok(false));
-    assert_eq!(rt; try_delete(&rt, &mut types, 0), Ok(true));
-    assert_eq!(rt; try_delete(&rt, &mut types, 1), Ok(true));
-    assert_eq!(rt; try_delete(&rt, &mut types, 2), Ok(true));
+    assert_equal(&rt, try_delete(&rt, &mut types, 1), Ok(false));
+    assert_equal(&rt, try_delete(&rt, &mut types, 0), Ok(true));
+    assert_equal(&rt, try_delete(&rt, &mut types, 1), Ok(true));
+    assert_equal(&rt, try_delete(&rt, &mut types, 2), Ok(true));
     assert!(rt; has_one_empty_group(&types));
     assert!(rt; types.rec_group_for_type(TypeId::from_index(0)).is_none());
     Ok(())
@@ -109,7 +110,7 @@ fn names_from_outside_do_not_count(rt: HostRuntime) -> Result<(), Fail> {
     let mut types = ModuleTypes::new(rt.alloc());
     add_namers(rt.alloc(), &mut types, &[None])?;
     add_namers(rt.alloc(), &mut types, &[Some(0)])?;
-    assert_eq!(rt; try_delete(&rt, &mut types, 0), Ok(true));
+    assert_equal(&rt, try_delete(&rt, &mut types, 0), Ok(true));
     assert!(rt; types.contains(TypeId::from_index(1)));
     Ok(())
 }

@@ -2,6 +2,7 @@
 //! answers `Ok`.
 use super::deleting::{add_namers, delete_group};
 use super::*;
+use crate::assertions::assert_equal;
 use walrus_arena::{ArenaSet, Id, Tombstone, TombstoneArena};
 
 #[derive(Clone, Copy, PartialEq, Eq, Hash)]
@@ -90,26 +91,35 @@ fn every_deletion_succeeds(rt: HostRuntime) -> Result<(), Fail> {
     let mut set = four_values(rt.alloc())?;
     let mut types = six_types(rt.alloc())?;
     // Nothing takes memory from here on.
-    assert_eq!(rt; delete_item(&rt, &mut arena), Ok(()));
-    assert_eq!(rt; live_items(&arena), [false, true, true, true]);
-    assert_eq!(rt; delete_items(&rt, &mut arena), Ok(()));
-    assert_eq!(rt; live_items(&arena), [false, true, false, false]);
-    assert_eq!(rt; remove_value(&rt, &mut set), Ok(()));
-    assert_eq!(rt; live_values(&set), [false, true, true, true]);
-    assert_eq!(rt; remove_values(&rt, &mut set), Ok(()));
-    assert_eq!(rt; live_values(&set), [false, true, false, false]);
-    assert_eq!(rt; delete(&rt, &mut types, 0), Ok(()));
-    assert_eq!(rt; live_types(&types), [false, true, true, true, true, true]);
-    assert_eq!(rt; try_delete(&rt, &mut types, 3), Ok(false));
-    assert_eq!(rt; try_delete(&rt, &mut types, 1), Ok(true));
-    assert_eq!(rt; live_types(&types), [false, false, true, true, true, true]);
-    assert_eq!(rt; delete_group(&rt, &mut types, 4), Ok(()));
-    assert_eq!(rt;
+    assert_equal(&rt, delete_item(&rt, &mut arena), Ok(()));
+    assert_equal(&rt, live_items(&arena), [false, true, true, true]);
+    assert_equal(&rt, delete_items(&rt, &mut arena), Ok(()));
+    assert_equal(&rt, live_items(&arena), [false, true, false, false]);
+    assert_equal(&rt, remove_value(&rt, &mut set), Ok(()));
+    assert_equal(&rt, live_values(&set), [false, true, true, true]);
+    assert_equal(&rt, remove_values(&rt, &mut set), Ok(()));
+    assert_equal(&rt, live_values(&set), [false, true, false, false]);
+    assert_equal(&rt, delete(&rt, &mut types, 0), Ok(()));
+    assert_equal(
+        &rt,
         live_types(&types),
-        [false, false, true, true, false, false]
+        [false, true, true, true, true, true],
     );
-    assert_eq!(rt; delete_types(&rt, &mut types), Ok(()));
-    assert_eq!(rt; live_types(&types), [false; 6]);
+    assert_equal(&rt, try_delete(&rt, &mut types, 3), Ok(false));
+    assert_equal(&rt, try_delete(&rt, &mut types, 1), Ok(true));
+    assert_equal(
+        &rt,
+        live_types(&types),
+        [false, false, true, true, true, true],
+    );
+    assert_equal(&rt, delete_group(&rt, &mut types, 4), Ok(()));
+    assert_equal(
+        &rt,
+        live_types(&types),
+        [false, false, true, true, false, false],
+    );
+    assert_equal(&rt, delete_types(&rt, &mut types), Ok(()));
+    assert_equal(&rt, live_types(&types), [false; 6]);
     assert!(rt; has_ids(&types, 2, &[]));
     Ok(())
 }

@@ -1,5 +1,6 @@
 //! Finding types.
 use super::*;
+use crate::assertions::assert_equal;
 
 fn give_name(rt: &impl Abort, types: &mut ModuleTypes, index: usize, name: String) {
     let id = TypeId::from_index(index);
@@ -12,12 +13,12 @@ fn a_type_is_found_whatever_its_finality(rt: HostRuntime) -> Result<(), Fail> {
     let alloc = rt.alloc();
     let mut types = ModuleTypes::new(alloc);
     let open = types.add_composite(function(alloc), false, None)?;
-    assert_eq!(rt; open.index(), 0);
-    assert_eq!(rt; types.find(&[], &[]), Some(open));
-    assert_eq!(rt; types.add(&[], &[])?.index(), 1);
-    assert_eq!(rt; types.find(&[], &[]), Some(open));
-    assert_eq!(rt; types.find(&[Val::I32], &[]), None);
-    assert_eq!(rt; types.find(&[], &[Val::I32]), None);
+    assert_equal(&rt, open.index(), 0);
+    assert_equal(&rt, types.find(&[], &[]), Some(open));
+    assert_equal(&rt, types.add(&[], &[])?.index(), 1);
+    assert_equal(&rt, types.find(&[], &[]), Some(open));
+    assert_equal(&rt, types.find(&[Val::I32], &[]), None);
+    assert_equal(&rt, types.find(&[], &[Val::I32]), None);
     Ok(())
 }
 
@@ -25,13 +26,13 @@ fn a_type_is_found_whatever_its_finality(rt: HostRuntime) -> Result<(), Fail> {
 fn entry_types_are_found_apart(rt: HostRuntime) -> Result<(), Fail> {
     let mut types = ModuleTypes::new(rt.alloc());
     let entry = types.add_entry_ty(&[])?;
-    assert_eq!(rt; entry.index(), 0);
-    assert_eq!(rt; types.find(&[], &[]), None);
+    assert_equal(&rt, entry.index(), 0);
+    assert_equal(&rt, types.find(&[], &[]), None);
     let plain = types.add(&[], &[])?;
-    assert_eq!(rt; plain.index(), 1);
-    assert_eq!(rt; types.find(&[], &[]), Some(plain));
-    assert_eq!(rt; types.find_for_function_entry(&[]), Some(entry));
-    assert_eq!(rt; types.find_for_function_entry(&[Val::I32]), None);
+    assert_equal(&rt, plain.index(), 1);
+    assert_equal(&rt, types.find(&[], &[]), Some(plain));
+    assert_equal(&rt, types.find_for_function_entry(&[]), Some(entry));
+    assert_equal(&rt, types.find_for_function_entry(&[Val::I32]), None);
     Ok(())
 }
 
@@ -40,8 +41,8 @@ fn types_of_groups_are_found(rt: HostRuntime) -> Result<(), Fail> {
     let alloc = rt.alloc();
     let mut types = ModuleTypes::new(alloc);
     types.add_rec_group(1, |_| Ok(vec![in alloc; member(function(alloc))]?))?;
-    assert_eq!(rt; types.add(&[], &[])?.index(), 1);
-    assert_eq!(rt; types.find(&[], &[]), Some(TypeId::from_index(0)));
+    assert_equal(&rt, types.add(&[], &[])?.index(), 1);
+    assert_equal(&rt, types.find(&[], &[]), Some(TypeId::from_index(0)));
     Ok(())
 }
 
@@ -53,9 +54,9 @@ fn the_first_type_of_a_name_is_found(rt: HostRuntime) -> Result<(), Fail> {
     types.add(&[Val::I32], &[])?;
     give_name(&rt, &mut types, 0, String::from_str(alloc, "n")?);
     give_name(&rt, &mut types, 1, String::from_str(alloc, "n")?);
-    assert_eq!(rt; types.by_name("n"), Some(TypeId::from_index(0)));
-    assert_eq!(rt; types.by_name("m"), None);
+    assert_equal(&rt, types.by_name("n"), Some(TypeId::from_index(0)));
+    assert_equal(&rt, types.by_name("m"), None);
     delete(&rt, &mut types, 0)?;
-    assert_eq!(rt; types.by_name("n"), Some(TypeId::from_index(1)));
+    assert_equal(&rt, types.by_name("n"), Some(TypeId::from_index(1)));
     Ok(())
 }

@@ -1,5 +1,6 @@
 //! Explicit groups.
 use super::*;
+use crate::assertions::assert_equal;
 
 // A final type without supertype that names the type with this id.
 fn namer(
@@ -31,7 +32,7 @@ fn the_types_of_a_group_may_name_each_other(rt: HostRuntime) -> Result<(), Fail>
     assert!(rt; types.contains(first));
     let second = reference(TypeId::from_index(2));
     assert!(rt; *types.get(first).kind() == structure(alloc, &[second])?);
-    assert_eq!(rt; types.get(first).id(), first);
+    assert_equal(&rt, types.get(first).id(), first);
     Ok(())
 }
 
@@ -42,7 +43,7 @@ fn a_group_knows_its_types(rt: HostRuntime) -> Result<(), Fail> {
     types.add(&[], &[])?;
     types.add_rec_group(2, |ids| two_namers(alloc, ids))?;
     let groups = types.rec_groups();
-    assert_eq!(rt; groups.len(), 2);
+    assert_equal(&rt, groups.len(), 2);
     assert!(rt; !groups[0].is_explicit);
     assert!(rt; are(groups[0].types.as_slice(), &[0]));
     assert!(rt; groups[1].is_explicit);
@@ -90,10 +91,10 @@ fn a_group_may_be_empty(rt: HostRuntime) -> Result<(), Fail> {
     let mut types = ModuleTypes::new(alloc);
     let ids = types.add_rec_group(0, |_| Ok(Vec::new(alloc)))?;
     assert!(rt; ids.is_empty());
-    assert_eq!(rt; types.rec_groups().len(), 1);
+    assert_equal(&rt, types.rec_groups().len(), 1);
     assert!(rt; types.rec_groups()[0].is_explicit);
     assert!(rt; types.rec_groups()[0].types.as_slice().is_empty());
-    assert_eq!(rt; types.add(&[], &[])?.index(), 0);
+    assert_equal(&rt, types.add(&[], &[])?.index(), 0);
     Ok(())
 }
 
@@ -101,9 +102,9 @@ fn a_group_may_be_empty(rt: HostRuntime) -> Result<(), Fail> {
 fn a_group_that_was_not_built_uses_up_no_id(rt: HostRuntime) -> Result<(), Fail> {
     let mut types = ModuleTypes::new(rt.alloc());
     let refused = types.add_rec_group(1, |_| Err(AllocError)).err();
-    assert_eq!(rt; refused, Some(AddRecGroupError::Memory));
-    assert_eq!(rt; types.rec_groups().len(), 0);
-    assert_eq!(rt; types.add(&[], &[])?.index(), 0);
+    assert_equal(&rt, refused, Some(AddRecGroupError::Memory));
+    assert_equal(&rt, types.rec_groups().len(), 0);
+    assert_equal(&rt, types.add(&[], &[])?.index(), 0);
     Ok(())
 }
 
@@ -117,12 +118,13 @@ fn refusal(alloc: Global, types: &mut ModuleTypes, count: usize) -> Option<AddRe
 fn a_group_with_a_type_too_few_uses_up_no_id(rt: HostRuntime) -> Result<(), Fail> {
     let mut types = ModuleTypes::new(rt.alloc());
     let refused = refusal(rt.alloc(), &mut types, 2);
-    assert_eq!(rt;
+    assert_equal(
+        &rt,
         refused,
-        Some(AddRecGroupError::Count { wanted: 2, got: 1 })
+        Some(AddRecGroupError::Count { wanted: 2, got: 1 }),
     );
-    assert_eq!(rt; types.rec_groups().len(), 0);
-    assert_eq!(rt; types.add(&[], &[])?.index(), 0);
+    assert_equal(&rt, types.rec_groups().len(), 0);
+    assert_equal(&rt, types.add(&[], &[])?.index(), 0);
     Ok(())
 }
 
@@ -130,9 +132,10 @@ fn a_group_with_a_type_too_few_uses_up_no_id(rt: HostRuntime) -> Result<(), Fail
 fn a_group_with_a_type_too_many_is_refused(rt: HostRuntime) {
     let mut types = ModuleTypes::new(rt.alloc());
     let refused = refusal(rt.alloc(), &mut types, 0);
-    assert_eq!(rt;
+    assert_equal(
+        &rt,
         refused,
-        Some(AddRecGroupError::Count { wanted: 0, got: 1 })
+        Some(AddRecGroupError::Count { wanted: 0, got: 1 }),
     );
-    assert_eq!(rt; types.rec_groups().len(), 0);
+    assert_equal(&rt, types.rec_groups().len(), 0);
 }

@@ -1,5 +1,6 @@
 //! What is read of a table and of its types.
 use super::*;
+use crate::assertions::assert_equal;
 
 #[test]
 fn a_new_table_has_no_types(rt: HostRuntime) {
@@ -7,7 +8,7 @@ fn a_new_table_has_no_types(rt: HostRuntime) {
     assert!(rt; !types.contains(TypeId::from_index(0)));
     assert!(rt; types.iter().next().is_none());
     assert!(rt; types.rec_groups().is_empty());
-    assert_eq!(rt; types.find(&[], &[]), None);
+    assert_equal(&rt, types.find(&[], &[]), None);
 }
 
 // Two parameters and one result.
@@ -20,8 +21,8 @@ fn a_function_type_lends_its_lists(rt: HostRuntime) -> Result<(), Fail> {
         assert!(rt; types.params(id) == [Val::I32, Val::I64].as_slice());
         assert!(rt; types.results(id) == [Val::F32].as_slice());
         let (params, results) = types.params_results(id);
-        assert_eq!(rt; params.len(), 2);
-        assert_eq!(rt; results.len(), 1);
+        assert_equal(&rt, params.len(), 2);
+        assert_equal(&rt, results.len(), 1);
         return Ok(());
     }
     unreachable!()
@@ -34,9 +35,9 @@ fn a_new_type_has_no_name(rt: HostRuntime) -> Result<(), Fail> {
     let id = types.add_composite(function(alloc), false, Some(TypeId::from_index(7)))?;
     assert!(rt; types.contains(id));
     let ty = types.get(id);
-    assert_eq!(rt; ty.id(), id);
+    assert_equal(&rt, ty.id(), id);
     assert!(rt; !ty.is_final);
-    assert_eq!(rt; ty.supertype, Some(TypeId::from_index(7)));
+    assert_equal(&rt, ty.supertype, Some(TypeId::from_index(7)));
     assert!(rt; ty.name.is_none());
     assert!(rt; !ty.is_for_function_entry());
     Ok(())
@@ -57,8 +58,8 @@ fn iter_goes_over_the_live_types(rt: HostRuntime) -> Result<(), Fail> {
     types.add(&[], &[])?;
     types.add(&[Val::I32], &[])?;
     types.add(&[Val::I64], &[])?;
-    assert_eq!(rt; ids_in_order(&types), 12);
+    assert_equal(&rt, ids_in_order(&types), 12);
     delete(&rt, &mut types, 1)?;
-    assert_eq!(rt; ids_in_order(&types), 2);
+    assert_equal(&rt, ids_in_order(&types), 2);
     Ok(())
 }

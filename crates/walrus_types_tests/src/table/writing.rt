@@ -1,5 +1,6 @@
 //! Types that are written in place.
 use super::*;
+use crate::assertions::assert_equal;
 use walrus_arena::Tombstone;
 
 #[test]
@@ -10,8 +11,8 @@ fn a_type_is_rewritten_in_its_place(rt: HostRuntime) -> Result<(), Fail> {
     rewrite(&rt, &mut types, 0, structure(alloc, &[Val::I32])?);
     assert!(rt; types.contains(id));
     assert!(rt; *types.get(id).kind() == structure(alloc, &[Val::I32])?);
-    assert_eq!(rt; types.get(id).id(), id);
-    assert_eq!(rt; types.find(&[], &[]), None);
+    assert_equal(&rt, types.get(id).id(), id);
+    assert_equal(&rt, types.find(&[], &[]), None);
     Ok(())
 }
 
@@ -40,7 +41,7 @@ fn a_whole_type_brings_its_id(rt: HostRuntime) -> Result<(), Fail> {
     copy_over(&rt, &mut types, 0, 1)?;
     let second = TypeId::from_index(1);
     assert!(rt; types.contains(second));
-    assert_eq!(rt; types.get(second).id(), TypeId::from_index(0));
+    assert_equal(&rt, types.get(second).id(), TypeId::from_index(0));
     assert!(rt; types.get(second).is_for_function_entry());
     assert!(rt; has_ids(&types, 1, &[1]));
     Ok(())

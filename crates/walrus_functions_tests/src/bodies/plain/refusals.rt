@@ -3,6 +3,7 @@ ghost use Rattle.walrus_functions.specs.Building.{IsKnown};
 
 use super::super::refusals::begin_again;
 use super::super::*;
+use crate::assertions::assert_equal;
 use walrus_ir::{
     BinaryOp, DropInstr, InstrSeqId, LoadKind, MemArg, StoreKind, UnaryOp, Unreachable, Value,
 };
@@ -118,13 +119,13 @@ fn shows(
     count: usize,
 ) -> Result<(), AllocError> {
     let entry: InstrSeqId = Id::from_index(0);
-    assert_eq!(rt; f.entry(), Some(Id::from_index(0)));
+    assert_equal(rt, f.entry(), Some(Id::from_index(0)));
     assert!(rt; !f.contains_seq(Id::from_index(1)));
     assert!(rt; f.contains_seq(entry));
     let body = f.instr_seq(entry);
-    assert_eq!(rt; body.instrs().len(), count);
+    assert_equal(rt, body.instrs().len(), count);
     for (added, _) in body.instrs() {
-        assert_eq!(rt; format!(in alloc; "{added:?}")?.as_str(), instr);
+        assert_equal(rt, format!(in alloc; "{added:?}")?.as_str(), instr);
     }
     Ok(())
 }
@@ -145,7 +146,7 @@ fn add_again(
     if answer.is_ok() {
         return answer;
     }
-    assert_eq!(rt; answer, Err(BuildError::Memory));
+    assert_equal(rt, answer, Err(BuildError::Memory));
     shows(rt, alloc, f, instr, count)?;
     assert!(rt; f.contains_seq(entry));
     add(alloc, &mut f.instr_seq(entry), call)
@@ -160,7 +161,7 @@ fn adds_five(rt: &impl Abort, alloc: Global, call: PlainCall, instr: &str) -> Re
     if shows(rt, alloc, &mut f, instr, 5).is_err() {
         shows(rt, alloc, &mut f, instr, 5)?;
     }
-    assert_eq!(rt; f.local_func(Vec::new(alloc)).block_count(), 1);
+    assert_equal(rt, f.local_func(Vec::new(alloc)).block_count(), 1);
     Ok(())
 }
 
