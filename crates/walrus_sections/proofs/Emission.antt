@@ -2,5 +2,6 @@
 pub mod ByIndex
 pub mod Made
 pub mod Groups
+pub mod WrittenMembers
 pub mod Emits
 pub mod SameMembers

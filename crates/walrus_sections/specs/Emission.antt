@@ -32,6 +32,14 @@ IsGrouped gs i = (g : ℕ) × (u : ℕ) × IsMember gs g u i
 abbrev pub IsWritten : List TypeGroup → (ℕ → Bool) → ℕ → Type 0
 IsWritten gs is_entry g = (u : ℕ) × (i : ℕ) × IsMember gs g u i × (is_entry i ≡ false)
 
+-- an id with its group, which is written, and its place there
+pub record WrittenMember (gs : List TypeGroup) (is_entry : ℕ → Bool) : Type 0 where
+  pub group : ℕ
+  pub place : ℕ
+  pub id : ℕ
+  pub is_member : IsMember gs group place id
+  pub is_written : IsWritten gs is_entry group
+
 -- the group is not explicit, and its type names no live type but itself; any other group with
 -- members is an anchor
 pub record IsFreeGroup (gs : List TypeGroup) (definition : ℕ → Definition) (g : ℕ) : Type 0 where
@@ -52,45 +60,58 @@ abbrev pub IsWrittenBefore : List TypeGroup → (ℕ → Definition) → ℕ →
 IsWrittenBefore gs definition g h =
     ((g < h) × (¬ (IsInversion gs definition g h))) ⊎ ((h < g) × IsInversion gs definition h g)
 
--- the groups are written as the section n, and i gets the index m i
+-- Example: a table of four groups, which is written as a section of four entries.
+--
+--   group  explicit  id  its definition        m id  rec_position at m id
+--   0      no        0   a function's entry
+--   1      yes       1   a struct of `ref 2`   0     Some (0, 0)
+--                    2   a struct of `ref 1`   1     Some (0, 1)
+--   2      no        3   a struct of an i32    3     None
+--   3      no        4   a function            2     None
+--
+-- Group 0 is not written, so the ids 1 to 4 have the indices 0 to 3 (`below`, `onto`). Index 0
+-- defines a struct of `ref 1`, as m 2 is 1 (`same`). Group 1 is one `Rec`, whole and in its order
+-- (`rec`, `whole`, `within`), the groups 2 and 3 are `Single`s (`single`). Group 1 is an anchor, so
+-- it stands before 2 and 3 (`stands`). These are free, with nothing between them, and a function is
+-- less than a struct, so 3 stands before 2 (`inversions`). A second explicit group would be the
+-- `Rec` of number 1 (`recs`).
+
+-- the groups are written as the section n, and an id gets the index m id
 pub record IsEmission (gs : List TypeGroup) (definition : ℕ → Definition) (is_entry : ℕ → Bool)
     (n : Section) (m : ℕ → ℕ) : Type 0 where
   -- m sends the members of the written groups onto the indices of n
-  pub below :
-      (g u i : ℕ) → IsWritten gs is_entry g → IsMember gs g u i → m i < (index_space n).count
+  pub below : (x : WrittenMember gs is_entry) → m x.id < (index_space n).count
   pub onto :
-      (p : ℕ) → p < (index_space n).count →
-      (g : ℕ) × (u : ℕ) × (i : ℕ) × IsWritten gs is_entry g × IsMember gs g u i × (m i ≡ p)
+      (p : ℕ) → p < (index_space n).count → (x : WrittenMember gs is_entry) × (m x.id ≡ p)
   -- and each is written as it is defined, its names sent through m
   pub same :
-      (g u i : ℕ) → IsWritten gs is_entry g → IsMember gs g u i →
-      (index_space n).definition (m i) ≡ renamed m (definition i)
+      (x : WrittenMember gs is_entry) →
+      (index_space n).definition (m x.id) ≡ renamed m (definition x.id)
   -- an explicit group is written as a `Rec`, whole and in its order, any other as a `Single`, and
   -- nothing for an empty one
   pub filled : IsFilled n
   pub single :
-      (g u i : ℕ) → IsWritten gs is_entry g → IsMember gs g u i →
-      (group_at gs g).is_explicit ≡ false → (index_space n).rec_position (m i) ≡ None
+      (x : WrittenMember gs is_entry) → (group_at gs x.group).is_explicit ≡ false →
+      (index_space n).rec_position (m x.id) ≡ None
   pub rec :
-      (g u i : ℕ) → IsWritten gs is_entry g → IsMember gs g u i →
-      (group_at gs g).is_explicit ≡ true →
-      (k : ℕ) × ((index_space n).rec_position (m i) ≡ Some (k, u))
+      (x : WrittenMember gs is_entry) → (group_at gs x.group).is_explicit ≡ true →
+      (k : ℕ) × ((index_space n).rec_position (m x.id) ≡ Some (k, x.place))
   pub whole :
-      (g u i v j k : ℕ) → IsWritten gs is_entry g → IsMember gs g u i → IsMember gs g v j →
-      (group_at gs g).is_explicit ≡ true → (index_space n).rec_position (m i) ≡ Some (k, u) →
-      (index_space n).rec_position (m j) ≡ Some (k, v)
+      (x y : WrittenMember gs is_entry) (k : ℕ) → x.group ≡ y.group →
+      (group_at gs x.group).is_explicit ≡ true →
+      (index_space n).rec_position (m x.id) ≡ Some (k, x.place) →
+      (index_space n).rec_position (m y.id) ≡ Some (k, y.place)
   pub within :
-      (g u i v j : ℕ) → IsWritten gs is_entry g → IsMember gs g u i → IsMember gs g v j → u < v →
-      m i < m j
+      (x y : WrittenMember gs is_entry) → x.group ≡ y.group → x.place < y.place → m x.id < m y.id
   -- explicit groups keep their order, and of any two groups the earlier stands first where they are
-  -- not turned
+  -- no inversion
   pub recs :
-      (g u i h v j k l : ℕ) → g < h → IsWritten gs is_entry g → IsWritten gs is_entry h →
-      IsMember gs g u i → IsMember gs h v j → (index_space n).rec_position (m i) ≡ Some (k, u) →
-      (index_space n).rec_position (m j) ≡ Some (l, v) → k < l
+      (x y : WrittenMember gs is_entry) (k l : ℕ) → x.group < y.group →
+      (index_space n).rec_position (m x.id) ≡ Some (k, x.place) →
+      (index_space n).rec_position (m y.id) ≡ Some (l, y.place) → k < l
   pub stands :
-      (g u i h v j : ℕ) → g < h → IsWritten gs is_entry g → IsWritten gs is_entry h →
-      IsMember gs g u i → IsMember gs h v j → ¬ (IsInversion gs definition g h) → m i < m j
+      (x y : WrittenMember gs is_entry) → x.group < y.group →
+      ¬ (IsInversion gs definition x.group y.group) → m x.id < m y.id
   pub inversions :
-      (g u i h v j : ℕ) → g < h → IsWritten gs is_entry g → IsWritten gs is_entry h →
-      IsMember gs g u i → IsMember gs h v j → IsInversion gs definition g h → m j < m i
+      (x y : WrittenMember gs is_entry) → x.group < y.group →
+      IsInversion gs definition x.group y.group → m y.id < m x.id

@@ -10,7 +10,7 @@ use Rattle.walrus_types.specs.declared.error.EmitError.TheVariants as emit
 use Rattle.walrus_ty.specs.Definition.{Definition}
 use Rattle.walrus_sections.specs.Section.{no_place}
 use Rattle.walrus_sections.specs.SlotMap.{TypeGroup}
-use Rattle.walrus_sections.specs.Emission.{IsMember, IsWritten, IsEmission}
+use Rattle.walrus_sections.specs.Emission.{WrittenMember, IsEmission}
 use Rattle.walrus_sections.specs.Refusal.{IsMissing, IsFirstMissing, written_count}
 use Rattle.walrus_ty.specs.Records.{section_of}
 use Rattle.walrus_ty.specs.Types.{ModuleType, type_definition}
@@ -50,7 +50,7 @@ IfNameMissing emit.Memory P = Unit {0}
 
 -- the id stands in a written group
 abbrev pub IsWrittenId : List TypeGroup → (ℕ → Bool) → ℕ → Type 0
-IsWrittenId gs is_entry id = (g : ℕ) × (u : ℕ) × IsWritten gs is_entry g × IsMember gs g u id
+IsWrittenId gs is_entry id = (x : WrittenMember gs is_entry) × (x.id ≡ id)
 
 -- how many types the written groups of the table have
 abbrev pub written_types : Table → ℕ

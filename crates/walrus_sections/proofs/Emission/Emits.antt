@@ -8,13 +8,14 @@ use Rattle.walrus_ty.specs.Definition.{Names, renamed, definition_cmp}
 use Rattle.walrus_ty.specs.Groups.{Section}
 use Rattle.walrus_sections.specs.Section.{places_from, index_space, NamesBelowEnds, IsWellNamed, IsInRec}
 use Rattle.walrus_sections.specs.SlotMap.{TypeGroup, read_groups, read_definition, IsSlotMap}
-use Rattle.walrus_sections.specs.Emission.{group_at, IsMember, IsGrouped, IsWritten, IsFreeGroup, IsInversion, IsWrittenBefore, IsEmission}
+use Rattle.walrus_sections.specs.Emission.{group_at, IsMember, IsGrouped, WrittenMember, IsFreeGroup, IsInversion, IsWrittenBefore, IsEmission}
 use Rattle.walrus_sections.specs.NormalForm.{image, IsNormalForm}
 use Rattle.walrus_sections.proofs.Sections.Rows.{at, laid_out}
 use Rattle.walrus_sections.proofs.Sections.Numbering.{KeepsRecs, same_numbers}
 use Rattle.walrus_sections.proofs.NormalForms.SameMap.{normal_same}
 use Rattle.walrus_sections.proofs.Emission.ByIndex.{IsFixed, IsEmitted}
 use Rattle.walrus_sections.proofs.Emission.Groups.{AreGroups, Kind, groups}
+use Rattle.walrus_sections.proofs.Emission.WrittenMembers.{written_member}
 use Rattle.walrus_sections.proofs.Emission.Made.{down, twice, normal_made}
 use Rattle.walrus_ty.proofs.Names.Definitions.{named_before, cmp_same}
 
@@ -151,38 +152,39 @@ module _ (s : Section) (r : ℕ → ℕ) (wn : NamesBelowEnds (index_space s)) (
       ]
 
   module _ (out : Section) (place : ℕ → ℕ) (em : IsEmission (read_groups 0 r s) (read_definition (index_space s) r) (λ i. false) out place) where
-    written : (g u i : ℕ) → IsMember S g u i → IsWritten S (λ i. false) g
-    written g u i m = (u, i, m, refl)
+    -- no type is a function's entry, so each member is written
+    abbrev written : {g u i : ℕ} → IsMember S g u i → WrittenMember S (λ i. false)
+    written {g} {u} {i} m = written_member (u, i, m, refl) m
 
     em_below : (g u i : ℕ) → IsMember S g u i → place i < (index_space out).count
-    em_below g u i m = em.below g u i (written g u i m) m
+    em_below g u i m = em.below (written m)
 
     em_onto : (p : ℕ) → p < (index_space out).count → (g : ℕ) × (u : ℕ) × (i : ℕ) × IsMember S g u i × (place i ≡ p)
-    em_onto p h = let o = em.onto p h in (o.0, o.1, o.2, o.4, o.5)
+    em_onto p h = let o = em.onto p h in let x = o.0 in (x.group, x.place, x.id, x.is_member, o.1)
 
     em_same : (g u i : ℕ) → IsMember S g u i → (index_space out).definition (place i) ≡ renamed place (read_definition (index_space s) r i)
-    em_same g u i m = em.same g u i (written g u i m) m
+    em_same g u i m = em.same (written m)
 
     em_single : (g u i : ℕ) → IsMember S g u i → (group_at S g).is_explicit ≡ false → (index_space out).rec_position (place i) ≡ None
-    em_single g u i m = em.single g u i (written g u i m) m
+    em_single g u i m = em.single (written m)
 
     em_rec : (g u i : ℕ) → IsMember S g u i → (group_at S g).is_explicit ≡ true → (k : ℕ) × ((index_space out).rec_position (place i) ≡ Some (k, u))
-    em_rec g u i m = em.rec g u i (written g u i m) m
+    em_rec g u i m = em.rec (written m)
 
     em_whole : (g u i v j k : ℕ) → IsMember S g u i → IsMember S g v j → (group_at S g).is_explicit ≡ true → (index_space out).rec_position (place i) ≡ Some (k, u) → (index_space out).rec_position (place j) ≡ Some (k, v)
-    em_whole g u i v j k m = em.whole g u i v j k (written g u i m) m
+    em_whole g u i v j k m m' = em.whole (written m) (written m') k refl
 
     em_within : (g u i v j : ℕ) → IsMember S g u i → IsMember S g v j → u < v → place i < place j
-    em_within g u i v j m = em.within g u i v j (written g u i m) m
+    em_within g u i v j m m' = em.within (written m) (written m') refl
 
     em_recs : (g u i h v j k l : ℕ) → g < h → IsMember S g u i → IsMember S h v j → (index_space out).rec_position (place i) ≡ Some (k, u) → (index_space out).rec_position (place j) ≡ Some (l, v) → k < l
-    em_recs g u i h v j k l lt m m' = em.recs g u i h v j k l lt (written g u i m) (written h v j m') m m'
+    em_recs g u i h v j k l lt m m' = em.recs (written m) (written m') k l lt
 
     em_stands : (g u i h v j : ℕ) → g < h → IsMember S g u i → IsMember S h v j → ¬ (IsInversion S (read_definition (index_space s) r) g h) → place i < place j
-    em_stands g u i h v j lt m m' = em.stands g u i h v j lt (written g u i m) (written h v j m') m m'
+    em_stands g u i h v j lt m m' = em.stands (written m) (written m') lt
 
     em_turned : (g u i h v j : ℕ) → g < h → IsMember S g u i → IsMember S h v j → IsInversion S (read_definition (index_space s) r) g h → place j < place i
-    em_turned g u i h v j lt m m' = em.inversions g u i h v j lt (written g u i m) (written h v j m') m m'
+    em_turned g u i h v j lt m m' = em.inversions (written m) (written m') lt
 
     keeps : KeepsRecs (index_space s) (index_space out) place
     keeps = record {

@@ -4,7 +4,7 @@ use Rattle.std.specs.declared.cmp.Ordering.TheVariants.{Less}
 use Rattle.walrus_ty.specs.Definition.{Definition, Names, renamed, definition_cmp}
 use Rattle.walrus_ty.specs.Groups.{Section}
 use Rattle.walrus_sections.specs.SlotMap.{TypeGroup}
-use Rattle.walrus_sections.specs.Emission.{IsMember, IsWritten, IsFreeGroup, IsInversion, IsWrittenBefore, IsEmission}
+use Rattle.walrus_sections.specs.Emission.{IsMember, IsWritten, WrittenMember, IsFreeGroup, IsInversion, IsWrittenBefore, IsEmission}
 
 module _ (gs : List TypeGroup) where
   abbrev pub AgreesAt : (ℕ → Definition) → (ℕ → Definition) → Type 0
@@ -15,6 +15,15 @@ module _ (gs : List TypeGroup) where
 
   pub same_written : (e f : ℕ → Bool) → Marked e f → (g : ℕ) → IsWritten gs e g → IsWritten gs f g
   same_written e f same g w = (w.0, w.1, w.2, sym (same g w.0 w.1 w.2) ∙ w.3)
+
+  abbrev pub same_member : (e f : ℕ → Bool) → Marked e f → WrittenMember gs e → WrittenMember gs f
+  same_member e f same x = record {
+    group = x.group;
+    place = x.place;
+    id = x.id;
+    is_member = x.is_member;
+    is_written = same_written e f same x.group x.is_written;
+  }
 
   pub same_free : (d f : ℕ → Definition) → AgreesAt d f → (g : ℕ) → IsFreeGroup gs d g → IsFreeGroup gs f g
   same_free d f same g free = record {
@@ -37,17 +46,17 @@ module _ (gs : List TypeGroup) where
   pub same_emission : (d f : ℕ → Definition) (e b : ℕ → Bool) (n : Section) (m : ℕ → ℕ) → AgreesAt d f → Marked e b → IsEmission gs d e n m → IsEmission gs f b n m
   same_emission d f e b n m same marked em =
       let other : AgreesAt f d = λ g u i x. sym (same g u i x) in
-      let back : (g : ℕ) → IsWritten gs b g → IsWritten gs e g = same_written b e (λ g u i x. sym (marked g u i x)) in
+      let back : WrittenMember gs b → WrittenMember gs e = same_member b e (λ g u i x. sym (marked g u i x)) in
       record {
-        below = λ g u i w x. em.below g u i (back g w) x;
-        onto = λ p h. (let o = em.onto p h in (o.0, o.1, o.2, same_written e b marked o.0 o.3, o.4, o.5));
-        same = λ g u i w x. em.same g u i (back g w) x ∙ ap (renamed m) (same g u i x);
+        below = λ x. em.below (back x);
+        onto = λ p h. (let o = em.onto p h in (same_member e b marked o.0, o.1));
+        same = λ x. em.same (back x) ∙ ap (renamed m) (same x.group x.place x.id x.is_member);
         filled = em.filled;
-        single = λ g u i w x. em.single g u i (back g w) x;
-        rec = λ g u i w x. em.rec g u i (back g w) x;
-        whole = λ g u i v j k w x. em.whole g u i v j k (back g w) x;
-        within = λ g u i v j w x. em.within g u i v j (back g w) x;
-        recs = λ g u i h v j k l lt w y. em.recs g u i h v j k l lt (back g w) (back h y);
-        stands = λ g u i h v j lt w y x z not_turned. em.stands g u i h v j lt (back g w) (back h y) x z (λ t. not_turned (same_turned d f same g h t));
-        inversions = λ g u i h v j lt w y x z t. em.inversions g u i h v j lt (back g w) (back h y) x z (same_turned f d other g h t);
+        single = λ x. em.single (back x);
+        rec = λ x. em.rec (back x);
+        whole = λ x y. em.whole (back x) (back y);
+        within = λ x y. em.within (back x) (back y);
+        recs = λ x y. em.recs (back x) (back y);
+        stands = λ x y lt not_turned. em.stands (back x) (back y) lt (λ t. not_turned (same_turned d f same x.group y.group t));
+        inversions = λ x y lt t. em.inversions (back x) (back y) lt (same_turned f d other x.group y.group t);
       }

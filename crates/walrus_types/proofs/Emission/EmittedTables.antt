@@ -16,13 +16,14 @@ use Rattle.walrus_types.specs.declared.error.EmitError.TheVariants as emit
 use Rattle.walrus_ty.specs.Definition.{Definition}
 use Rattle.walrus_ty.specs.Groups.{Section}
 use Rattle.walrus_sections.specs.SlotMap.{TypeGroup}
-use Rattle.walrus_sections.specs.Emission.{no_group, group_at, IsMember, IsEmission}
+use Rattle.walrus_sections.specs.Emission.{no_group, group_at, IsMember, WrittenMember, IsEmission}
 use Rattle.walrus_ty.specs.Indices.{IndexMap}
 use Rattle.walrus_ty.specs.Lookups.{value_or_zero}
 use Rattle.walrus_types.specs.Table as table
 use Rattle.walrus_types.specs.Table.{Table, IsTable}
 use Rattle.walrus_types.specs.TableEmission.{contents, type_groups, definition_at, is_entry_at, written_types, IfNameMissing, IsWrittenId, IsEmitted, MissesFirst}
 use Rattle.walrus_types.specs.Steps.WrittenGroups.{AreWritten, FailsBy, IsApart, IsFirstMissingIn, IsWritingOrder, ids_in, in_order, written_in}
+use Rattle.walrus_sections.proofs.Emission.WrittenMembers.{written_member}
 use Rattle.walrus_types.proofs.Emission.IndexOfId.{Home, home, member_at}
 use Rattle.walrus_types.proofs.Emission.PairsOfGroups.{at_member, to_member, emission, none_missing, first_missing, placed_member}
 use Rattle.walrus_types.proofs.Emission.OrderFromSort.{live_member, single, same_member}
@@ -77,7 +78,7 @@ module _ (t : Table) (known : IsTable t) (order : List ℕ) (ord : IsWritingOrde
           let r : (p : ℕ) × (x.index id ≡ Some p) = found (x.index id) s in
           let h : Home (in_order gs order) r.0 id = home (in_order gs order) r.0 id ((w.indexes.index id r.0).0 r.1) in
           let m : _ = placed_member gs def (is_entry_at t.types.slots) order ord h.group h.place id h.is in
-          (slice_index order h.group, h.place, ord.written h.group m.0, m.1)
+          (written_member (ord.written h.group m.0) m.1, refl)
         where
           found : (o : Option ℕ) → IsSome o → (p : ℕ) × (o ≡ Some p)
           found None h = let z : ⊥ = cc in absurd z
@@ -85,10 +86,11 @@ module _ (t : Table) (known : IsTable t) (order : List ℕ) (ord : IsWritingOrde
 
       to : (id : ℕ) → IsWrittenId gs (is_entry_at t.types.slots) id → IsSome (x.index id)
       to id g =
-          let o : _ = ord.onto g.0 g.2 in
-          let at : slice_get (group_at (in_order gs order) o.0).ids g.1 ≡ Some id = ap (λ (y : TypeGroup). slice_get y.ids g.1) (get_or-map (group_at gs) order o.0 0 no_group o.1 ∙ ap (group_at gs) o.2) ∙ at_member gs g.0 g.1 id g.3 in
-          let e : x.index id ≡ Some (length (ids_in (take o.0 (in_order gs order))) + g.1) = (w.indexes.index id _).1 (member_at (in_order gs order) o.0 g.1 id at) in
-          rw e refl
+          let y : WrittenMember gs (is_entry_at t.types.slots) = g.0 in
+          let o : _ = ord.onto y.group y.is_written in
+          let at : slice_get (group_at (in_order gs order) o.0).ids y.place ≡ Some y.id = ap (λ (z : TypeGroup). slice_get z.ids y.place) (get_or-map (group_at gs) order o.0 0 no_group o.1 ∙ ap (group_at gs) o.2) ∙ at_member gs y.group y.place y.id y.is_member in
+          let e : x.index y.id ≡ Some (length (ids_in (take o.0 (in_order gs order))) + y.place) = (w.indexes.index y.id _).1 (member_at (in_order gs order) o.0 y.place y.id at) in
+          subst (λ (k : ℕ). IsSome (x.index k)) g.1 (rw e refl)
 
   pub misses : (e : EmitError) → FailsBy e (IsFirstMissingIn def (in_order gs order)) → FailsBy e (MissesFirst t)
   misses (emit.NoIndex i k) h = first_missing gs def (is_entry_at t.types.slots) order ord i k h

@@ -9,7 +9,7 @@ use Rattle.walrus_ty.specs.Definition.{Definition, renamed}
 use Rattle.walrus_ty.specs.Groups.{Section}
 use Rattle.walrus_sections.specs.Section.{places_from, index_space, IsFilled}
 use Rattle.walrus_sections.specs.SlotMap.{TypeGroup}
-use Rattle.walrus_sections.specs.Emission.{no_group, group_at, IsMember, IsWritten, IsInversion, IsEmission}
+use Rattle.walrus_sections.specs.Emission.{no_group, group_at, IsMember, IsWritten, WrittenMember, IsInversion, IsEmission}
 use Rattle.walrus_sections.specs.Emission.{IsWrittenBefore}
 use Rattle.walrus_sections.specs.Refusal.{HasIndexBy, IsMissing, Precedes, IsFirstMissing}
 use Rattle.walrus_ty.specs.Indices.{IndexMap, Indexes}
@@ -17,6 +17,7 @@ use Rattle.walrus_types.specs.Steps.WrittenGroups.{ids_in, in_order, written_gro
 use Rattle.walrus_types.proofs.Emission.IndexOfId as places
 use Rattle.walrus_types.proofs.Emission.IndexOfId.{IsTidy, AllTidy, recs, rec_position_of, home, member_at}
 use Rattle.walrus_ty.proofs.Basics.{some_inj}
+use Rattle.walrus_sections.proofs.Emission.WrittenMembers.{written_member}
 
 -- members, as places of a list of ids
 
@@ -260,60 +261,78 @@ module _ (gs : List TypeGroup) (definition : ℕ → Definition) (is_entry : ℕ
     stands_at a u i h = places.stands d ws tidy 0 0 a u i h
 
     -- what stands at the index of a member
-    module _ (g u i : ℕ) (w : IsWritten gs is_entry g) (mem : IsMember gs g u i) where
-      abbrev place : ℕ
-      place = place_of g w
+    module _ (y : WrittenMember gs is_entry) where
+      abbrev group_place : ℕ
+      group_place = place_of y.group y.is_written
 
-      at : m i ≡ start place + u
-      at = index_at place u i (member_in g u i w mem)
+      abbrev explicit_as : Bool → Type 0
+      explicit_as e = (group_at gs y.group).is_explicit ≡ e
 
-      below_at : m i < (index_space n).count
-      below_at = let s : _ = stands_at place u i (member_in g u i w mem) in omega (arith, at, s.within)
+      member_there : slice_get (group_at ws group_place).ids y.place ≡ Some y.id
+      member_there = member_in y.group y.place y.id y.is_written y.is_member
 
-      same_at : (index_space n).definition (m i) ≡ renamed m (definition i)
-      same_at = ap (index_space n).definition at ∙ (stands_at place u i (member_in g u i w mem)).definition
+      at : m y.id ≡ start group_place + y.place
+      at = index_at group_place y.place y.id member_there
 
-      rec_position_at : (e : Bool) → (group_at gs g).is_explicit ≡ e → (index_space n).rec_position (m i) ≡ rec_position_of e (0 + recs (take place ws)) u
-      rec_position_at e is_e = ap (index_space n).rec_position at ∙ ((stands_at place u i (member_in g u i w mem)).rec_position ∙ ap (λ (b : Bool). rec_position_of b (0 + recs (take place ws)) u) (ap (λ (y : TypeGroup). y.is_explicit) (group_is g w) ∙ is_e))
+      below_at : m y.id < (index_space n).count
+      below_at = let s : _ = stands_at group_place y.place y.id member_there in omega (arith, at, s.within)
 
-      explicit_from : (k : ℕ) → (index_space n).rec_position (m i) ≡ Some (k, u) → (group_at gs g).is_explicit ≡ true
-      explicit_from k h = by (group_at gs g).is_explicit refl
+      same_at : (index_space n).definition (m y.id) ≡ renamed m (definition y.id)
+      same_at = ap (index_space n).definition at ∙ (stands_at group_place y.place y.id member_there).definition
+
+      rec_position_at : (e : Bool) → explicit_as e → (index_space n).rec_position (m y.id) ≡ rec_position_of e (0 + recs (take group_place ws)) y.place
+      rec_position_at e is_e = ap (index_space n).rec_position at ∙ ((stands_at group_place y.place y.id member_there).rec_position ∙ ap (λ (b : Bool). rec_position_of b (0 + recs (take group_place ws)) y.place) (ap (λ (g : TypeGroup). g.is_explicit) (group_is y.group y.is_written) ∙ is_e))
+
+      explicit_from : (k : ℕ) → (index_space n).rec_position (m y.id) ≡ Some (k, y.place) → explicit_as true
+      explicit_from k h = by (group_at gs y.group).is_explicit refl
         where
-          by : (e : Bool) → (group_at gs g).is_explicit ≡ e → (group_at gs g).is_explicit ≡ true
+          by : (e : Bool) → explicit_as e → explicit_as true
           by true f = f
           by false f = let k' : ⊥ = (let z = sym (rec_position_at false f) ∙ h in cc) in absurd k'
 
-      number_from : (k : ℕ) → (index_space n).rec_position (m i) ≡ Some (k, u) → k ≡ 0 + recs (take place ws)
-      number_from k h = let e : Some (k, u) ≡ Some (0 + recs (take place ws), u) = sym h ∙ rec_position_at true (explicit_from k h) in ap (λ (y : ℕ × ℕ). y.0) (some_inj e)
+      number_from : (k : ℕ) → (index_space n).rec_position (m y.id) ≡ Some (k, y.place) → k ≡ 0 + recs (take group_place ws)
+      number_from k h = let e : Some (k, y.place) ≡ Some (0 + recs (take group_place ws), y.place) = sym h ∙ rec_position_at true (explicit_from k h) in ap (λ (a : ℕ × ℕ). a.0) (some_inj e)
+
+    same_place : (y z : WrittenMember gs is_entry) → y.group ≡ z.group → group_place y ≡ group_place z
+    same_place y z e = same_from (group_place y) (group_place z) (place_below y.group y.is_written) (place_below z.group z.is_written) (place_is y.group y.is_written ∙ (e ∙ sym (place_is z.group z.is_written)))
 
     -- of two members, the one whose group stands first has the lesser index
-    earlier : (g u i h v j : ℕ) (w : IsWritten gs is_entry g) (w' : IsWritten gs is_entry h) → IsMember gs g u i → IsMember gs h v j → IsWrittenBefore gs definition g h → m i < m j
-    earlier g u i h v j w w' mem mem' s =
-        let lt : place_of g w < place_of h w' = places_stand g h w w' s in
-        omega (arith, at g u i w mem, at h v j w' mem', start_past ws (place_of g w) (place_of h w') u i lt (member_in g u i w mem))
+    earlier : (y z : WrittenMember gs is_entry) → IsWrittenBefore gs definition y.group z.group → m y.id < m z.id
+    earlier y z s =
+        let lt : group_place y < group_place z = places_stand y.group z.group y.is_written z.is_written s in
+        omega (arith, at y, at z, start_past ws (group_place y) (group_place z) y.place y.id lt (member_there y))
+
+    whole : (y z : WrittenMember gs is_entry) (k : ℕ) → y.group ≡ z.group → explicit_as y true → (index_space n).rec_position (m y.id) ≡ Some (k, y.place) → (index_space n).rec_position (m z.id) ≡ Some (k, z.place)
+    whole y z k e ex f =
+        let ez : explicit_as z true = ap (λ (g : ℕ). (group_at gs g).is_explicit) (sym e) ∙ ex in
+        let number : k ≡ 0 + recs (take (group_place z) ws) = number_from y k f ∙ ap (λ (a : ℕ). 0 + recs (take a ws)) (same_place y z e) in
+        rec_position_at z true ez ∙ ap (λ (a : ℕ). Some (a, z.place)) (sym number)
+
+    recs_in_order : (y z : WrittenMember gs is_entry) (k l : ℕ) → y.group < z.group → (index_space n).rec_position (m y.id) ≡ Some (k, y.place) → (index_space n).rec_position (m z.id) ≡ Some (l, z.place) → k < l
+    recs_in_order y z k l lt e f =
+        let ex : explicit_as y true = explicit_from y k e in
+        let not_turned : ¬ (IsInversion gs definition y.group z.group) = λ t. (let i = (t.free y.group (omega arith) (omega (arith, lt)) y.place y.id y.is_member).implicit in let j = sym ex ∙ i in cc) in
+        let a_b : group_place y < group_place z = places_stand y.group z.group y.is_written z.is_written (inl (lt, not_turned)) in
+        let more : recs (take (group_place y) ws) < recs (take (group_place z) ws) = recs_past ws (group_place y) (group_place z) a_b (ap (λ (g : TypeGroup). g.is_explicit) (group_is y.group y.is_written) ∙ ex) in
+        omega (arith, number_from y k e, number_from z l f, more)
 
     pub emission : IsEmission gs definition is_entry n m
     emission = record {
-      below = λ g u i w mem. below_at g u i w mem;
+      below = λ y. below_at y;
       onto = λ p h. (
           let long : p < length (ids_in ws) = omega (arith, h, places.count d ws tidy 0 0) in
           let i : ℕ = slice_index (ids_in ws) p in
           let there : slice_get (ids_in ws) p ≡ Some i = slice_get-get_or (ids_in ws) p 0 long in
           let r : places.Home ws p i = home ws p i there in
           let in_a : r.group < length order = omega (arith, r.within, as_many) in
-          (slice_index order r.group, r.place, i, ord.written r.group in_a, member_from r.group r.place i in_a r.is, ap (λ (o : Option ℕ). unwrap_or o 0) ((is.index i p).1 there)));
-      same = λ g u i w mem. same_at g u i w mem;
+          (written_member (ord.written r.group in_a) (member_from r.group r.place i in_a r.is), ap (λ (o : Option ℕ). unwrap_or o 0) ((is.index i p).1 there)));
+      same = λ y. same_at y;
       filled = filled_all d ws tidy;
-      single = λ g u i w mem e. rec_position_at g u i w mem false e;
-      rec = λ g u i w mem e. (0 + recs (take (place_of g w) ws), rec_position_at g u i w mem true e);
-      whole = λ g u i v j k w mem mem' e f. rec_position_at g v j w mem' true e ∙ ap (λ (y : ℕ). Some (y, v)) (sym (number_from g u i w mem k f));
-      within = λ g u i v j w mem mem' lt. omega (arith, at g u i w mem, at g v j w mem', lt);
-      recs = λ g u i h v j k l lt w w' mem mem' e f. (
-          let ex : (group_at gs g).is_explicit ≡ true = explicit_from g u i w mem k e in
-          let not_turned : ¬ (IsInversion gs definition g h) = λ t. (let z = (t.free g (omega arith) (omega (arith, lt)) u i mem).implicit in let y = sym ex ∙ z in cc) in
-          let a_b : place_of g w < place_of h w' = places_stand g h w w' (inl (lt, not_turned)) in
-          let more : recs (take (place_of g w) ws) < recs (take (place_of h w') ws) = recs_past ws (place_of g w) (place_of h w') a_b (ap (λ (y : TypeGroup). y.is_explicit) (group_is g w) ∙ ex) in
-          omega (arith, number_from g u i w mem k e, number_from h v j w' mem' l f, more));
-      stands = λ g u i h v j lt w w' mem mem' nt. earlier g u i h v j w w' mem mem' (inl (lt, nt));
-      inversions = λ g u i h v j lt w w' mem mem' t. earlier h v j g u i w' w mem' mem (inr (lt, t));
+      single = λ y e. rec_position_at y false e;
+      rec = λ y e. (0 + recs (take (group_place y) ws), rec_position_at y true e);
+      whole = whole;
+      within = λ y z e lt. omega (arith, at y, at z, ap start (same_place y z e), lt);
+      recs = recs_in_order;
+      stands = λ y z lt nt. earlier y z (inl (lt, nt));
+      inversions = λ y z lt t. earlier z y (inr (lt, t));
     }

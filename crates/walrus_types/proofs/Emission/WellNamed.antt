@@ -17,11 +17,12 @@ use Rattle.walrus_ty.specs.Records.{section_of}
 use Rattle.walrus_ty.proofs.Names.Definitions.{named_before, names_same}
 use Rattle.walrus_sections.specs.Section.{IndexSpace, index_space, NamesBelowEnds, IsWellNamed}
 use Rattle.walrus_sections.specs.SlotMap.{TypeGroup}
-use Rattle.walrus_sections.specs.Emission.{no_group, group_at, IsMember, IsWritten, IsWrittenBefore, IsEmission}
+use Rattle.walrus_sections.specs.Emission.{no_group, group_at, IsMember, IsWritten, WrittenMember, IsWrittenBefore, IsEmission}
 use Rattle.walrus_sections.specs.Refusal.{HasIndexBy, IsMissing, written_count}
 use Rattle.walrus_sections.proofs.Sections.Lying.{IsLaidOut}
 use Rattle.walrus_sections.proofs.Sections.Rows.{laid_out}
 use Rattle.walrus_sections.proofs.NormalForms.Fewer.{fewer}
+use Rattle.walrus_sections.proofs.Emission.WrittenMembers.{written_member}
 use Rattle.walrus_types.specs.Table.{Table, no_rec_group, rec_group_at}
 use Rattle.walrus_types.specs.TableEmission.{contents, type_groups, definition_at, is_entry_at, written_types, IsEmitted}
 
@@ -40,87 +41,88 @@ below_rec_end t l p q k u v in_p in_q at_p at_q = elim (cases_lt p q) [
 -- what is named
 
 module _ (gs : List TypeGroup) (definition : ℕ → Definition) (is_entry : ℕ → Bool) where
-  abbrev Written : ℕ → Type 0
-  Written = IsWritten gs is_entry
-
-  abbrev Member : ℕ → ℕ → ℕ → Type 0
-  Member = IsMember gs
+  abbrev Written : Type 0
+  Written = WrittenMember gs is_entry
 
   -- of a group that isn't explicit there is only a first member
   abbrev HasLoneTypes : Type 0
-  HasLoneTypes = (g u i : ℕ) → Member g u i → (group_at gs g).is_explicit ≡ false → u ≡ 0
+  HasLoneTypes =
+      (g u i : ℕ) → IsMember gs g u i → (group_at gs g).is_explicit ≡ false → u ≡ 0
 
   module _ (n : Section) (m : ℕ → ℕ) (em : IsEmission gs definition is_entry n m) where
     abbrev end_of : ℕ → ℕ
     end_of i = (index_space n).end (m i)
 
-    own_end : (g u i : ℕ) → Written g → Member g u i → m i < end_of i
-    own_end g u i w is = (laid_out n).own (m i) (em.below g u i w is)
+    own_end : (x : Written) → m x.id < end_of x.id
+    own_end x = (laid_out n).own (m x.id) (em.below x)
 
     only_member :
-        HasLoneTypes → (g u i v j : ℕ) → Member g u i → Member g v j →
-        (group_at gs g).is_explicit ≡ false → j ≡ i
-    only_member lone g u i v j is other implicit =
-        let same : v ≡ u = omega (arith, lone g u i is implicit, lone g v j other implicit) in
-        sym other.is ∙ (ap (λ (a : ℕ). slice_index_or (group_at gs g).ids a 0) same ∙ is.is)
+        HasLoneTypes → (x y : Written) → x.group ≡ y.group →
+        (group_at gs x.group).is_explicit ≡ false → y.id ≡ x.id
+    only_member lone x y same implicit =
+        let here = subst (λ (g : ℕ). IsMember gs g y.place y.id) (sym same) y.is_member in
+        let x_first = lone x.group x.place x.id x.is_member implicit in
+        let y_first = lone x.group y.place y.id here implicit in
+        let places : y.place ≡ x.place = omega (arith, x_first, y_first) in
+        sym here.is ∙
+        (ap (λ (a : ℕ). slice_index_or (group_at gs x.group).ids a 0) places ∙ x.is_member.is)
 
     -- a type of the same group
-    mate_below :
-        HasLoneTypes → (g u i v j : ℕ) → Written g → Member g u i → Member g v j → m j < end_of i
-    mate_below lone g u i v j w is other = elim (cases_Bool (group_at gs g).is_explicit) [
-      | inl e ↦ (let at = em.rec g u i w is e in
-          let beside = em.whole g u i v j at.0 w is other e at.1 in
-          let in_i = em.below g u i w is in
-          let in_j = em.below g v j w other in
-          below_rec_end (index_space n) (laid_out n) (m i) (m j) at.0 u v in_i in_j at.1 beside)
-      | inr e ↦ (let same = only_member lone g u i v j is other e in
-          subst (λ (a : ℕ). m a < end_of i) (sym same) (own_end g u i w is))
+    mate_below : HasLoneTypes → (x y : Written) → x.group ≡ y.group → m y.id < end_of x.id
+    mate_below lone x y same = elim (cases_Bool (group_at gs x.group).is_explicit) [
+      | inl e ↦ (let at = em.rec x e in
+          let beside = em.whole x y at.0 same e at.1 in
+          let in_x = em.below x in
+          let in_y = em.below y in
+          below_rec_end (index_space n) (laid_out n) (m x.id) (m y.id) at.0 x.place y.place in_x
+          in_y at.1 beside)
+      | inr e ↦ (let one = only_member lone x y same e in
+          subst (λ (a : ℕ). m a < end_of x.id) (sym one) (own_end x))
     ]
 
     -- a type of a group that is written before
     earlier_below :
-        (g u i h v j : ℕ) → Written g → Member g u i → Written h → Member h v j →
-        IsWrittenBefore gs definition h g → m j < end_of i
-    earlier_below g u i h v j w is w' other (inl x) =
-        let less = em.stands h v j g u i x.0 w' w other is x.1 in
-        omega (arith, own_end g u i w is, less)
-    earlier_below g u i h v j w is w' other (inr x) =
-        let less = em.inversions g u i h v j x.0 w w' is other x.1 in
-        omega (arith, own_end g u i w is, less)
+        (x y : Written) → IsWrittenBefore gs definition y.group x.group → m y.id < end_of x.id
+    earlier_below x y (inl before) =
+        let less = em.stands y x before.0 before.1 in
+        omega (arith, own_end x, less)
+    earlier_below x y (inr before) =
+        let less = em.inversions x y before.0 before.1 in
+        omega (arith, own_end x, less)
 
     indexed_below :
-        HasLoneTypes → (g u i j : ℕ) → Written g → Member g u i →
-        HasIndexBy gs definition is_entry g j → m j < end_of i
-    indexed_below lone g u i j w is has = elim has.by [
-      | inl e ↦ (let here = subst (λ (a : ℕ). Member a has.place j) e has.member in
-          mate_below lone g u i has.place j w is here)
-      | inr before ↦ earlier_below g u i has.home has.place j w is has.written has.member before
-    ]
+        HasLoneTypes → (x : Written) (j : ℕ) → HasIndexBy gs definition is_entry x.group j →
+        m j < end_of x.id
+    indexed_below lone x j has =
+        let y = written_member has.written has.member in
+        elim has.by [
+          | inl same ↦ mate_below lone x y (sym same)
+          | inr before ↦ earlier_below x y before
+        ]
 
     abbrev IsComplete : Type 0
     IsComplete = (g u t i k : ℕ) → ¬ (IsMissing gs definition is_entry g u t i k)
 
     module _ (lone : HasLoneTypes) (complete : IsComplete) where
-      name_below :
-          (g u i j : ℕ) → Written g → Member g u i → Names (definition i) j → m j < end_of i
-      name_below g u i j w is name = elim (cases_lt (m j) (end_of i)) [
+      name_below : (x : Written) (j : ℕ) → Names (definition x.id) j → m j < end_of x.id
+      name_below x j name = elim (cases_lt (m j) (end_of x.id)) [
         | inl h ↦ h
-        | inr h ↦ (let at = slice_get-get_or (names_of (definition i)) name.0 j name.1 in
-            absurd (complete g u name.0 i j (record {
-              written = w;
-              member = is;
+        | inr h ↦ (let at = slice_get-get_or (names_of (definition x.id)) name.0 j name.1 in
+            absurd (complete x.group x.place name.0 x.id j (record {
+              written = x.is_written;
+              member = x.is_member;
               name = at ∙ ap (λ (a : ℕ). Some a) name.2;
-              missing = λ has. (let z = indexed_below lone g u i j w is has in omega (arith, h, z));
+              missing = λ has. (let z = indexed_below lone x j has in omega (arith, h, z));
             })))
       ]
 
       names_below_ends : NamesBelowEnds (index_space n)
       names_below_ends p in_p k name =
           let o = em.onto p in_p in
-          let at = ap (index_space n).definition (sym o.5) ∙ em.same o.0 o.1 o.2 o.3 o.4 in
-          let before = named_before m (definition o.2) k (names_same k at name) in
-          let below = name_below o.0 o.1 o.2 before.0 o.3 o.4 before.1 in
-          omega (arith, below, before.2, ap (index_space n).end o.5)
+          let at = ap (index_space n).definition (sym o.1) ∙ em.same o.0 in
+          let before = named_before m (definition o.0.id) k (names_same k at name) in
+          let below = name_below o.0 before.0 before.1 in
+          omega (arith, below, before.2, ap (index_space n).end o.1)
 
 -- how many definitions are written
 
@@ -175,8 +177,9 @@ module _ (is_entry : ℕ → Bool) where
       let all : List ℕ = written_ids gs in
       let few = fewer (length all) (index_space n).count (λ a. m (slice_index_or all a 0)) (λ p in_p.
       (let o = em.onto p in_p in
-      let at = has_id gs o.0 o.1 o.2 o.3 o.4 in
-      (at.0, at.1, ap m (get_or_default all at.0 0 o.2 at.1 ∙ at.2) ∙ o.5))) in
+      let x = o.0 in
+      let at = has_id gs x.group x.place x.id x.is_written x.is_member in
+      (at.0, at.1, ap m (get_or_default all at.0 0 x.id at.1 ∙ at.2) ∙ o.1))) in
       omega (arith, few, as_many gs)
 
 -- the table

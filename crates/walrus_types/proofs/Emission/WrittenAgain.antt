@@ -22,6 +22,7 @@ use Rattle.walrus_types.specs.Table.{Table}
 use Rattle.walrus_ty.specs.declared.records.GroupAt.{GroupAt}
 use Rattle.walrus_sections.proofs.Sections.Rows.{at}
 use Rattle.walrus_sections.proofs.Emission.Made.{down, twice}
+use Rattle.walrus_sections.proofs.Emission.WrittenMembers.{written_member}
 use Rattle.walrus_sections.proofs.Emission.Groups.{AreGroups, Kind, groups}
 use Rattle.walrus_sections.proofs.Emission.Emits.{slots_through, read_then_emitted, names_stand}
 use Rattle.walrus_sections.proofs.Emission.SameMembers.{same_emission, same_stands}
@@ -98,7 +99,7 @@ module _ (s : Section) (t : Table) (ids : List ℕ) (has : IsReadInto s t ids) w
       let within : i < (index_space s).count = omega (arith, below, has.one_each) in
       let lower = down (index_space s) r has.rule i within in
       let home = member_of (r i) (omega (arith, within, lower)) (twice (index_space s) r has.rule i within) in
-      let written : IsWrittenId S (is_entry_at t.types.slots) (r i) = (home.0, home.1, (home.1, r i, home.2, no_entry home.0 home.1 (r i) home.2), home.2) in
+      let written : IsWrittenId S (is_entry_at t.types.slots) (r i) = (written_member (home.1, r i, home.2, no_entry home.0 home.1 (r i) home.2) home.2, refl) in
       let there : IsWrittenId (type_groups t.groups) (is_entry_at t.types.slots) (r i) = subst (λ (gs : List TypeGroup). IsWrittenId gs (is_entry_at t.types.slots) (r i)) (sym has.grouping) written in
       subst (λ (k : ℕ). IsSome (x.index k)) (get_or_default ids i 0 d below) ((em.indexed (r i)).1 there)
 
