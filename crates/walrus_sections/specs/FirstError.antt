@@ -49,5 +49,5 @@ pub record IsFirstError (s : Section) (error : ReadError) : Type 0 where
   pub group : Group
   pub after : Section
   pub split : s ≡ before ++ group ∷ after
-  pub read : IsWellNamed before
+  pub well_named : IsWellNamed before
   pub is : group_error (index_space before).count (definitions_of group) ≡ Some error

@@ -112,5 +112,5 @@ IsLower s r =
 
 -- moves lead from a section down to r, through well-named sections
 pub data DescentTo (r : Section) : Section → Type 0 where
-  arrived : DescentTo r r
+  bottom : DescentTo r r
   down : (s q : Section) → Move s q → IsLower s q → IsWellNamed q → DescentTo r q → DescentTo r s

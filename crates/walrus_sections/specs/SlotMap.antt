@@ -13,7 +13,7 @@ use Rattle.walrus_ty.specs.Groups.{Section, Single, Rec}
 abbrev pub read_definition : IndexSpace → (ℕ → ℕ) → ℕ → Definition
 read_definition s r i = renamed r (s.definition i)
 
--- j is an earlier `Single` with a live slot that holds what i defines
+-- j is a candidate for i: an earlier `Single` with a live slot that holds what i defines
 pub record IsCandidate (s : IndexSpace) (r : ℕ → ℕ) (i j : ℕ) : Type 0 where
   pub earlier : j < i
   pub single : IsSingle s j

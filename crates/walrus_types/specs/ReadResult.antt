@@ -29,7 +29,7 @@ type_of_definition d id = record {
   name = None;
 }
 
--- j is a `Single` with a live slot, and q is defined as it is
+-- j is a candidate for q: a `Single` with a live slot, and q is defined as it is
 pub record IsCandidateFor (s : Section) (ids : List ℕ) (q : ModuleType) (j : ℕ) : Type 0 where
   pub below : j < (index_space s).count
   pub single : IsSingle (index_space s) j
@@ -37,10 +37,10 @@ pub record IsCandidateFor (s : Section) (ids : List ℕ) (q : ModuleType) (j : �
   pub same : type_definition q ≡ read_definition (index_space s) (image ids) j
   pub plain : q.is_for_function_entry ≡ false
 
--- the section is read: which id each index stands for, the slots of the types, what finds them, and
--- their groups
+-- the section is read: which id each index stands for, the slots of the types, the ids that are
+-- known for types, and the groups
 pub record IsReadResult (s : Section) (ids : List ℕ) (slots : TypeSlots)
-    (find : ModuleType → Option ℕ) (groups : List TypeGroup) : Type 0 where
+    (known : ModuleType → Option ℕ) (groups : List TypeGroup) : Type 0 where
   pub well_named : IsWellNamed s
   -- an id for each index, by the rule of reading
   pub one_each : length ids ≡ (index_space s).count
@@ -52,6 +52,6 @@ pub record IsReadResult (s : Section) (ids : List ℕ) (slots : TypeSlots)
       live_type slots i ≡ Some
       (type_of_definition (read_definition (index_space s) (image ids) i) i)
   pub dead : (i : ℕ) → i < (index_space s).count → ¬ (image ids i ≡ i) → live_type slots i ≡ None
-  -- what is found are the live `Single`s, and nothing else, by their definitions
-  pub candidates : (q : ModuleType) (j : ℕ) → (find q ≡ Some j) ↔ IsCandidateFor s ids q j
+  -- known for a type are the candidates for it, and nothing else
+  pub candidates : (q : ModuleType) (j : ℕ) → (known q ≡ Some j) ↔ IsCandidateFor s ids q j
   pub grouping : groups ≡ read_groups 0 (image ids) s

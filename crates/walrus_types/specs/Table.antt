@@ -33,8 +33,8 @@ abbrev pub IsIdAt : List RecGroup → ℕ → ℕ → ℕ → Type 0
 IsIdAt groups k u id = slice_get (rec_group_at groups k).types u ≡ Some id
 
 -- each live id stands in exactly one group, once, and no dead id stands in one;
--- a group that was not given as one has one id at most; and only the ids of such groups are found
--- by value
+-- a group that was not given as one has one id at most; and only the ids of such groups are known
+-- for a type
 pub record IsTable (t : Table) : Type 0 where
   pub grouping : (id : ℕ) → IsLive t.types.slots id → (k : ℕ) × (u : ℕ) × IsIdAt t.groups k u id
   pub live : (k u id : ℕ) → IsIdAt t.groups k u id → IsLive t.types.slots id
@@ -42,7 +42,7 @@ pub record IsTable (t : Table) : Type 0 where
   pub single :
       (k : ℕ) → (rec_group_at t.groups k).is_explicit ≡ false →
       length (rec_group_at t.groups k).types ≤ 1
-  pub candidates :
+  pub known_implicit :
       (q : ModuleType) (id k u : ℕ) → known_id t.types q ≡ Some id → IsIdAt t.groups k u id →
       (rec_group_at t.groups k).is_explicit ≡ false
 
@@ -83,7 +83,7 @@ module _ (old new : Table) where
 abbrev pub FindsOrAdds : Table → Table → ModuleType → ℕ → Type 0
 FindsOrAdds old new ty id =
     MatchOption (found_id old.types ty) (AddsType old new ty id)
-    (λ known. (id ≡ known) × IsSameTable old new)
+    (λ found. (id ≡ found) × IsSameTable old new)
 
 -- the id is live, its type is the same, and it has a group of its own
 pub record IsAnswer (t : Table) (ty : ModuleType) (id : ℕ) : Type 0 where

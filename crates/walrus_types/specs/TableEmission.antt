@@ -63,7 +63,7 @@ pub record IsEmitted (t : Table) (out : List GroupAt) (x : IndexMap) : Type 0 wh
       IsEmission (type_groups t.groups) (definition_at t.types.slots) (is_entry_at t.types.slots)
       (section_of out) (value_or_zero x.index)
   pub count : x.count ≡ written_types t
-  pub indexed :
+  pub has_index :
       (id : ℕ) → (IsSome (x.index id) ↔
       IsWrittenId (type_groups t.groups) (is_entry_at t.types.slots) id)
   pub complete :

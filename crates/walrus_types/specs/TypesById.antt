@@ -32,39 +32,40 @@ abbrev pub passes : (ModuleType → Bool) → Option ModuleType → Bool
 passes test None = false
 passes test (Some ty) = test ty
 
--- the id that is noted for the types equal to this one
+-- the id that is known for a type: the map has it for the types equal to this one, whatever became
+-- of it since
 abbrev pub known_id : TypesById → ModuleType → Option ℕ
 known_id t q = lookup (type_eq q) t.entries
 
--- the noted id, if it is live and its type is equal to this one
+-- the id that is found for a type: the known one, if it is live and its type is equal to this one
 abbrev pub found_id : TypesById → ModuleType → Option ℕ
 found_id t q =
     option_and_then (λ id. if passes (type_eq q) (live_type t.slots id) then Some id else None)
     (known_id t q)
 
--- q is equal to the type of the id, and this very id is noted for that type
+-- q is equal to the type of the id, and this very id is known for that type
 abbrev pub is_known_as : TypesById → ℕ → ModuleType → Bool
 is_known_as t id q =
     passes (λ ty. type_eq ty q && option_eq (λ a b. a == b) (known_id t ty) (Some id))
     (live_type t.slots id)
 
 module _ (old new : TypesById) where
-  -- the same ids are noted for the same types
+  -- the same ids are known for the same types
   abbrev pub KnowsSame : Type 0
   KnowsSame = (q : ModuleType) → known_id new q ≡ known_id old q
 
-  -- the same types, and the same ids noted for them
+  -- the same types, and the same ids known for them
   pub record IsUnchanged : Type 0 where
     pub slots : new.slots ≡ old.slots
     pub map : KnowsSame
 
-  -- the type has the next id, and this is noted for the types equal to it
+  -- the type has the next id, and this is known for the types equal to it
   pub record Gains (ty : ModuleType) (id : ℕ) : Type 0 where
-    pub named : id ≡ length old.slots
+    pub is_next : id ≡ length old.slots
     pub slots : new.slots ≡ old.slots ++ Some ty ∷ []
     pub map : (q : ModuleType) → known_id new q ≡ (if type_eq ty q then Some id else known_id old q)
 
-  -- the type of the id died; where this very id was noted for the types equal to it, none is noted
+  -- the type of the id died; where this very id was known for the types equal to it, none is known
   -- any more
   pub record Loses (id : ℕ) : Type 0 where
     pub slots : new.slots ≡ slice_set old.slots id None

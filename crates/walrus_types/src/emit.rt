@@ -8,7 +8,7 @@ ghost use Rattle.walrus_ty.specs.Indices.{IsEmpty, type_indices, func_indices, g
 ghost use Rattle.walrus_types.specs.declared.error.EmitError.TheVariants.{TooMany};
 ghost use Rattle.walrus_sections.specs.Refusal.{written_count};
 ghost use Rattle.walrus_types.specs.Steps.FreeGroups.{is_marked};
-ghost use Rattle.walrus_types.specs.Steps.WrittenGroups.{AreLosslessKeys, FailsBy, IsWritingOrder, written_in};
+ghost use Rattle.walrus_types.specs.Steps.WrittenGroups.{AreLosslessKeys, FailsBy, IsWritingOrder, id_count};
 
 mod free;
 mod order;
@@ -114,7 +114,7 @@ fn writing_order(alloc: Global, table: &ModuleTypes) -> Result<WritingOrder, All
         (λ o. IsWritingOrder (type_groups table.now.groups) (definition_at table.now.types.slots)
         (is_entry_at table.now.types.slots) o.places.items) }
     ensures count { IfOk result
-        (λ o. written_in (type_groups table.now.groups) o.places.items ≡
+        (λ o. id_count (type_groups table.now.groups) o.places.items ≡
         written_count (is_entry_at table.now.types.slots) (type_groups table.now.groups)) }
     ensures lossless_keys { IfOk result
         (λ o. AreLosslessKeys table.now.types.slots table.now.groups o.lossless_keys.items) }

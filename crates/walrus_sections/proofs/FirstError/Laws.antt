@@ -123,7 +123,7 @@ from_start :
 from_start before [] fine = inl (subst IsWellNamed (sym (append-nil before)) fine)
 from_start before (g ∷ rest) fine = elim (found_or_none (group_error (index_space before).count (definitions_of g))) [
   | inl none ↦ subst (λ (s : Section). IsWellNamed s ⊎ ((e : ReadError) × IsFirstError s e)) (append_assoc before (g ∷ []) rest) (from_start (before ++ g ∷ []) rest (well_named_next before g fine none))
-  | inr x ↦ inr (x.0, record { before = before; group = g; after = rest; split = refl; read = fine; is = x.1 })
+  | inr x ↦ inr (x.0, record { before = before; group = g; after = rest; split = refl; well_named = fine; is = x.1 })
 ]
 
 empty_fine : IsWellNamed []

@@ -6,7 +6,7 @@ use Rattle.std.proofs.lemmas.List.FromFn.{length-map-range_with_len, get_or-map-
 use Rattle.walrus_ty.specs.Definition.{renamed, definition_cmp}
 use Rattle.walrus_sections.specs.Section.{IndexSpace, Place, index_space, index_space_of_places, IsFilled, IsWellNamed}
 use Rattle.walrus_ty.specs.Groups.{Section}
-use Rattle.walrus_sections.specs.Moves.{exchange, skip, Move, drop_empty_rec, drop_repeat, swap_neighbours, ChainTo, stop, forth, back, DescentTo, arrived, down}
+use Rattle.walrus_sections.specs.Moves.{exchange, skip, Move, drop_empty_rec, drop_repeat, swap_neighbours, ChainTo, stop, forth, back, DescentTo, bottom, down}
 use Rattle.walrus_sections.specs.NormalForm.{image, IsNormal, IsOutput}
 use Rattle.walrus_sections.proofs.Sections.Rows.{laid_out}
 use Rattle.walrus_sections.proofs.NormalForms.SameMap.{normal_same}
@@ -68,7 +68,7 @@ back_move s q n ws wq (swap_neighbours i x) o =
     listed s n (λ k. image o.0 (exchange i k)) ws o.1.filled (normal_swapped (index_space q) (index_space s) (index_space n) (image o.0) i (laid_out q) wq.below_ends (swapped_back (index_space s) (index_space q) i (swapped_by_index s q i x)) o.1.laws)
 
 down_output : (q s n : Section) → IsWellNamed s → DescentTo q s → IsOutput q n → IsOutput s n
-down_output q _ n w arrived o = o
+down_output q _ n w bottom o = o
 down_output q _ n w (down s r mv lo wr d) o = back_move s r n w wr mv (down_output q r n wr d o)
 
 -- each well-named section has an output, to which moves lead
@@ -91,7 +91,7 @@ chain_output b _ n w (forth a q mv wq c) o = back_move a q n w wq mv (chain_outp
 chain_output b _ n w (back a q mv wq c) o = forth_move q a n wq w mv (chain_output b q n wq c o)
 
 chain_down : (n s : Section) → DescentTo n s → ChainTo n s
-chain_down n _ arrived = stop
+chain_down n _ bottom = stop
 chain_down n _ (down s r mv lo wr d) = forth s r mv wr (chain_down n r d)
 
 chain_join : (r q s : Section) → ChainTo q s → ChainTo r q → ChainTo r s

@@ -8,7 +8,7 @@ use Rattle.std.proofs.lemmas.Cmp.{tied_itself}
 use Rattle.walrus_ty.specs.Definition.{Names, renamed, definition_cmp}
 use Rattle.walrus_sections.specs.Section.{IndexSpace, index_space, IsSingle, IsFilled, IsWellNamed}
 use Rattle.walrus_ty.specs.Groups.{Single, Rec, Section}
-use Rattle.walrus_sections.specs.Moves.{exchange, skip, renamed_group, DropsEmptyRec, DropsRepeat, SwapsNeighbours, drop_empty_rec, drop_repeat, swap_neighbours, DescentTo, arrived, down}
+use Rattle.walrus_sections.specs.Moves.{exchange, skip, renamed_group, DropsEmptyRec, DropsRepeat, SwapsNeighbours, drop_empty_rec, drop_repeat, swap_neighbours, DescentTo, bottom, down}
 use Rattle.walrus_sections.specs.NormalForm.{IsNormal}
 use Rattle.walrus_sections.proofs.Sections.Lying.{in_or_out}
 use Rattle.walrus_sections.proofs.Sections.Splits.{split, split_definition, split_two, two_definitions, length-places, filled-left, filled-right, filled-append, filled-map}
@@ -22,7 +22,7 @@ use Rattle.walrus_sections.proofs.Moves.Tidy.{IsTidy, Rises, RisesTo, fix_or_pla
 use Rattle.walrus_ty.proofs.Names.Definitions.{definitions_total, definition_exact, cmp_same}
 
 pub join : (r q s : Section) → DescentTo q s → DescentTo r q → DescentTo r s
-join r q _ arrived d = d
+join r q _ bottom d = d
 join r q _ (down s q' mv lo wq e) d = down s q' mv lo wq (join r q q' e d)
 
 pub record Reached (s : Section) (P : Section → Type 0) : Type 0 where
@@ -82,10 +82,10 @@ insert :
     b < (index_space s).count → (index_space s).count ≡ n → RisesBut (index_space s) b p →
     Reached s (IsSortedTo n (suc b))
 insert zero b n s f w t pb h c but =
-    record { q = s; descent = arrived; filled = f; well_named = w; holds = (t, all_rise (index_space s) b 0 but (λ i g. absurd (omega arith)), c) }
+    record { q = s; descent = bottom; filled = f; well_named = w; holds = (t, all_rise (index_space s) b 0 but (λ i g. absurd (omega arith)), c) }
 insert (suc o) b n s f w t pb h c but =
     let done = λ (last : (i : ℕ) → i < suc o → Rises (index_space s) i (suc o)).
-    (let r : Reached s (IsSortedTo n (suc b)) = record { q = s; descent = arrived; filled = f; well_named = w; holds = (t, all_rise (index_space s) b (suc o) but last, c) } in r) in
+    (let r : Reached s (IsSortedTo n (suc b)) = record { q = s; descent = bottom; filled = f; well_named = w; holds = (t, all_rise (index_space s) b (suc o) but last, c) } in r) in
     elim (fix_or_plain (index_space s) o) [
       | inl fx ↦ done (λ i g fr. absurd (fr o (omega arith) (omega arith) fx))
       | inr po ↦ (elim (fix_or_plain (index_space s) (suc o)) [
@@ -129,7 +129,7 @@ insert (suc o) b n s f w t pb h c but =
 -- the first b definitions, and then the rest
 sort : (d b n : ℕ) (s : Section) → IsFilled s → IsWellNamed s → IsTidy (index_space s) →
     (index_space s).count ≡ n → d + b ≡ n → RisesTo (index_space s) b → Reached s (IsSortedTo n n)
-sort zero b n s f w t c e up = record { q = s; descent = arrived; filled = f; well_named = w; holds = (t, (λ i j h g. up i j h (omega arith)), c) }
+sort zero b n s f w t c e up = record { q = s; descent = bottom; filled = f; well_named = w; holds = (t, (λ i j h g. up i j h (omega arith)), c) }
 sort (suc d) b n s f w t c e up =
     let i = insert b b n s f w t (omega arith) (omega arith) c (λ i j h g ne. up i j h (omega arith)) in
     let r = sort d (suc b) n i.q i.filled i.well_named i.holds.0 i.holds.2 (omega arith) i.holds.1 in
@@ -179,9 +179,9 @@ find_twins t = elim (any_below (λ i. (j : ℕ) × (j < i) × AreTwins t i j) (�
 tidied :
     (n : ℕ) (s : Section) → (index_space s).count ≤ n → IsFilled s → IsWellNamed s →
     Reached s (λ q. IsTidy (index_space q))
-tidied zero s h f w = record { q = s; descent = arrived; filled = f; well_named = w; holds = λ i j g k. absurd (omega arith) }
+tidied zero s h f w = record { q = s; descent = bottom; filled = f; well_named = w; holds = λ i j g k. absurd (omega arith) }
 tidied (suc n) s h f w = elim (find_twins (index_space s)) [
-  | inr t ↦ record { q = s; descent = arrived; filled = f; well_named = w; holds = t }
+  | inr t ↦ record { q = s; descent = bottom; filled = f; well_named = w; holds = t }
   | inl x ↦ (
       let i = x.0 in let j = x.2.0 in let tw = x.2.2 in
       let k = split s 0 0 i x.1 tw.second in
@@ -210,7 +210,7 @@ tidied (suc n) s h f w = elim (find_twins (index_space s)) [
 filled_up :
     (done rest : Section) → IsFilled done → IsWellNamed (done ++ rest) →
     Reached (done ++ rest) (λ q. Unit {0})
-filled_up done [] f w = record { q = done ++ []; descent = arrived; filled = filled-append done [] f tt; well_named = w; holds = tt }
+filled_up done [] f w = record { q = done ++ []; descent = bottom; filled = filled-append done [] f tt; well_named = w; holds = tt }
 filled_up done (Single e ∷ gs) f w =
     let a : (done ++ Single e ∷ []) ++ gs ≡ done ++ Single e ∷ gs = append_assoc done (Single e ∷ []) gs in
     subst (λ (s : Section). Reached s (λ q. Unit {0})) a (filled_up (done ++ Single e ∷ []) gs (filled-append done (Single e ∷ []) f tt) (subst (λ (s : Section). IsWellNamed s) (sym a) w))

@@ -16,7 +16,7 @@ use Rattle.walrus_types.specs.TypesById.{TypeSlots, live_type}
 use Rattle.walrus_types.specs.Steps.FreeGroups.{first_of}
 use Rattle.walrus_types.specs.Steps.LosslessKeys.{IsLosslessKey}
 use Rattle.walrus_types.specs.Steps.SortKeys.{SortKey}
-use Rattle.walrus_types.specs.Steps.WrittenGroups.{AreLosslessKeys, KeyedGroup, DecodesToFirst, DecodesToType, groups_of, indexed}
+use Rattle.walrus_types.specs.Steps.WrittenGroups.{AreLosslessKeys, KeyedGroup, DecodesToFirst, DecodesToType, groups_of, with_indices}
 use Rattle.walrus_sections.proofs.Moves.Swapped.{nameless}
 use Rattle.walrus_types.proofs.Emission.Decoding.{lossless_names}
 use Rattle.walrus_ty.proofs.Basics.{some_inj}
@@ -84,7 +84,7 @@ module _ (slots : TypeSlots) where
     decoded_complete = ap (first_missing index) none
 
     -- and so nothing is renamed
-    pub decoded_indexed : (d : Definition) → d ≡ type_definition ty → d ≡ indexed index (definition_at slots) id
+    pub decoded_indexed : (d : Definition) → d ≡ type_definition ty → d ≡ with_indices index (definition_at slots) id
     decoded_indexed d is = is ∙ (sym same ∙ sym (nameless (λ k. unwrap_or (index k) 0) (definition_at slots id) (λ k n. (let lt : n.0 < length (names_of (definition_at slots id)) = n.1 in omega (arith, lt, ap length none)))))
 
 -- groups that are to be written

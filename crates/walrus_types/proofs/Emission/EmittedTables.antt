@@ -22,7 +22,7 @@ use Rattle.walrus_ty.specs.Lookups.{value_or_zero}
 use Rattle.walrus_types.specs.Table as table
 use Rattle.walrus_types.specs.Table.{Table, IsTable}
 use Rattle.walrus_types.specs.TableEmission.{contents, type_groups, definition_at, is_entry_at, written_types, IfNameMissing, IsWrittenId, IsEmitted, MissesFirst}
-use Rattle.walrus_types.specs.Steps.WrittenGroups.{AreWritten, FailsBy, IsApart, IsFirstMissingIn, IsWritingOrder, ids_in, in_order, written_in}
+use Rattle.walrus_types.specs.Steps.WrittenGroups.{AreWritten, FailsBy, IsApart, IsFirstMissingIn, IsWritingOrder, ids_in, in_order, id_count}
 use Rattle.walrus_sections.proofs.Emission.WrittenMembers.{written_member}
 use Rattle.walrus_types.proofs.Emission.IndexOfId.{Home, home, member_at}
 use Rattle.walrus_types.proofs.Emission.PairsOfGroups.{at_member, to_member, emission, none_missing, first_missing, placed_member}
@@ -65,11 +65,11 @@ module _ (t : Table) (known : IsTable t) (order : List ℕ) (ord : IsWritingOrde
       let groups_same : h.group ≡ k.group = m.2 k.group n.0 same.0 in
       h.at ∙ (ap (λ (a : ℕ). length (ids_in (take a (in_order gs order))) + h.place) groups_same ∙ (ap (λ (u : ℕ). length (ids_in (take k.group (in_order gs order))) + u) same.1 ∙ sym k.at))
 
-  pub emitted : written_in gs order ≡ written_types t → (out : List GroupAt) (x : IndexMap) → AreWritten def (in_order gs order) out x → IsEmitted t out x
+  pub emitted : id_count gs order ≡ written_types t → (out : List GroupAt) (x : IndexMap) → AreWritten def (in_order gs order) out x → IsEmitted t out x
   emitted many out x w = record {
     count = w.indexes.count ∙ many;
     section = subst (λ (n : Section). IsEmission gs def (is_entry_at t.types.slots) n (value_or_zero x.index)) (sym w.section) (emission gs def (is_entry_at t.types.slots) order ord (single t known) x w.indexes);
-    indexed = λ id. (from id, to id);
+    has_index = λ id. (from id, to id);
     complete = none_missing gs def (is_entry_at t.types.slots) order ord w.complete;
   }
     where

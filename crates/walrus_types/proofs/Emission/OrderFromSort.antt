@@ -25,7 +25,7 @@ use Rattle.walrus_types.specs.Table as table
 use Rattle.walrus_types.specs.Table.{Table, IsTable}
 use Rattle.walrus_types.specs.TableEmission.{type_groups, slot_definition, definition_at, slot_is_entry, is_entry_at}
 use Rattle.walrus_types.specs.Steps.FreeGroups.{is_own_or_dead, slot_names_none_other, is_free_of, is_free, head, is_marked, is_written_at, is_written_group}
-use Rattle.walrus_types.specs.Steps.WrittenGroups.{IsWritingOrder, written_in}
+use Rattle.walrus_types.specs.Steps.WrittenGroups.{IsWritingOrder, id_count}
 use Rattle.walrus_sections.specs.Refusal.{written_count}
 use Rattle.walrus_types.proofs.Emission.WrittenCount.{count_of_order}
 use Rattle.walrus_ty.proofs.Orders.Types.{type_cmp, type_is}
@@ -455,11 +455,11 @@ module _ (t : Table) (known : IsTable t) (groups : List RecGroup) (same : groups
   pub order_from_sort : IsWritingOrder (type_groups t.groups) (definition_at t.types.slots) (is_entry_at t.types.slots) kept
   order_from_sort = subst (λ (xs : List ℕ). IsWritingOrder (type_groups t.groups) (definition_at t.types.slots) (is_entry_at t.types.slots) xs) (sym kept_table) (writing_order t known order sorts_table)
 
-  pub count_from_sort : written_in (type_groups t.groups) kept ≡ written_count (is_entry_at t.types.slots) (type_groups t.groups)
+  pub count_from_sort : id_count (type_groups t.groups) kept ≡ written_count (is_entry_at t.types.slots) (type_groups t.groups)
   count_from_sort =
       let long : length (map (head t.types.slots) t.groups) ≡ length (type_groups t.groups) = length-map t.groups (head t.types.slots) ∙ sym (group_count t known) in
       let perm : IsPermutation (range_with_len 0 (length (type_groups t.groups))) order = subst (λ (n : ℕ). IsPermutation (range_with_len 0 n) order) long sorts_table.permutation in
-      ap (written_in (type_groups t.groups)) kept_table ∙ count_of_order (is_entry_at t.types.slots) (type_groups t.groups) (is_written_at t.types.slots t.groups) (written_tests t known) order perm
+      ap (id_count (type_groups t.groups)) kept_table ∙ count_of_order (is_entry_at t.types.slots) (type_groups t.groups) (is_written_at t.types.slots t.groups) (written_tests t known) order perm
 
 -- the next place that is kept, or left out
 

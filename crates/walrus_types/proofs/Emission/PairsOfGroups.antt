@@ -13,7 +13,7 @@ use Rattle.walrus_sections.specs.Emission.{no_group, group_at, IsMember, IsWritt
 use Rattle.walrus_sections.specs.Emission.{IsWrittenBefore}
 use Rattle.walrus_sections.specs.Refusal.{HasIndexBy, IsMissing, Precedes, IsFirstMissing}
 use Rattle.walrus_ty.specs.Indices.{IndexMap, Indexes}
-use Rattle.walrus_types.specs.Steps.WrittenGroups.{ids_in, in_order, written_group, indexed, IsMissingIn, ComesBefore, IsFirstMissingIn, IsWritingOrder}
+use Rattle.walrus_types.specs.Steps.WrittenGroups.{ids_in, in_order, written_group, with_indices, IsMissingIn, ComesBefore, IsFirstMissingIn, IsWritingOrder}
 use Rattle.walrus_types.proofs.Emission.IndexOfId as places
 use Rattle.walrus_types.proofs.Emission.IndexOfId.{IsTidy, AllTidy, recs, rec_position_of, home, member_at}
 use Rattle.walrus_ty.proofs.Basics.{some_inj}
@@ -236,7 +236,7 @@ module _ (gs : List TypeGroup) (definition : ℕ → Definition) (is_entry : ℕ
     m i = unwrap_or (x.index i) 0
 
     abbrev d : ℕ → Definition
-    d = indexed x.index definition
+    d = with_indices x.index definition
 
     abbrev n : Section
     n = map (written_group d) ws

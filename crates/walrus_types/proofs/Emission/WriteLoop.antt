@@ -18,7 +18,7 @@ use Rattle.walrus_ty.specs.Indices.{IndexMap, Indexes, IsEmpty, IsSame}
 use Rattle.walrus_types.specs.declared.table.rec_group.RecGroup.{RecGroup}
 use Rattle.walrus_types.specs.TableEmission.{contents, type_groups}
 use Rattle.walrus_ty.specs.Records.{group_of, section_of}
-use Rattle.walrus_types.specs.Steps.WrittenGroups.{AllIndexed, AreWritten, FailsBy, IsApart, IsFirstMissingIn, IsFirstUnindexed, IsMissingIn, ids_in, indexed, written_group}
+use Rattle.walrus_types.specs.Steps.WrittenGroups.{AllIndexed, AreWritten, FailsBy, IsApart, IsFirstMissingIn, IsFirstUnindexed, IsMissingIn, ids_in, with_indices, written_group}
 use Rattle.walrus_ty.proofs.Names.Definitions.{renamed_agree}
 use Rattle.walrus_types.proofs.Emission.IndexOfId.{member_at}
 use Rattle.walrus_ty.proofs.Basics.{some_inj, slice_get-left}
@@ -163,7 +163,7 @@ contains_further ws m n k le c = go ws m n le (c.0) (slice_get-get_or (ids_in (t
 pub record IsProgress (def : ℕ → Definition) (ws : List TypeGroup) (j : ℕ) (out : List GroupAt)
     (x : IndexMap) : Type 0 where
   pub indexes : Indexes (ids_in (take j ws)) x
-  pub section : section_of out ≡ map (written_group (indexed x.index def)) (take j ws)
+  pub section : section_of out ≡ map (written_group (with_indices x.index def)) (take j ws)
   pub complete : (a u t i k : ℕ) → a < j → ¬ (IsMissingIn def ws a u t i k)
 
 module _ (def : ℕ → Definition) (ws : List TypeGroup) (filled : (a : ℕ) → a < length ws → 0 < length (group_at ws a).ids) where
@@ -177,7 +177,7 @@ module _ (def : ℕ → Definition) (ws : List TypeGroup) (filled : (a : ℕ) �
   pub finishes : (j : ℕ) (out : List GroupAt) (x : IndexMap) → j ≡ length ws → IsProgress def ws j out x → AreWritten def ws out x
   finishes j out x e p = record {
     indexes = subst (λ (gs : List TypeGroup). Indexes (ids_in gs) x) (take_all ws j e) p.indexes;
-    section = p.section ∙ ap (map (written_group (indexed x.index def))) (take_all ws j e);
+    section = p.section ∙ ap (map (written_group (with_indices x.index def))) (take_all ws j e);
     complete = λ a u t i k m. p.complete a u t i k (omega (arith, m.group, e)) m;
   }
 
@@ -247,18 +247,18 @@ module _ (def : ℕ → Definition) (ws : List TypeGroup) (filled : (a : ℕ) �
             missing = λ c. (let r : _ = contains_further ws (a + 1) j k (omega (arith, lt)) c in let f : old.index k ≡ Some r.0 = (so_far.indexes.index k r.0).1 r.1 in (let y = sym e ∙ f in cc));
           }))
 
-      kept : map (written_group (indexed old.index def)) (take j ws) ≡ map (written_group (indexed new.index def)) (take j ws)
-      kept = groups_same (indexed old.index def) (indexed new.index def) (take j ws) (filled_take ws j filled) (λ a u i h. (let r : _ = at_take ws j a u i h in renamed_agree (λ k. unwrap_or (old.index k) 0) (λ k. unwrap_or (new.index k) 0) (def i) (λ k n. value_kept a u i k r.0 r.1 n)))
+      kept : map (written_group (with_indices old.index def)) (take j ws) ≡ map (written_group (with_indices new.index def)) (take j ws)
+      kept = groups_same (with_indices old.index def) (with_indices new.index def) (take j ws) (filled_take ws j filled) (λ a u i h. (let r : _ = at_take ws j a u i h in renamed_agree (λ k. unwrap_or (old.index k) 0) (λ k. unwrap_or (new.index k) 0) (def i) (λ k n. value_kept a u i k r.0 r.1 n)))
 
       none_missing : AllIndexed new.index def w.ids → (u t i k : ℕ) → ¬ (IsMissingIn def ws j u t i k)
       none_missing each u t i k m =
           let member : slice_get w.ids u ≡ Some i = ap (λ (g : TypeGroup). slice_get g.ids u) (sym at) ∙ m.member in
           m.missing (contains_indexed (ids_in (take (j + 1) ws)) new k indexes' (none_found (λ l. is_none (new.index l)) (names_of (def i)) t k (each u i member) m.name))
 
-      pub advances : (g : GroupAt) → group_of g ≡ written_group (indexed new.index def) w → AllIndexed new.index def w.ids → IsProgress def ws (j + 1) (out ++ g ∷ []) new
+      pub advances : (g : GroupAt) → group_of g ≡ written_group (with_indices new.index def) w → AllIndexed new.index def w.ids → IsProgress def ws (j + 1) (out ++ g ∷ []) new
       advances g is each = record {
         indexes = indexes';
-        section = map-append group_of out (g ∷ []) ∙ (ap (λ (s : Section). s ++ group_of g ∷ []) (so_far.section ∙ kept) ∙ (ap (λ (x : Group). map (written_group (indexed new.index def)) (take j ws) ++ x ∷ []) is ∙ (sym (map-append (written_group (indexed new.index def)) (take j ws) (w ∷ [])) ∙ ap (map (written_group (indexed new.index def))) (sym more))));
+        section = map-append group_of out (g ∷ []) ∙ (ap (λ (s : Section). s ++ group_of g ∷ []) (so_far.section ∙ kept) ∙ (ap (λ (x : Group). map (written_group (with_indices new.index def)) (take j ws) ++ x ∷ []) is ∙ (sym (map-append (written_group (with_indices new.index def)) (take j ws) (w ∷ [])) ∙ ap (map (written_group (with_indices new.index def))) (sym more))));
         complete = λ a u t i k lt. (elim (cases_lt a j) [
           | inl x ↦ so_far.complete a u t i k x
           | inr x ↦ (let e : j ≡ a = omega (arith, x, lt) in subst (λ (n : ℕ). ¬ (IsMissingIn def ws n u t i k)) e (none_missing each u t i k))

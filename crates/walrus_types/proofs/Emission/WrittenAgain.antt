@@ -101,7 +101,7 @@ module _ (s : Section) (t : Table) (ids : List ℕ) (has : IsReadInto s t ids) w
       let home = member_of (r i) (omega (arith, within, lower)) (twice (index_space s) r has.rule i within) in
       let written : IsWrittenId S (is_entry_at t.types.slots) (r i) = (written_member (home.1, r i, home.2, no_entry home.0 home.1 (r i) home.2) home.2, refl) in
       let there : IsWrittenId (type_groups t.groups) (is_entry_at t.types.slots) (r i) = subst (λ (gs : List TypeGroup). IsWrittenId gs (is_entry_at t.types.slots) (r i)) (sym has.grouping) written in
-      subst (λ (k : ℕ). IsSome (x.index k)) (get_or_default ids i 0 d below) ((em.indexed (r i)).1 there)
+      subst (λ (k : ℕ). IsSome (x.index k)) (get_or_default ids i 0 d below) ((em.has_index (r i)).1 there)
 
   -- the indices of the ids are where the indices of the section go
   pub sent_by_ids : (f : ℕ → ℕ) → map f ids ≡ slots_through s r f

@@ -10,7 +10,7 @@ use Rattle.walrus_sections.specs.SlotMap.{TypeGroup}
 use Rattle.walrus_sections.specs.Emission.{no_group, group_at}
 use Rattle.walrus_types.specs.TableEmission.{type_groups}
 use Rattle.walrus_sections.specs.Refusal.{written_count}
-use Rattle.walrus_types.specs.Steps.WrittenGroups.{ids_in, in_order, written_in}
+use Rattle.walrus_types.specs.Steps.WrittenGroups.{ids_in, in_order, id_count}
 
 module _ (is_entry : ℕ → Bool) where
   abbrev is_written : List ℕ → Bool
@@ -56,11 +56,11 @@ module _ (is_entry : ℕ → Bool) where
       sum_by-cons (λ i. f (get_or all i d)) b (range_with_len (b + 1) (length xs)) ∙ (omega (arith, ap f here, rest) ∙ sym (sum_by-cons f x xs))
 
   module _ (gs : List TypeGroup) (w : ℕ → Bool) (tests : (g : ℕ) → w g ≡ is_written (group_at gs g).ids) where
-    in_filter : (xs : List ℕ) → written_in gs (filter w xs) ≡ sum_by (λ g. size (group_at gs g).ids) xs
+    in_filter : (xs : List ℕ) → id_count gs (filter w xs) ≡ sum_by (λ g. size (group_at gs g).ids) xs
     in_filter [] = refl
     in_filter (g ∷ xs) = by (w g) refl (in_filter xs)
       where
-        by : (b : Bool) → b ≡ w g → written_in gs (filter w xs) ≡ sum_by (λ h. size (group_at gs h).ids) xs → length (ids_in (in_order gs (cond b (g ∷ filter w xs) (filter w xs)))) ≡ sum_by (λ h. size (group_at gs h).ids) (g ∷ xs)
+        by : (b : Bool) → b ≡ w g → id_count gs (filter w xs) ≡ sum_by (λ h. size (group_at gs h).ids) xs → length (ids_in (in_order gs (cond b (g ∷ filter w xs) (filter w xs)))) ≡ sum_by (λ h. size (group_at gs h).ids) (g ∷ xs)
         by true e rest =
             let here : size (group_at gs g).ids ≡ length (group_at gs g).ids = ap (λ (b : Bool). cond b (length (group_at gs g).ids) 0) (sym (e ∙ tests g)) in
             omega (arith, length-append (group_at gs g).ids (ids_in (in_order gs (filter w xs))), rest, here, sum_by-cons (λ h. size (group_at gs h).ids) g xs)
@@ -68,5 +68,5 @@ module _ (is_entry : ℕ → Bool) where
             let here : size (group_at gs g).ids ≡ 0 = ap (λ (b : Bool). cond b (length (group_at gs g).ids) 0) (sym (e ∙ tests g)) in
             omega (arith, rest, here, sum_by-cons (λ h. size (group_at gs h).ids) g xs)
 
-    pub count_of_order : (order : List ℕ) → IsPermutation (range_with_len 0 (length gs)) order → written_in gs (filter w order) ≡ written_count is_entry gs
+    pub count_of_order : (order : List ℕ) → IsPermutation (range_with_len 0 (length gs)) order → id_count gs (filter w order) ≡ written_count is_entry gs
     count_of_order order perm = in_filter order ∙ (sum_by-IsPermutation (λ g. size (group_at gs g).ids) (range_with_len 0 (length gs)) order perm ∙ sum_places (λ (g : TypeGroup). size g.ids) gs no_group 0 gs (λ i h. (let e : 0 + i ≡ i = omega arith in ap (λ (n : ℕ). get_or gs n no_group) e)))

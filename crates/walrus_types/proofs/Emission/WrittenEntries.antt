@@ -9,7 +9,7 @@ use Rattle.walrus_ty.specs.declared.error.ToRecordError.TheVariants as to_record
 use Rattle.walrus_ty.specs.declared.error.NoIndex.TheVariants.{OfType, OfFunc, OfGlobal}
 use Rattle.walrus_ty.specs.Definition.{Definition}
 use Rattle.walrus_ty.specs.Lookups.{IfNoIndex}
-use Rattle.walrus_types.specs.Steps.WrittenGroups.{FailsBy, RefusesType, refused}
+use Rattle.walrus_types.specs.Steps.WrittenGroups.{FailsBy, RefusesType, emit_error}
 
 pub done_more :
     {E : Type 0} (f : E → Definition) (d : ℕ → Definition) (es : List E) (ids : List ℕ) (i x : ℕ)
@@ -41,7 +41,7 @@ refuses_from o to_record.Memory h = tt
 
 pub fails_from :
     (o : Option ℕ) (id : ℕ) (e : ToRecordError) → IfNoIndex e (λ n. option_map OfType o ≡ Some n) →
-    FailsBy (refused id e) (λ i k. (i ≡ id) × (o ≡ Some k))
+    FailsBy (emit_error id e) (λ i k. (i ≡ id) × (o ≡ Some k))
 fails_from None id (to_record.NoIndex (OfType to)) h = let k : ⊥ = cc in absurd k
 fails_from (Some l) id (to_record.NoIndex (OfType to)) h = (refl, let e : l ≡ to = cc in ap (λ (m : ℕ). Some m) e)
 fails_from None id (to_record.NoIndex (OfFunc func)) h = tt

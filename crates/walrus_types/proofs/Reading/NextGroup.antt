@@ -124,8 +124,8 @@ module _ (eq : ModuleType → ModuleType → Bool) (tells : TellsTypes eq) (s : 
 
     -- it reads as a `Single` that is found
     module _ (j : ℕ) (found : map ty ≡ Some j) where
-      known : IsCandidateFor s r ty j
-      known = (is.candidates ty j).0 found
+      candidate : IsCandidateFor s r ty j
+      candidate = (is.candidates ty j).0 found
 
       names_old : (k : ℕ) → Names d k → k < n.count
       names_old k named =
@@ -138,9 +138,9 @@ module _ (eq : ModuleType → ModuleType → Bool) (tells : TellsTypes eq) (s : 
           self : ¬ (Names d n.count)
           self named =
               let a = subst (λ (i : ℕ). Names (renamed (image (r ++ n.count ∷ [])) d) i) (last n.count) (Names-renamed (image (r ++ n.count ∷ [])) d n.count named) in
-              let e : renamed (image (r ++ n.count ∷ [])) d ≡ read_definition n (image r) j = sym (stored_definition _ n.count) ∙ known.same in
-              let le = single_names eq tells s r slots map groups is j n.count known.below known.single (subst (λ (e : Definition). Names e n.count) e a) in
-              let b = known.below in
+              let e : renamed (image (r ++ n.count ∷ [])) d ≡ read_definition n (image r) j = sym (stored_definition _ n.count) ∙ candidate.same in
+              let le = single_names eq tells s r slots map groups is j n.count candidate.below candidate.single (subst (λ (e : Definition). Names e n.count) e a) in
+              let b = candidate.below in
               omega arith
 
       same_type : ty ≡ read_type (index_space one) (r ++ j ∷ []) n.count
@@ -150,7 +150,7 @@ module _ (eq : ModuleType → ModuleType → Bool) (tells : TellsTypes eq) (s : 
       held_found = read_found eq tells.laws n.count (is_single (index_space one)) (read_type (index_space one) (r ++ j ∷ [])) r slots map (found_alike eq tells s r slots map groups is) (kept (Single d) fine (j ∷ [])) alone j (subst (λ (q : ModuleType). map q ≡ Some j) same_type found)
 
       not_here : image (r ++ j ∷ []) n.count == n.count ≡ false
-      not_here = let b = known.below in ap (λ (i : ℕ). i == n.count) (last j) ∙ ne_eqb j n.count (λ e. omega (arith, e, b))
+      not_here = let b = candidate.below in ap (λ (i : ℕ). i == n.count) (last j) ∙ ne_eqb j n.count (λ e. omega (arith, e, b))
 
       -- its index stands for that one, and its own slot is dead
       pub reads_found : IsReadResult one (r ++ j ∷ []) (slots ++ None ∷ []) map groups

@@ -84,7 +84,7 @@ read_still s old new r same is =
     reads_at s r r old.types.slots new.types.slots (known_id old.types) (known_id new.types) (map contents old.groups) (map contents new.groups) refl (sym same.types.slots) same.types.map (ap (map contents) (sym same.groups)) is
 
 module _ (s : Section) (old : Table) (r : List ℕ) (is : IsReadInto s old r) where
-  -- what the map has is live and equal, so it is found
+  -- what is known is live and equal, so it is found
   found_by : (q : ModuleType) (o : Option ℕ) → known_id old.types q ≡ o → option_and_then (λ id. if passes (type_eq q) (get old.types.slots id) then Some id else None) o ≡ o
   found_by q None h = refl
   found_by q (Some j) h =
@@ -103,9 +103,9 @@ module _ (s : Section) (old : Table) (r : List ℕ) (is : IsReadInto s old r) wh
     abbrev ty : ModuleType
     ty = type_of_definition (renamed (image (r ++ b ∷ [])) d) b
 
-    single_by : (o : Option ℕ) → found_id old.types ty ≡ o → MatchOption o (AddsType old new ty id) (λ known. (id ≡ known) × UsesUpId old new) → IsReadInto (s ++ Single d ∷ []) new (r ++ id ∷ [])
+    single_by : (o : Option ℕ) → found_id old.types ty ≡ o → MatchOption o (AddsType old new ty id) (λ found. (id ≡ found) × UsesUpId old new) → IsReadInto (s ++ Single d ∷ []) new (r ++ id ∷ [])
     single_by None h adds =
-        let here : b ≡ id = sym is.slot_each ∙ sym adds.types.named in
+        let here : b ≡ id = sym is.slot_each ∙ sym adds.types.is_next in
         reads_at (s ++ Single d ∷ []) (r ++ b ∷ []) (r ++ id ∷ []) (old.types.slots ++ Some ty ∷ []) new.types.slots (known_id new.types) (known_id new.types) (map contents old.groups ++ record { ids = b ∷ []; is_explicit = false } ∷ []) (map contents new.groups)
         (ap (λ (i : ℕ). r ++ i ∷ []) here) (sym adds.types.slots) (λ q. refl)
         (ap (λ (i : ℕ). map contents old.groups ++ record { ids = i ∷ []; is_explicit = false } ∷ []) here ∙ sym (ap (map contents) adds.groups ∙ map-append contents old.groups _))

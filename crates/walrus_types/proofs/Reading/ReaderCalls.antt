@@ -109,7 +109,7 @@ first_error gs i g t ids e h at is (inr f) = inr (record {
   group = group_of g;
   after = section_of (drop (i + 1) gs);
   split = ap section_of (sym (take-append-drop (i + 1) gs)) ∙ (map-append group_of (take (i + 1) gs) (drop (i + 1) gs) ∙ (ap (λ (s : Section). s ++ section_of (drop (i + 1) gs)) (section_more gs i g h at) ∙ append_assoc (section_of (take i gs)) (group_of g ∷ []) (section_of (drop (i + 1) gs))));
-  read = is.well_named;
+  well_named = is.well_named;
   is = subst (λ (n : ℕ). group_error n (definitions_of (group_of g)) ≡ Some e) is.one_each f;
 })
 

@@ -54,8 +54,8 @@ module _ (t new : Table) (go : List ℕ) (is : IsIndexed t go) (uses : UsesUpId 
     own = λ k u id m. (let old = was_member k u id m in same_number id (is.live k u id old) ∙ is.own k u id old);
     once = λ k u v id m l. is.once k u v id (was_member k u id m) (was_member k v id l);
     single = λ k h. subst (λ (g : RecGroup). length g.types ≤ 1) (sym (same_group k)) (is.single k (ap (λ (g : RecGroup). g.is_explicit) (sym (same_group k)) ∙ h));
-    candidates = λ q id h live. (let old = was_live id live in ap (λ (k : ℕ). (rec_group_at new.groups k).is_explicit) (same_number id old) ∙ (ap (λ (g : RecGroup). g.is_explicit) (same_group (slice_index go id)) ∙ is.candidates q id (was_mapped q id h) old));
-    known = λ q id h. (let b = is.known q id (was_mapped q id h) in omega (arith, b, ap length uses.slots, length_push t.types.slots None));
+    known_implicit = λ q id h live. (let old = was_live id live in ap (λ (k : ℕ). (rec_group_at new.groups k).is_explicit) (same_number id old) ∙ (ap (λ (g : RecGroup). g.is_explicit) (same_group (slice_index go id)) ∙ is.known_implicit q id (was_mapped q id h) old));
+    known_below = λ q id h. (let b = is.known_below q id (was_mapped q id h) in omega (arith, b, ap length uses.slots, length_push t.types.slots None));
   }
 
 -- a new slot that is dead from the start

@@ -34,8 +34,8 @@ empty_indexed = record {
   own = λ k u id h. absurd (none_some h);
   once = λ k u v id h h'. absurd (none_some h);
   single = λ k h. (let c : ⊥ = cc in absurd c);
-  candidates = λ q id h live. absurd (none_some h);
-  known = λ q id h. absurd (none_some h);
+  known_implicit = λ q id h live. absurd (none_some h);
+  known_below = λ q id h. absurd (none_some h);
 }
 
 -- a write of a live type
@@ -71,8 +71,8 @@ indexed_written t go id ty is live = record {
   own = is.own;
   once = is.once;
   single = is.single;
-  candidates = λ q i h l. is.candidates q i h (written_live t.types.slots id i ty live l);
-  known = λ q i h. (let below : i < length t.types.slots = is.known q i h in omega (arith, below, length-set t.types.slots id (Some ty)));
+  known_implicit = λ q i h l. is.known_implicit q i h (written_live t.types.slots id i ty live l);
+  known_below = λ q i h. (let below : i < length t.types.slots = is.known_below q i h in omega (arith, below, length-set t.types.slots id (Some ty)));
 }
 
 home_of_live :
@@ -102,11 +102,11 @@ group_end t new go id is live ends =
 -- the table after an addition that found the type or made it
 found_or_added :
     (old new : Table) (ty : ModuleType) (id : ℕ) (o : Option ℕ) →
-    MatchOption o (AddsType old new ty id) (λ known. (id ≡ known) × IsSameTable old new) →
+    MatchOption o (AddsType old new ty id) (λ found. (id ≡ found) × IsSameTable old new) →
     IsSomewhere old → IsSomewhere new
 unfolding IsSomewhere
 found_or_added old new ty id None ok at = (at.0 ++ length old.groups ∷ [], table_added old new at.0 ty id at.1 ok)
-found_or_added old new ty id (Some known) ok at = (at.0, indexed_same old new at.0 at.1 ok.1)
+found_or_added old new ty id (Some found) ok at = (at.0, indexed_same old new at.0 at.1 ok.1)
 
 all_deleted :
     (old new : Table) (go ids : List ℕ) → IsIndexed old go → All (IsLive old.types.slots) ids →
@@ -178,8 +178,8 @@ module _ (t : Table) (is : IsTable t) (known : (q : ModuleType) (id : ℕ) → k
     own = λ k u id h. (let mine = in_home id (is.live k u id h) in (is.once (slice_index homes id) mine.0 k u id mine.1 h).0);
     once = λ k u v id h h'. (is.once k u k v id h h').1;
     single = is.single;
-    candidates = λ q id h live. (let mine = in_home id live in is.candidates q id (slice_index homes id) mine.0 h mine.1);
-    known = known;
+    known_implicit = λ q id h live. (let mine = in_home id live in is.known_implicit q id (slice_index homes id) mine.0 h mine.1);
+    known_below = known;
   }
 
 read_indexed :
@@ -208,14 +208,14 @@ same_ids old new ids e many = append-nil ids ∙ e ∙ ap (range_with_len 0) (sy
 
 added_ids :
     (old new : Table) (ids : List ℕ) (ty : ModuleType) (id : ℕ) (o : Option ℕ) →
-    MatchOption o (AddsType old new ty id) (λ known. (id ≡ known) × IsSameTable old new) →
+    MatchOption o (AddsType old new ty id) (λ found. (id ≡ found) × IsSameTable old new) →
     ids ≡ range_with_len 0 (next_id old) →
     ids ++ (if is_some o then [] else id ∷ []) ≡ range_with_len 0 (next_id new)
 added_ids old new ids ty id None ok e =
-    let one : id ∷ [] ≡ range_with_len (0 + next_id old) 1 = (let n : id ≡ 0 + next_id old = omega (arith, ok.types.named) in ap (λ (k : ℕ). k ∷ []) n) in
+    let one : id ∷ [] ≡ range_with_len (0 + next_id old) 1 = (let n : id ≡ 0 + next_id old = omega (arith, ok.types.is_next) in ap (λ (k : ℕ). k ∷ []) n) in
     let many : next_id old + 1 ≡ next_id new = omega (arith, length_push old.types.slots (Some ty), ap length ok.types.slots) in
     ap (λ (xs : List ℕ). xs ++ id ∷ []) e ∙ ap (λ (xs : List ℕ). range_with_len 0 (next_id old) ++ xs) one ∙ range_join 0 (next_id old) 1 ∙ ap (range_with_len 0) many
-added_ids old new ids ty id (Some known) ok e = same_ids old new ids e (ap length ok.1.types.slots)
+added_ids old new ids ty id (Some found) ok e = same_ids old new ids e (ap length ok.1.types.slots)
 
 ids_after :
     (old new : Table) (call : Call old new) (ids : List ℕ) (go : List ℕ) → IsIndexed old go →

@@ -43,8 +43,8 @@ module _ (gone : ℕ → Bool) (t new : Table) (go : List ℕ) (is : IsIndexed t
     own = λ k u i h. (let m : _ = shrinks.from k u i h in is.own k m.0 i m.1);
     once = shrinks.once;
     single = λ k h. (let old : length (rec_group_at t.groups k).types ≤ 1 = is.single k (sym (shrinks.mark k) ∙ h) in omega (arith, old, shrinks.few k));
-    candidates = λ q i h live. shrinks.mark (slice_index go i) ∙ is.candidates q i (shrinks.map q i h) (was_live i live).0;
-    known = λ q i h. (let below : i < length t.types.slots = is.known q i (shrinks.map q i h) in omega (arith, below, shrinks.count));
+    known_implicit = λ q i h live. shrinks.mark (slice_index go i) ∙ is.known_implicit q i (shrinks.map q i h) (was_live i live).0;
+    known_below = λ q i h. (let below : i < length t.types.slots = is.known_below q i (shrinks.map q i h) in omega (arith, below, shrinks.count));
   }
 
 -- what stands in a filtered list

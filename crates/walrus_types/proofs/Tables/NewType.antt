@@ -37,10 +37,10 @@ pub added_grows :
 added_grows t new ty id adds = record {
   slots = adds.types.slots;
   groups = adds.groups;
-  members = ap (λ (n : ℕ). n ∷ []) adds.types.named;
+  members = ap (λ (n : ℕ). n ∷ []) adds.types.is_next;
   single = λ h. omega arith;
   map = λ q i h. elim (one_of (type_eq ty q) id i (known_id t.types q) (sym (adds.types.map q) ∙ h)) [
-    | inl e ↦ inr (refl, omega (arith, e.1, adds.types.named), omega (arith, e.1, adds.types.named))
+    | inl e ↦ inr (refl, omega (arith, e.1, adds.types.is_next), omega (arith, e.1, adds.types.is_next))
     | inr was ↦ inl was
   ];
 }
@@ -56,7 +56,7 @@ IsSameType-refl ty = record { kind = refl; is_final = refl; supertype = refl; is
 pub answer_new :
     (t new : Table) (ty : ModuleType) (id : ℕ) → AddsType t new ty id → IsAnswer new ty id
 answer_new t new ty id adds =
-    let shown : get new.types.slots id ≡ Some ty = ap (λ (s : Slots ModuleType). get s id) adds.types.slots ∙ get_or_at t.types.slots (Some ty) [] None id (sym adds.types.named) in
+    let shown : get new.types.slots id ≡ Some ty = ap (λ (s : Slots ModuleType). get s id) adds.types.slots ∙ get_or_at t.types.slots (Some ty) [] None id (sym adds.types.is_next) in
     let within : length t.groups < length new.groups = omega (arith, length_push t.groups (own_group id), ap length adds.groups) in
     record {
       same = subst (λ (o : Option ModuleType). IsSomeAnd o (IsSameType ty)) (sym shown) (IsSameType-refl ty);
@@ -90,7 +90,7 @@ module _ (t : Table) (go : List ℕ) (ty : ModuleType) (is : IsIndexed t go) whe
       let same : _ = holds_same ty (get t.types.slots id) equal in
       let home : ℕ = slice_index go id in
       let p : (u : ℕ) × IsIdAt t.groups (slice_index go id) u id = is.grouping id same.1 in
-      let mark : (rec_group_at t.groups (slice_index go id)).is_explicit ≡ false = is.candidates ty id leads same.1 in
+      let mark : (rec_group_at t.groups (slice_index go id)).is_explicit ≡ false = is.known_implicit ty id leads same.1 in
       let own : rec_group_at t.groups (slice_index go id) ≡ own_group id = group_is_own (rec_group_at t.groups (slice_index go id)) p.0 id p.1 mark (is.single (slice_index go id) mark) in
       let below : slice_index go id < length t.groups = member_below t.groups (slice_index go id) p.0 id p.1 in
       record { same = same.0; alone = (slice_index go id, below, sym (get_or_default t.groups (slice_index go id) no_rec_group (own_group id) below) ∙ own) }

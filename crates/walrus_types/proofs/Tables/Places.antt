@@ -184,16 +184,16 @@ module _ (t new : Table) (go go' : List ℕ) (tys : List ModuleType) (g : RecGro
       | inr e ↦ elim (member_push t.groups g k v i h') [ inl old' ↦ (let b : k < length t.groups = member_below t.groups k v i old' in absurd (omega (arith, b, e.0))) | inr e' ↦ (let a : _ = new_place u i e.1 in let b : _ = new_place v i e'.1 in omega (arith, a.1, b.1)) ]
     ];
     single = λ k. single_at k;
-    candidates = λ q i h live. elim (grows.map q i h) [
+    known_implicit = λ q i h live. elim (grows.map q i h) [
       | inl was ↦
-          let below : i < length slots = is.known q i was in
+          let below : i < length slots = is.known_below q i was in
           let old : IsLive slots i = was_live i below live in
           let p : _ = is.grouping i old in
-          subst (λ (k : ℕ). (rec_group_at groups k).is_explicit ≡ false) (sym (kept_home i below)) (ap (λ (g : RecGroup). g.is_explicit) (group-left t.groups g (slice_index go i) (member_below t.groups (slice_index go i) p.0 i p.1)) ∙ is.candidates q i was old)
+          subst (λ (k : ℕ). (rec_group_at groups k).is_explicit ≡ false) (sym (kept_home i below)) (ap (λ (g : RecGroup). g.is_explicit) (group-left t.groups g (slice_index go i) (member_below t.groups (slice_index go i) p.0 i p.1)) ∙ is.known_implicit q i was old)
       | inr e ↦ subst (λ (k : ℕ). (rec_group_at groups k).is_explicit ≡ false) (sym (new_home i e.1 e.2)) (ap (λ (g : RecGroup). g.is_explicit) (group-end t.groups g) ∙ e.0)
     ];
-    known = λ q i h. elim (grows.map q i h) [
-      | inl was ↦ (let below : i < length slots = is.known q i was in omega (arith, below, many_slots))
+    known_below = λ q i h. elim (grows.map q i h) [
+      | inl was ↦ (let below : i < length slots = is.known_below q i was in omega (arith, below, many_slots))
       | inr e ↦ omega (arith, e.2, many_slots)
     ];
   })
@@ -208,8 +208,8 @@ indexed_same t new go is same = rw (same.types.slots, same.groups) (record {
   own = is.own;
   once = is.once;
   single = is.single;
-  candidates = λ q id h. is.candidates q id (sym (same.types.map q) ∙ h);
-  known = λ q id h. is.known q id (sym (same.types.map q) ∙ h);
+  known_implicit = λ q id h. is.known_implicit q id (sym (same.types.map q) ∙ h);
+  known_below = λ q id h. is.known_below q id (sym (same.types.map q) ∙ h);
 })
 
 -- the public part
@@ -219,7 +219,7 @@ is_table t go is = record {
   live = is.live;
   once = λ k u l v id h h'. (let e : k ≡ l = sym (is.own k u id h) ∙ is.own l v id h' in (e, is.once l u v id (subst (λ (n : ℕ). IsIdAt t.groups n u id) e h) h'));
   single = is.single;
-  candidates = λ q id k u h m. subst (λ (n : ℕ). (rec_group_at t.groups n).is_explicit ≡ false) (is.own k u id m) (is.candidates q id h (is.live k u id m));
+  known_implicit = λ q id k u h m. subst (λ (n : ℕ). (rec_group_at t.groups n).is_explicit ≡ false) (is.own k u id m) (is.known_implicit q id h (is.live k u id m));
 }
 
 -- which group has an id

@@ -32,7 +32,7 @@ same_seen old new same = record { slots = same.slots; map = same.map }
 pub adds_seen :
     (old new : Set ModuleType) (ty : ModuleType) (id : ℕ) → Adds type_eq old new ty id →
     Gains (seen old) (seen new) ty id
-adds_seen old new ty id adds = record { named = adds.named; slots = adds.slots; map = adds.map }
+adds_seen old new ty id adds = record { is_next = adds.named; slots = adds.slots; map = adds.map }
 
 pub removes_seen :
     (old new : Set ModuleType) (id : ℕ) → Removes type_eq old new id →

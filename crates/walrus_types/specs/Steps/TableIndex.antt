@@ -17,7 +17,8 @@ pub record IsIndexed (t : Table) (group_of : List ℕ) : Type 0 where
   pub single :
       (k : ℕ) → (rec_group_at t.groups k).is_explicit ≡ false →
       length (rec_group_at t.groups k).types ≤ 1
-  pub candidates :
+  pub known_implicit :
       (q : ModuleType) (id : ℕ) → known_id t.types q ≡ Some id → IsLive t.types.slots id →
       (rec_group_at t.groups (slice_index group_of id)).is_explicit ≡ false
-  pub known : (q : ModuleType) (id : ℕ) → known_id t.types q ≡ Some id → id < length t.types.slots
+  pub known_below :
+      (q : ModuleType) (id : ℕ) → known_id t.types q ≡ Some id → id < length t.types.slots

@@ -17,7 +17,7 @@ pub record UsesUpId (old new : Table) : Type 0 where
 abbrev pub ReadsSingle : Table → Table → ModuleType → ℕ → Type 0
 ReadsSingle old new ty id =
     MatchOption (found_id old.types ty) (AddsType old new ty id)
-    (λ known. (id ≡ known) × UsesUpId old new)
+    (λ found. (id ≡ found) × UsesUpId old new)
 
 -- what is said of a new type of a group, as a definition
 abbrev pub member_definition : Member → Definition

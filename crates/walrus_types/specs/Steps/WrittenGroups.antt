@@ -67,8 +67,8 @@ abbrev pub written_group : (ℕ → Definition) → TypeGroup → Group
 written_group d w = cond w.is_explicit (Rec (map d w.ids)) (Single (d (slice_index w.ids 0)))
 
 -- the definition of the id, with each name replaced by its index
-abbrev pub indexed : (ℕ → Option ℕ) → (ℕ → Definition) → ℕ → Definition
-indexed index definition i = renamed (λ k. unwrap_or (index k) 0) (definition i)
+abbrev pub with_indices : (ℕ → Option ℕ) → (ℕ → Definition) → ℕ → Definition
+with_indices index definition i = renamed (λ k. unwrap_or (index k) 0) (definition i)
 
 -- the u-th id of the a-th group is i, and its t-th name k is none of the ids up to the end of this
 -- group
@@ -107,12 +107,12 @@ pub record IsWritingOrder (gs : List TypeGroup) (definition : ℕ → Definition
 pub record AreWritten (definition : ℕ → Definition) (ws : List TypeGroup) (out : List GroupAt)
     (x : IndexMap) : Type 0 where
   pub indexes : Indexes (ids_in ws) x
-  pub section : section_of out ≡ map (written_group (indexed x.index definition)) ws
+  pub section : section_of out ≡ map (written_group (with_indices x.index definition)) ws
   pub complete : (a u t i k : ℕ) → ¬ (IsMissingIn definition ws a u t i k)
 
 -- how many ids the groups at these places have
-abbrev pub written_in : List TypeGroup → List ℕ → ℕ
-written_in gs order = length (ids_in (in_order gs order))
+abbrev pub id_count : List TypeGroup → List ℕ → ℕ
+id_count gs order = length (ids_in (in_order gs order))
 
 -- no id stands in the list twice
 abbrev pub IsApart : List ℕ → Type 0
@@ -148,8 +148,8 @@ RefusesType (to_record.NoIndex (OfGlobal global)) = ⊥
 RefusesType to_record.Memory = Unit {0}
 
 -- the same error, in a type
-abbrev pub refused : ℕ → ToRecordError → EmitError
-refused from (to_record.NoIndex (OfType to)) = emit.NoIndex from to
-refused from (to_record.NoIndex (OfFunc func)) = emit.Memory
-refused from (to_record.NoIndex (OfGlobal global)) = emit.Memory
-refused from to_record.Memory = emit.Memory
+abbrev pub emit_error : ℕ → ToRecordError → EmitError
+emit_error from (to_record.NoIndex (OfType to)) = emit.NoIndex from to
+emit_error from (to_record.NoIndex (OfFunc func)) = emit.Memory
+emit_error from (to_record.NoIndex (OfGlobal global)) = emit.Memory
+emit_error from to_record.Memory = emit.Memory

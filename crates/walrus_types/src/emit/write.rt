@@ -10,7 +10,7 @@ ghost use Rattle.walrus_ty.specs.Indices.{IsEmpty, type_index, type_indices, fun
 ghost use Rattle.walrus_ty.specs.Lookups.{first_missing};
 ghost use Rattle.walrus_sections.specs.SlotMap.{TypeGroup};
 ghost use Rattle.walrus_ty.specs.Records.{entry_definition, group_of};
-ghost use Rattle.walrus_types.specs.Steps.WrittenGroups.{AllIndexed, AreWritten, FailsBy, IsApart, IsFirstMissingIn, IsFirstUnindexed, RefusesType, AreLosslessKeys, DecodesToFirst, DecodesToType, groups_of, ids_in, indexed, in_order, refused, written_group};
+ghost use Rattle.walrus_types.specs.Steps.WrittenGroups.{AllIndexed, AreWritten, FailsBy, IsApart, IsFirstMissingIn, IsFirstUnindexed, RefusesType, AreLosslessKeys, DecodesToFirst, DecodesToType, groups_of, ids_in, with_indices, in_order, emit_error, written_group};
 
 use super::sort_key::{SortKey, decode};
 use crate::{
@@ -140,7 +140,8 @@ fn record_of(
     requires lossless_key { DecodesToFirst table.now.types.slots group.now }
     ensures renamed { IfOk result
         (λ g. group_of g ≡ written_group
-        (indexed (type_index indices.now) (definition_at table.now.types.slots)) group.now.group) }
+        (with_indices (type_index indices.now) (definition_at table.now.types.slots))
+        group.now.group) }
     ensures complete { OnOk result
         (AllIndexed (type_index indices.now)
         (definition_at table.now.types.slots) group.now.group.ids) }
@@ -172,7 +173,7 @@ fn lone_entry(
     requires lossless_key { DecodesToType table.now.types.slots id lossless_key }
     ensures renamed { IfOk result
         (λ e. entry_definition e ≡
-        indexed (type_index indices.now) (definition_at table.now.types.slots) id) }
+        with_indices (type_index indices.now) (definition_at table.now.types.slots) id) }
     ensures complete { OnOk result
         (first_missing (type_index indices.now)
         (names_of (definition_at table.now.types.slots id)) ≡ None) }
@@ -196,7 +197,7 @@ fn entries_of(
     requires { All (IsLive table.now.types.slots) ids.now }
     ensures renamed { IfOk result
         (λ v. map entry_definition v.items ≡
-        map (indexed (type_index indices.now) (definition_at table.now.types.slots)) ids.now) }
+        map (with_indices (type_index indices.now) (definition_at table.now.types.slots)) ids.now) }
     ensures complete { OnOk result
         (AllIndexed (type_index indices.now) (definition_at table.now.types.slots) ids.now) }
     ensures missing { IfErr result
@@ -220,7 +221,7 @@ fn entry_of(
     requires { IsLive table.now.types.slots id }
     ensures renamed { IfOk result
         (λ e. entry_definition e ≡
-        indexed (type_index indices.now) (definition_at table.now.types.slots) id) }
+        with_indices (type_index indices.now) (definition_at table.now.types.slots) id) }
     ensures complete { OnOk result
         (first_missing (type_index indices.now)
         (names_of (definition_at table.now.types.slots id)) ≡ None) }
@@ -238,7 +239,7 @@ fn entry_of(
 // The refusal of the type `from` whose names could not be written.
 fn refusal(from: TypeId, error: ToRecordError) -> EmitError
     requires { RefusesType error }
-    ensures { result ≡ refused from error }
+    ensures { result ≡ emit_error from error }
 {
     match &error {
         ToRecordError::NoIndex(none) => refusal_of(from, none),
@@ -248,7 +249,7 @@ fn refusal(from: TypeId, error: ToRecordError) -> EmitError
 
 fn refusal_of(from: TypeId, none: &NoIndex) -> EmitError
     requires { RefusesType (to_record.NoIndex none.now) }
-    ensures { result ≡ refused from (to_record.NoIndex none.now) }
+    ensures { result ≡ emit_error from (to_record.NoIndex none.now) }
 {
     match none {
         NoIndex::OfType(to) => EmitError::NoIndex { from, to: *to },

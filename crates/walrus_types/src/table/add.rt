@@ -116,13 +116,14 @@ impl ModuleTypes {
         ensures ok { IfOk result (λ id. FindsOrAdds self.old self.new ty id) }
         ensures err { OnErr result (IsSameTable self.old self.new) }
     {
-        match self.known(&ty) {
+        match self.find_equal(&ty) {
             Some(id) => Ok(id),
             None => self.add_new(ty),
         }
     }
 
-    pub(super) fn known(&self, ty: &Type) -> Option<TypeId>
+    // The id of an equal type that was added alone.
+    pub(super) fn find_equal(&self, ty: &Type) -> Option<TypeId>
         ensures value { result ≡ found_id self.now.types ty.now }
         ensures answer { IfSome result (λ id. IsAnswer self.now ty.now id) }
     {

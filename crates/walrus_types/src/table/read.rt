@@ -21,7 +21,7 @@ impl ModuleTypes {
         ensures ok { IfOk result (λ id. ReadsSingle self.old self.new ty id) }
         ensures err { OnErr result (IsSameTable self.old self.new) }
     {
-        match self.known(&ty) {
+        match self.find_equal(&ty) {
             Some(id) => {
                 self.use_up_id()?;
                 Ok(id)

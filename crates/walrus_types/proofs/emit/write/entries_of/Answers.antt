@@ -5,7 +5,7 @@ use Rattle.walrus_types.specs.TableEmission.{definition_at}
 use Rattle.walrus_ty.specs.Indices.{type_index}
 use Rattle.walrus_ty.specs.Lookups.{first_missing}
 use Rattle.walrus_ty.specs.Records.{entry_definition}
-use Rattle.walrus_types.specs.Steps.WrittenGroups.{indexed}
+use Rattle.walrus_types.specs.Steps.WrittenGroups.{with_indices}
 use Rattle.walrus_types.proofs.Emission.WrittenEntries.{done_more, each_more}
 use Rattle.walrus_types.proofs.emit.write.entries_of.Goals as goal
 
@@ -15,7 +15,7 @@ loop-id-preserved c =
     let def = definition_at c.args.table.now.types.slots in
     let ids = c.args.ids.now in
     record {
-      done = rw c.in_ok-push.ensures.items (done_more entry_definition (indexed index def) c.loop-id.entries.items ids c.loop-id.id-index c.id-item.result c.in_ok-entry_of.field-0 c.loop-id-test.true c.id-item.is c.loop-id.invariant.done c.in_ok-entry_of.ensures.renamed);
+      done = rw c.in_ok-push.ensures.items (done_more entry_definition (with_indices index def) c.loop-id.entries.items ids c.loop-id.id-index c.id-item.result c.in_ok-entry_of.field-0 c.loop-id-test.true c.id-item.is c.loop-id.invariant.done c.in_ok-entry_of.ensures.renamed);
       complete = each_more (λ i. first_missing index (names_of (def i)) ≡ None) ids c.loop-id.id-index c.id-item.result c.id-item.is c.loop-id.invariant.complete c.in_ok-entry_of.ensures.complete;
     }
 

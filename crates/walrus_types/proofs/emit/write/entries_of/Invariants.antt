@@ -5,11 +5,11 @@ use Rattle.walrus_types.specs.TableEmission.{definition_at}
 use Rattle.walrus_ty.specs.Indices.{type_index}
 use Rattle.walrus_ty.specs.Lookups.{first_missing}
 use Rattle.walrus_ty.specs.Records.{entry_definition}
-use Rattle.walrus_types.specs.Steps.WrittenGroups.{indexed}
+use Rattle.walrus_types.specs.Steps.WrittenGroups.{with_indices}
 use Rattle.walrus_types.proofs.emit.write.entries_of.Given as goal
 
 abbrev pub invariant-loop-id : goal.invariant-loop-id
 invariant-loop-id l = record {
-  done : map entry_definition l.entries.items ≡ map (indexed (type_index l.indices) (definition_at l.table.types.slots)) (take l.id-index l.ids);
+  done : map entry_definition l.entries.items ≡ map (with_indices (type_index l.indices) (definition_at l.table.types.slots)) (take l.id-index l.ids);
   complete : (u i : ℕ) → u < l.id-index → slice_get l.ids u ≡ Some i → first_missing (type_index l.indices) (names_of (definition_at l.table.types.slots i)) ≡ None;
 }

@@ -3,7 +3,7 @@ use Rattle.walrus_types.specs.Table.{Table}
 use Rattle.walrus_ty.specs.SameTypes.{type_eq}
 use Rattle.walrus_types.proofs.Tables.NewType.{answer_found}
 use Rattle.walrus_types.proofs.Tables.TypeSet.{seen, found_seen}
-use Rattle.walrus_types.proofs.table.ModuleTypes.known.Goals as goal
+use Rattle.walrus_types.proofs.table.ModuleTypes.find_equal.Goals as goal
 
 pub returns-clause-value : goal.returns-clause-value
 unfolding type_eq
