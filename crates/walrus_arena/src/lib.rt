@@ -33,7 +33,7 @@
 //! }
 //! ```
 //!
-//! The tests have it whole.
+//! The tests of this crate, in `walrus_arena_tests`, have it whole.
 #![tactic(auto)]
 
 mod arena_set;
@@ -42,8 +42,6 @@ mod id;
 mod iter;
 pub mod laws;
 mod map;
-#[cfg(test)]
-mod tests;
 mod tombstone_arena;
 
 pub use arena_set::ArenaSet;

@@ -113,8 +113,11 @@ fn a_refused_struct_type_is_converted_when_it_is_given_again(rt: HostRuntime) ->
     let record = write_again(alloc, &kind, &two_indices_again(alloc)?)?;
     assert!(rt; record == at);
     let ill = struct_at(alloc, 2)?;
-    assert_equal(&rt, read_again(alloc, &ill, &ids).err(),
-        Some(FromRecordError::UnknownIndex(2)));
+    assert_equal(
+        &rt,
+        read_again(alloc, &ill, &ids).err(),
+        Some(FromRecordError::UnknownIndex(2)),
+    );
     Ok(())
 }
 

@@ -61,7 +61,11 @@ fn a_refused_emission_comes_when_it_is_asked_for_again(rt: HostRuntime) -> Resul
     ];
     let indices = gives(&rt, alloc, &types, &wanted, &[1, 0, 3])?;
     let entry = TypeId::from_index(2);
-    assert_equal(&rt, indices.get_type_index(entry), Err(NoIndex::OfType(entry)));
+    assert_equal(
+        &rt,
+        indices.get_type_index(entry),
+        Err(NoIndex::OfType(entry)),
+    );
     Ok(())
 }
 

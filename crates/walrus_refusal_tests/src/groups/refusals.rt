@@ -81,7 +81,11 @@ fn a_refused_group_of_another_number_is_not_added(rt: HostRuntime) -> Result<(),
     let mut types = ModuleTypes::new(rt.alloc());
     add_again(&rt, rt.alloc(), &mut types, 0, 2)?;
     let answer = add_again(&rt, rt.alloc(), &mut types, 1, 3);
-    assert_equal(&rt, answer, Err(AddRecGroupError::Count { wanted: 3, got: 2 }));
+    assert_equal(
+        &rt,
+        answer,
+        Err(AddRecGroupError::Count { wanted: 3, got: 2 }),
+    );
     assert!(rt; has_pairs(&types, 1));
     Ok(())
 }

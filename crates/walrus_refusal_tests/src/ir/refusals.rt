@@ -153,8 +153,11 @@ fn a_refused_sequence_type_adds_no_type(rt: HostRuntime) -> Result<(), Fail> {
         let ty = seq_type_again(&rt, &mut types, &[reference(count)], count)?;
         assert_equal(&rt, ty, InstrSeqType::MultiValue(Id::from_index(count)));
         assert_equal(&rt, types.rec_groups().len(), count + 1);
-        assert_equal(&rt, InstrSeqType::existing(&types, &[reference(count)], &[]),
-            Some(ty));
+        assert_equal(
+            &rt,
+            InstrSeqType::existing(&types, &[reference(count)], &[]),
+            Some(ty),
+        );
     }
     Ok(())
 }

@@ -131,7 +131,11 @@ fn a_refused_section_that_is_ill_has_its_error(rt: HostRuntime) -> Result<(), Fa
         index: 2,
         end: 2,
     };
-    assert_equal(&rt, parse_again(rt.alloc(), groups.as_slice()).err(), Some(bad));
+    assert_equal(
+        &rt,
+        parse_again(rt.alloc(), groups.as_slice()).err(),
+        Some(bad),
+    );
     Ok(())
 }
 
@@ -187,8 +191,11 @@ fn a_refused_normal_form_of_an_ill_section_is_its_error(rt: HostRuntime) -> Resu
         index: 2,
         end: 2,
     };
-    assert_equal(&rt, normalise_again(rt.alloc(), groups.as_slice()).err(),
-        Some(bad));
+    assert_equal(
+        &rt,
+        normalise_again(rt.alloc(), groups.as_slice()).err(),
+        Some(bad),
+    );
     Ok(())
 }
 

@@ -132,8 +132,11 @@ fn adds_five(rt: &impl Abort, alloc: Global, call: AddCall) -> Result<(), Fail> 
     let mut types = ModuleTypes::new(alloc);
     for round in 0..10usize {
         let named = round % 5;
-        assert_equal(rt, add_again(rt, alloc, &mut types, call, named)?.index(),
-            named);
+        assert_equal(
+            rt,
+            add_again(rt, alloc, &mut types, call, named)?.index(),
+            named,
+        );
         assert!(rt; has_types(&types, call, if round < 5 { round + 1 } else { 5 }));
     }
     Ok(())
@@ -238,13 +241,19 @@ fn deletions_take_no_memory(rt: HostRuntime) -> Result<(), Fail> {
     };
     assert_equal(&rt, delete_alone(&rt, &mut types), Ok(()));
     assert_equal(&rt, delete_two(&rt, &mut types), Ok(()));
-    assert_equal(&rt, live(&types),
-        [false, false, true, true, true, true, false, true]);
+    assert_equal(
+        &rt,
+        live(&types),
+        [false, false, true, true, true, true, false, true],
+    );
     assert_equal(&rt, try_delete(&rt, &mut types, 5), Ok(false));
     assert_equal(&rt, try_delete(&rt, &mut types, 7), Ok(true));
     assert_equal(&rt, delete_group(&rt, &mut types), Ok(()));
-    assert_equal(&rt, live(&types),
-        [false, false, true, true, false, false, false, false]);
+    assert_equal(
+        &rt,
+        live(&types),
+        [false, false, true, true, false, false, false, false],
+    );
     let sizes = [Some(0), Some(0), Some(1), Some(1), Some(0), Some(0), None];
     assert_equal(&rt, group_sizes(&types), sizes);
     let found = [0, 1, 2, 3].map(|named| find(&types, AddCall::Entry, named));

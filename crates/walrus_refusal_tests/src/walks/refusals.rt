@@ -193,7 +193,11 @@ fn rename_another(
 fn a_refused_changing_walk_leaves_what_came_before(rt: HostRuntime) -> Result<(), Fail> {
     let mut visitor = renaming(rt.alloc(), [3, 2, 1, 0])?;
     let func = rename_another(&rt, rt.alloc(), &mut visitor)?;
-    assert_equal(&rt, walked_types(&func), [Some(3), Some(1), Some(2), Some(0)]);
+    assert_equal(
+        &rt,
+        walked_types(&func),
+        [Some(3), Some(1), Some(2), Some(0)],
+    );
     Ok(())
 }
 

@@ -4,6 +4,7 @@
 ghost use Rattle.std.specs.Prelude.{◌≡◌};
 
 use super::*;
+use crate::assertions::assert_equal;
 use std::cell::Cell;
 use std::rc::Rc;
 
@@ -47,9 +48,9 @@ fn an_insert_with_a_refused_clone(rt: HostRuntime) -> Result<(), Fail> {
     let mut set = ArenaSet::new(rt.alloc());
     let refuse = Rc::new(rt.alloc(), Cell::new(true))?;
     assert!(rt; set.insert(make_costly(1, &refuse)?).is_err());
-    assert_eq!(rt; set.next_id().index(), 0);
+    assert_equal(&rt, set.next_id().index(), 0);
     assert!(rt; !has(&set, 1, &refuse)?);
-    assert_eq!(rt; set.insert(make_costly(1, &refuse)?)?.index(), 0);
+    assert_equal(&rt, set.insert(make_costly(1, &refuse)?)?.index(), 0);
     Ok(())
 }
 
@@ -128,7 +129,7 @@ fn call_set(
         SetCall::AllocDead => Ok(set.alloc_dead(value)?.index()),
         SetCall::AllocAll => {
             let ids = set.alloc_all(two_values(alloc, key)?)?;
-            assert_eq!(rt; ids.len(), 2);
+            assert_equal(rt, ids.len(), 2);
             Ok(ids[1].index())
         }
         SetCall::ReplaceAndRegister => {
@@ -187,11 +188,15 @@ fn makes_eight(
         let key = round + 3;
         let wanted = answers[round as usize];
         let at = call_set_again(rt, alloc, &mut set, call, key)?;
-        assert_eq!(rt; at, wanted);
-        assert_eq!(rt; note_in_set(&set, at), note);
-        assert_eq!(rt; index_of(&set, key), if is_found { Some(at) } else { None });
+        assert_equal(rt, at, wanted);
+        assert_equal(rt, note_in_set(&set, at), note);
+        assert_equal(
+            rt,
+            index_of(&set, key),
+            if is_found { Some(at) } else { None },
+        );
     }
-    assert_eq!(rt; index_of(&set, 0), Some(0));
+    assert_equal(rt, index_of(&set, 0), Some(0));
     Ok(())
 }
 
@@ -250,7 +255,7 @@ fn call_arena(
         ArenaCall::AllocWithId => Ok(arena.alloc_with_id(|_| count_run(ran))?.index()),
         ArenaCall::AllocAll => {
             let ids = arena.alloc_all(two_values(alloc, 0)?)?;
-            assert_eq!(rt; ids.len(), 2);
+            assert_equal(rt, ids.len(), 2);
             Ok(ids[1].index())
         }
     }
@@ -270,7 +275,7 @@ fn call_arena_again(
         return Ok(at);
     }
     assert!(rt; shown_of_arena(arena) == before);
-    assert_eq!(rt; ran.get(), runs);
+    assert_equal(rt, ran.get(), runs);
     call_arena(rt, alloc, arena, call, ran)
 }
 
@@ -285,14 +290,15 @@ fn adds_eight(
     let mut arena = TombstoneArena::new(alloc);
     let ran = Cell::new(0u32);
     for answer in answers {
-        assert_eq!(rt;
+        assert_equal(
+            rt,
             call_arena_again(rt, alloc, &mut arena, call, &ran)?,
-            answer
+            answer,
         );
-        assert_eq!(rt; arena.next_id().index(), arena.len());
-        assert_eq!(rt; shown_of_arena(&arena).2[answer % 20], Some(2));
+        assert_equal(rt, arena.next_id().index(), arena.len());
+        assert_equal(rt, shown_of_arena(&arena).2[answer % 20], Some(2));
     }
-    assert_eq!(rt; ran.get(), runs);
+    assert_equal(rt, ran.get(), runs);
     Ok(arena)
 }
 
@@ -315,7 +321,7 @@ fn refused_live_ids_are_listed_when_asked_again(rt: HostRuntime) -> Result<(), F
         Ok(ids) => ids,
         Err(_) => arena.live_ids()?,
     };
-    assert_eq!(rt; ids.len(), 8);
+    assert_equal(&rt, ids.len(), 8);
     assert!(rt; ids.iter().zip(next).all(|(id, at)| id.index() == at));
     assert!(rt; shown_of_arena(&arena) == before);
     Ok(())
@@ -332,7 +338,7 @@ fn four_each(alloc: Global) -> Result<(TombstoneArena<Tagged>, ArenaSet<Tagged>)
     Ok((arena, set))
 }
 
-#[tactic(auto, using(crate::proofs::ArenaLemmas::distinct_pair))]
+#[tactic(auto, using(walrus_arena::proofs::ArenaLemmas::distinct_pair))]
 fn delete_three(rt: &impl Abort, arena: &mut TombstoneArena<Tagged>) -> Result<(), AllocError> {
     let ids: [Id<Tagged>; 2] = [Id::from_index(3), Id::from_index(2)];
     assert!(rt; arena.contains(Id::from_index(0)));
@@ -342,7 +348,7 @@ fn delete_three(rt: &impl Abort, arena: &mut TombstoneArena<Tagged>) -> Result<(
     arena.delete_all(ids.as_slice())
 }
 
-#[tactic(auto, using(crate::proofs::ArenaLemmas::distinct_pair))]
+#[tactic(auto, using(walrus_arena::proofs::ArenaLemmas::distinct_pair))]
 fn remove_three(rt: &impl Abort, set: &mut ArenaSet<Tagged>) -> Result<(), AllocError> {
     let ids: [Id<Tagged>; 2] = [Id::from_index(3), Id::from_index(2)];
     assert!(rt; set.contains(Id::from_index(0)));
@@ -359,15 +365,19 @@ fn deletions_take_no_memory(rt: HostRuntime) -> Result<(), Fail> {
         Ok(both) => both,
         Err(_) => return Ok(()),
     };
-    assert_eq!(rt; delete_three(&rt, &mut arena), Ok(()));
-    assert_eq!(rt; arena.len(), 1);
-    assert_eq!(rt; arena.get(Id::from_index(1)).map(|item| item.note), Some(1));
-    assert_eq!(rt; arena.next_id().index(), 4);
-    assert_eq!(rt; remove_three(&rt, &mut set), Ok(()));
-    assert_eq!(rt; index_of(&set, 0), None);
-    assert_eq!(rt; index_of(&set, 1), Some(1));
-    assert_eq!(rt; index_of(&set, 2), None);
-    assert_eq!(rt; index_of(&set, 3), None);
-    assert_eq!(rt; set.next_id().index(), 4);
+    assert_equal(&rt, delete_three(&rt, &mut arena), Ok(()));
+    assert_equal(&rt, arena.len(), 1);
+    assert_equal(
+        &rt,
+        arena.get(Id::from_index(1)).map(|item| item.note),
+        Some(1),
+    );
+    assert_equal(&rt, arena.next_id().index(), 4);
+    assert_equal(&rt, remove_three(&rt, &mut set), Ok(()));
+    assert_equal(&rt, index_of(&set, 0), None);
+    assert_equal(&rt, index_of(&set, 1), Some(1));
+    assert_equal(&rt, index_of(&set, 2), None);
+    assert_equal(&rt, index_of(&set, 3), None);
+    assert_equal(&rt, set.next_id().index(), 4);
     Ok(())
 }

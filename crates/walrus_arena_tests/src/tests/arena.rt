@@ -1,5 +1,6 @@
 //! Each call of an arena.
 use super::*;
+use crate::assertions::assert_equal;
 
 // An arena of three items: the notes are 0, 1 and 2.
 fn three_items(alloc: Global) -> Result<TombstoneArena<Tagged>, AllocError> {
@@ -25,24 +26,24 @@ fn note_of(arena: &TombstoneArena<Tagged>, at: usize) -> Option<u32> {
 #[test]
 fn a_deleted_id_is_not_given_out_again(rt: HostRuntime) -> Result<(), Fail> {
     let mut arena = TombstoneArena::new(rt.alloc());
-    assert_eq!(rt; arena.alloc(make_tagged(1, 1))?.index(), 0);
+    assert_equal(&rt, arena.alloc(make_tagged(1, 1))?.index(), 0);
     assert!(rt; delete_if_live(&mut arena, 0)?);
     assert!(rt; !arena.contains(Id::from_index(0)));
     assert!(rt; note_of(&arena, 0).is_none());
-    assert_eq!(rt; arena.len(), 0);
-    assert_eq!(rt; arena.alloc(make_tagged(2, 2))?.index(), 1);
+    assert_equal(&rt, arena.len(), 0);
+    assert_equal(&rt, arena.alloc(make_tagged(2, 2))?.index(), 1);
     Ok(())
 }
 
 #[test]
 fn items_are_read_by_id(rt: HostRuntime) -> Result<(), Fail> {
     let arena = three_items(rt.alloc())?;
-    assert_eq!(rt; arena.len(), 3);
+    assert_equal(&rt, arena.len(), 3);
     assert!(rt; !arena.is_empty());
-    assert_eq!(rt; arena.next_id().index(), 3);
-    assert_eq!(rt; note_of(&arena, 2), Some(2));
+    assert_equal(&rt, arena.next_id().index(), 3);
+    assert_equal(&rt, note_of(&arena, 2), Some(2));
     assert!(rt; arena.contains(Id::from_index(1)));
-    assert_eq!(rt; arena[Id::from_index(1)].note, 1);
+    assert_equal(&rt, arena[Id::from_index(1)].note, 1);
     Ok(())
 }
 
@@ -53,10 +54,10 @@ fn items_are_written_by_id(rt: HostRuntime) -> Result<(), Fail> {
         Some(item) => item.note = 10,
         None => assert!(rt; false),
     }
-    assert_eq!(rt; note_of(&arena, 0), Some(10));
+    assert_equal(&rt, note_of(&arena, 0), Some(10));
     assert!(rt; arena.contains(Id::from_index(1)));
     arena[Id::from_index(1)].note = 11;
-    assert_eq!(rt; note_of(&arena, 1), Some(11));
+    assert_equal(&rt, note_of(&arena, 1), Some(11));
     assert!(rt; arena.get_mut(Id::from_index(3)).is_none());
     Ok(())
 }
@@ -68,8 +69,8 @@ fn an_item_may_hold_its_id(rt: HostRuntime) -> Result<(), Fail> {
         if id.index() == 3 { 3 } else { 0 },
         0,
     ))?;
-    assert_eq!(rt; id.index(), 3);
-    assert_eq!(rt; arena.get(id).map(|item| item.key), Some(3));
+    assert_equal(&rt, id.index(), 3);
+    assert_equal(&rt, arena.get(id).map(|item| item.key), Some(3));
     Ok(())
 }
 
@@ -78,9 +79,9 @@ fn many_items_at_once(rt: HostRuntime) -> Result<(), Fail> {
     let mut arena = three_items(rt.alloc())?;
     let values = vec![in rt.alloc(); make_tagged(8, 3), make_tagged(9, 4)]?;
     let ids = arena.alloc_all(values)?;
-    assert_eq!(rt; ids.len(), 2);
-    assert_eq!(rt; ids[1].index(), 4);
-    assert_eq!(rt; note_of(&arena, 4), Some(4));
+    assert_equal(&rt, ids.len(), 2);
+    assert_equal(&rt, ids[1].index(), 4);
+    assert_equal(&rt, note_of(&arena, 4), Some(4));
     Ok(())
 }
 
@@ -96,12 +97,12 @@ fn notes_in_order(arena: &TombstoneArena<Tagged>) -> u64 {
 #[test]
 fn iter_goes_over_the_live_items(rt: HostRuntime) -> Result<(), Fail> {
     let mut arena = three_items(rt.alloc())?;
-    assert_eq!(rt; notes_in_order(&arena), 12);
+    assert_equal(&rt, notes_in_order(&arena), 12);
     assert!(rt; delete_if_live(&mut arena, 1)?);
-    assert_eq!(rt; notes_in_order(&arena), 2);
+    assert_equal(&rt, notes_in_order(&arena), 2);
     let live = arena.live_ids()?;
-    assert_eq!(rt; live.len(), 2);
-    assert_eq!(rt; live[1].index(), 2);
+    assert_equal(&rt, live.len(), 2);
+    assert_equal(&rt, live[1].index(), 2);
     Ok(())
 }
 
@@ -110,7 +111,7 @@ fn iter_goes_over_the_live_items(rt: HostRuntime) -> Result<(), Fail> {
 fn an_arena_by_a_lent_allocator(rt: HostRuntime) -> Result<(), Fail> {
     let alloc = rt.alloc();
     let mut arena = TombstoneArena::new(&alloc);
-    assert_eq!(rt; arena.alloc(make_tagged(1, 1))?.index(), 0);
-    assert_eq!(rt; arena.live_ids()?.len(), 1);
+    assert_equal(&rt, arena.alloc(make_tagged(1, 1))?.index(), 0);
+    assert_equal(&rt, arena.live_ids()?.len(), 1);
     Ok(())
 }

@@ -1,5 +1,6 @@
 //! That no answer of a set hangs on the keys of its hash.
 use super::*;
+use crate::assertions::assert_equal;
 use std::hash::BuildHasher;
 
 // Keys of every kind: fixed ones, small ones, and ones of many bits.
@@ -30,7 +31,7 @@ fn filled(rt: &impl Abort, alloc: Global, keys: HashKeys) -> Result<ArenaSet<Tag
 fn answers_do_not_hang_on_the_keys(rt: HostRuntime) -> Result<(), Fail> {
     for keys in all_keys() {
         let set = filled(&rt, rt.alloc(), keys)?;
-        assert_eq!(rt; set.next_id().index(), 40);
+        assert_equal(&rt, set.next_id().index(), 40);
         for key in 0..41 {
             let at = key as usize;
             let wanted = if key % 3 == 2 || key == 40 {
@@ -38,8 +39,8 @@ fn answers_do_not_hang_on_the_keys(rt: HostRuntime) -> Result<(), Fail> {
             } else {
                 Some(at)
             };
-            assert_eq!(rt; index_of(&set, key), wanted);
-            assert_eq!(rt; set.contains(Id::from_index(at)), wanted.is_some());
+            assert_equal(&rt, index_of(&set, key), wanted);
+            assert_equal(&rt, set.contains(Id::from_index(at)), wanted.is_some());
         }
     }
     Ok(())
@@ -52,5 +53,5 @@ fn other_keys_give_other_hashes(rt: HostRuntime) {
     let first = HashKeys::new(1, 2).hash_one(7u64);
     assert!(rt; HashKeys::new(2, 2).hash_one(7u64) != first);
     assert!(rt; HashKeys::new(1, 1).hash_one(7u64) != first);
-    assert_eq!(rt; HashKeys::new(1, 2).hash_one(7u64), first);
+    assert_equal(&rt, HashKeys::new(1, 2).hash_one(7u64), first);
 }

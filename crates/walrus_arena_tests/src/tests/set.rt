@@ -1,5 +1,6 @@
 //! A set of values that are equal by a part of them.
 use super::*;
+use crate::assertions::assert_equal;
 
 // Writes the key of an item in place.
 fn write_key(rt: &impl Abort, set: &mut ArenaSet<Tagged>, at: usize, key: u32) {
@@ -37,11 +38,11 @@ fn changed(rt: &impl Abort, alloc: Global) -> Result<ArenaSet<Tagged>, AllocErro
 #[test]
 fn an_equal_value_is_found(rt: HostRuntime) -> Result<(), Fail> {
     let mut set = ArenaSet::new(rt.alloc());
-    assert_eq!(rt; set.insert(make_tagged(1, 10))?.index(), 0);
-    assert_eq!(rt; set.insert(make_tagged(1, 20))?.index(), 0);
-    assert_eq!(rt; note_of(&rt, &set, 0), 10);
-    assert_eq!(rt; set.alloc_unique(make_tagged(1, 30))?.index(), 1);
-    assert_eq!(rt; index_of(&set, 1), Some(0));
+    assert_equal(&rt, set.insert(make_tagged(1, 10))?.index(), 0);
+    assert_equal(&rt, set.insert(make_tagged(1, 20))?.index(), 0);
+    assert_equal(&rt, note_of(&rt, &set, 0), 10);
+    assert_equal(&rt, set.alloc_unique(make_tagged(1, 30))?.index(), 1);
+    assert_equal(&rt, index_of(&set, 1), Some(0));
     Ok(())
 }
 
@@ -49,10 +50,10 @@ fn an_equal_value_is_found(rt: HostRuntime) -> Result<(), Fail> {
 fn a_changed_value_is_not_found(rt: HostRuntime) -> Result<(), Fail> {
     let mut set = two_equal(rt.alloc())?;
     write_key(&rt, &mut set, 0, 2);
-    assert_eq!(rt; index_of(&set, 1), None);
-    assert_eq!(rt; index_of(&set, 2), None);
-    assert_eq!(rt; set.insert(make_tagged(2, 0))?.index(), 2);
-    assert_eq!(rt; set.insert(make_tagged(1, 0))?.index(), 3);
+    assert_equal(&rt, index_of(&set, 1), None);
+    assert_equal(&rt, index_of(&set, 2), None);
+    assert_equal(&rt, set.insert(make_tagged(2, 0))?.index(), 2);
+    assert_equal(&rt, set.insert(make_tagged(1, 0))?.index(), 3);
     Ok(())
 }
 
@@ -60,7 +61,7 @@ fn a_changed_value_is_not_found(rt: HostRuntime) -> Result<(), Fail> {
 fn a_removal_leaves_the_entry_of_another(rt: HostRuntime) -> Result<(), Fail> {
     let mut set = changed(&rt, rt.alloc())?;
     remove(&rt, &mut set, 0)?;
-    assert_eq!(rt; index_of(&set, 2), Some(2));
+    assert_equal(&rt, index_of(&set, 2), Some(2));
     Ok(())
 }
 
@@ -70,9 +71,9 @@ fn a_replaced_value_takes_the_entry(rt: HostRuntime) -> Result<(), Fail> {
     remove(&rt, &mut set, 0)?;
     assert!(rt; set.contains(Id::from_index(1)));
     set.replace_and_register(Id::from_index(1), make_tagged(2, 5))?;
-    assert_eq!(rt; index_of(&set, 2), Some(1));
+    assert_equal(&rt, index_of(&set, 2), Some(1));
     remove(&rt, &mut set, 1)?;
-    assert_eq!(rt; index_of(&set, 2), None);
+    assert_equal(&rt, index_of(&set, 2), None);
     assert!(rt; set.contains(Id::from_index(2)));
     Ok(())
 }
@@ -82,44 +83,44 @@ fn many_new_values_leave_the_map(rt: HostRuntime) -> Result<(), Fail> {
     let mut set = two_equal(rt.alloc())?;
     let values = vec![in rt.alloc(); make_tagged(1, 1), make_tagged(2, 2)]?;
     let ids = set.alloc_all(values)?;
-    assert_eq!(rt; ids.len(), 2);
-    assert_eq!(rt; set.next_id().index(), 4);
-    assert_eq!(rt; index_of(&set, 1), Some(0));
-    assert_eq!(rt; index_of(&set, 2), None);
+    assert_equal(&rt, ids.len(), 2);
+    assert_equal(&rt, set.next_id().index(), 4);
+    assert_equal(&rt, index_of(&set, 1), Some(0));
+    assert_equal(&rt, index_of(&set, 2), None);
     Ok(())
 }
 
 #[test]
 fn a_registered_value_takes_the_entry_of_an_equal_one(rt: HostRuntime) -> Result<(), Fail> {
     let mut set = two_equal(rt.alloc())?;
-    assert_eq!(rt; set.alloc_and_register(make_tagged(1, 40))?.index(), 2);
-    assert_eq!(rt; index_of(&set, 1), Some(2));
-    assert_eq!(rt; note_of(&rt, &set, 0), 10);
-    assert_eq!(rt; set.alloc_and_register(make_tagged(2, 50))?.index(), 3);
-    assert_eq!(rt; index_of(&set, 2), Some(3));
+    assert_equal(&rt, set.alloc_and_register(make_tagged(1, 40))?.index(), 2);
+    assert_equal(&rt, index_of(&set, 1), Some(2));
+    assert_equal(&rt, note_of(&rt, &set, 0), 10);
+    assert_equal(&rt, set.alloc_and_register(make_tagged(2, 50))?.index(), 3);
+    assert_equal(&rt, index_of(&set, 2), Some(3));
     Ok(())
 }
 
 #[test]
 fn a_slot_can_be_dead_from_the_start(rt: HostRuntime) -> Result<(), Fail> {
     let mut set = two_equal(rt.alloc())?;
-    assert_eq!(rt; set.alloc_dead(make_tagged(2, 0))?.index(), 2);
+    assert_equal(&rt, set.alloc_dead(make_tagged(2, 0))?.index(), 2);
     assert!(rt; !set.contains(Id::from_index(2)));
-    assert_eq!(rt; index_of(&set, 2), None);
-    assert_eq!(rt; index_of(&set, 1), Some(0));
-    assert_eq!(rt; set.insert(make_tagged(2, 0))?.index(), 3);
+    assert_equal(&rt, index_of(&set, 2), None);
+    assert_equal(&rt, index_of(&set, 1), Some(0));
+    assert_equal(&rt, set.insert(make_tagged(2, 0))?.index(), 3);
     Ok(())
 }
 
 #[test]
-#[tactic(auto, using(crate::proofs::ArenaLemmas::distinct_pair))]
+#[tactic(auto, using(walrus_arena::proofs::ArenaLemmas::distinct_pair))]
 fn many_are_removed_at_once(rt: HostRuntime) -> Result<(), Fail> {
     let mut set = two_equal(rt.alloc())?;
     let ids: [Id<Tagged>; 2] = [Id::from_index(1), Id::from_index(0)];
     assert!(rt; set.contains(ids[0]));
     assert!(rt; set.contains(ids[1]));
     set.remove_all(ids.as_slice())?;
-    assert_eq!(rt; index_of(&set, 1), None);
+    assert_equal(&rt, index_of(&set, 1), None);
     assert!(rt; set.iter().next().is_none());
     Ok(())
 }

@@ -2,6 +2,7 @@
 ghost use Rattle.std.specs.Prelude.{◌≡◌};
 
 use super::*;
+use crate::assertions::assert_equal;
 use std::cell::Cell;
 use std::rc::Rc;
 
@@ -33,17 +34,17 @@ fn two_items(alloc: Global, count: &Rc<Cell<u32>>) -> Result<TombstoneArena<Told
 fn delete_tells_its_item_once(rt: HostRuntime) -> Result<(), Fail> {
     let count = Rc::new(rt.alloc(), Cell::new(0))?;
     let mut arena = two_items(rt.alloc(), &count)?;
-    assert_eq!(rt; count.get(), 0);
+    assert_equal(&rt, count.get(), 0);
     assert!(rt; arena.contains(Id::from_index(1)));
     arena.delete(Id::from_index(1))?;
-    assert_eq!(rt; count.get(), 1);
+    assert_equal(&rt, count.get(), 1);
     drop(arena);
-    assert_eq!(rt; count.get(), 1);
+    assert_equal(&rt, count.get(), 1);
     Ok(())
 }
 
 #[test]
-#[tactic(auto, using(crate::proofs::ArenaLemmas::distinct_pair))]
+#[tactic(auto, using(walrus_arena::proofs::ArenaLemmas::distinct_pair))]
 fn delete_all_tells_each_item_once(rt: HostRuntime) -> Result<(), Fail> {
     let count = Rc::new(rt.alloc(), Cell::new(0))?;
     let mut arena = two_items(rt.alloc(), &count)?;
@@ -51,20 +52,20 @@ fn delete_all_tells_each_item_once(rt: HostRuntime) -> Result<(), Fail> {
     assert!(rt; arena.contains(ids[0]));
     assert!(rt; arena.contains(ids[1]));
     arena.delete_all(ids.as_slice())?;
-    assert_eq!(rt; count.get(), 2);
+    assert_equal(&rt, count.get(), 2);
     assert!(rt; arena.is_empty());
     Ok(())
 }
 
 #[test]
-#[tactic(auto, using(crate::proofs::ArenaLemmas::distinct_none))]
+#[tactic(auto, using(walrus_arena::proofs::ArenaLemmas::distinct_none))]
 fn no_ids_delete_nothing(rt: HostRuntime) -> Result<(), Fail> {
     let count = Rc::new(rt.alloc(), Cell::new(0))?;
     let mut arena = two_items(rt.alloc(), &count)?;
     let ids: [Id<Told>; 0] = [];
     arena.delete_all(ids.as_slice())?;
-    assert_eq!(rt; count.get(), 0);
-    assert_eq!(rt; arena.len(), 2);
+    assert_equal(&rt, count.get(), 0);
+    assert_equal(&rt, arena.len(), 2);
     Ok(())
 }
 
@@ -114,16 +115,16 @@ fn remove_tells_its_item_once(rt: HostRuntime) -> Result<(), Fail> {
     let count = Rc::new(rt.alloc(), Cell::new(0))?;
     let mut set = two_values(rt.alloc(), &count)?;
     assert!(rt; set.contains(Id::from_index(1)));
-    assert_eq!(rt; count.get(), 0);
+    assert_equal(&rt, count.get(), 0);
     set.remove(Id::from_index(1))?;
-    assert_eq!(rt; count.get(), 1);
+    assert_equal(&rt, count.get(), 1);
     drop(set);
-    assert_eq!(rt; count.get(), 1);
+    assert_equal(&rt, count.get(), 1);
     Ok(())
 }
 
 #[test]
-#[tactic(auto, using(crate::proofs::ArenaLemmas::distinct_pair))]
+#[tactic(auto, using(walrus_arena::proofs::ArenaLemmas::distinct_pair))]
 fn remove_all_tells_each_item_once(rt: HostRuntime) -> Result<(), Fail> {
     let count = Rc::new(rt.alloc(), Cell::new(0))?;
     let mut set = two_values(rt.alloc(), &count)?;
@@ -131,9 +132,9 @@ fn remove_all_tells_each_item_once(rt: HostRuntime) -> Result<(), Fail> {
     assert!(rt; set.contains(ids[0]));
     assert!(rt; set.contains(ids[1]));
     set.remove_all(ids.as_slice())?;
-    assert_eq!(rt; count.get(), 2);
+    assert_equal(&rt, count.get(), 2);
     drop(set);
-    assert_eq!(rt; count.get(), 2);
+    assert_equal(&rt, count.get(), 2);
     Ok(())
 }
 
@@ -142,7 +143,7 @@ fn a_value_of_a_dead_slot_is_told_once(rt: HostRuntime) -> Result<(), Fail> {
     let count = Rc::new(rt.alloc(), Cell::new(0))?;
     let mut set = two_values(rt.alloc(), &count)?;
     let dead = set.alloc_dead(make_told(3, &count)?)?;
-    assert_eq!(rt; dead.index(), 2);
-    assert_eq!(rt; count.get(), 1);
+    assert_equal(&rt, dead.index(), 2);
+    assert_equal(&rt, count.get(), 1);
     Ok(())
 }

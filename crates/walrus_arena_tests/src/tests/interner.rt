@@ -3,6 +3,7 @@ ghost use Rattle.std.specs.Prelude.{IfOk};
 ghost use Rattle.walrus_arena.specs.Arena.{IsLive};
 
 use super::*;
+use crate::assertions::assert_equal;
 
 #[derive(Drop)]
 struct Names {
@@ -33,7 +34,7 @@ impl Names {
 fn a_name_has_one_id(rt: HostRuntime) -> Result<(), Fail> {
     let mut names = Names::new(rt.alloc());
     let memory = names.id_of(String::from_str(rt.alloc(), "memory")?)?;
-    assert_eq!(rt; names.name(memory), "memory");
+    assert_equal(&rt, names.name(memory), "memory");
     let again = names.id_of(String::from_str(rt.alloc(), "memory")?)?;
     assert!(rt; again == memory);
     let table = names.id_of(String::from_str(rt.alloc(), "table")?)?;

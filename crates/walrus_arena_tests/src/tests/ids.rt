@@ -1,6 +1,8 @@
 //! Ids as keys, in order, and printed.
 use super::*;
+use crate::assertions::assert_equal;
 use std::collections::{HashMap, HashSet};
+use walrus_arena::laws;
 
 #[test]
 fn ids_go_by_their_index(rt: HostRuntime) {
@@ -9,13 +11,13 @@ fn ids_go_by_their_index(rt: HostRuntime) {
     assert!(rt; two < three);
     assert!(rt; two == Id::from_index(2));
     assert!(rt; two != three);
-    assert_eq!(rt; two.max(three).index(), 3);
+    assert_equal(&rt, two.max(three).index(), 3);
 }
 
 #[test]
 fn an_id_prints_its_index(rt: HostRuntime) -> Result<(), Fail> {
     let three: Id<Tagged> = Id::from_index(3);
-    assert_eq!(rt; format!(in rt.alloc(); "{three:?}")?.as_str(), "Id(3)");
+    assert_equal(&rt, format!(in rt.alloc(); "{three:?}")?.as_str(), "Id(3)");
     Ok(())
 }
 
@@ -23,8 +25,8 @@ fn an_id_prints_its_index(rt: HostRuntime) -> Result<(), Fail> {
 fn a_map_by_ids(rt: HostRuntime) -> Result<(), Fail> {
     let mut names: IdHashMap<Tagged, u8> = HashMap::new(rt.alloc());
     names.insert(Id::from_index(2), 7)?;
-    assert_eq!(rt; names.get(&Id::from_index(2)).copied(), Some(7));
-    assert_eq!(rt; names.get(&Id::from_index(3)).copied(), None);
+    assert_equal(&rt, names.get(&Id::from_index(2)).copied(), Some(7));
+    assert_equal(&rt, names.get(&Id::from_index(3)).copied(), None);
     Ok(())
 }
 

@@ -1,9 +1,9 @@
 //! What no contract says: that calls succeed with ample memory, that `on_delete` runs once, and
 //! worked rows.
-use super::*;
 use std::alloc::{AllocError, Global};
 use std::process::Abort;
 use std::test::Fail;
+use walrus_arena::{ArenaSet, HashKeys, Id, IdHashMap, IdHashSet, Tombstone, TombstoneArena};
 
 mod arena;
 mod deletions;

@@ -1,0 +1,10 @@
+//! Tests of arena and set through the public calls of `walrus_arena`.
+//!
+//! They stand in a crate of their own, since tests inside a crate have the gate prove that crate a
+//! second time.
+#![tactic(auto)]
+
+#[cfg(test)]
+mod assertions;
+#[cfg(test)]
+mod tests;
