@@ -1,5 +1,6 @@
 -- A nested sequence has a full walk, where the visitor has a step at each hook.
-use Rattle.std.proofs.Common.{◌≡◌, ⊤, ℕ, zero, suc, List, [], ◌∷◌, Some, None, map, refl, ap, ◌∙◌}
+use Rattle.std.proofs.Common.{◌≡◌, ℕ, zero, suc, List, [], ◌∷◌, Some, None, map, refl, ap, ◌∙◌}
+use Rattle.std.specs.Bool.{⊤}
 use Rattle.std.specs.List.{AllByRecursion, flat_map}
 use Rattle.walrus_ty.specs.declared.ty.value.Val.TheVariants as val
 use Rattle.walrus_ir.specs.Sequence.{Sequence}
@@ -53,7 +54,7 @@ module _ {V : Type 0} where
 
 -- what is put into the fields of a row keeps the children of the instruction
 abbrev PutKeeps : Instr → Row → Type 0
-PutKeeps i no_field = ⊤
+PutKeeps i no_field = ⊤ → children i ≡ children i
 PutKeeps i (one hook x put) =
     (k : (a : Given hook) × Keeps hook x a) → children (put k.0) ≡ children i
 PutKeeps i (two hook follow x y put) =

@@ -1,15 +1,24 @@
 //! The first place where two sections differ.
 use crate::assertions::assert_equal;
-use crate::fixtures::{Piece, Shape, section};
+use crate::fixtures::{Piece, Shape, group, section};
 use Piece::{Many, One};
 use Shape::{Func, Struct};
 use std::alloc::{AllocError, Global};
 use std::test::Fail;
-use walrus_types::{HashKeys, ValAt, entries_before, first_difference, normalise};
+use walrus_types::{GroupAt, HashKeys, ValAt, entries_before, first_difference, normalise};
 
 const INT: Shape<'static> = Struct(&[ValAt::I32]);
 
 const FUNC: Shape<'static> = Func(&[]);
+
+// The section of a function, a `Rec` of two structs, an empty `Rec`, and a struct.
+fn four_groups(alloc: Global) -> Result<Vec<GroupAt>, AllocError> {
+    let pair = [INT, INT];
+    let mut groups = section(alloc, &[One(FUNC), Many(&pair)])?;
+    groups.push(group(alloc, Many(&[]))?)?;
+    groups.push(group(alloc, One(INT))?)?;
+    Ok(groups)
+}
 
 fn place<'x>(alloc: Global, a: &[Piece<'x>], b: &[Piece<'x>]) -> Result<Option<usize>, AllocError> {
     let first = section(alloc, a)?;
@@ -46,8 +55,7 @@ fn the_end_of_the_shorter_one_is_told(rt: HostRuntime) -> Result<(), Fail> {
 
 #[test]
 fn all_entries_of_the_groups_before_count(rt: HostRuntime) -> Result<(), Fail> {
-    let pair = [INT, FUNC];
-    let section = section(rt.alloc(), &[One(FUNC), Many(&pair), Many(&[]), One(INT)])?;
+    let section = four_groups(rt.alloc())?;
     let groups = section.as_slice();
     let (_, places) = normalise(rt.alloc(), HashKeys::fixed(), groups)?;
     assert_equal(&rt, places.len(), 4);
