@@ -136,7 +136,7 @@ impl<T> IndexMut<usize> for Listed<T> {
 
 impl Listed<TypeId> {
     /// Takes this id out, wherever it stands.
-    pub fn leave(&mut self, id: TypeId)
+    pub fn remove_id(&mut self, id: TypeId)
         ensures { self.new ≡ filter (λ i. not (nat_eq i id)) self.old }
     {
         let at = id.index();

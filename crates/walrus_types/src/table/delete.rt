@@ -112,7 +112,7 @@ fn remove_id(ids: &mut Listed<TypeId>, id: TypeId)
         ids.pop();
         return;
     }
-    ids.leave(id);
+    ids.remove_id(id);
 }
 
 fn is_last(ids: &[TypeId], id: TypeId) -> bool
