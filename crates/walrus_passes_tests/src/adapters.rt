@@ -29,6 +29,21 @@ fn has_type(locals: &ModuleLocals, index: usize, ty: ValType) -> bool {
     locals.contains(id) && locals.get(id).ty() == ty
 }
 
+// The function has one sequence, which reads the locals 1 and 2 and calls the function 9.
+fn reads_and_calls(rt: &impl Abort, alloc: Global, func: &LocalFunction) -> Result<(), AllocError> {
+    assert_equal(rt, func.ty(), TypeId::from_index(0));
+    assert_equal(rt, func.entry(), Some(Id::from_index(0)));
+    assert_equal(rt, func.block_count(), 1);
+    assert!(rt; are(func.args.as_slice(), &[1, 2]));
+    assert_equal(
+        rt,
+        text_of(alloc, func, 0)?.as_str(),
+        "LocalGet(LocalGet { local: Id(1) });LocalGet(LocalGet { local: Id(2) });\
+        Call(Call { func: Id(9) });",
+    );
+    Ok(())
+}
+
 #[test]
 fn an_adapter_reads_its_parameters_and_calls(rt: HostRuntime) -> Result<(), Fail> {
     let mut types = ModuleTypes::new(rt.alloc());
@@ -36,16 +51,7 @@ fn an_adapter_reads_its_parameters_and_calls(rt: HostRuntime) -> Result<(), Fail
     locals.add(ValType::V128)?;
     types.add(&[ValType::I32, ValType::F64], &[ValType::I64])?;
     let func = adapt(&rt, rt.alloc(), &mut types, &mut locals, 0)?;
-    assert_equal(&rt, func.ty(), TypeId::from_index(0));
-    assert_equal(&rt, func.entry(), Some(Id::from_index(0)));
-    assert_equal(&rt, func.block_count(), 1);
-    assert!(rt; are(func.args.as_slice(), &[1, 2]));
-    assert_equal(
-        &rt,
-        text_of(rt.alloc(), &func, 0)?.as_str(),
-        "LocalGet(LocalGet { local: Id(1) });LocalGet(LocalGet { local: Id(2) });\
-        Call(Call { func: Id(9) });",
-    );
+    reads_and_calls(&rt, rt.alloc(), &func)?;
     assert!(rt; has_type(&locals, 1, ValType::I32));
     assert!(rt; has_type(&locals, 2, ValType::F64));
     Ok(())

@@ -201,19 +201,21 @@ fn locals_that_are_read_and_written_bring_their_types(rt: HostRuntime) -> Result
     )
 }
 
+// Whether a function whose body is a block of this sequence has no list.
+fn block_has_no_list(alloc: Global, index: usize) -> Result<bool, Fail> {
+    let block = Instr::from(Block {
+        seq: Id::from_index(index),
+    });
+    let func = function(alloc, vec![in alloc; block]?)?;
+    let locals = locals(alloc)?;
+    Ok(used_types(alloc, &func, &locals)?.is_none())
+}
+
+// The block 0 holds itself, and there is no sequence 1.
 #[test]
 fn a_body_that_is_not_nested_has_no_list(rt: HostRuntime) -> Result<(), Fail> {
-    let locals = locals(rt.alloc())?;
-    let itself = Instr::from(Block {
-        seq: Id::from_index(0),
-    });
-    let func = function(rt.alloc(), vec![in rt.alloc(); itself]?)?;
-    assert!(rt; used_types(rt.alloc(), &func, &locals)?.is_none());
-    let unknown = Instr::from(Block {
-        seq: Id::from_index(1),
-    });
-    let func = function(rt.alloc(), vec![in rt.alloc(); unknown]?)?;
-    assert!(rt; used_types(rt.alloc(), &func, &locals)?.is_none());
+    assert!(rt; block_has_no_list(rt.alloc(), 0)?);
+    assert!(rt; block_has_no_list(rt.alloc(), 1)?);
     Ok(())
 }
 
