@@ -175,7 +175,7 @@ module _ {V : Type 0} (step : Steps V) (has : HasSteps step) (keeps : KeepsNesti
   Entered n = (s : V × Body) (q : ℕ) → Within s.1 n q → (t : V × Body) × Walks step s q Full t × SameNesting s.1 t.1
 
   walks_go : (n : ℕ) → Entered n → (s : V × Body) (qs : List ℕ) → AllByRecursion (Within s.1 n) qs → (t : V × Body) × WalksAll step s qs Full t × SameNesting s.1 t.1
-  walks_go n enter s [] h = (s, none s Full, record { count = refl; children = λ q. refl; })
+  walks_go n enter s [] h = (s, none s Full, record { count = refl; children = λ q. refl })
   walks_go n enter s (q ∷ qs) h =
       let a = enter s q h.0 in
       let r = walks_go n enter a.0 qs (all_weaker (Within s.1 n) (Within a.0.1 n) qs (within_same s.1 a.0.1 a.2 n) h.1) in
