@@ -21,7 +21,7 @@ fn locals_get_the_next_ids(rt: HostRuntime) -> Result<(), Fail> {
     assert_equal(&rt, second.index(), 1);
     let local = locals.get(second);
     assert_equal(&rt, local.id(), second);
-    assert_equal(&rt, local.ty(), Val::I64);
+    assert!(rt; local.ty() == Val::I64);
     assert!(rt; local.name.is_none());
     Ok(())
 }
