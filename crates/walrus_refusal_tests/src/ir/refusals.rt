@@ -151,12 +151,11 @@ fn a_refused_sequence_type_adds_no_type(rt: HostRuntime) -> Result<(), Fail> {
     let mut types = ModuleTypes::new(rt.alloc());
     for count in 0..5usize {
         let ty = seq_type_again(&rt, &mut types, &[reference(count)], count)?;
-        assert_equal(&rt, ty, InstrSeqType::MultiValue(Id::from_index(count)));
-        assert_equal(&rt, types.rec_groups().len(), count + 1);
-        assert_equal(
-            &rt,
+        assert_eq!(rt; ty, InstrSeqType::MultiValue(Id::from_index(count)));
+        assert_eq!(rt; types.rec_groups().len(), count + 1);
+        assert_eq!(rt;
             InstrSeqType::existing(&types, &[reference(count)], &[]),
-            Some(ty),
+            Some(ty)
         );
     }
     Ok(())
