@@ -112,13 +112,12 @@ fn a_snipped_entry_keeps_its_type(rt: HostRuntime) -> Result<(), Fail> {
     let id: FunctionId = Id::from_index(0);
     assert!(rt; funcs.contains(id));
     let func = funcs.get(id);
-    assert_equal(&rt, func.entry(), Some(Id::from_index(0)));
+    assert_eq!(rt; func.entry(), Some(Id::from_index(0)));
     let entry = Id::from_index(0);
     assert!(rt; func.contains_block(entry));
-    assert_equal(
-        &rt,
+    assert_eq!(rt;
         func.block(entry).ty,
-        InstrSeqType::MultiValue(TypeId::from_index(1)),
+        InstrSeqType::MultiValue(TypeId::from_index(1))
     );
     Ok(())
 }
