@@ -10,6 +10,7 @@ pub mod FirstFaults
 pub mod Beginnings
 pub mod SectionBeginnings
 pub mod Sections
+pub mod Progress
 pub mod Shortest
 pub mod Least
 pub mod Textless

@@ -8,10 +8,12 @@ use Rattle.walrus_binary.specs.declared.error.Reason.{Reason}
 use Rattle.walrus_binary.specs.declared.error.Reason.TheVariants as reason
 use Rattle.walrus_binary.specs.declared.error.NotHeld.TheVariants as held
 use Rattle.walrus_binary.specs.declared.error.Fault.{Fault}
+use Rattle.walrus_binary.specs.declared.error.ReadError.{ReadError}
+use Rattle.walrus_binary.specs.declared.error.ReadError.TheVariants as errors
 use Rattle.walrus_binary.specs.Grammar.{IsRecType, IsTypes}
 use Rattle.walrus_binary.specs.Faults.{IsNoText, BeginsNoText, GoesOn, IsFirstBad, IsBegun, begins_text, begins_several_supertypes, IsSeenThere, error_offset}
-use Rattle.walrus_binary.specs.Steps.Reading.{vec_at, group_at, types_at, IsSeenAtOnce}
-use Rattle.walrus_binary.specs.Steps.Refusals.{with_reason, refusal}
+use Rattle.walrus_binary.specs.Steps.Reading.{Fails, vec_at, group_at, types_at, IsSeenAtOnce}
+use Rattle.walrus_binary.specs.Steps.Refusals.{with_reason, refusal, IsWithin, error_refusal}
 use Rattle.walrus_binary.proofs.Basics.{rest_is}
 use Rattle.walrus_binary.proofs.Lists.{vec_complete}
 use Rattle.walrus_binary.proofs.Groups.{group_complete, types_again}
@@ -113,6 +115,34 @@ begun_before bytes f e =
     let b = types_begun bytes f e in
     placed (λ offset. IsBegun (take offset bytes)) (length bytes - f.left) f.reason
     (before bytes b.front (tail_bytes b.tail) b.left f b.parts b.place (begins_all b.front b.tail b.goes_on))
+
+-- ---- an error
+
+pub error_within : (bytes : List ℕ) (e : ReadError) → Fails e (types_at bytes) → IsWithin (length bytes) e
+error_within bytes errors.Memory h = tt
+error_within bytes (errors.Fault f) h = left_fits bytes f h
+
+pub error_refused : (bytes : List ℕ) (e : ReadError) → Fails e (types_at bytes)
+    → IfSome (error_offset (error_refusal (length bytes) e)) (λ offset. IsNoText bytes)
+error_refused bytes errors.Memory h = tt
+error_refused bytes (errors.Fault f) h = refused bytes f h
+
+pub error_placed : (bytes : List ℕ) (e : ReadError) → Fails e (types_at bytes)
+    → IfSome (error_offset (error_refusal (length bytes) e)) (λ offset. offset ≤ length bytes)
+error_placed bytes errors.Memory h = tt
+error_placed bytes (errors.Fault f) h = lies_within bytes f h
+
+pub error_stuck : (bytes : List ℕ) (e : ReadError) → Fails e (types_at bytes)
+    → IfSome (error_offset (error_refusal (length bytes) e))
+    (λ offset. IsSeenThere (error_refusal (length bytes) e) → offset < length bytes →
+    BeginsNoText (take (offset + 1) bytes))
+error_stuck bytes errors.Memory h = tt
+error_stuck bytes (errors.Fault f) h = stuck_there bytes f h
+
+pub error_begun : (bytes : List ℕ) (e : ReadError) → Fails e (types_at bytes)
+    → IfSome (error_offset (error_refusal (length bytes) e)) (λ offset. IsBegun (take offset bytes))
+error_begun bytes errors.Memory h = tt
+error_begun bytes (errors.Fault f) h = begun_before bytes f h
 
 -- ---- the first bad byte
 

@@ -1,6 +1,7 @@
 pub mod Leb128
 pub mod Grammar
 pub mod Faults
+pub mod SectionProgress
 pub mod Modules
 pub mod ModuleTypes
 pub mod Replacement

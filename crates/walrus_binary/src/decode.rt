@@ -8,9 +8,11 @@ ghost use Rattle.walrus_binary.specs.Steps.Reading.{Gives, types_at};
 mod composite;
 mod group;
 mod list;
+mod reader;
 mod value;
 
 use crate::decode::list::read_vec;
+pub use crate::decode::reader::TypeSectionReader;
 use crate::error::{DecodeError, Expected, ReadError};
 use std::alloc::Global;
 use walrus_ty::GroupAt;
@@ -53,8 +55,7 @@ pub fn decode_types(alloc: Global, bytes: &[u8]) -> Result<Vec<GroupAt>, DecodeE
 {
     match read_types(alloc, bytes) {
         Ok(groups) => Ok(groups),
-        Err(ReadError::Fault(fault)) => Err(fault.refusal(bytes.len())),
-        Err(ReadError::Memory) => Err(DecodeError::Memory),
+        Err(error) => Err(error.refusal(bytes.len())),
     }
 }
 

@@ -1,6 +1,6 @@
 //! Why bytes could not be read.
 ghost use Rattle.std.specs.Prelude.{◌≡◌, ◌≤◌, length};
-ghost use Rattle.walrus_binary.specs.Steps.Refusals.{refusal};
+ghost use Rattle.walrus_binary.specs.Steps.Refusals.{IsWithin, refusal, error_refusal};
 ghost use Rattle.walrus_binary.specs.declared.error.EncodeError.TheVariants as encode;
 ghost use Rattle.walrus_binary.specs.declared.error.ReadError.TheVariants as errors;
 ghost use Rattle.walrus_binary.specs.declared.error.Reason.TheVariants as reason;
@@ -194,6 +194,17 @@ impl ReadError {
             left: bytes.len(),
             reason: Reason::NotHeld(what),
         })
+    }
+
+    /// What a caller of the crate is told, in bytes of this length.
+    pub fn refusal(self, len: usize) -> DecodeError
+        requires { IsWithin len self }
+        ensures { result ≡ error_refusal len self }
+    {
+        match self {
+            ReadError::Fault(fault) => fault.refusal(len),
+            ReadError::Memory => DecodeError::Memory,
+        }
     }
 }
 

@@ -32,7 +32,7 @@ pub mod laws;
 mod leb128;
 mod module;
 
-pub use decode::decode_types;
+pub use decode::{TypeSectionReader, decode_types};
 pub use encode::encode_types;
 pub use error::{DecodeError, EncodeError, Expected, NotHeld, ReplaceError};
 pub use module::{module_types, replace_type_section, type_section};

@@ -1,10 +1,12 @@
 -- The error that a fault in bytes of this length is.
-use Rattle.std.specs.Prelude.{ℕ, ◌-◌}
+use Rattle.std.specs.Prelude.{ℕ, ◌-◌, ◌≤◌}
 use Rattle.walrus_binary.specs.declared.error.DecodeError.{DecodeError}
 use Rattle.walrus_binary.specs.declared.error.DecodeError.TheVariants as decode
 use Rattle.walrus_binary.specs.declared.error.Reason.{Reason}
 use Rattle.walrus_binary.specs.declared.error.Reason.TheVariants as reason
 use Rattle.walrus_binary.specs.declared.error.Fault.{Fault}
+use Rattle.walrus_binary.specs.declared.error.ReadError.{ReadError}
+use Rattle.walrus_binary.specs.declared.error.ReadError.TheVariants as errors
 
 abbrev pub with_reason : ℕ → Reason → DecodeError
 with_reason offset (reason.Expected expected) = decode.Malformed offset expected
@@ -12,3 +14,12 @@ with_reason offset (reason.NotHeld what) = decode.NotHeld offset what
 
 abbrev pub refusal : ℕ → Fault → DecodeError
 refusal len fault = with_reason (len - fault.left) fault.reason
+
+-- no more bytes are left there than these
+abbrev pub IsWithin : ℕ → ReadError → Type 0
+IsWithin len (errors.Fault fault) = fault.left ≤ len
+IsWithin len errors.Memory = Unit {0}
+
+abbrev pub error_refusal : ℕ → ReadError → DecodeError
+error_refusal len (errors.Fault fault) = refusal len fault
+error_refusal len errors.Memory = decode.Memory

@@ -12,7 +12,7 @@ use walrus_ty::{EntryAt, GroupAt, Listed};
 
 #[inline(always)]
 #[tactic(auto, unfolding(crate::specs::Steps::Reading::group_at))]
-fn read_group(alloc: Global, bytes: &[u8]) -> Result<(GroupAt, &[u8]), ReadError>
+pub fn read_group(alloc: Global, bytes: &[u8]) -> Result<(GroupAt, &[u8]), ReadError>
     ensures { Gives (λ x. (x.0, x.1.now)) result (group_at bytes.now) }
 {
     match bytes {

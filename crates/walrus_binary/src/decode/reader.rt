@@ -1,0 +1,176 @@
+//! Reading a type section group by group.
+ghost use Rattle.std.specs.Prelude.{◌≡◌, ◌+◌, ◌<◌, ◌≤◌, [], ◌∷◌, ◌++◌, length, take, IfOk, IfErr, IfSome, IfNone, OnOk, OnErr};
+ghost use Rattle.std.specs.Option.{option_map};
+ghost use Rattle.walrus_binary.specs.Grammar.{IsTypes};
+ghost use Rattle.walrus_binary.specs.Faults.{IsNoText, BeginsNoText, IsBegun};
+ghost use Rattle.walrus_binary.specs.Faults.{IsSeenThere, error_offset};
+ghost use Rattle.walrus_binary.specs.Steps.Reading.{Gives};
+ghost use Rattle.walrus_binary.specs.Steps.Progress.{next_at};
+
+use crate::decode::group::read_group;
+use crate::error::{DecodeError, Expected, ReadError};
+use crate::leb128::read_u32;
+use std::alloc::Global;
+use std::marker::Model;
+use walrus_ty::GroupAt;
+
+/// Reads a type section one recursion group after the other (WebAssembly core specification,
+/// "Binary Format", "Type Section").
+///
+/// [`decode_types`](crate::decode_types) reads all groups at once. A reader keeps none of them: who
+/// lets each go before the next needs the memory of one group, however long the section is.
+///
+/// # How many groups a section has of several types
+///
+/// ```
+/// let mut reader = TypeSectionReader::new(alloc, bytes)?;
+/// let mut recursive = 0_u64;
+/// while let Some(group) = reader.next_group()? {
+///     if let GroupAt::Rec(_) = group {
+///         recursive += 1;
+///     }
+/// }
+/// ```
+#[derive(Drop)]
+pub struct TypeSectionReader<'a> {
+    alloc: Global,
+    bytes: &'a [u8],
+    // What is left of the bytes.
+    rest: &'a [u8],
+    remaining: u32,
+}
+
+impl<'a> Model for TypeSectionReader<'a> {
+    ghost use Rattle.walrus_binary.specs.SectionProgress.{SectionProgress};
+
+    ghost Value = { SectionProgress };
+
+    ghost use Rattle.walrus_binary.specs.Steps.Progress.{progress, IsReadTo};
+
+    ghost view = { λ r. progress r.bytes.now r.remaining };
+
+    ghost invariant = { λ r. IsReadTo r.bytes.now r.remaining r.rest.now };
+}
+
+impl<'a> TypeSectionReader<'a> {
+    ghost use Rattle.walrus_binary.specs.SectionProgress.{BeginsWithGroups};
+
+    /// A reader of a type section, of which `bytes` are all that stands after its id and size. It
+    /// reads how many groups there are, and takes no memory.
+    ///
+    /// # Errors
+    ///
+    /// [`DecodeError::Malformed`] comes where the bytes begin with no count, as
+    /// [`decode_types`](crate::decode_types) says it; no other error comes.
+    pub fn new(alloc: Global, bytes: &'a [u8]) -> Result<TypeSectionReader<'a>, DecodeError>
+        // It is a reader of these bytes,
+        ensures bytes { IfOk result (λ reader. reader.bytes ≡ bytes.now) }
+        // which has read no group yet.
+        ensures groups { IfOk result (λ reader. reader.groups ≡ []) }
+        // They begin with the count of its groups.
+        ensures begins { IfOk result (λ reader. BeginsWithGroups reader) }
+        // Bytes that are refused are a text of no groups.
+        ensures refused { IfErr result (λ e. IfSome (error_offset e) (λ offset.
+            IsNoText bytes.now)) }
+        // The place lies in the bytes or at their end,
+        ensures place { IfErr result (λ e. IfSome (error_offset e) (λ offset.
+            offset ≤ length bytes.now)) }
+        // and with the byte there no text goes on.
+        ensures stuck { IfErr result (λ e. IfSome (error_offset e) (λ offset.
+            IsSeenThere e → offset < length bytes.now →
+            BeginsNoText (take (offset + 1) bytes.now))) }
+        // With the bytes before it some text goes on.
+        ensures begun { IfErr result (λ e. IfSome (error_offset e) (λ offset.
+            IsBegun (take offset bytes.now))) }
+    {
+        match read_u32(bytes) {
+            Ok((remaining, rest)) => Ok(TypeSectionReader {
+                alloc,
+                bytes,
+                rest,
+                remaining,
+            }),
+            Err(error) => Err(error.refusal(bytes.len())),
+        }
+    }
+
+    /// How many more groups the section has by its count.
+    pub fn remaining_count(&self) -> usize
+        ensures { result ≡ self.now.remaining }
+    {
+        self.remaining as usize
+    }
+
+    /// Reads the next group; `None` comes behind the last one, where the bytes end.
+    ///
+    /// # Errors
+    ///
+    /// [`DecodeError::Malformed`] and [`DecodeError::NotHeld`] say at which of all bytes they stop
+    /// being a text of groups, as [`decode_types`](crate::decode_types) does: bytes after the last
+    /// group are told at the first of them. [`DecodeError::Memory`] comes where memory was refused.
+    /// After an error the reader is as it was, so that the same call reads the same bytes again.
+    pub fn next_group(&mut self) -> Result<Option<GroupAt>, DecodeError>
+        // A group comes behind those that were read,
+        ensures group { IfOk result (λ next. IfSome next (λ group.
+            self.new.groups ≡ self.old.groups ++ group ∷ [])) }
+        // and is one less to come.
+        ensures counted { IfOk result (λ next. IfSome next (λ group.
+            self.old.remaining ≡ self.new.remaining + 1)) }
+        // The bytes begin with texts of those that were read.
+        ensures begins { OnOk result (BeginsWithGroups self.new) }
+        // Where none comes, none was still to come,
+        ensures none { IfOk result (λ next. IfNone next (self.old.remaining ≡ 0)) }
+        // the bytes are a text of those that were read,
+        ensures end { IfOk result (λ next. IfNone next
+            (IsTypes self.old.bytes self.old.groups)) }
+        // and the reader is as it was.
+        ensures ended { IfOk result (λ next. IfNone next (self.new ≡ self.old)) }
+        // It reads the same bytes as before.
+        ensures bytes { self.new.bytes ≡ self.old.bytes }
+        // After an error the reader is as it was.
+        ensures unchanged { OnErr result (self.new ≡ self.old) }
+        // Bytes that are refused are a text of no groups, unless memory was refused.
+        ensures refused { IfErr result (λ e. IfSome (error_offset e) (λ offset.
+            IsNoText self.old.bytes)) }
+        // The place lies in the bytes or at their end,
+        ensures place { IfErr result (λ e. IfSome (error_offset e) (λ offset.
+            offset ≤ length self.old.bytes)) }
+        // and with the byte there no text goes on.
+        ensures stuck { IfErr result (λ e. IfSome (error_offset e) (λ offset.
+            IsSeenThere e → offset < length self.old.bytes →
+            BeginsNoText (take (offset + 1) self.old.bytes))) }
+        // With the bytes before it some text goes on, unless they begin several supertypes.
+        ensures begun { IfErr result (λ e. IfSome (error_offset e) (λ offset.
+            IsBegun (take offset self.old.bytes))) }
+    {
+        match read_next(self.alloc, self.remaining, self.rest) {
+            Ok(Some((group, rest))) => {
+                self.rest = rest;
+                self.remaining -= 1;
+                Ok(Some(group))
+            }
+            Ok(None) => Ok(None),
+            Err(error) => Err(error.refusal(self.bytes.len())),
+        }
+    }
+}
+
+/// The next group, where so many are still to come, and the bytes after it; `None` at the end.
+#[inline(always)]
+#[tactic(auto, unfolding(crate::specs::Steps::Progress::next_at))]
+fn read_next(
+    alloc: Global,
+    remaining: u32,
+    bytes: &[u8],
+) -> Result<Option<(GroupAt, &[u8])>, ReadError>
+    ensures { Gives (option_map (λ x. (x.0, x.1.now))) result (next_at remaining bytes.now) }
+{
+    if remaining > 0 {
+        let (group, rest) = read_group(alloc, bytes)?;
+        return Ok(Some((group, rest)));
+    }
+    if !bytes.is_empty() {
+        return Err(ReadError::at(bytes, Expected::End));
+    }
+    Ok(None)
+}
