@@ -8,6 +8,7 @@ mod productions;
 mod refusals;
 mod replacing;
 mod speed;
+mod turns;
 mod unheld;
 
 use std::alloc::{AllocError, Global};

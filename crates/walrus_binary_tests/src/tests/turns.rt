@@ -1,0 +1,71 @@
+//! Sections that are read group by group.
+use super::*;
+use crate::assertions::assert_equal;
+use std::test::*;
+use walrus_binary::TypeSectionReader;
+
+/// Whether this group comes next.
+fn comes_next(reader: &mut TypeSectionReader<'_>, group: &GroupAt) -> bool {
+    match reader.next_group() {
+        Ok(Some(next)) => next == *group,
+        _ => false,
+    }
+}
+
+/// Whether no group comes next, and the bytes end.
+fn is_at_end(reader: &mut TypeSectionReader<'_>) -> bool {
+    matches!(reader.next_group(), Ok(None))
+}
+
+#[test]
+fn groups_of_a_section_come_in_turn(rt: HostRuntime) -> Result<(), Fail> {
+    let bytes = [
+        3, 0x5E, 0x78, 0, 0x4E, 2, 0x5F, 1, 0x77, 1, 0x5F, 0, 0x60, 1, 0x7F, 0,
+    ];
+    let groups = decode_types(rt.alloc(), &bytes).ok().ok_or("three groups")?;
+    let mut reader = TypeSectionReader::new(rt.alloc(), &bytes)
+        .ok()
+        .ok_or("a count")?;
+    assert_equal(&rt, reader.remaining_count(), 3);
+    for group in groups.as_slice() {
+        assert!(rt; comes_next(&mut reader, group));
+    }
+    assert_equal(&rt, reader.remaining_count(), 0);
+    assert!(rt; is_at_end(&mut reader));
+    assert!(rt; is_at_end(&mut reader));
+    Ok(())
+}
+
+#[test]
+fn an_error_comes_after_the_groups_before_it_and_again(rt: HostRuntime) -> Result<(), Fail> {
+    let mut reader = TypeSectionReader::new(rt.alloc(), &[2, 0x5E, 0x78, 0, 0x5F, 1, 0x7F, 2])
+        .ok()
+        .ok_or("a count")?;
+    let group = array(StorageAt::I8);
+    assert!(rt; comes_next(&mut reader, &group));
+    let error = malformed(7, Expected::Mutability);
+    assert_equal(&rt, reader.next_group().err(), error);
+    assert_equal(&rt, reader.next_group().err(), error);
+    assert_equal(&rt, reader.remaining_count(), 1);
+    Ok(())
+}
+
+#[test]
+fn bytes_after_the_last_group_are_an_error(rt: HostRuntime) -> Result<(), Fail> {
+    let mut reader = TypeSectionReader::new(rt.alloc(), &[1, 0x5E, 0x78, 0, 0x5E])
+        .ok()
+        .ok_or("a count")?;
+    let group = array(StorageAt::I8);
+    assert!(rt; comes_next(&mut reader, &group));
+    let error = malformed(4, Expected::End);
+    assert_equal(&rt, reader.next_group().err(), error);
+    assert_equal(&rt, reader.next_group().err(), error);
+    Ok(())
+}
+
+#[test]
+fn no_bytes_have_no_reader(rt: HostRuntime) -> Result<(), Fail> {
+    let error = TypeSectionReader::new(rt.alloc(), &[]).err();
+    assert_equal(&rt, error, malformed(0, Expected::Integer));
+    Ok(())
+}
