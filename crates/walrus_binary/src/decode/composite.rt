@@ -10,6 +10,7 @@ use std::alloc::Global;
 use walrus_ty::{CompAt, FieldAt, Listed, StorageAt, ValAt};
 
 /// A composite type at the front, and the bytes after it.
+#[inline(always)]
 #[tactic(auto, unfolding(crate::specs::Steps::Reading::comp_at))]
 pub fn read_comp(alloc: Global, bytes: &[u8]) -> Result<(CompAt, &[u8]), ReadError>
     ensures { Gives (λ x. (x.0, x.1.now)) result (comp_at bytes.now) }

@@ -21,12 +21,17 @@ pub trait Decode: Sized {
 /// For how many items room is taken at most before they are read.
 const MOST_RESERVED: usize = 1000;
 
-/// How many there are, and then as many. A count that fewer bytes follow takes no memory.
-#[tactic(auto, unfolding(crate::specs::Steps::Reading::vec_at))]
+/// How many there are, and then as many. A count that fewer bytes follow takes no memory. An empty
+/// list, as that of the results often is, costs no call.
+#[inline(always)]
+#[tactic(auto, unfolding(crate::specs::Steps::Reading::vec_at, crate::specs::Steps::Reading::items_at))]
 pub fn read_vec<T: Decode + Drop>(alloc: Global, bytes: &[u8]) -> Result<(Vec<T>, &[u8]), ReadError>
     ensures { Gives (λ x. (x.0.items, x.1.now)) result (vec_at T.reading bytes.now) }
 {
     let (count, rest) = read_u32(bytes)?;
+    if count == 0 {
+        return Ok((Vec::new(alloc), rest));
+    }
     read_items(alloc, count, rest)
 }
 

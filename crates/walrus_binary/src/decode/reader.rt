@@ -19,6 +19,8 @@ use walrus_ty::GroupAt;
 ///
 /// [`decode_types`](crate::decode_types) reads all groups at once. A reader keeps none of them: who
 /// lets each go before the next needs the memory of one group, however long the section is.
+/// [`remaining_count`](TypeSectionReader::remaining_count) goes down with each group, so that a loop
+/// over them ends.
 ///
 /// # How many groups a section has of several types
 ///
