@@ -4,8 +4,8 @@
 //! - [`type_section`] finds the type section of a module, and [`replace_type_section`] gives it
 //!   another content.
 //! - [`decode_types`] reads the groups of a section, and says where bytes are no text of groups;
-//!   [`module_types`] reads those of a module. A [`TypeSectionReader`] reads a section group by group,
-//!   in the memory of one.
+//!   [`module_types`] reads those of a module. A [`TypeSectionReader`] reads a section group by
+//!   group, in the memory of one.
 //! - [`encode_types`] writes the shortest text of groups.
 //! - [`laws`] has the theorems: bytes are a text of one list of groups at most, no text is the
 //!   beginning of a longer one, bytes have one first bad byte at most, and they are a module of one

@@ -19,8 +19,8 @@ use walrus_ty::GroupAt;
 ///
 /// [`decode_types`](crate::decode_types) reads all groups at once. A reader keeps none of them: who
 /// lets each go before the next needs the memory of one group, however long the section is.
-/// [`remaining_count`](TypeSectionReader::remaining_count) goes down with each group, so that a loop
-/// over them ends.
+/// [`remaining_count`](TypeSectionReader::remaining_count) goes down with each group, so that a
+/// loop over them ends.
 ///
 /// # How many groups a section has of several types
 ///
@@ -63,7 +63,7 @@ impl<'a> TypeSectionReader<'a> {
     /// # Errors
     ///
     /// [`DecodeError::Malformed`] comes where the bytes begin with no count, as
-    /// [`decode_types`](crate::decode_types) says it; no other error comes.
+    /// [`decode_types`](crate::decode_types) says it.
     pub fn new(alloc: Global, bytes: &'a [u8]) -> Result<TypeSectionReader<'a>, DecodeError>
         // It is a reader of these bytes,
         ensures bytes { IfOk result (λ reader. reader.bytes ≡ bytes.now) }
