@@ -7,7 +7,7 @@ mod rename_types;
 mod walks;
 
 use std::alloc::{AllocError, Global};
-use std::test::Fail;
+use std::process::Abort;
 use walrus_functions::{BuildError, FunctionBuilder, LocalFunction};
 use walrus_ir::{Block, Instr, InstrLocId, InstrSeqId, InstrSeqType};
 use walrus_types::Id;

@@ -41,17 +41,21 @@ fn builds<F: FnOnce(&mut InstrSeqBuilder<'_>) -> Result<(), BuildError>>(
     fill: F,
     outcome: Result<(), BuildError>,
     text: &str,
-) -> Result<(), Fail>
+)
     requires { (b : MutBor Builder) → IsKnown b.now → IsSome (function_of b.now).entry
         → F.pre fill b }
 {
-    let mut f = begin(alloc)?;
+    let mut f = begin(alloc).expect(rt, "memory");
     let mut entry = f.func_body();
     let answer = fill(&mut entry);
     assert_equal(rt, answer, outcome);
-    let func = f.local_func(Vec::new(alloc));
-    assert_equal(rt, to_text(alloc, &func)?.as_str(), text);
-    Ok(())
+    prints(rt, alloc, &f.local_func(Vec::new(alloc)), text);
+}
+
+// The function has this text.
+fn prints(rt: &impl Abort, alloc: Global, func: &LocalFunction, text: &str) {
+    let printed = to_text(alloc, func).expect(rt, "memory");
+    assert_equal(rt, printed.as_str(), text);
 }
 
 // A line for each sequence: its id, and what each of its instructions prints.

@@ -5,7 +5,6 @@ use std::alloc::Global;
 use std::collections::HashSet;
 use std::fmt;
 use std::process::Abort;
-use std::test::Fail;
 
 mod binary_ops;
 mod clones;
@@ -24,14 +23,9 @@ mod value;
 mod widths;
 
 /// Adds the printed names of operators to those seen. None of them may be there.
-fn see<T: fmt::Debug>(
-    rt: &impl Abort,
-    alloc: Global,
-    seen: &mut HashSet<String>,
-    ops: &[T],
-) -> Result<(), Fail> {
+fn see<T: fmt::Debug>(rt: &impl Abort, alloc: Global, seen: &mut HashSet<String>, ops: &[T]) {
     for op in ops {
-        assert!(rt; seen.insert(format!(in alloc; "{op:?}")?)?);
+        let name = format!(in alloc; "{op:?}").expect(rt, "memory");
+        assert!(rt; seen.insert(name).expect(rt, "memory"));
     }
-    Ok(())
 }

@@ -1,7 +1,6 @@
 //! Small sections judged.
 use crate::assertions::assert_equal;
 use std::alloc::{AllocError, Global};
-use std::test::Fail;
 use walrus_sections::{ReadError, first_error, is_normal_form};
 use walrus_ty::{CompAt, EntryAt, FieldAt, GroupAt, HeapAt, Listed, RefAt, StorageAt, ValAt};
 
@@ -45,7 +44,7 @@ fn array(val: ValAt) -> EntryAt {
 }
 
 #[test]
-fn types_out_of_order_are_turned(rt: HostRuntime) -> Result<(), Fail> {
+fn types_out_of_order_are_turned(rt: HostRuntime) {
     let alloc = rt.alloc();
     let given = [
         GroupAt::Single(array(ValAt::I32)),
@@ -55,24 +54,27 @@ fn types_out_of_order_are_turned(rt: HostRuntime) -> Result<(), Fail> {
         GroupAt::Single(func(alloc)),
         GroupAt::Single(array(ValAt::I32)),
     ];
-    assert!(rt; is_normal_form(alloc, &given, &turned, &[1, 0])?);
-    assert!(rt; !is_normal_form(alloc, &given, &given, &[0, 1])?);
-    assert!(rt; !is_normal_form(alloc, &given, &turned, &[0, 1])?);
-    Ok(())
+    assert!(rt; is_normal_form(alloc, &given, &turned, &[1, 0]).expect(&rt, "memory"));
+    assert!(rt; !is_normal_form(alloc, &given, &given, &[0, 1]).expect(&rt, "memory"));
+    assert!(rt; !is_normal_form(alloc, &given, &turned, &[0, 1]).expect(&rt, "memory"));
 }
 
 #[test]
-fn a_group_that_cannot_be_read(rt: HostRuntime) -> Result<(), Fail> {
+fn a_group_that_cannot_be_read(rt: HostRuntime) {
     let alloc = rt.alloc();
     let bad_index = Some(ReadError::BadIndex {
         entry: 3,
         index: 5,
         end: 4,
     });
-    assert_equal(&rt, first_error(&[link(alloc, 5)?], 3), bad_index);
-    assert_equal(&rt, first_error(&[link(alloc, 3)?], 3), None);
+    let (five, three) = (link(alloc, 5), link(alloc, 3));
+    assert_equal(
+        &rt,
+        first_error(&[five.expect(&rt, "memory")], 3),
+        bad_index,
+    );
+    assert_equal(&rt, first_error(&[three.expect(&rt, "memory")], 3), None);
     let too_many = Some(ReadError::TooMany);
     assert_equal(&rt, first_error(&[func(alloc)], 4294967295), too_many);
     assert_equal(&rt, first_error(&[func(alloc)], 4294967294), None);
-    Ok(())
 }

@@ -3,7 +3,6 @@ use crate::assertions::assert_equal;
 use crate::bodies::{are, text_of};
 use std::alloc::{AllocError, Global};
 use std::process::Abort;
-use std::test::Fail;
 use walrus_functions::LocalFunction;
 use walrus_ir::{InstrSeqType, LocalId, ModuleLocals};
 use walrus_passes::adapter;
@@ -30,39 +29,40 @@ fn has_type(locals: &ModuleLocals, index: usize, ty: ValType) -> bool {
 }
 
 // The function has one sequence, which reads the locals 1 and 2 and calls the function 9.
-fn reads_and_calls(rt: &impl Abort, alloc: Global, func: &LocalFunction) -> Result<(), AllocError> {
+fn reads_and_calls(rt: &impl Abort, alloc: Global, func: &LocalFunction) {
     assert_equal(rt, func.ty(), TypeId::from_index(0));
     assert_equal(rt, func.entry(), Some(Id::from_index(0)));
     assert_equal(rt, func.block_count(), 1);
     assert!(rt; are(func.args.as_slice(), &[1, 2]));
+    let text = text_of(alloc, func, 0).expect(rt, "memory");
     assert_equal(
         rt,
-        text_of(alloc, func, 0)?.as_str(),
+        text.as_str(),
         "LocalGet(LocalGet { local: Id(1) });LocalGet(LocalGet { local: Id(2) });\
         Call(Call { func: Id(9) });",
     );
-    Ok(())
 }
 
 #[test]
-fn an_adapter_reads_its_parameters_and_calls(rt: HostRuntime) -> Result<(), Fail> {
+fn an_adapter_reads_its_parameters_and_calls(rt: HostRuntime) {
     let mut types = ModuleTypes::new(rt.alloc());
     let mut locals = ModuleLocals::new(rt.alloc());
-    locals.add(ValType::V128)?;
-    types.add(&[ValType::I32, ValType::F64], &[ValType::I64])?;
-    let func = adapt(&rt, rt.alloc(), &mut types, &mut locals, 0)?;
-    reads_and_calls(&rt, rt.alloc(), &func)?;
+    locals.add(ValType::V128).expect(&rt, "memory");
+    types
+        .add(&[ValType::I32, ValType::F64], &[ValType::I64])
+        .expect(&rt, "memory");
+    let func = adapt(&rt, rt.alloc(), &mut types, &mut locals, 0).expect(&rt, "memory");
+    reads_and_calls(&rt, rt.alloc(), &func);
     assert!(rt; has_type(&locals, 1, ValType::I32));
     assert!(rt; has_type(&locals, 2, ValType::F64));
-    Ok(())
 }
 
 #[test]
-fn an_adapter_has_an_entry_of_the_results(rt: HostRuntime) -> Result<(), Fail> {
+fn an_adapter_has_an_entry_of_the_results(rt: HostRuntime) {
     let mut types = ModuleTypes::new(rt.alloc());
     let mut locals = ModuleLocals::new(rt.alloc());
-    types.add(&[], &[ValType::I64])?;
-    let func = adapt(&rt, rt.alloc(), &mut types, &mut locals, 0)?;
+    types.add(&[], &[ValType::I64]).expect(&rt, "memory");
+    let func = adapt(&rt, rt.alloc(), &mut types, &mut locals, 0).expect(&rt, "memory");
     assert!(rt; func.args.is_empty());
     let entry = Id::from_index(0);
     assert!(rt; func.contains_block(entry));
@@ -76,20 +76,18 @@ fn an_adapter_has_an_entry_of_the_results(rt: HostRuntime) -> Result<(), Fail> {
         types.find_for_function_entry(&[ValType::I64]),
         Some(TypeId::from_index(1)),
     );
-    Ok(())
 }
 
 #[test]
-fn an_adapter_finds_the_type_of_its_entry(rt: HostRuntime) -> Result<(), Fail> {
+fn an_adapter_finds_the_type_of_its_entry(rt: HostRuntime) {
     let mut types = ModuleTypes::new(rt.alloc());
     let mut locals = ModuleLocals::new(rt.alloc());
-    types.add(&[], &[ValType::I64])?;
-    let held = types.add_entry_ty(&[ValType::I64])?;
-    let func = adapt(&rt, rt.alloc(), &mut types, &mut locals, 0)?;
+    types.add(&[], &[ValType::I64]).expect(&rt, "memory");
+    let held = types.add_entry_ty(&[ValType::I64]).expect(&rt, "memory");
+    let func = adapt(&rt, rt.alloc(), &mut types, &mut locals, 0).expect(&rt, "memory");
     let entry = Id::from_index(0);
     assert!(rt; func.contains_block(entry));
     assert_equal(&rt, func.block(entry).ty, InstrSeqType::MultiValue(held));
-    assert_equal(&rt, types.live_ids()?.len(), 2);
+    assert_equal(&rt, types.live_ids().expect(&rt, "memory").len(), 2);
     assert!(rt; types.contains(func.ty()) && types.contains(held));
-    Ok(())
 }

@@ -4,7 +4,6 @@ ghost use Rattle.std.specs.Prelude.{IfOk, IsSome};
 use crate::assertions::assert_equal;
 use std::alloc::{AllocError, Global};
 use std::process::Abort;
-use std::test::Fail;
 use walrus_functions::{BuildError, FunctionBuilder, LocalFunction, LocalFunctions};
 use walrus_ir::{InstrSeqType, LocalId};
 use walrus_passes::{replace_with, snip};
@@ -96,19 +95,18 @@ pub(crate) fn is(
 }
 
 #[test]
-fn a_snipped_function_is_unreachable(rt: HostRuntime) -> Result<(), Fail> {
-    let mut funcs = two(rt.alloc())?;
-    is(&rt, rt.alloc(), &funcs, 0, BUILT)?;
-    snip_first(&rt, rt.alloc(), &mut funcs)?;
-    is(&rt, rt.alloc(), &funcs, 0, SNIPPED)?;
-    is(&rt, rt.alloc(), &funcs, 1, BUILT)?;
-    Ok(())
+fn a_snipped_function_is_unreachable(rt: HostRuntime) {
+    let mut funcs = two(rt.alloc()).expect(&rt, "memory");
+    is(&rt, rt.alloc(), &funcs, 0, BUILT).expect(&rt, "memory");
+    snip_first(&rt, rt.alloc(), &mut funcs).expect(&rt, "memory");
+    is(&rt, rt.alloc(), &funcs, 0, SNIPPED).expect(&rt, "memory");
+    is(&rt, rt.alloc(), &funcs, 1, BUILT).expect(&rt, "memory");
 }
 
 #[test]
-fn a_snipped_entry_keeps_its_type(rt: HostRuntime) -> Result<(), Fail> {
-    let mut funcs = two(rt.alloc())?;
-    snip_first(&rt, rt.alloc(), &mut funcs)?;
+fn a_snipped_entry_keeps_its_type(rt: HostRuntime) {
+    let mut funcs = two(rt.alloc()).expect(&rt, "memory");
+    snip_first(&rt, rt.alloc(), &mut funcs).expect(&rt, "memory");
     let id: FunctionId = Id::from_index(0);
     assert!(rt; funcs.contains(id));
     let func = funcs.get(id);
@@ -119,25 +117,20 @@ fn a_snipped_entry_keeps_its_type(rt: HostRuntime) -> Result<(), Fail> {
         func.block(entry).ty,
         InstrSeqType::MultiValue(TypeId::from_index(1))
     );
-    Ok(())
 }
 
 #[test]
-fn a_replaced_function_has_the_body_that_was_built(rt: HostRuntime) -> Result<(), Fail> {
-    let mut funcs = two(rt.alloc())?;
+fn a_replaced_function_has_the_body_that_was_built(rt: HostRuntime) {
+    let mut funcs = two(rt.alloc()).expect(&rt, "memory");
     let mut f = FunctionBuilder::without_entry(rt.alloc(), Id::from_index(0));
-    let mut body = f.dangling_instr_seq(InstrSeqType::Simple(Some(ValType::I32)))?;
-    body.i32_const(8)?;
+    let mut body = f
+        .dangling_instr_seq(InstrSeqType::Simple(Some(ValType::I32)))
+        .expect(&rt, "memory");
+    body.i32_const(8).expect(&rt, "memory");
     let id: FunctionId = Id::from_index(0);
     assert!(rt; funcs.contains(id));
-    replace_with(rt.alloc(), &mut funcs, id, f)?;
-    is(
-        &rt,
-        rt.alloc(),
-        &funcs,
-        0,
-        "Const(Const { value: I32(8) });",
-    )?;
-    is(&rt, rt.alloc(), &funcs, 1, BUILT)?;
-    Ok(())
+    replace_with(rt.alloc(), &mut funcs, id, f).expect(&rt, "memory");
+    let text = "Const(Const { value: I32(8) });";
+    is(&rt, rt.alloc(), &funcs, 0, text).expect(&rt, "memory");
+    is(&rt, rt.alloc(), &funcs, 1, BUILT).expect(&rt, "memory");
 }

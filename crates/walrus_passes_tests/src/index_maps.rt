@@ -1,7 +1,6 @@
 //! The new indices of a section that is written again.
 use std::alloc::{AllocError, Global};
 use std::process::Abort;
-use std::test::Fail;
 use walrus_passes::{delete_unused_types, new_indices};
 use walrus_types::{
     CompAt, EntryAt, GroupAt, HashKeys, IdsToIndices, Listed, ModuleTypes, ReadError, TypeId,
@@ -46,29 +45,26 @@ pub(crate) fn are(new: &[Option<u32>], expected: &[Option<u32>]) -> bool {
 }
 
 #[test]
-fn equal_types_get_one_index(rt: HostRuntime) -> Result<(), Fail> {
-    let (types, ids) = read(rt.alloc())?;
-    let (_, indices) = types.emit()?;
-    let new = new_indices(rt.alloc(), ids.as_slice(), &indices)?;
+fn equal_types_get_one_index(rt: HostRuntime) {
+    let (types, ids) = read(rt.alloc()).expect(&rt, "memory");
+    let (_, indices) = types.emit().expect(&rt, "memory");
+    let new = new_indices(rt.alloc(), ids.as_slice(), &indices).expect(&rt, "memory");
     assert!(rt; are(new.as_slice(), &[Some(1), Some(0), Some(1)]));
-    Ok(())
 }
 
 #[test]
-fn a_type_that_is_not_written_has_no_new_index(rt: HostRuntime) -> Result<(), Fail> {
-    let (mut types, ids) = read(rt.alloc())?;
+fn a_type_that_is_not_written_has_no_new_index(rt: HostRuntime) {
+    let (mut types, ids) = read(rt.alloc()).expect(&rt, "memory");
     let root = TypeId::from_index(0);
     assert!(rt; types.contains(root));
-    delete_unused_types(rt.alloc(), &mut types, &[root])?;
-    let (_, indices) = types.emit()?;
-    let new = new_indices(rt.alloc(), ids.as_slice(), &indices)?;
+    delete_unused_types(rt.alloc(), &mut types, &[root]).expect(&rt, "memory");
+    let (_, indices) = types.emit().expect(&rt, "memory");
+    let new = new_indices(rt.alloc(), ids.as_slice(), &indices).expect(&rt, "memory");
     assert!(rt; are(new.as_slice(), &[Some(0), None, Some(0)]));
-    Ok(())
 }
 
 #[test]
-fn an_empty_section_has_no_indices(rt: HostRuntime) -> Result<(), Fail> {
-    let new = new_indices(rt.alloc(), &[], &IdsToIndices::new(rt.alloc()))?;
+fn an_empty_section_has_no_indices(rt: HostRuntime) {
+    let new = new_indices(rt.alloc(), &[], &IdsToIndices::new(rt.alloc())).expect(&rt, "memory");
     assert!(rt; new.is_empty());
-    Ok(())
 }

@@ -2,7 +2,6 @@
 use crate::assertions::assert_equal;
 use std::alloc::{AllocError, Global};
 use std::process::Abort;
-use std::test::Fail;
 use walrus_passes::delete_unused_types;
 use walrus_types::{
     AddRecGroupError, CompAt, CompositeType, EmitError, EntryAt, Field, FieldType, GroupAt, Heap,
@@ -70,76 +69,72 @@ pub(crate) fn are(ids: &[TypeId], indices: &[usize]) -> bool {
             .all(|(id, index)| id.index() == *index)
 }
 
+// The live types are those of these indices.
+fn live_are(rt: &impl Abort, types: &ModuleTypes, indices: &[usize]) {
+    let live = types.live_ids().expect(rt, "memory");
+    assert!(rt; are(live.as_slice(), indices));
+}
+
 // Deletes what the type does not need, which has to be the types of these indices.
-fn deletes(
-    rt: &impl Abort,
-    alloc: Global,
-    index: usize,
-    dead: &[usize],
-    live: &[usize],
-) -> Result<(), Fail> {
-    let mut types = table(alloc)?;
-    let deleted = delete_all_but(rt, alloc, &mut types, index)?;
+fn deletes(rt: &impl Abort, alloc: Global, index: usize, dead: &[usize], live: &[usize]) {
+    let mut types = table(alloc).expect(rt, "memory");
+    let deleted = delete_all_but(rt, alloc, &mut types, index).expect(rt, "memory");
     assert!(rt; are(deleted.as_slice(), dead));
-    assert!(rt; are(types.live_ids()?.as_slice(), live));
-    Ok(())
+    live_are(rt, &types, live);
 }
 
 #[test]
-fn a_supertype_is_needed(rt: HostRuntime) -> Result<(), Fail> {
-    deletes(&rt, rt.alloc(), 1, &[2, 3, 4, 5], &[0, 1])
+fn a_supertype_is_needed(rt: HostRuntime) {
+    deletes(&rt, rt.alloc(), 1, &[2, 3, 4, 5], &[0, 1]);
 }
 
 #[test]
-fn a_supertype_does_not_need_its_subtype(rt: HostRuntime) -> Result<(), Fail> {
-    deletes(&rt, rt.alloc(), 0, &[1, 2, 3, 4, 5], &[0])
+fn a_supertype_does_not_need_its_subtype(rt: HostRuntime) {
+    deletes(&rt, rt.alloc(), 0, &[1, 2, 3, 4, 5], &[0]);
 }
 
 #[test]
-fn a_group_is_kept_whole_with_what_its_members_name(rt: HostRuntime) -> Result<(), Fail> {
-    deletes(&rt, rt.alloc(), 4, &[0, 1, 5], &[2, 3, 4])
+fn a_group_is_kept_whole_with_what_its_members_name(rt: HostRuntime) {
+    deletes(&rt, rt.alloc(), 4, &[0, 1, 5], &[2, 3, 4]);
 }
 
 #[test]
-fn a_root_may_stand_twice(rt: HostRuntime) -> Result<(), Fail> {
-    let mut types = table(rt.alloc())?;
+fn a_root_may_stand_twice(rt: HostRuntime) {
+    let mut types = table(rt.alloc()).expect(&rt, "memory");
     let root = TypeId::from_index(4);
     assert!(rt; types.contains(root));
-    let deleted = delete_unused_types(rt.alloc(), &mut types, &[root, root])?;
+    let deleted = delete_unused_types(rt.alloc(), &mut types, &[root, root]).expect(&rt, "memory");
     assert!(rt; are(deleted.as_slice(), &[0, 1, 5]));
-    assert!(rt; are(types.live_ids()?.as_slice(), &[2, 3, 4]));
-    Ok(())
+    live_are(&rt, &types, &[2, 3, 4]);
 }
 
 // The type 3 names 2, which is dead.
 #[test]
-fn a_name_of_a_dead_id_needs_nothing(rt: HostRuntime) -> Result<(), Fail> {
-    let mut types = table(rt.alloc())?;
+fn a_name_of_a_dead_id_needs_nothing(rt: HostRuntime) {
+    let mut types = table(rt.alloc()).expect(&rt, "memory");
     let dead = TypeId::from_index(2);
     assert!(rt; types.contains(dead));
-    types.delete(dead)?;
-    let deleted = delete_all_but(&rt, rt.alloc(), &mut types, 4)?;
+    types.delete(dead).expect(&rt, "memory");
+    let deleted = delete_all_but(&rt, rt.alloc(), &mut types, 4).expect(&rt, "memory");
     assert!(rt; are(deleted.as_slice(), &[0, 1, 5]));
-    assert!(rt; are(types.live_ids()?.as_slice(), &[3, 4]));
+    live_are(&rt, &types, &[3, 4]);
     let missing = EmitError::NoIndex {
         from: TypeId::from_index(3),
         to: dead,
     };
     assert!(rt; types.emit().is_err_and(|error| error == missing));
-    Ok(())
 }
 
 #[test]
-fn names_between_groups_follow_the_indices_that_are_left(rt: HostRuntime) -> Result<(), Fail> {
-    let mut types = table(rt.alloc())?;
-    delete_all_but(&rt, rt.alloc(), &mut types, 4)?;
-    let (groups, indices) = types.emit()?;
-    assert!(rt; groups == section_that_is_left(rt.alloc())?);
+fn names_between_groups_follow_the_indices_that_are_left(rt: HostRuntime) {
+    let mut types = table(rt.alloc()).expect(&rt, "memory");
+    delete_all_but(&rt, rt.alloc(), &mut types, 4).expect(&rt, "memory");
+    let (groups, indices) = types.emit().expect(&rt, "memory");
+    assert!(rt; groups == section_that_is_left(rt.alloc()).expect(&rt, "memory"));
     for (id, index) in [(2, 0), (3, 1), (4, 2)] {
         let id = TypeId::from_index(id);
         assert_equal(&rt, indices.get_type_index(id), Ok(index));
     }
-    Ok(())
 }
 
 // The function type at the index 0, then the group, whose first type names that.
@@ -174,16 +169,16 @@ fn final_entry(comp: CompAt) -> EntryAt {
 }
 
 #[test]
-fn an_entry_type_stays_where_it_is_a_root(rt: HostRuntime) -> Result<(), Fail> {
-    deletes(&rt, rt.alloc(), 5, &[0, 1, 2, 3, 4], &[5])
+fn an_entry_type_stays_where_it_is_a_root(rt: HostRuntime) {
+    deletes(&rt, rt.alloc(), 5, &[0, 1, 2, 3, 4], &[5]);
 }
 
 #[test]
-fn without_roots_all_types_die(rt: HostRuntime) -> Result<(), Fail> {
-    let mut types = table(rt.alloc())?;
-    let deleted = delete_unused_types(rt.alloc(), &mut types, &[])?;
+fn without_roots_all_types_die(rt: HostRuntime) {
+    let mut types = table(rt.alloc()).expect(&rt, "memory");
+    let deleted = delete_unused_types(rt.alloc(), &mut types, &[]).expect(&rt, "memory");
     assert!(rt; are(deleted.as_slice(), &[0, 1, 2, 3, 4, 5]));
-    assert!(rt; types.live_ids()?.is_empty());
+    assert!(rt; types.live_ids().expect(&rt, "memory").is_empty());
     assert_equal(&rt, types.rec_groups().len(), 5);
     assert!(rt;
         types
@@ -191,27 +186,24 @@ fn without_roots_all_types_die(rt: HostRuntime) -> Result<(), Fail> {
             .iter()
             .all(|group| group.types.is_empty())
     );
-    Ok(())
 }
 
 #[test]
-fn what_stays_is_found_and_what_died_is_not(rt: HostRuntime) -> Result<(), Fail> {
-    let mut types = table(rt.alloc())?;
-    delete_all_but(&rt, rt.alloc(), &mut types, 4)?;
+fn what_stays_is_found_and_what_died_is_not(rt: HostRuntime) {
+    let mut types = table(rt.alloc()).expect(&rt, "memory");
+    delete_all_but(&rt, rt.alloc(), &mut types, 4).expect(&rt, "memory");
     let function = Some(TypeId::from_index(2));
     assert_equal(&rt, types.find(&[ValType::I32], &[]), function);
     assert_equal(&rt, types.find_for_function_entry(&[ValType::I32]), None);
-    finds_or_adds(&rt, &mut types)?;
-    Ok(())
+    finds_or_adds(&rt, &mut types);
 }
 
 // The function type is 2 still, and the type of a body that died is added anew.
-fn finds_or_adds(rt: &impl Abort, types: &mut ModuleTypes) -> Result<(), AllocError> {
-    let function = types.add(&[ValType::I32], &[])?;
-    let entry = types.add_entry_ty(&[ValType::I32])?;
+fn finds_or_adds(rt: &impl Abort, types: &mut ModuleTypes) {
+    let function = types.add(&[ValType::I32], &[]).expect(rt, "memory");
+    let entry = types.add_entry_ty(&[ValType::I32]).expect(rt, "memory");
     assert_equal(rt, function.index(), 2);
     assert_equal(rt, entry.index(), 6);
-    Ok(())
 }
 
 const LARGE: usize = 20_000;
@@ -228,17 +220,18 @@ pub(crate) fn structures(
 }
 
 #[test]
-fn a_large_group_dies_whole_and_in_order(rt: HostRuntime) -> Result<(), Fail> {
+fn a_large_group_dies_whole_and_in_order(rt: HostRuntime) {
     let alloc = rt.alloc();
     let mut types = ModuleTypes::new(alloc);
-    types.add_rec_group(LARGE, |_| structures(alloc, LARGE))?;
-    let kept = types.add(&[ValType::I32], &[])?;
+    types
+        .add_rec_group(LARGE, |_| structures(alloc, LARGE))
+        .expect(&rt, "memory");
+    let kept = types.add(&[ValType::I32], &[]).expect(&rt, "memory");
     assert_equal(&rt, kept.index(), LARGE);
-    let deleted = delete_all_but(&rt, alloc, &mut types, LARGE)?;
+    let deleted = delete_all_but(&rt, alloc, &mut types, LARGE).expect(&rt, "memory");
     assert_equal(&rt, deleted.len(), LARGE);
     for (i, id) in deleted.iter().enumerate() {
         assert_equal(&rt, id.index(), i);
     }
-    assert!(rt; are(types.live_ids()?.as_slice(), &[LARGE]));
-    Ok(())
+    live_are(&rt, &types, &[LARGE]);
 }

@@ -1,7 +1,6 @@
 //! Which types a function uses.
 use std::alloc::{AllocError, Global};
 use std::process::Abort;
-use std::test::Fail;
 use walrus_functions::{BuildError, FunctionBuilder, LocalFunction};
 use walrus_ir::{
     ArrayCopy, Block, BrOnCast, CallIndirect, Id, Instr, InstrLocId, InstrSeqId, InstrSeqType,
@@ -51,16 +50,10 @@ pub(crate) fn hold_just(ids: &[TypeId], indices: &[usize]) -> bool {
 }
 
 // The function uses just the types of these indices.
-fn uses(
-    rt: &impl Abort,
-    alloc: Global,
-    func: &LocalFunction,
-    indices: &[usize],
-) -> Result<(), Fail> {
-    let locals = locals(alloc)?;
-    let used = used_types(alloc, func, &locals)?;
+fn uses(rt: &impl Abort, alloc: Global, func: &LocalFunction, indices: &[usize]) {
+    let locals = locals(alloc).expect(rt, "memory");
+    let used = used_types(alloc, func, &locals).expect(rt, "memory");
     assert!(rt; used.is_some_and(|ids| hold_just(ids.as_slice(), indices)));
-    Ok(())
 }
 
 // A function of the type 7 whose one sequence has these instructions, and is of type 1.
@@ -118,45 +111,42 @@ pub(crate) fn nested_function(alloc: Global) -> Result<LocalFunction, BuildError
 }
 
 #[test]
-fn a_function_uses_its_type_and_those_of_its_parameters(rt: HostRuntime) -> Result<(), Fail> {
+fn a_function_uses_its_type_and_those_of_its_parameters(rt: HostRuntime) {
     let f = FunctionBuilder::without_entry(rt.alloc(), ty(7));
     let first: LocalId = Id::from_index(0);
     let third: LocalId = Id::from_index(2);
     let unknown: LocalId = Id::from_index(9);
-    let func = f.local_func(vec![in rt.alloc(); first, third, unknown]?);
-    uses(&rt, rt.alloc(), &func, &[7, 51])
+    let func = f.local_func(vec![in rt.alloc(); first, third, unknown].expect(&rt, "memory"));
+    uses(&rt, rt.alloc(), &func, &[7, 51]);
 }
 
 #[test]
-fn blocks_that_are_reached_use_their_types(rt: HostRuntime) -> Result<(), Fail> {
-    let func = nested_function(rt.alloc())?;
-    uses(&rt, rt.alloc(), &func, &[7, 2, 3, 6])
+fn blocks_that_are_reached_use_their_types(rt: HostRuntime) {
+    let func = nested_function(rt.alloc()).expect(&rt, "memory");
+    uses(&rt, rt.alloc(), &func, &[7, 2, 3, 6]);
 }
 
 #[test]
-fn without_an_entry_no_sequence_is_reached(rt: HostRuntime) -> Result<(), Fail> {
-    let func = nested(rt.alloc())?.local_func(Vec::new(rt.alloc()));
-    uses(&rt, rt.alloc(), &func, &[7])
+fn without_an_entry_no_sequence_is_reached(rt: HostRuntime) {
+    let f = nested(rt.alloc()).expect(&rt, "memory");
+    let func = f.local_func(Vec::new(rt.alloc()));
+    uses(&rt, rt.alloc(), &func, &[7]);
 }
 
 #[test]
-fn types_that_walks_do_not_report_are_used(rt: HostRuntime) -> Result<(), Fail> {
+fn types_that_walks_do_not_report_are_used(rt: HostRuntime) {
     let null = Instr::from(RefNull { ty: reference(10) });
     let select = Instr::from(Select {
         ty: Some(value(11)),
     });
     let plain = Instr::from(Select { ty: None });
-    let instrs = vec![in rt.alloc(); null, select, plain]?;
-    uses(
-        &rt,
-        rt.alloc(),
-        &function(rt.alloc(), instrs)?,
-        &[7, 1, 10, 11],
-    )
+    let instrs = vec![in rt.alloc(); null, select, plain].expect(&rt, "memory");
+    let func = function(rt.alloc(), instrs).expect(&rt, "memory");
+    uses(&rt, rt.alloc(), &func, &[7, 1, 10, 11]);
 }
 
 #[test]
-fn instructions_use_the_types_behind_them(rt: HostRuntime) -> Result<(), Fail> {
+fn instructions_use_the_types_behind_them(rt: HostRuntime) {
     let call = Instr::from(CallIndirect {
         ty: ty(12),
         table: Id::from_index(80),
@@ -176,13 +166,13 @@ fn instructions_use_the_types_behind_them(rt: HostRuntime) -> Result<(), Fail> {
         nullable: true,
         heap_type: heap(17),
     });
-    let instrs = vec![in rt.alloc(); call, cast, copy, test]?;
-    let func = function(rt.alloc(), instrs)?;
-    uses(&rt, rt.alloc(), &func, &[7, 1, 12, 13, 14, 15, 16, 17])
+    let instrs = vec![in rt.alloc(); call, cast, copy, test].expect(&rt, "memory");
+    let func = function(rt.alloc(), instrs).expect(&rt, "memory");
+    uses(&rt, rt.alloc(), &func, &[7, 1, 12, 13, 14, 15, 16, 17]);
 }
 
 #[test]
-fn locals_that_are_read_and_written_bring_their_types(rt: HostRuntime) -> Result<(), Fail> {
+fn locals_that_are_read_and_written_bring_their_types(rt: HostRuntime) {
     let get = Instr::from(LocalGet {
         local: Id::from_index(1),
     });
@@ -192,31 +182,28 @@ fn locals_that_are_read_and_written_bring_their_types(rt: HostRuntime) -> Result
     let tee = Instr::from(LocalTee {
         local: Id::from_index(0),
     });
-    let instrs = vec![in rt.alloc(); get, set, tee]?;
-    uses(
-        &rt,
-        rt.alloc(),
-        &function(rt.alloc(), instrs)?,
-        &[7, 1, 50, 51],
-    )
+    let instrs = vec![in rt.alloc(); get, set, tee].expect(&rt, "memory");
+    let func = function(rt.alloc(), instrs).expect(&rt, "memory");
+    uses(&rt, rt.alloc(), &func, &[7, 1, 50, 51]);
 }
 
-// Whether a function whose body is a block of this sequence has no list.
-fn block_has_no_list(alloc: Global, index: usize) -> Result<bool, Fail> {
+// A function whose body is a block of this sequence has no list.
+fn block_has_no_list(rt: &impl Abort, alloc: Global, index: usize) {
     let block = Instr::from(Block {
         seq: Id::from_index(index),
     });
-    let func = function(alloc, vec![in alloc; block]?)?;
-    let locals = locals(alloc)?;
-    Ok(used_types(alloc, &func, &locals)?.is_none())
+    let instrs = vec![in alloc; block].expect(rt, "memory");
+    let func = function(alloc, instrs).expect(rt, "memory");
+    let locals = locals(alloc).expect(rt, "memory");
+    let used = used_types(alloc, &func, &locals).expect(rt, "memory");
+    assert!(rt; used.is_none());
 }
 
 // The block 0 holds itself, and there is no sequence 1.
 #[test]
-fn a_body_that_is_not_nested_has_no_list(rt: HostRuntime) -> Result<(), Fail> {
-    assert!(rt; block_has_no_list(rt.alloc(), 0)?);
-    assert!(rt; block_has_no_list(rt.alloc(), 1)?);
-    Ok(())
+fn a_body_that_is_not_nested_has_no_list(rt: HostRuntime) {
+    block_has_no_list(&rt, rt.alloc(), 0);
+    block_has_no_list(&rt, rt.alloc(), 1);
 }
 
 // A function of the type 2 of the table of `unused_types`, which makes a struct of type 0.

@@ -6,7 +6,7 @@ mod used_ids;
 mod walks;
 
 use std::alloc::{AllocError, Global};
-use std::test::Fail;
+use std::process::Abort;
 use walrus_functions::{BuildError, FunctionBuilder, LocalFunction};
 use walrus_ir::{Block, Id, Instr, InstrLocId, InstrSeqId, InstrSeqType};
 
@@ -50,11 +50,12 @@ fn block(index: usize) -> Instr {
 }
 
 // So many sequences, each with one block of the next, and a last empty one.
-fn chain(alloc: Global, count: usize) -> Result<LocalFunction, Fail> {
+fn chain(rt: &impl Abort, alloc: Global, count: usize) -> LocalFunction {
     let mut f = empty(alloc);
     for index in 0..count {
-        add(alloc, &mut f, NOTHING, vec![in alloc; block(index + 1)]?)?;
+        let next = vec![in alloc; block(index + 1)].expect(rt, "memory");
+        add(alloc, &mut f, NOTHING, next).expect(rt, "memory");
     }
-    add(alloc, &mut f, NOTHING, Vec::new(alloc))?;
-    Ok(f.local_func(Vec::new(alloc)))
+    add(alloc, &mut f, NOTHING, Vec::new(alloc)).expect(rt, "memory");
+    f.local_func(Vec::new(alloc))
 }

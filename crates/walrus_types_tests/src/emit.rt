@@ -5,7 +5,6 @@ use Piece::One;
 use Shape::{Func, Struct};
 use std::alloc::{AllocError, Global};
 use std::process::Abort;
-use std::test::Fail;
 use walrus_types::{
     CompositeType, EmitError, Field, FieldType, Heap, Id, Listed, ModuleTypes, Reference, Storage,
     StructType, TypeId, Val, ValType,
@@ -70,9 +69,9 @@ fn gives(
     types: &ModuleTypes,
     wanted: &[Piece<'_>],
     ids: &[TypeId],
-) -> Result<(), Fail> {
-    let wanted = section(alloc, wanted)?;
-    let (groups, indices) = types.emit()?;
+) {
+    let wanted = section(alloc, wanted).expect(rt, "memory");
+    let (groups, indices) = types.emit().expect(rt, "memory");
     assert!(rt; groups == wanted);
     for (place, id) in ids.iter().enumerate() {
         assert_equal(
@@ -81,7 +80,6 @@ fn gives(
             Ok(place),
         );
     }
-    Ok(())
 }
 
 fn misses(rt: &impl Abort, types: &ModuleTypes, from: TypeId, to: TypeId) {
@@ -93,51 +91,49 @@ fn misses(rt: &impl Abort, types: &ModuleTypes, from: TypeId, to: TypeId) {
 }
 
 #[test]
-fn a_deleted_type_has_no_index(rt: HostRuntime) -> Result<(), Fail> {
+fn a_deleted_type_has_no_index(rt: HostRuntime) {
     let mut types = ModuleTypes::new(rt.alloc());
-    let a = add_struct(rt.alloc(), &mut types, Val::I32)?;
-    let b = add_struct(rt.alloc(), &mut types, to(a))?;
-    assert!(rt; delete(&mut types, a)?);
+    let a = add_struct(rt.alloc(), &mut types, Val::I32).expect(&rt, "memory");
+    let b = add_struct(rt.alloc(), &mut types, to(a)).expect(&rt, "memory");
+    assert!(rt; delete(&mut types, a).expect(&rt, "memory"));
     misses(&rt, &types, b, a);
-    Ok(())
 }
 
 #[test]
-fn a_later_group_has_no_index_yet(rt: HostRuntime) -> Result<(), Fail> {
+fn a_later_group_has_no_index_yet(rt: HostRuntime) {
     let mut types = ModuleTypes::new(rt.alloc());
-    let a = types.add(&[], &[])?;
-    let b = types.add_struct(Vec::new(rt.alloc()))?;
-    let kind = structure(rt.alloc(), to(b))?;
+    let a = types.add(&[], &[]).expect(&rt, "memory");
+    let b = types.add_struct(Vec::new(rt.alloc())).expect(&rt, "memory");
+    let kind = structure(rt.alloc(), to(b)).expect(&rt, "memory");
     assert!(rt; set_kind(&mut types, a, kind));
     misses(&rt, &types, a, b);
-    Ok(())
 }
 
 #[test]
-fn an_entry_type_that_names_another_stops_a_run(rt: HostRuntime) -> Result<(), Fail> {
+fn an_entry_type_that_names_another_stops_a_run(rt: HostRuntime) {
     let mut types = ModuleTypes::new(rt.alloc());
-    let int = add_struct(rt.alloc(), &mut types, Val::I32)?;
-    types.add_entry_ty(&[to(int)])?;
-    let func = types.add(&[], &[])?;
+    let int = add_struct(rt.alloc(), &mut types, Val::I32).expect(&rt, "memory");
+    types.add_entry_ty(&[to(int)]).expect(&rt, "memory");
+    let func = types.add(&[], &[]).expect(&rt, "memory");
     let wanted = [One(Struct(&[Val::I32])), One(Func(&[]))];
-    gives(&rt, rt.alloc(), &types, &wanted, &[int, func])
+    gives(&rt, rt.alloc(), &types, &wanted, &[int, func]);
 }
 
 #[test]
-fn a_run_is_sorted(rt: HostRuntime) -> Result<(), Fail> {
+fn a_run_is_sorted(rt: HostRuntime) {
     let mut types = ModuleTypes::new(rt.alloc());
-    let int = add_struct(rt.alloc(), &mut types, Val::I32)?;
-    let func = types.add(&[], &[])?;
+    let int = add_struct(rt.alloc(), &mut types, Val::I32).expect(&rt, "memory");
+    let func = types.add(&[], &[]).expect(&rt, "memory");
     let wanted = [One(Func(&[])), One(Struct(&[Val::I32]))];
-    gives(&rt, rt.alloc(), &types, &wanted, &[func, int])
+    gives(&rt, rt.alloc(), &types, &wanted, &[func, int]);
 }
 
 #[test]
-fn a_type_that_was_written_over_another_comes_twice(rt: HostRuntime) -> Result<(), Fail> {
+fn a_type_that_was_written_over_another_comes_twice(rt: HostRuntime) {
     let mut types = ModuleTypes::new(rt.alloc());
-    let func = types.add(&[], &[])?;
-    let other = add_struct(rt.alloc(), &mut types, Val::I32)?;
-    assert!(rt; write_over(&mut types, func, other)?);
+    let func = types.add(&[], &[]).expect(&rt, "memory");
+    let other = add_struct(rt.alloc(), &mut types, Val::I32).expect(&rt, "memory");
+    assert!(rt; write_over(&mut types, func, other).expect(&rt, "memory"));
     assert!(rt; types.contains(other));
     assert_equal(&rt, types.get(other).id(), func);
     gives(
@@ -146,33 +142,33 @@ fn a_type_that_was_written_over_another_comes_twice(rt: HostRuntime) -> Result<(
         &types,
         &[One(Func(&[])), One(Func(&[]))],
         &[func, other],
-    )
+    );
 }
 
 #[test]
-fn an_entry_type_that_was_written_over_another_is_left_out(rt: HostRuntime) -> Result<(), Fail> {
+fn an_entry_type_that_was_written_over_another_is_left_out(rt: HostRuntime) {
     let mut types = ModuleTypes::new(rt.alloc());
-    let start = types.add_entry_ty(&[])?;
-    let other = add_struct(rt.alloc(), &mut types, Val::I32)?;
-    assert!(rt; write_over(&mut types, start, other)?);
-    gives(&rt, rt.alloc(), &types, &[], &[])
+    let start = types.add_entry_ty(&[]).expect(&rt, "memory");
+    let other = add_struct(rt.alloc(), &mut types, Val::I32).expect(&rt, "memory");
+    assert!(rt; write_over(&mut types, start, other).expect(&rt, "memory"));
+    gives(&rt, rt.alloc(), &types, &[], &[]);
 }
 
 #[test]
-fn an_entry_type_has_no_index(rt: HostRuntime) -> Result<(), Fail> {
+fn an_entry_type_has_no_index(rt: HostRuntime) {
     let mut types = ModuleTypes::new(rt.alloc());
-    let start = types.add_entry_ty(&[])?;
-    let namer = add_struct(rt.alloc(), &mut types, to(start))?;
+    let start = types.add_entry_ty(&[]).expect(&rt, "memory");
+    let namer = add_struct(rt.alloc(), &mut types, to(start)).expect(&rt, "memory");
     misses(&rt, &types, namer, start);
-    Ok(())
 }
 
 #[test]
-fn a_field_is_missed_before_a_supertype(rt: HostRuntime) -> Result<(), Fail> {
+fn a_field_is_missed_before_a_supertype(rt: HostRuntime) {
     let mut types = ModuleTypes::new(rt.alloc());
     let field = Id::from_index(9);
-    let kind = structure(rt.alloc(), to(field))?;
-    let id = types.add_composite(kind, true, Some(Id::from_index(8)))?;
+    let kind = structure(rt.alloc(), to(field)).expect(&rt, "memory");
+    let id = types
+        .add_composite(kind, true, Some(Id::from_index(8)))
+        .expect(&rt, "memory");
     misses(&rt, &types, id, field);
-    Ok(())
 }

@@ -8,7 +8,6 @@ use crate::fixtures::{Piece, Shape, entry, group, section, to};
 use Piece::{Many, One};
 use Shape::{Bytes, Func, Struct};
 use std::alloc::{AllocError, Global};
-use std::test::Fail;
 use walrus_types::{EntryAt, GroupAt, Listed, ValAt, is_normal_form};
 
 const INT: Shape<'static> = Struct(&[ValAt::I32]);
@@ -87,64 +86,59 @@ fn is_own(alloc: Global, pieces: &[Piece<'_>], map: &[u32]) -> Result<bool, Allo
 }
 
 #[test]
-fn definitions_go_where_the_map_sends_them(rt: HostRuntime) -> Result<(), Fail> {
+fn definitions_go_where_the_map_sends_them(rt: HostRuntime) {
     let alloc = rt.alloc();
     let (section, sorted) = ([One(INT), One(FUNC)], [One(FUNC), One(INT)]);
-    assert!(rt; !accepts(alloc, &section, &sorted, &[0, 1])?);
-    assert!(rt; !accepts(alloc, &section, &sorted, &[1])?);
-    Ok(())
+    assert!(rt; !accepts(alloc, &section, &sorted, &[0, 1]).expect(&rt, "memory"));
+    assert!(rt; !accepts(alloc, &section, &sorted, &[1]).expect(&rt, "memory"));
 }
 
 #[test]
-fn members_of_recs_are_kept(rt: HostRuntime) -> Result<(), Fail> {
+fn members_of_recs_are_kept(rt: HostRuntime) {
     let alloc = rt.alloc();
     let func = One(Func(&[]));
     let rec = Many(&[Func(&[])]);
-    assert!(rt; !accepts(alloc, &[rec, func], &[rec], &[0, 0])?);
-    assert!(rt; !accepts(alloc, &[func, rec, func], &[func, rec], &[0, 1, 1])?);
-    Ok(())
+    assert!(rt; !accepts(alloc, &[rec, func], &[rec], &[0, 0]).expect(&rt, "memory"));
+    assert!(rt;
+        !accepts(alloc, &[func, rec, func], &[func, rec], &[0, 1, 1]).expect(&rt, "memory")
+    );
 }
 
 // For each law, a section and a map that keep every other law, and would be a second normal form
 // without it.
 #[test]
-fn a_map_has_one_number_for_each_index(rt: HostRuntime) -> Result<(), Fail> {
-    assert!(rt; !is_own(rt.alloc(), &[], &[7])?);
-    Ok(())
+fn a_map_has_one_number_for_each_index(rt: HostRuntime) {
+    assert!(rt; !is_own(rt.alloc(), &[], &[7]).expect(&rt, "memory"));
 }
 
 #[test]
-fn a_map_points_into_the_output(rt: HostRuntime) -> Result<(), Fail> {
-    let mut open = entry(rt.alloc(), Func(&[]))?;
+fn a_map_points_into_the_output(rt: HostRuntime) {
+    let mut open = entry(rt.alloc(), Func(&[])).expect(&rt, "memory");
     open.is_final = false;
     let open = GroupAt::Single(open);
-    assert!(rt; !is_normal_form(rt.alloc(), &[open], &[], &[0])?);
-    Ok(())
+    assert!(rt; !is_normal_form(rt.alloc(), &[open], &[], &[0]).expect(&rt, "memory"));
 }
 
 #[test]
-fn definitions_are_kept(rt: HostRuntime) -> Result<(), Fail> {
+fn definitions_are_kept(rt: HostRuntime) {
     let alloc = rt.alloc();
     let func = One(Func(&[]));
-    assert!(rt; is_own(alloc, &[func], &[0])?);
-    assert!(rt; !accepts(alloc, &[func], &[One(Struct(&[]))], &[0])?);
-    Ok(())
+    assert!(rt; is_own(alloc, &[func], &[0]).expect(&rt, "memory"));
+    assert!(rt; !accepts(alloc, &[func], &[One(Struct(&[]))], &[0]).expect(&rt, "memory"));
 }
 
 #[test]
-fn recs_stay_recs(rt: HostRuntime) -> Result<(), Fail> {
+fn recs_stay_recs(rt: HostRuntime) {
     let alloc = rt.alloc();
     let rec = Many(&[Func(&[])]);
-    assert!(rt; is_own(alloc, &[rec], &[0])?);
-    assert!(rt; !accepts(alloc, &[rec], &[One(Func(&[]))], &[0])?);
-    Ok(())
+    assert!(rt; is_own(alloc, &[rec], &[0]).expect(&rt, "memory"));
+    assert!(rt; !accepts(alloc, &[rec], &[One(Func(&[]))], &[0]).expect(&rt, "memory"));
 }
 
 #[test]
-fn no_single_repeats_another(rt: HostRuntime) -> Result<(), Fail> {
+fn no_single_repeats_another(rt: HostRuntime) {
     let alloc = rt.alloc();
     let func = One(Func(&[]));
-    assert!(rt; accepts(alloc, &[func, func], &[func], &[0, 0])?);
-    assert!(rt; !is_own(alloc, &[func, func], &[1, 0])?);
-    Ok(())
+    assert!(rt; accepts(alloc, &[func, func], &[func], &[0, 0]).expect(&rt, "memory"));
+    assert!(rt; !is_own(alloc, &[func, func], &[1, 0]).expect(&rt, "memory"));
 }

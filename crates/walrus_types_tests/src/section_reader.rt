@@ -7,7 +7,7 @@ use std::alloc::{AllocError, Global};
 use std::process::Abort;
 use std::test::Fail;
 use walrus_types::{
-    GroupAt, HashKeys, ReadError, RecGroup, SectionReader, TypeId, ValAt, parse_types,
+    GroupAt, HashKeys, ModuleTypes, ReadError, RecGroup, SectionReader, TypeId, ValAt, parse_types,
 };
 
 // Whether these are the ids of these indices.
@@ -24,16 +24,15 @@ fn is(group: &RecGroup, members: &[usize], is_explicit: bool) -> bool {
     group.is_explicit == is_explicit && are(group.types.as_slice(), members)
 }
 
-fn is_refused(
-    rt: &impl Abort,
-    alloc: Global,
-    pieces: &[Piece<'_>],
-    wanted: ReadError,
-) -> Result<(), Fail> {
-    let groups = section(alloc, pieces)?;
+// The table and the ids of these groups.
+fn read(rt: &impl Abort, alloc: Global, groups: &[GroupAt]) -> (ModuleTypes, Vec<TypeId>) {
+    parse_types(alloc, HashKeys::fixed(), groups).expect(rt, "memory")
+}
+
+fn is_refused(rt: &impl Abort, alloc: Global, pieces: &[Piece<'_>], wanted: ReadError) {
+    let groups = section(alloc, pieces).expect(rt, "memory");
     let refused = parse_types(alloc, HashKeys::fixed(), groups.as_slice()).err();
     assert_equal(rt, refused, Some(wanted));
-    Ok(())
 }
 
 // The group of this piece. It is asked for again after a refusal.
@@ -93,60 +92,57 @@ fn a_refused_group_leaves_the_reader(rt: HostRuntime) -> Result<(), Fail> {
 }
 
 #[test]
-fn an_equal_entry_is_sent_to_the_first(rt: HostRuntime) -> Result<(), Fail> {
+fn an_equal_entry_is_sent_to_the_first(rt: HostRuntime) {
     let alloc = rt.alloc();
     let rec = Many(&[Struct(&[ValAt::I32])]);
-    let groups = section(alloc, &[One(Func(&[])), One(Func(&[])), rec])?;
-    let (types, ids) = parse_types(alloc, HashKeys::fixed(), groups.as_slice())?;
+    let groups = section(alloc, &[One(Func(&[])), One(Func(&[])), rec]).expect(&rt, "memory");
+    let (types, ids) = read(&rt, alloc, groups.as_slice());
     assert!(rt; are(ids.as_slice(), &[0, 0, 2]));
     assert!(rt; types.contains(TypeId::from_index(0)));
     assert!(rt; !types.contains(TypeId::from_index(1)));
     assert!(rt; types.contains(TypeId::from_index(2)));
-    Ok(())
 }
 
 #[test]
-fn an_empty_group_is_kept(rt: HostRuntime) -> Result<(), Fail> {
+fn an_empty_group_is_kept(rt: HostRuntime) {
     let alloc = rt.alloc();
-    let groups = section(alloc, &[Many(&[])])?;
-    let (types, ids) = parse_types(alloc, HashKeys::fixed(), groups.as_slice())?;
+    let groups = section(alloc, &[Many(&[])]).expect(&rt, "memory");
+    let (types, ids) = read(&rt, alloc, groups.as_slice());
     assert_equal(&rt, ids.len(), 0);
     assert_equal(&rt, types.rec_groups().len(), 1);
     assert!(rt; is(&types.rec_groups()[0], &[], true));
-    Ok(())
 }
 
 #[test]
-fn names_may_point_forward_within_their_group(rt: HostRuntime) -> Result<(), Fail> {
+fn names_may_point_forward_within_their_group(rt: HostRuntime) {
     let alloc = rt.alloc();
     let rec = Many(&[Struct(&[to(1)]), Func(&[])]);
-    let groups = section(alloc, &[rec, One(Struct(&[to(2)]))])?;
-    let (_, ids) = parse_types(alloc, HashKeys::fixed(), groups.as_slice())?;
+    let groups = section(alloc, &[rec, One(Struct(&[to(2)]))]).expect(&rt, "memory");
+    let (_, ids) = read(&rt, alloc, groups.as_slice());
     assert!(rt; are(ids.as_slice(), &[0, 1, 2]));
-    Ok(())
 }
 
 #[test]
-fn an_index_past_its_group_is_refused(rt: HostRuntime) -> Result<(), Fail> {
+fn an_index_past_its_group_is_refused(rt: HostRuntime) {
     let alone = ReadError::BadIndex {
         entry: 0,
         index: 1,
         end: 1,
     };
-    is_refused(&rt, rt.alloc(), &[One(Struct(&[to(1)]))], alone)?;
+    is_refused(&rt, rt.alloc(), &[One(Struct(&[to(1)]))], alone);
     let in_rec = ReadError::BadIndex {
         entry: 0,
         index: 2,
         end: 2,
     };
     let rec = Many(&[Struct(&[to(2)]), Func(&[])]);
-    is_refused(&rt, rt.alloc(), &[rec], in_rec)
+    is_refused(&rt, rt.alloc(), &[rec], in_rec);
 }
 
 #[test]
-fn a_field_is_refused_before_a_supertype(rt: HostRuntime) -> Result<(), Fail> {
+fn a_field_is_refused_before_a_supertype(rt: HostRuntime) {
     let alloc = rt.alloc();
-    let mut both = entry(alloc, Struct(&[to(5)]))?;
+    let mut both = entry(alloc, Struct(&[to(5)])).expect(&rt, "memory");
     both.supertype = Some(7);
     let expected = ReadError::BadIndex {
         entry: 0,
@@ -155,22 +151,20 @@ fn a_field_is_refused_before_a_supertype(rt: HostRuntime) -> Result<(), Fail> {
     };
     let refused = parse_types(alloc, HashKeys::fixed(), &[GroupAt::Single(both)]).err();
     assert_equal(&rt, refused, Some(expected));
-    Ok(())
 }
 
 #[test]
-fn refusals_print_what_is_wrong(rt: HostRuntime) -> Result<(), Fail> {
+fn refusals_print_what_is_wrong(rt: HostRuntime) {
     let alloc = rt.alloc();
     let bad = ReadError::BadIndex {
         entry: 0,
         index: 1,
         end: 1,
     };
-    let text = format!(in alloc; "{}", bad)?;
+    let text = format!(in alloc; "{}", bad).expect(&rt, "memory");
     assert_equal(&rt, text.as_str(), "entry 0 names 1, end 1");
-    let text = format!(in alloc; "{}", ReadError::TooMany)?;
+    let text = format!(in alloc; "{}", ReadError::TooMany).expect(&rt, "memory");
     assert_equal(&rt, text.as_str(), "too many entries");
-    let text = format!(in alloc; "{}", ReadError::Memory)?;
+    let text = format!(in alloc; "{}", ReadError::Memory).expect(&rt, "memory");
     assert_equal(&rt, text.as_str(), "out of memory");
-    Ok(())
 }

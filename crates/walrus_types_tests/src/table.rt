@@ -1,7 +1,6 @@
 //! What no contract says: that calls succeed with ample memory, and worked rows.
 use std::alloc::{AllocError, Global};
 use std::process::Abort;
-use std::test::Fail;
 use walrus_types::{
     AddRecGroupError, CompositeType, Field, FieldType, FunctionType, Heap, Listed, ModuleTypes,
     Reference, Storage, StructType, Type, TypeId, Val, ValType,

@@ -34,7 +34,7 @@ pub(super) fn call_of(instr: &Instr) -> HookCall {
 }
 
 // The words of the worked rows: starts and ends, instructions and tags.
-pub(super) fn words(alloc: Global, calls: &[HookCall]) -> Result<String, Fail> {
+pub(super) fn words(alloc: Global, calls: &[HookCall]) -> Result<String, AllocError> {
     let mut text = String::new(alloc);
     for call in calls {
         add_word(alloc, &mut text, *call)?;
@@ -42,7 +42,7 @@ pub(super) fn words(alloc: Global, calls: &[HookCall]) -> Result<String, Fail> {
     Ok(text)
 }
 
-fn add_word(alloc: Global, text: &mut String, call: HookCall) -> Result<(), Fail> {
+fn add_word(alloc: Global, text: &mut String, call: HookCall) -> Result<(), AllocError> {
     let word = match call {
         HookCall::Start(_) => "start ",
         HookCall::End(_) => "end ",

@@ -63,8 +63,8 @@ fn block(index: usize) -> Instr {
 
 // Sequence 0 is the entry, 1 the block, 2 and 3 its arms, 4 the body of the `Try`, 5 and 6 its
 // handlers. All but the entry have the type 0.
-pub(super) fn test_function(alloc: Global) -> Result<LocalFunction, Fail> {
-    let attempt = with_handlers(alloc)?;
+pub(super) fn test_function(rt: &impl Abort, alloc: Global) -> LocalFunction {
+    let attempt = with_handlers(alloc).expect(rt, "memory");
     let entry = vec![in alloc;
         number(1),
         dropping(),
@@ -74,19 +74,22 @@ pub(super) fn test_function(alloc: Global) -> Result<LocalFunction, Fail> {
         attempt,
         number(10),
         dropping(),
-    ]?;
-    let mut f = begin(alloc, entry)?;
+    ]
+    .expect(rt, "memory");
+    let mut f = begin(alloc, entry).expect(rt, "memory");
     let both = Instr::from(IfElse {
         consequent: id(2),
         alternative: id(3),
     });
-    let inside = vec![in alloc; number(2), dropping(), both, number(5), dropping()]?;
-    add_inner(alloc, &mut f, inside)?;
+    let inside = vec![in alloc; number(2), dropping(), both, number(5), dropping()].expect(
+        rt, "memory",
+    );
+    add_inner(alloc, &mut f, inside).expect(rt, "memory");
     for n in [3, 4, 7, 8, 9] {
-        let instrs = vec![in alloc; number(n), dropping()]?;
-        add_inner(alloc, &mut f, instrs)?;
+        let instrs = vec![in alloc; number(n), dropping()].expect(rt, "memory");
+        add_inner(alloc, &mut f, instrs).expect(rt, "memory");
     }
-    Ok(f.local_func(Vec::new(alloc)))
+    f.local_func(Vec::new(alloc))
 }
 
 // Adds a sequence of the type 0 with these instructions.
@@ -113,42 +116,40 @@ fn with_handlers(alloc: Global) -> Result<Instr, AllocError> {
 }
 
 // Two blocks of the entry name the sequence 1, which holds the constant 5.
-pub(super) fn shared(alloc: Global) -> Result<LocalFunction, Fail> {
-    let mut f = begin(alloc, vec![in alloc; block(1), block(1)]?)?;
-    add(alloc, &mut f, vec![in alloc; number(5)]?)?;
-    Ok(f.local_func(Vec::new(alloc)))
+pub(super) fn shared(rt: &impl Abort, alloc: Global) -> LocalFunction {
+    let entry = vec![in alloc; block(1), block(1)].expect(rt, "memory");
+    let mut f = begin(alloc, entry).expect(rt, "memory");
+    let inside = vec![in alloc; number(5)].expect(rt, "memory");
+    add(alloc, &mut f, inside).expect(rt, "memory");
+    f.local_func(Vec::new(alloc))
 }
 
 // An entry without instructions.
-pub(super) fn empty_entry(alloc: Global) -> Result<LocalFunction, Fail> {
+pub(super) fn empty_entry(rt: &impl Abort, alloc: Global) -> LocalFunction {
     let mut f = FunctionBuilder::without_entry(alloc, id(0));
-    let entry = add(alloc, &mut f, Vec::new(alloc))?;
-    if !f.contains_seq(entry) {
-        return Err(Fail::new("the entry is unknown"));
-    }
+    let entry = add(alloc, &mut f, Vec::new(alloc)).expect(rt, "memory");
+    assert!(rt; f.contains_seq(entry));
     f.set_entry(entry);
-    Ok(f.local_func(Vec::new(alloc)))
+    f.local_func(Vec::new(alloc))
 }
 
 // So many sequences, each with one block of the next, and a last empty one.
-pub(super) fn chain(alloc: Global, count: usize) -> Result<LocalFunction, Fail> {
+pub(super) fn chain(rt: &impl Abort, alloc: Global, count: usize) -> LocalFunction {
     let mut f = FunctionBuilder::without_entry(alloc, id(0));
     for index in 0..count {
-        add(alloc, &mut f, vec![in alloc; block(index + 1)]?)?;
+        let next = vec![in alloc; block(index + 1)].expect(rt, "memory");
+        add(alloc, &mut f, next).expect(rt, "memory");
     }
-    add(alloc, &mut f, Vec::new(alloc))?;
-    Ok(f.local_func(Vec::new(alloc)))
+    add(alloc, &mut f, Vec::new(alloc)).expect(rt, "memory");
+    f.local_func(Vec::new(alloc))
 }
 
-// The instructions of a sequence.
-pub(super) fn instrs_of(
-    func: &LocalFunction,
-    index: usize,
-) -> Result<&[(Instr, InstrLocId)], Fail> {
+// The instructions of a sequence, if it is known.
+pub(super) fn instrs_of(func: &LocalFunction, index: usize) -> Option<&[(Instr, InstrLocId)]> {
     let seq: InstrSeqId = id(index);
     if func.contains_block(seq) {
-        Ok(func.block(seq).instrs.as_slice())
+        Some(func.block(seq).instrs.as_slice())
     } else {
-        Err(Fail::new("an unknown sequence"))
+        None
     }
 }

@@ -11,18 +11,18 @@ use walrus_ir::{
 use walrus_traversals::{Nesting, Visitor, check_nesting, dfs_in_order};
 use walrus_types::HeapType;
 
-// The hook calls of a walk in order from the sequence 0. It fails on a body that is not nested.
-pub(super) fn walk_in_order(alloc: Global, func: &LocalFunction) -> Result<Vec<HookCall>, Fail> {
+// The hook calls of a walk in order from the sequence 0 of a nested body.
+pub(super) fn walk_in_order(rt: &impl Abort, alloc: Global, func: &LocalFunction) -> Vec<HookCall> {
     let mut log = Log {
         calls: Vec::new(alloc),
     };
     let start = id(0);
-    match check_nesting(alloc, func, start)? {
+    match check_nesting(alloc, func, start).expect(rt, "memory") {
         Nesting::Nested(_) => match dfs_in_order(alloc, &mut log, func, start) {
-            Ok(()) => Ok(log.calls),
-            Err(_) => Err(Fail::new("refused")),
+            Ok(()) => log.calls,
+            Err(_) => panic!(rt; "refused"),
         },
-        Nesting::Cycle { .. } | Nesting::Unknown(_) => Err(Fail::new("not nested")),
+        Nesting::Cycle { .. } | Nesting::Unknown(_) => panic!(rt; "not nested"),
     }
 }
 

@@ -9,7 +9,7 @@ use walrus_body::{
 use walrus_ir::{CallIndirect, CallRef, RefTest};
 
 // The block of sequence 0 has the type 0. The types 1, 0 and 2 are named before it, 0 and 1 in it.
-fn body(alloc: Global) -> Result<LocalFunction, Fail> {
+fn body(rt: &impl Abort, alloc: Global) -> LocalFunction {
     let mut f = FunctionBuilder::without_entry(alloc, id(0));
     let entry = vec![in alloc;
         Instr::from(CallRef { ty: id(1) }),
@@ -22,23 +22,23 @@ fn body(alloc: Global) -> Result<LocalFunction, Fail> {
             table: id(0)
         }),
         Instr::from(Block { seq: id(1) }),
-    ]?;
-    add_typed(alloc, &mut f, NOTHING, entry)?;
-    let inside = vec![in alloc; Instr::from(CallRef { ty: id(1) })]?;
-    add_typed(alloc, &mut f, InstrSeqType::MultiValue(id(0)), inside)?;
-    Ok(f.local_func(Vec::new(alloc)))
+    ]
+    .expect(rt, "memory");
+    add_typed(alloc, &mut f, NOTHING, entry).expect(rt, "memory");
+    let inside = vec![in alloc; Instr::from(CallRef { ty: id(1) })].expect(rt, "memory");
+    add_typed(alloc, &mut f, InstrSeqType::MultiValue(id(0)), inside).expect(rt, "memory");
+    f.local_func(Vec::new(alloc))
 }
 
-// The types that the body names, in order.
-fn types(alloc: Global, func: &LocalFunction) -> Result<Vec<usize>, Fail> {
-    let Some(ids) = used_ids(alloc, func, id(0))? else {
-        return Err(Fail::new("not nested"));
-    };
+// The body names these types, in this order.
+fn names(rt: &impl Abort, alloc: Global, func: &LocalFunction, wanted: &[usize]) {
+    let ids = used_ids(alloc, func, id(0)).expect(rt, "memory");
+    let ids = ids.expect(rt, "a nested body");
     let mut list = Vec::new(alloc);
     for ty in ids.types.as_slice() {
-        list.push(ty.index())?;
+        list.push(ty.index()).expect(rt, "memory");
     }
-    Ok(list)
+    assert_equal(rt, list.as_slice(), wanted);
 }
 
 // Renames the types of the body by the list of their new ids, and tells whether all was walked.
@@ -56,20 +56,11 @@ fn is_renamed(
 }
 
 #[test]
-fn two_types_change_places(rt: HostRuntime) -> Result<(), Fail> {
+fn two_types_change_places(rt: HostRuntime) {
     let alloc = rt.alloc();
-    let mut func = body(alloc)?;
-    assert_equal(
-        &rt,
-        types(alloc, &func)?.as_slice(),
-        [1, 0, 2, 0, 1].as_slice(),
-    );
-    let names: Vec<TypeId> = vec![in alloc; id(1), id(0)]?;
-    assert!(rt; is_renamed(alloc, &mut func, names)?);
-    assert_equal(
-        &rt,
-        types(alloc, &func)?.as_slice(),
-        [0, 1, 2, 1, 0].as_slice(),
-    );
-    Ok(())
+    let mut func = body(&rt, alloc);
+    names(&rt, alloc, &func, &[1, 0, 2, 0, 1]);
+    let new: Vec<TypeId> = vec![in alloc; id(1), id(0)].expect(&rt, "memory");
+    assert!(rt; is_renamed(alloc, &mut func, new).expect(&rt, "memory"));
+    names(&rt, alloc, &func, &[0, 1, 2, 1, 0]);
 }

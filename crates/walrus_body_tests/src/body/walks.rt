@@ -21,18 +21,30 @@ fn adder(alloc: Global, limit: usize) -> Adder {
     }
 }
 
-// Walks from the sequence 0. It fails on a body that is not nested.
+// Walks from the sequence 0 of a body that is nested.
 fn walk(
+    rt: &impl Abort,
     alloc: Global,
     visitor: &mut Adder,
     func: &mut LocalFunction,
-) -> Result<Result<(), WalkError<Full>>, Fail> {
+) -> Result<(), WalkError<Full>> {
     let start = id(0);
-    match check_nesting(alloc, func, start)? {
-        Nesting::Nested(_) => Ok(dfs_pre_order_mut(alloc, visitor, func, start)),
-        Nesting::Cycle { .. } => Err(Fail::new("a cycle")),
-        Nesting::Unknown(_) => Err(Fail::new("an unknown sequence")),
+    match check_nesting(alloc, func, start).expect(rt, "memory") {
+        Nesting::Nested(_) => dfs_pre_order_mut(alloc, visitor, func, start),
+        Nesting::Cycle { .. } => panic!(rt; "a cycle"),
+        Nesting::Unknown(_) => panic!(rt; "an unknown sequence"),
     }
+}
+
+// A walk that no hook refuses.
+fn walk_whole(rt: &impl Abort, alloc: Global, visitor: &mut Adder, func: &mut LocalFunction) {
+    assert_equal(rt, walk(rt, alloc, visitor, func), Ok(()));
+}
+
+// The calls have these words.
+fn say(rt: &impl Abort, alloc: Global, calls: &[HookCall], text: &str) {
+    let said = words(alloc, calls).expect(rt, "memory");
+    assert_equal(rt, said.as_str(), text);
 }
 
 const FIRST: &str =
@@ -42,78 +54,65 @@ const SECOND: &str =
     "start 2 drop block 7 drop try tag 11 drop end start 8 drop end start 9 drop end start 10 drop end start 3 drop if-else 6 drop end start 4 drop end start 5 drop end ";
 
 #[test]
-fn children_of_the_last_instruction_come_first(rt: HostRuntime) -> Result<(), Fail> {
+fn children_of_the_last_instruction_come_first(rt: HostRuntime) {
     let alloc = rt.alloc();
-    let mut func = test_function(alloc)?;
+    let mut func = test_function(&rt, alloc);
     let mut first = adder(alloc, ALL);
-    let answer = walk(alloc, &mut first, &mut func)?;
-    assert_equal(&rt, answer, Ok(()));
-    let text = words(alloc, first.calls.as_slice())?;
-    assert_equal(&rt, text.as_str(), FIRST);
+    walk_whole(&rt, alloc, &mut first, &mut func);
+    say(&rt, alloc, first.calls.as_slice(), FIRST);
     let mut second = adder(alloc, ALL);
-    let answer = walk(alloc, &mut second, &mut func)?;
-    assert_equal(&rt, answer, Ok(()));
-    let text = words(alloc, second.calls.as_slice())?;
-    assert_equal(&rt, text.as_str(), SECOND);
-    Ok(())
+    walk_whole(&rt, alloc, &mut second, &mut func);
+    say(&rt, alloc, second.calls.as_slice(), SECOND);
 }
 
 const IN_ORDER: &str =
     "start 1 drop block start 2 drop if-else start 3 drop end start 4 drop end 5 drop end 6 drop try tag start 7 drop end start 8 drop end start 9 drop end 10 drop end ";
 
 #[test]
-fn a_walk_in_order_sees_each_constant_changed_and_all_else_as_before(
-    rt: HostRuntime,
-) -> Result<(), Fail> {
+fn a_walk_in_order_sees_each_constant_changed_and_all_else_as_before(rt: HostRuntime) {
     let alloc = rt.alloc();
-    let mut func = test_function(alloc)?;
-    let before = walk_in_order(alloc, &func)?;
-    let text = words(alloc, before.as_slice())?;
-    assert_equal(&rt, text.as_str(), IN_ORDER);
-    let answer = walk(alloc, &mut adder(alloc, ALL), &mut func)?;
-    assert_equal(&rt, answer, Ok(()));
-    let after = walk_in_order(alloc, &func)?;
+    let mut func = test_function(&rt, alloc);
+    let before = walk_in_order(&rt, alloc, &func);
+    say(&rt, alloc, before.as_slice(), IN_ORDER);
+    walk_whole(&rt, alloc, &mut adder(alloc, ALL), &mut func);
+    let after = walk_in_order(&rt, alloc, &func);
     assert!(rt; are_changed_before(before.len(), &before, &after));
-    Ok(())
 }
 
 // The constant at the head of sequence 1.
-fn constant(func: &LocalFunction) -> Result<i32, Fail> {
+fn constant(func: &LocalFunction) -> Option<i32> {
     match instrs_of(func, 1)? {
         [(Instr::Const(constant), _), ..] => match constant.value {
-            Value::I32(n) => Ok(n),
-            _ => Err(Fail::new("another constant")),
+            Value::I32(n) => Some(n),
+            _ => None,
         },
-        _ => Err(Fail::new("no constant")),
+        _ => None,
     }
 }
 
 #[test]
-fn a_shared_sequence_is_changed_twice(rt: HostRuntime) -> Result<(), Fail> {
+fn a_shared_sequence_is_changed_twice(rt: HostRuntime) {
     let alloc = rt.alloc();
-    let mut func = shared(alloc)?;
+    let mut func = shared(&rt, alloc);
     let mut visitor = adder(alloc, ALL);
-    let answer = walk(alloc, &mut visitor, &mut func)?;
-    assert_equal(&rt, answer, Ok(()));
+    walk_whole(&rt, alloc, &mut visitor, &mut func);
     assert_equal(&rt, visitor.calls.len(), 15);
-    assert_equal(&rt, constant(&func)?, 7);
-    Ok(())
+    assert_equal(&rt, constant(&func), Some(7));
 }
 
 // The entry has 7 hook calls: start, type, two blocks with one sequence id each, end. The shared
 // sequence has 4: start, constant, value, end.
 #[test]
-fn a_refused_hook_leaves_what_the_hooks_before_it_did(rt: HostRuntime) -> Result<(), Fail> {
+fn a_refused_hook_leaves_what_the_hooks_before_it_did(rt: HostRuntime) {
     let alloc = rt.alloc();
     for (limit, left) in [(0, 5), (8, 5), (9, 6), (12, 6), (13, 7), (14, 7)] {
-        let mut func = shared(alloc)?;
+        let mut func = shared(&rt, alloc);
         let mut visitor = adder(alloc, limit);
-        let answer = walk(alloc, &mut visitor, &mut func)?;
+        let answer = walk(&rt, alloc, &mut visitor, &mut func);
         assert_equal(&rt, answer, Err(WalkError::Hook(Full(limit))));
         assert_equal(&rt, visitor.calls.len(), limit);
-        assert_equal(&rt, constant(&func)?, left);
+        assert_equal(&rt, constant(&func), Some(left));
     }
-    Ok(())
 }
 
 // How many of the calls are for types.
@@ -128,62 +127,56 @@ fn types(calls: &[HookCall]) -> usize {
 // log is that of the whole walk, cut there, the error is that of the refused call, and the body is
 // changed by the calls before it alone, as another walk sees.
 #[test]
-fn a_refusing_hook_cuts_the_walk(rt: HostRuntime) -> Result<(), Fail> {
+fn a_refusing_hook_cuts_the_walk(rt: HostRuntime) {
     let alloc = rt.alloc();
     let mut whole = adder(alloc, ALL);
-    let answer = walk(alloc, &mut whole, &mut test_function(alloc)?)?;
-    assert_equal(&rt, answer, Ok(()));
+    let mut func = test_function(&rt, alloc);
+    walk_whole(&rt, alloc, &mut whole, &mut func);
     assert_equal(&rt, types(whole.calls.as_slice()), 7);
     for limit in 0..whole.calls.len() {
-        let mut func = test_function(alloc)?;
+        let mut func = test_function(&rt, alloc);
         let mut cut = adder(alloc, limit);
-        let answer = walk(alloc, &mut cut, &mut func)?;
+        let answer = walk(&rt, alloc, &mut cut, &mut func);
         assert_equal(&rt, answer, Err(WalkError::Hook(Full(limit))));
         assert!(rt; cut.calls.as_slice() == &whole.calls[..limit]);
         let mut again = adder(alloc, ALL);
-        let answer = walk(alloc, &mut again, &mut func)?;
-        assert_equal(&rt, answer, Ok(()));
+        walk_whole(&rt, alloc, &mut again, &mut func);
         assert!(rt; are_changed_before(limit, &whole.calls, &again.calls));
     }
-    Ok(())
 }
 
 #[test]
-fn an_instruction_that_the_start_hook_adds_is_visited(rt: HostRuntime) -> Result<(), Fail> {
+fn an_instruction_that_the_start_hook_adds_is_visited(rt: HostRuntime) {
     let alloc = rt.alloc();
-    let mut func = empty_entry(alloc)?;
+    let mut func = empty_entry(&rt, alloc);
     let mut visitor = adder(alloc, ALL);
     visitor.at_start = true;
-    let answer = walk(alloc, &mut visitor, &mut func)?;
-    assert_equal(&rt, answer, Ok(()));
+    walk_whole(&rt, alloc, &mut visitor, &mut func);
     let want = [HookCall::Start(0), HookCall::Dropping, HookCall::End(0)];
     assert!(rt; visitor.calls.as_slice() == want.as_slice());
-    assert!(rt; matches!(instrs_of(&func, 0)?, [(Instr::Drop(_), _)]));
-    Ok(())
+    let instrs = instrs_of(&func, 0).expect(&rt, "a sequence");
+    assert!(rt; matches!(instrs, [(Instr::Drop(_), _)]));
 }
 
 #[test]
-fn an_instruction_that_the_end_hook_adds_is_not(rt: HostRuntime) -> Result<(), Fail> {
+fn an_instruction_that_the_end_hook_adds_is_not(rt: HostRuntime) {
     let alloc = rt.alloc();
-    let mut func = empty_entry(alloc)?;
+    let mut func = empty_entry(&rt, alloc);
     let mut visitor = adder(alloc, ALL);
     visitor.at_end = true;
-    let answer = walk(alloc, &mut visitor, &mut func)?;
-    assert_equal(&rt, answer, Ok(()));
+    walk_whole(&rt, alloc, &mut visitor, &mut func);
     let want = [HookCall::Start(0), HookCall::End(0)];
     assert!(rt; visitor.calls.as_slice() == want.as_slice());
-    assert!(rt; matches!(instrs_of(&func, 0)?, [(Instr::Drop(_), _)]));
-    Ok(())
+    let instrs = instrs_of(&func, 0).expect(&rt, "a sequence");
+    assert!(rt; matches!(instrs, [(Instr::Drop(_), _)]));
 }
 
 #[test]
-fn a_body_of_ten_thousand_levels_is_walked(rt: HostRuntime) -> Result<(), Fail> {
+fn a_body_of_ten_thousand_levels_is_walked(rt: HostRuntime) {
     let alloc = rt.alloc();
-    let mut func = chain(alloc, 10_000)?;
+    let mut func = chain(&rt, alloc, 10_000);
     let mut visitor = adder(alloc, ALL);
-    let answer = walk(alloc, &mut visitor, &mut func)?;
-    assert_equal(&rt, answer, Ok(()));
+    walk_whole(&rt, alloc, &mut visitor, &mut func);
     // of each sequence a start and an end, and of each block the instruction and its sequence
     assert_equal(&rt, visitor.calls.len(), 40_002);
-    Ok(())
 }

@@ -4,79 +4,71 @@ use crate::assertions::assert_equal;
 use walrus_ir::{Block, DropInstr};
 
 #[test]
-fn the_type_of_a_body_is_not_written(rt: HostRuntime) -> Result<(), Fail> {
+fn the_type_of_a_body_is_not_written(rt: HostRuntime) {
     let mut types = ModuleTypes::new(rt.alloc());
-    let f = FunctionBuilder::new(rt.alloc(), &mut types, &[], &[])?;
+    let f = FunctionBuilder::new(rt.alloc(), &mut types, &[], &[]).expect(&rt, "memory");
     let entry_ty = Id::from_index(1);
     assert!(rt; types.contains(entry_ty));
     assert!(rt; types.get(entry_ty).is_for_function_entry());
-    let (groups, _) = types.emit()?;
+    let (groups, _) = types.emit().expect(&rt, "memory");
     assert_equal(&rt, groups.len(), 1);
     assert_equal(&rt, f.local_func(Vec::new(rt.alloc())).ty().index(), 0);
-    Ok(())
 }
 
 #[test]
-fn a_dangling_sequence_becomes_the_entry(rt: HostRuntime) -> Result<(), Fail> {
+fn a_dangling_sequence_becomes_the_entry(rt: HostRuntime) {
     let mut f = FunctionBuilder::without_entry(rt.alloc(), Id::from_index(3));
     assert_equal(&rt, f.entry(), None);
-    let mut dangling = f.dangling_instr_seq(NOTHING)?;
-    dangling.drop()?;
+    let mut dangling = f.dangling_instr_seq(NOTHING).expect(&rt, "memory");
+    dangling.drop().expect(&rt, "memory");
     let id = dangling.id();
     f.set_entry(id);
     assert_equal(&rt, f.func_body_id(), id);
     let func = f.local_func(Vec::new(rt.alloc()));
-    assert_equal(
-        &rt,
-        to_text(rt.alloc(), &func)?.as_str(),
-        "0: Drop(DropInstr)\n",
-    );
-    Ok(())
+    prints(&rt, rt.alloc(), &func, "0: Drop(DropInstr)\n");
 }
 
 #[test]
-fn an_instruction_is_added(rt: HostRuntime) -> Result<(), Fail> {
+fn an_instruction_is_added(rt: HostRuntime) {
     let fill = |b: &mut InstrSeqBuilder<'_>| b.instr(Block { seq: b.id() });
     let text = "0: Block(Block { seq: Id(0) })\n";
-    builds(&rt, rt.alloc(), fill, Ok(()), text)
+    builds(&rt, rt.alloc(), fill, Ok(()), text);
 }
 
 #[test]
-fn an_instruction_goes_before_another(rt: HostRuntime) -> Result<(), Fail> {
+fn an_instruction_goes_before_another(rt: HostRuntime) {
     let fill = |b: &mut InstrSeqBuilder<'_>| {
         b.unreachable()?;
         b.instr_at(0, DropInstr {})
     };
     let text = "0: Drop(DropInstr) Unreachable(Unreachable)\n";
-    builds(&rt, rt.alloc(), fill, Ok(()), text)
+    builds(&rt, rt.alloc(), fill, Ok(()), text);
 }
 
 #[test]
-fn instructions_are_read(rt: HostRuntime) -> Result<(), Fail> {
-    let mut f = begin(rt.alloc())?;
+fn instructions_are_read(rt: HostRuntime) {
+    let mut f = begin(rt.alloc()).expect(&rt, "memory");
     let id = f.func_body_id();
     let mut body = f.instr_seq(id);
-    body.drop()?;
+    body.drop().expect(&rt, "memory");
     assert_equal(&rt, body.instrs().len(), 1);
     assert!(rt; body.builder().contains_seq(id));
     assert!(rt; !f.contains_seq(Id::from_index(1)));
-    Ok(())
 }
 
-fn prints(rt: &impl Abort, alloc: Global, error: BuildError, text: &str) -> Result<(), AllocError> {
-    assert_equal(rt, error.to_string(alloc)?.as_str(), text);
-    Ok(())
+fn says(rt: &impl Abort, alloc: Global, error: BuildError, text: &str) {
+    let said = error.to_string(alloc).expect(rt, "memory");
+    assert_equal(rt, said.as_str(), text);
 }
 
 #[test]
-fn texts_of_errors(rt: HostRuntime) -> Result<(), Fail> {
-    prints(&rt, rt.alloc(), BuildError::NoParent, "unknown parent")?;
-    prints(
+fn texts_of_errors(rt: HostRuntime) {
+    says(&rt, rt.alloc(), BuildError::NoParent, "unknown parent");
+    says(
         &rt,
         rt.alloc(),
         BuildError::Position,
         "position past the end",
-    )?;
-    prints(&rt, rt.alloc(), BuildError::Memory, "out of memory")?;
-    Ok(())
+    );
+    says(&rt, rt.alloc(), BuildError::Memory, "out of memory");
 }

@@ -4,7 +4,7 @@ use walrus_ir::{BinaryOp, LoadKind, MemArg, StoreKind, UnaryOp, Value};
 use walrus_types::{AbstractHeapType, HeapType, RefType};
 
 #[test]
-fn constants(rt: HostRuntime) -> Result<(), Fail> {
+fn constants(rt: HostRuntime) {
     let text = "0: Const(Const { value: I32(-1) }) Const(Const { value: I64(-2) }) \
         Const(Const { value: F32(3) }) Const(Const { value: F64(4) }) \
         Const(Const { value: V128(5) })\n";
@@ -15,11 +15,11 @@ fn constants(rt: HostRuntime) -> Result<(), Fail> {
         b.f64_const(4)?;
         b.const_(Value::V128(5))
     };
-    builds(&rt, rt.alloc(), fill, Ok(()), text)
+    builds(&rt, rt.alloc(), fill, Ok(()), text);
 }
 
 #[test]
-fn variables(rt: HostRuntime) -> Result<(), Fail> {
+fn variables(rt: HostRuntime) {
     let text = "0: LocalGet(LocalGet { local: Id(1) }) LocalSet(LocalSet { local: Id(2) }) \
         LocalTee(LocalTee { local: Id(3) }) GlobalGet(GlobalGet { global: Id(4) }) \
         GlobalSet(GlobalSet { global: Id(5) })\n";
@@ -30,11 +30,11 @@ fn variables(rt: HostRuntime) -> Result<(), Fail> {
         b.global_get(Id::from_index(4))?;
         b.global_set(Id::from_index(5))
     };
-    builds(&rt, rt.alloc(), fill, Ok(()), text)
+    builds(&rt, rt.alloc(), fill, Ok(()), text);
 }
 
 #[test]
-fn calls(rt: HostRuntime) -> Result<(), Fail> {
+fn calls(rt: HostRuntime) {
     let text =
         "0: Call(Call { func: Id(1) }) CallIndirect(CallIndirect { ty: Id(2), table: Id(3) }) \
         RefFunc(RefFunc { func: Id(4) }) Throw(Throw { tag: Id(5) }) Return(Return)\n";
@@ -45,25 +45,25 @@ fn calls(rt: HostRuntime) -> Result<(), Fail> {
         b.throw(Id::from_index(5))?;
         b.return_()
     };
-    builds(&rt, rt.alloc(), fill, Ok(()), text)
+    builds(&rt, rt.alloc(), fill, Ok(()), text);
 }
 
 #[test]
-fn branches(rt: HostRuntime) -> Result<(), Fail> {
+fn branches(rt: HostRuntime) {
     let text = "0: Br(Br { block: Id(0) }) BrIf(BrIf { block: Id(0) }) \
         BrTable(BrTable { blocks: [Id(7)], default: Id(0) }) Unreachable(Unreachable)\n";
-    let labels = vec![in rt.alloc(); Id::from_index(7)]?;
+    let labels = vec![in rt.alloc(); Id::from_index(7)].expect(&rt, "memory");
     let fill = |b: &mut InstrSeqBuilder<'_>| {
         b.br(b.id())?;
         b.br_if(b.id())?;
         b.br_table(labels, b.id())?;
         b.unreachable()
     };
-    builds(&rt, rt.alloc(), fill, Ok(()), text)
+    builds(&rt, rt.alloc(), fill, Ok(()), text);
 }
 
 #[test]
-fn memories(rt: HostRuntime) -> Result<(), Fail> {
+fn memories(rt: HostRuntime) {
     let text =
         "0: MemorySize(MemorySize { memory: Id(1) }) MemoryGrow(MemoryGrow { memory: Id(2) }) \
         Load(Load { memory: Id(3), kind: F32, arg: MemArg { align: 4, offset: 8 } }) \
@@ -78,11 +78,11 @@ fn memories(rt: HostRuntime) -> Result<(), Fail> {
         b.load(Id::from_index(3), LoadKind::F32, arg)?;
         b.store(Id::from_index(5), StoreKind::F64, arg)
     };
-    builds(&rt, rt.alloc(), fill, Ok(()), text)
+    builds(&rt, rt.alloc(), fill, Ok(()), text);
 }
 
 #[test]
-fn operators(rt: HostRuntime) -> Result<(), Fail> {
+fn operators(rt: HostRuntime) {
     let text = "0: Unop(Unop { op: I32Eqz }) Binop(Binop { op: I32Add }) \
         Select(Select { ty: None }) Drop(DropInstr)\n";
     let fill = |b: &mut InstrSeqBuilder<'_>| {
@@ -91,11 +91,11 @@ fn operators(rt: HostRuntime) -> Result<(), Fail> {
         b.select(None)?;
         b.drop()
     };
-    builds(&rt, rt.alloc(), fill, Ok(()), text)
+    builds(&rt, rt.alloc(), fill, Ok(()), text);
 }
 
 #[test]
-fn references(rt: HostRuntime) -> Result<(), Fail> {
+fn references(rt: HostRuntime) {
     let text = "0: RefNull(RefNull { ty: Reference { nullable: true, heap_type: Abstract(Any) } }) \
         StructNew(StructNew { ty: Id(1) }) ArrayNew(ArrayNew { ty: Id(2) })\n";
     let any = RefType {
@@ -107,5 +107,5 @@ fn references(rt: HostRuntime) -> Result<(), Fail> {
         b.struct_new(Id::from_index(1))?;
         b.array_new(Id::from_index(2))
     };
-    builds(&rt, rt.alloc(), fill, Ok(()), text)
+    builds(&rt, rt.alloc(), fill, Ok(()), text);
 }

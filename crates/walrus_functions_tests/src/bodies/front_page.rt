@@ -2,7 +2,6 @@
 ghost use Rattle.walrus_functions.specs.Building.{function_of, IsKnown, Stays, StayKnown};
 
 use super::*;
-use crate::assertions::assert_equal;
 use walrus_ir::{BinaryOp, InstrSeqId, LocalId, UnaryOp};
 use walrus_types::ValType;
 
@@ -57,7 +56,7 @@ fn add_number(body: &mut InstrSeqBuilder<'_>, local: LocalId, number: i32) -> Re
 }
 
 #[test]
-fn a_sum_by_counting(rt: HostRuntime) -> Result<(), Fail> {
+fn a_sum_by_counting(rt: HostRuntime) {
     let text = "0: Block(Block { seq: Id(1) }) LocalGet(LocalGet { local: Id(7) })\n\
         1: Loop(Loop { seq: Id(2) })\n\
         2: LocalGet(LocalGet { local: Id(8) }) Unop(Unop { op: I32Eqz }) \
@@ -69,8 +68,8 @@ fn a_sum_by_counting(rt: HostRuntime) -> Result<(), Fail> {
         Br(Br { block: Id(2) })\n";
     let (first, second) = (Id::from_index(7), Id::from_index(8));
     let mut types = ModuleTypes::new(rt.alloc());
-    let builder = sum_by_counting(rt.alloc(), &mut types, first, second)?;
-    let func = builder.local_func(vec![in rt.alloc(); first, second]?);
-    assert_equal(&rt, to_text(rt.alloc(), &func)?.as_str(), text);
-    Ok(())
+    let builder = sum_by_counting(rt.alloc(), &mut types, first, second).expect(&rt, "memory");
+    let args = vec![in rt.alloc(); first, second].expect(&rt, "memory");
+    let func = builder.local_func(args);
+    prints(&rt, rt.alloc(), &func, text);
 }

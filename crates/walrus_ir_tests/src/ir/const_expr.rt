@@ -1,7 +1,6 @@
 //! That expressions are read and written, in which form, and which name a refusal has.
 use crate::assertions::assert_equal;
 use std::alloc::{AllocError, Global};
-use std::test::Fail;
 use walrus_ir::{
     ConstExpr, ConstOp, ConstOpAt, FromRecordError, Heap, Id, IdsToIndices, IndicesToIds, Listed,
     NoIndex, Reference, ToRecordError, Value,
@@ -38,100 +37,96 @@ fn extended(expr: &ConstExpr) -> &[ConstOp] {
 }
 
 #[test]
-fn a_lone_constant_is_a_value(rt: HostRuntime) -> Result<(), Fail> {
+fn a_lone_constant_is_a_value(rt: HostRuntime) {
     let ids = IndicesToIds::new(rt.alloc());
-    let expr = ConstExpr::eval(rt.alloc(), &[ConstOpAt::I32Const(7)], &ids)?;
+    let expr = ConstExpr::eval(rt.alloc(), &[ConstOpAt::I32Const(7)], &ids).expect(&rt, "memory");
     assert!(rt; expr == ConstExpr::Value(Value::I32(7)));
     let indices = IdsToIndices::new(rt.alloc());
-    let ops = expr.to_ops(rt.alloc(), &indices)?;
+    let ops = expr.to_ops(rt.alloc(), &indices).expect(&rt, "memory");
     assert!(rt; ops.as_slice() == [ConstOpAt::I32Const(7)].as_slice());
-    Ok(())
 }
 
 #[test]
-fn all_other_lists_are_extended(rt: HostRuntime) -> Result<(), Fail> {
+fn all_other_lists_are_extended(rt: HostRuntime) {
     let alloc = rt.alloc();
     let ids = IndicesToIds::new(alloc);
-    let expr = ConstExpr::eval(alloc, &[ConstOpAt::I32Add], &ids)?;
+    let expr = ConstExpr::eval(alloc, &[ConstOpAt::I32Add], &ids).expect(&rt, "memory");
     assert!(rt; extended(&expr) == [ConstOp::I32Add].as_slice());
-    let expr = ConstExpr::eval(alloc, &[], &ids)?;
+    let expr = ConstExpr::eval(alloc, &[], &ids).expect(&rt, "memory");
     assert!(rt; expr == ConstExpr::Extended(Listed::from_vec(Vec::new(alloc))));
     let two = [ConstOpAt::I32Const(7), ConstOpAt::I32Const(8)];
-    let expr = ConstExpr::eval(alloc, &two, &ids)?;
+    let expr = ConstExpr::eval(alloc, &two, &ids).expect(&rt, "memory");
     assert!(rt; extended(&expr) == [ConstOp::I32Const(7), ConstOp::I32Const(8)].as_slice());
-    Ok(())
 }
 
 #[test]
-fn an_unknown_global_is_named(rt: HostRuntime) -> Result<(), Fail> {
+fn an_unknown_global_is_named(rt: HostRuntime) {
     let ids = IndicesToIds::new(rt.alloc());
     let refused = ConstExpr::eval(rt.alloc(), &[ConstOpAt::GlobalGet(0)], &ids).err();
     assert_equal(&rt, refused, Some(FromRecordError::UnknownIndex(0)));
-    Ok(())
 }
 
 #[test]
-fn a_sum_goes_through_both_maps(rt: HostRuntime) -> Result<(), Fail> {
+fn a_sum_goes_through_both_maps(rt: HostRuntime) {
     let alloc = rt.alloc();
     let sum = [
         ConstOpAt::GlobalGet(0),
         ConstOpAt::I32Const(4),
         ConstOpAt::I32Add,
     ];
-    let expr = ConstExpr::eval(alloc, &sum, &one_global(alloc)?)?;
+    let ids = one_global(alloc).expect(&rt, "memory");
+    let expr = ConstExpr::eval(alloc, &sum, &ids).expect(&rt, "memory");
     assert_equal(&rt, extended(&expr).len(), 3);
     let mut indices = IdsToIndices::new(alloc);
-    indices.push_global(Id::from_index(4))?;
-    indices.push_global(Id::from_index(5))?;
-    let ops = expr.to_ops(alloc, &indices)?;
+    indices.push_global(Id::from_index(4)).expect(&rt, "memory");
+    indices.push_global(Id::from_index(5)).expect(&rt, "memory");
+    let ops = expr.to_ops(alloc, &indices).expect(&rt, "memory");
     let sent = [
         ConstOpAt::GlobalGet(1),
         ConstOpAt::I32Const(4),
         ConstOpAt::I32Add,
     ];
     assert!(rt; ops.as_slice() == sent.as_slice());
-    Ok(())
 }
 
 #[test]
-fn an_unknown_type_is_named(rt: HostRuntime) -> Result<(), Fail> {
-    let ids = two_types(rt.alloc())?;
+fn an_unknown_type_is_named(rt: HostRuntime) {
+    let ids = two_types(rt.alloc()).expect(&rt, "memory");
     let refused = ConstExpr::eval(rt.alloc(), &[ConstOpAt::StructNew(3)], &ids).err();
     assert_equal(&rt, refused, Some(FromRecordError::UnknownIndex(3)));
-    Ok(())
 }
 
 #[test]
-fn a_null_reference_is_read_as_nullable(rt: HostRuntime) -> Result<(), Fail> {
+fn a_null_reference_is_read_as_nullable(rt: HostRuntime) {
     let alloc = rt.alloc();
     let null = [ConstOpAt::RefNull(Heap::Concrete(1))];
-    let expr = ConstExpr::eval(alloc, &null, &two_types(alloc)?)?;
+    let ids = two_types(alloc).expect(&rt, "memory");
+    let indices = two_type_indices(alloc).expect(&rt, "memory");
+    let expr = ConstExpr::eval(alloc, &null, &ids).expect(&rt, "memory");
     let ty = Reference {
         nullable: true,
         heap_type: Heap::Concrete(Id::from_index(1)),
     };
     assert!(rt; expr == ConstExpr::RefNull(ty));
-    let ops = expr.to_ops(alloc, &two_type_indices(alloc)?)?;
+    let ops = expr.to_ops(alloc, &indices).expect(&rt, "memory");
     assert!(rt; ops.as_slice() == null.as_slice());
-    Ok(())
 }
 
 #[test]
-fn functions_are_named_by_index(rt: HostRuntime) -> Result<(), Fail> {
+fn functions_are_named_by_index(rt: HostRuntime) {
     let alloc = rt.alloc();
     let mut ids = IndicesToIds::new(alloc);
-    ids.push_func(Id::from_index(9))?;
-    let expr = ConstExpr::eval(alloc, &[ConstOpAt::RefFunc(0)], &ids)?;
+    ids.push_func(Id::from_index(9)).expect(&rt, "memory");
+    let expr = ConstExpr::eval(alloc, &[ConstOpAt::RefFunc(0)], &ids).expect(&rt, "memory");
     assert!(rt; expr == ConstExpr::RefFunc(Id::from_index(9)));
     let refused = expr.to_ops(alloc, &IdsToIndices::new(alloc)).err();
     let missing = NoIndex::OfFunc(Id::from_index(9));
     assert_equal(&rt, refused, Some(ToRecordError::NoIndex(missing)));
-    Ok(())
 }
 
 #[test]
-fn the_first_unknown_index_is_named(rt: HostRuntime) -> Result<(), Fail> {
-    let ids = two_types(rt.alloc())?;
+fn the_first_unknown_index_is_named(rt: HostRuntime) {
+    let ids = two_types(rt.alloc()).expect(&rt, "memory");
     let ops = [
         ConstOpAt::StructNewDefault(1),
         ConstOpAt::ArrayNewFixed { ty: 7, len: 2 },
@@ -139,7 +134,6 @@ fn the_first_unknown_index_is_named(rt: HostRuntime) -> Result<(), Fail> {
     ];
     let refused = ConstExpr::eval(rt.alloc(), &ops, &ids).err();
     assert_equal(&rt, refused, Some(FromRecordError::UnknownIndex(7)));
-    Ok(())
 }
 
 // An expression that names the type 3, a global, the type 1 and the type 3 again.
@@ -159,12 +153,14 @@ fn of_two_types(alloc: Global) -> Result<ConstExpr, AllocError> {
 }
 
 #[test]
-fn types_are_referenced_in_order(rt: HostRuntime) -> Result<(), Fail> {
+fn types_are_referenced_in_order(rt: HostRuntime) {
     let alloc = rt.alloc();
-    let mut list = vec![in alloc; Id::from_index(9)]?;
-    of_two_types(alloc)?.referenced_types(&mut list)?;
-    ConstExpr::RefFunc(Id::from_index(8)).referenced_types(&mut list)?;
+    let mut list = vec![in alloc; Id::from_index(9)].expect(&rt, "memory");
+    let expr = of_two_types(alloc).expect(&rt, "memory");
+    expr.referenced_types(&mut list).expect(&rt, "memory");
+    ConstExpr::RefFunc(Id::from_index(8))
+        .referenced_types(&mut list)
+        .expect(&rt, "memory");
     let want = [9, 3, 1, 3].map(|index| Id::from_index(index));
     assert!(rt; list.as_slice() == want.as_slice());
-    Ok(())
 }

@@ -4,24 +4,22 @@ use std::test::Fail;
 use walrus_ir::{Heap, Id, InstrSeqType, ModuleTypes, Reference, TypeId, Val, ValType};
 
 #[test]
-fn simple_types_leave_the_table_empty(rt: HostRuntime) -> Result<(), Fail> {
+fn simple_types_leave_the_table_empty(rt: HostRuntime) {
     let mut types = ModuleTypes::new(rt.alloc());
-    let nothing = InstrSeqType::new(&mut types, &[], &[])?;
+    let nothing = InstrSeqType::new(&mut types, &[], &[]).expect(&rt, "memory");
     assert_equal(&rt, nothing, InstrSeqType::Simple(None));
-    let number = InstrSeqType::new(&mut types, &[], &[Val::I32])?;
+    let number = InstrSeqType::new(&mut types, &[], &[Val::I32]).expect(&rt, "memory");
     assert_equal(&rt, number, InstrSeqType::Simple(Some(Val::I32)));
     assert!(rt; types.iter().next().is_none());
-    Ok(())
 }
 
 #[test]
-fn simple_types_exist_without_a_table(rt: HostRuntime) -> Result<(), Fail> {
+fn simple_types_exist_without_a_table(rt: HostRuntime) {
     let types = ModuleTypes::new(rt.alloc());
     let nothing = InstrSeqType::existing(&types, &[], &[]);
     assert_equal(&rt, nothing, Some(InstrSeqType::Simple(None)));
     let number = InstrSeqType::existing(&types, &[], &[Val::F64]);
     assert_equal(&rt, number, Some(InstrSeqType::Simple(Some(Val::F64))));
-    Ok(())
 }
 
 #[test]
@@ -37,7 +35,7 @@ fn other_types_exist_once_they_were_added(rt: HostRuntime) -> Result<(), Fail> {
 }
 
 #[test]
-fn types_are_made_of_their_parts(rt: HostRuntime) -> Result<(), Fail> {
+fn types_are_made_of_their_parts(rt: HostRuntime) {
     let none: Option<ValType> = None;
     assert_equal(&rt, InstrSeqType::from(none), InstrSeqType::Simple(None));
     let number: ValType = Val::I64;
@@ -48,7 +46,6 @@ fn types_are_made_of_their_parts(rt: HostRuntime) -> Result<(), Fail> {
     );
     let id: TypeId = Id::from_index(3);
     assert_equal(&rt, InstrSeqType::from(id), InstrSeqType::MultiValue(id));
-    Ok(())
 }
 
 #[test]

@@ -2,7 +2,6 @@
 use super::see;
 use crate::assertions::assert_equal;
 use std::collections::HashSet;
-use std::test::Fail;
 use walrus_ir::TernaryOp;
 
 // Products with a third vector added, or taken from it.
@@ -25,12 +24,11 @@ const CHOICES: [TernaryOp; 4] = [
 const SUMS: [TernaryOp; 1] = [TernaryOp::I32x4RelaxedDotI8x16I7x16AddS];
 
 #[test]
-fn there_are_9(rt: HostRuntime) -> Result<(), Fail> {
+fn there_are_9(rt: HostRuntime) {
     let alloc = rt.alloc();
     let mut seen = HashSet::new(alloc);
-    see(&rt, alloc, &mut seen, &PRODUCTS)?;
-    see(&rt, alloc, &mut seen, &CHOICES)?;
-    see(&rt, alloc, &mut seen, &SUMS)?;
+    see(&rt, alloc, &mut seen, &PRODUCTS);
+    see(&rt, alloc, &mut seen, &CHOICES);
+    see(&rt, alloc, &mut seen, &SUMS);
     assert_equal(&rt, seen.len(), 9);
-    Ok(())
 }

@@ -54,9 +54,9 @@ fn function(alloc: Global, param: ValAt, answer: ValAt) -> Result<CompAt, AllocE
 }
 
 #[test]
-fn value_types_change_their_names_alone(rt: HostRuntime) -> Result<(), Fail> {
-    let ids = ids(rt.alloc())?;
-    let indices = indices(rt.alloc())?;
+fn value_types_change_their_names_alone(rt: HostRuntime) {
+    let ids = ids(rt.alloc()).expect(&rt, "memory");
+    let indices = indices(rt.alloc()).expect(&rt, "memory");
     let exact: HeapAt = Heap::Exact(0);
     let read = HeapType::from_record(&exact, &ids);
     assert_equal(&rt, read, Ok(Heap::Exact(Id::from_index(10))));
@@ -75,28 +75,26 @@ fn value_types_change_their_names_alone(rt: HostRuntime) -> Result<(), Fail> {
         thirty.to_record(&indices),
         Ok(reference(false, Heap::Concrete(0))),
     );
-    Ok(())
 }
 
 #[test]
-fn fields_without_names_stay(rt: HostRuntime) -> Result<(), Fail> {
-    let ids = ids(rt.alloc())?;
-    let indices = indices(rt.alloc())?;
+fn fields_without_names_stay(rt: HostRuntime) {
+    let ids = ids(rt.alloc()).expect(&rt, "memory");
+    let indices = indices(rt.alloc()).expect(&rt, "memory");
     let of = RefAt {
         nullable: false,
         heap_type: Heap::Abstract(AbstractHeapType::Eq),
     };
-    let read = RefType::from_record(&of, &ids)?;
+    let read = RefType::from_record(&of, &ids).expect(&rt, "memory");
     assert_equal(&rt, read.to_record(&indices), Ok(of));
     let packed: FieldAt = Field {
         element_type: Storage::I8,
         mutable: true,
     };
-    let read = FieldType::from_record(&packed, &ids)?;
+    let read = FieldType::from_record(&packed, &ids).expect(&rt, "memory");
     assert_equal(&rt, read.to_record(&indices), Ok(packed));
-    let read = StorageType::from_record(&packed.element_type, &ids)?;
+    let read = StorageType::from_record(&packed.element_type, &ids).expect(&rt, "memory");
     assert_equal(&rt, read.to_record(&indices), Ok(Storage::I8));
-    Ok(())
 }
 
 #[test]
@@ -131,37 +129,37 @@ fn structs_and_arrays_go_through_both_maps(rt: HostRuntime) -> Result<(), Fail> 
 }
 
 #[test]
-fn an_unknown_field_comes_before_an_unknown_supertype(rt: HostRuntime) -> Result<(), Fail> {
+fn an_unknown_field_comes_before_an_unknown_supertype(rt: HostRuntime) {
     let alloc = rt.alloc();
     let known = field(reference(true, Heap::Concrete(1)), false);
     let unknown = field(reference(true, Heap::Exact(5)), false);
     let entry = EntryAt {
         comp: CompAt::Struct {
-            fields: Listed::from_vec(vec![in alloc; known, unknown]?),
+            fields: Listed::from_vec(vec![in alloc; known, unknown].expect(&rt, "memory")),
         },
         is_final: true,
         supertype: Some(7),
     };
-    let refused = SubType::from_record(alloc, &entry, &ids(alloc)?).err();
+    let ids = ids(alloc).expect(&rt, "memory");
+    let refused = SubType::from_record(alloc, &entry, &ids).err();
     assert_equal(&rt, refused, Some(FromRecordError::UnknownIndex(5)));
-    Ok(())
 }
 
 #[test]
-fn the_first_result_without_an_index_is_named(rt: HostRuntime) -> Result<(), Fail> {
+fn the_first_result_without_an_index_is_named(rt: HostRuntime) {
     let alloc = rt.alloc();
     let first = reference(true, Heap::Concrete(Id::from_index(5)));
     let second = reference(true, Heap::Exact(Id::from_index(6)));
-    let results = vec![in alloc; first, second]?;
+    let results = vec![in alloc; first, second].expect(&rt, "memory");
     let function = CompositeType::Function(FunctionType::new(Vec::new(alloc), results));
-    let refused = function.to_record(alloc, &indices(alloc)?).err();
+    let indices = indices(alloc).expect(&rt, "memory");
+    let refused = function.to_record(alloc, &indices).err();
     let missing = NoIndex::OfType(Id::from_index(5));
     assert_equal(&rt, refused, Some(ToRecordError::NoIndex(missing)));
-    Ok(())
 }
 
 #[test]
-fn a_supertype_goes_through_both_maps(rt: HostRuntime) -> Result<(), Fail> {
+fn a_supertype_goes_through_both_maps(rt: HostRuntime) {
     let alloc = rt.alloc();
     let entry = EntryAt {
         comp: CompAt::Array {
@@ -170,9 +168,11 @@ fn a_supertype_goes_through_both_maps(rt: HostRuntime) -> Result<(), Fail> {
         is_final: false,
         supertype: Some(2),
     };
-    let read = SubType::from_record(alloc, &entry, &ids(alloc)?)?;
+    let ids = ids(alloc).expect(&rt, "memory");
+    let indices = indices(alloc).expect(&rt, "memory");
+    let read = SubType::from_record(alloc, &entry, &ids).expect(&rt, "memory");
     assert!(rt; !read.is_final);
     assert_equal(&rt, read.supertype, Some(Id::from_index(30)));
-    assert!(rt; read.kind.to_record(alloc, &indices(alloc)?)? == entry.comp);
-    Ok(())
+    let written = read.kind.to_record(alloc, &indices).expect(&rt, "memory");
+    assert!(rt; written == entry.comp);
 }

@@ -1,7 +1,7 @@
 //! What is left of a deleted type.
-use crate::assertions::assert_equal;
-use std::alloc::{AllocError, Global};
-use std::test::Fail;
+use crate::assertions::{assert_equal, prints};
+use std::alloc::Global;
+use std::process::Abort;
 use walrus_arena::Tombstone;
 use walrus_ty::{
     ArrayType, CompositeType, Field, FieldType, FunctionType, Id, Listed, Storage, StructType,
@@ -20,30 +20,28 @@ fn field() -> FieldType {
     }
 }
 
-// The kind of a type that was made of this one, and then deleted.
-fn left_of(alloc: Global, kind: CompositeType) -> Result<String, AllocError> {
+// A type that was made of this kind, and then deleted, has the kind that prints this.
+fn leaves(rt: &impl Abort, alloc: Global, kind: CompositeType, text: &str) {
     let mut ty = ty(alloc, kind);
     ty.on_delete();
-    let kind = ty.kind();
-    format!(in alloc; "{kind}")
+    prints(rt, alloc, ty.kind(), text);
 }
 
 #[test]
-fn a_deleted_type_is_the_function_type_of_nothing(rt: HostRuntime) -> Result<(), Fail> {
+fn a_deleted_type_is_the_function_type_of_nothing(rt: HostRuntime) {
     let alloc = rt.alloc();
     let array = CompositeType::Array(ArrayType { field: field() });
-    assert_equal(&rt, left_of(alloc, array)?.as_str(), "(func)");
-    let fields = Listed::from_vec(vec![in alloc; field(), field()]?);
+    leaves(&rt, alloc, array, "(func)");
+    let fields = Listed::from_vec(vec![in alloc; field(), field()].expect(&rt, "memory"));
     let structure = CompositeType::Struct(StructType { fields });
-    assert_equal(&rt, left_of(alloc, structure)?.as_str(), "(func)");
-    let results = vec![in alloc; ValType::I64]?;
+    leaves(&rt, alloc, structure, "(func)");
+    let results = vec![in alloc; ValType::I64].expect(&rt, "memory");
     let function = CompositeType::Function(FunctionType::new(Vec::new(alloc), results));
-    assert_equal(&rt, left_of(alloc, function)?.as_str(), "(func)");
-    Ok(())
+    leaves(&rt, alloc, function, "(func)");
 }
 
 #[test]
-fn a_deleted_type_keeps_all_else(rt: HostRuntime) -> Result<(), Fail> {
+fn a_deleted_type_keeps_all_else(rt: HostRuntime) {
     let alloc = rt.alloc();
     let mut array = ty(alloc, CompositeType::Array(ArrayType { field: field() }));
     array.on_delete();
@@ -51,5 +49,4 @@ fn a_deleted_type_keeps_all_else(rt: HostRuntime) -> Result<(), Fail> {
     assert_equal(&rt, array.supertype, Some(Id::from_index(2)));
     assert!(rt; !array.is_final);
     assert!(rt; array.name.is_none());
-    Ok(())
 }

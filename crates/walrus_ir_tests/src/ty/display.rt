@@ -1,19 +1,11 @@
 //! The printed text of types, in the words of the WebAssembly text format.
-use crate::assertions::assert_equal;
+use crate::assertions::prints;
 use std::alloc::{AllocError, Global};
-use std::fmt::Display;
 use std::process::Abort;
-use std::test::Fail;
 use walrus_ty::{
     AbstractHeapType, ArrayType, CompositeType, Field, FieldType, FunctionType, Heap, HeapType, Id,
     Listed, RefType, Reference, Storage, StorageType, StructType, Val, ValType,
 };
-
-fn prints<T: Display>(rt: &impl Abort, alloc: Global, value: &T, wanted: &str) -> Result<(), Fail> {
-    let text = format!(in alloc; "{value}")?;
-    assert_equal(rt, text.as_str(), wanted);
-    Ok(())
-}
 
 fn reference(nullable: bool, heap_type: HeapType) -> RefType {
     Reference {
@@ -59,23 +51,18 @@ fn structure(alloc: Global, fields: &[FieldType]) -> Result<StructType, AllocErr
 
 // A nullable reference to it prints the first, one that is not the second, the heap type alone the
 // third, and a field that holds the first and can be written the last.
-fn four_forms(
-    rt: &impl Abort,
-    alloc: Global,
-    name: AbstractHeapType,
-    wanted: [&str; 4],
-) -> Result<(), Fail> {
+fn four_forms(rt: &impl Abort, alloc: Global, name: AbstractHeapType, wanted: [&str; 4]) {
     let heap_type: HeapType = Heap::Abstract(name);
-    prints(rt, alloc, &reference(true, Heap::Abstract(name)), wanted[0])?;
+    prints(rt, alloc, &reference(true, Heap::Abstract(name)), wanted[0]);
     prints(
         rt,
         alloc,
         &reference(false, Heap::Abstract(name)),
         wanted[1],
-    )?;
-    prints(rt, alloc, &heap_type, wanted[2])?;
+    );
+    prints(rt, alloc, &heap_type, wanted[2]);
     let held = mutable(Val::Ref(reference(true, Heap::Abstract(name))));
-    prints(rt, alloc, &held, wanted[3])
+    prints(rt, alloc, &held, wanted[3]);
 }
 
 // The type with the number 3.
@@ -88,155 +75,158 @@ fn exactly_third() -> HeapType {
 }
 
 #[test]
-fn references_to_functions_and_what_the_host_gives(rt: HostRuntime) -> Result<(), Fail> {
+fn references_to_functions_and_what_the_host_gives(rt: HostRuntime) {
     let alloc = rt.alloc();
     let texts = ["funcref", "(ref func)", "func", "(mut funcref)"];
-    four_forms(&rt, alloc, AbstractHeapType::Func, texts)?;
+    four_forms(&rt, alloc, AbstractHeapType::Func, texts);
     let texts = ["nullfuncref", "(ref nofunc)", "nofunc", "(mut nullfuncref)"];
-    four_forms(&rt, alloc, AbstractHeapType::NoFunc, texts)?;
+    four_forms(&rt, alloc, AbstractHeapType::NoFunc, texts);
     let texts = ["externref", "(ref extern)", "extern", "(mut externref)"];
-    four_forms(&rt, alloc, AbstractHeapType::Extern, texts)?;
+    four_forms(&rt, alloc, AbstractHeapType::Extern, texts);
     let texts = [
         "nullexternref",
         "(ref noextern)",
         "noextern",
         "(mut nullexternref)",
     ];
-    four_forms(&rt, alloc, AbstractHeapType::NoExtern, texts)
+    four_forms(&rt, alloc, AbstractHeapType::NoExtern, texts);
 }
 
 #[test]
-fn references_to_what_can_be_looked_into(rt: HostRuntime) -> Result<(), Fail> {
+fn references_to_what_can_be_looked_into(rt: HostRuntime) {
     let alloc = rt.alloc();
     let texts = ["anyref", "(ref any)", "any", "(mut anyref)"];
-    four_forms(&rt, alloc, AbstractHeapType::Any, texts)?;
+    four_forms(&rt, alloc, AbstractHeapType::Any, texts);
     let texts = ["nullref", "(ref none)", "none", "(mut nullref)"];
-    four_forms(&rt, alloc, AbstractHeapType::None, texts)?;
+    four_forms(&rt, alloc, AbstractHeapType::None, texts);
     let texts = ["eqref", "(ref eq)", "eq", "(mut eqref)"];
-    four_forms(&rt, alloc, AbstractHeapType::Eq, texts)?;
+    four_forms(&rt, alloc, AbstractHeapType::Eq, texts);
     let texts = ["structref", "(ref struct)", "struct", "(mut structref)"];
-    four_forms(&rt, alloc, AbstractHeapType::Struct, texts)
+    four_forms(&rt, alloc, AbstractHeapType::Struct, texts);
 }
 
 #[test]
-fn references_to_arrays_small_integers_and_exceptions(rt: HostRuntime) -> Result<(), Fail> {
+fn references_to_arrays_small_integers_and_exceptions(rt: HostRuntime) {
     let alloc = rt.alloc();
     let texts = ["arrayref", "(ref array)", "array", "(mut arrayref)"];
-    four_forms(&rt, alloc, AbstractHeapType::Array, texts)?;
+    four_forms(&rt, alloc, AbstractHeapType::Array, texts);
     let texts = ["i31ref", "(ref i31)", "i31", "(mut i31ref)"];
-    four_forms(&rt, alloc, AbstractHeapType::I31, texts)?;
+    four_forms(&rt, alloc, AbstractHeapType::I31, texts);
     let texts = ["exnref", "(ref exn)", "exn", "(mut exnref)"];
-    four_forms(&rt, alloc, AbstractHeapType::Exn, texts)?;
+    four_forms(&rt, alloc, AbstractHeapType::Exn, texts);
     let texts = ["nullexnref", "(ref noexn)", "noexn", "(mut nullexnref)"];
-    four_forms(&rt, alloc, AbstractHeapType::NoExn, texts)
+    four_forms(&rt, alloc, AbstractHeapType::NoExn, texts);
 }
 
 #[test]
-fn types_of_the_module_print_their_number(rt: HostRuntime) -> Result<(), Fail> {
+fn types_of_the_module_print_their_number(rt: HostRuntime) {
     let alloc = rt.alloc();
-    prints(&rt, alloc, &third(), "3")?;
-    prints(&rt, alloc, &reference(true, third()), "(ref null 3)")?;
-    prints(&rt, alloc, &reference(false, third()), "(ref 3)")
+    prints(&rt, alloc, &third(), "3");
+    prints(&rt, alloc, &reference(true, third()), "(ref null 3)");
+    prints(&rt, alloc, &reference(false, third()), "(ref 3)");
 }
 
 #[test]
-fn exact_types_of_the_module_say_so(rt: HostRuntime) -> Result<(), Fail> {
+fn exact_types_of_the_module_say_so(rt: HostRuntime) {
     let alloc = rt.alloc();
-    prints(&rt, alloc, &exactly_third(), "exact 3")?;
+    prints(&rt, alloc, &exactly_third(), "exact 3");
     prints(
         &rt,
         alloc,
         &reference(true, exactly_third()),
         "(ref null exact 3)",
-    )?;
+    );
     prints(
         &rt,
         alloc,
         &reference(false, exactly_third()),
         "(ref exact 3)",
-    )
+    );
 }
 
 #[test]
-fn integers_print_their_names(rt: HostRuntime) -> Result<(), Fail> {
+fn integers_print_their_names(rt: HostRuntime) {
     let alloc = rt.alloc();
     let (int, long): (ValType, ValType) = (Val::I32, Val::I64);
-    prints(&rt, alloc, &int, "i32")?;
-    prints(&rt, alloc, &long, "i64")
+    prints(&rt, alloc, &int, "i32");
+    prints(&rt, alloc, &long, "i64");
 }
 
 #[test]
-fn floats_and_vectors_print_their_names(rt: HostRuntime) -> Result<(), Fail> {
+fn floats_and_vectors_print_their_names(rt: HostRuntime) {
     let alloc = rt.alloc();
     let (float, double, vector): (ValType, ValType, ValType) = (Val::F32, Val::F64, Val::V128);
-    prints(&rt, alloc, &float, "f32")?;
-    prints(&rt, alloc, &double, "f64")?;
-    prints(&rt, alloc, &vector, "v128")
+    prints(&rt, alloc, &float, "f32");
+    prints(&rt, alloc, &double, "f64");
+    prints(&rt, alloc, &vector, "v128");
 }
 
 #[test]
-fn packed_fields_print_their_names(rt: HostRuntime) -> Result<(), Fail> {
+fn packed_fields_print_their_names(rt: HostRuntime) {
     let alloc = rt.alloc();
     let (byte_type, short_type): (StorageType, StorageType) = (Storage::I8, Storage::I16);
-    prints(&rt, alloc, &byte_type, "i8")?;
-    prints(&rt, alloc, &short_type, "i16")?;
-    prints(&rt, alloc, &byte(), "(mut i8)")
+    prints(&rt, alloc, &byte_type, "i8");
+    prints(&rt, alloc, &short_type, "i16");
+    prints(&rt, alloc, &byte(), "(mut i8)");
 }
 
 #[test]
-fn function_types_leave_empty_parts_out(rt: HostRuntime) -> Result<(), Fail> {
+fn function_types_leave_empty_parts_out(rt: HostRuntime) {
     let alloc = rt.alloc();
-    prints(&rt, alloc, &function(alloc, &[], &[])?, "(func)")?;
-    let answers = function(alloc, &[], &[Val::V128])?;
-    prints(&rt, alloc, &answers, "(func (result v128))")?;
-    let takes = function(alloc, &[Val::I32, Val::I64], &[])?;
-    prints(&rt, alloc, &takes, "(func (param i32 i64))")
+    let nothing = function(alloc, &[], &[]).expect(&rt, "memory");
+    prints(&rt, alloc, &nothing, "(func)");
+    let answers = function(alloc, &[], &[Val::V128]).expect(&rt, "memory");
+    prints(&rt, alloc, &answers, "(func (result v128))");
+    let takes = function(alloc, &[Val::I32, Val::I64], &[]).expect(&rt, "memory");
+    prints(&rt, alloc, &takes, "(func (param i32 i64))");
 }
 
 #[test]
-fn function_types_print_parameters_before_results(rt: HostRuntime) -> Result<(), Fail> {
+fn function_types_print_parameters_before_results(rt: HostRuntime) {
     let alloc = rt.alloc();
-    let floats = function(alloc, &[Val::I32, Val::I64], &[Val::F32])?;
-    prints(&rt, alloc, &floats, "(func (param i32 i64) (result f32))")?;
-    let references = function(alloc, &[Val::I32, Val::I64], &[Val::Ref(RefType::FUNCREF)])?;
+    let floats = function(alloc, &[Val::I32, Val::I64], &[Val::F32]).expect(&rt, "memory");
+    prints(&rt, alloc, &floats, "(func (param i32 i64) (result f32))");
+    let funcref = Val::Ref(RefType::FUNCREF);
+    let references = function(alloc, &[Val::I32, Val::I64], &[funcref]).expect(&rt, "memory");
     prints(
         &rt,
         alloc,
         &references,
         "(func (param i32 i64) (result funcref))",
-    )
+    );
 }
 
 #[test]
-fn struct_types_print_their_fields(rt: HostRuntime) -> Result<(), Fail> {
+fn struct_types_print_their_fields(rt: HostRuntime) {
     let alloc = rt.alloc();
-    prints(&rt, alloc, &structure(alloc, &[])?, "(struct)")?;
-    let both = structure(alloc, &[fixed(Storage::Val(Val::I32)), byte()])?;
-    prints(&rt, alloc, &both, "(struct (field i32) (field (mut i8)))")
+    let empty = structure(alloc, &[]).expect(&rt, "memory");
+    prints(&rt, alloc, &empty, "(struct)");
+    let both = structure(alloc, &[fixed(Storage::Val(Val::I32)), byte()]).expect(&rt, "memory");
+    prints(&rt, alloc, &both, "(struct (field i32) (field (mut i8)))");
 }
 
 #[test]
-fn array_types_print_their_field(rt: HostRuntime) -> Result<(), Fail> {
+fn array_types_print_their_field(rt: HostRuntime) {
     let alloc = rt.alloc();
     let references = ArrayType {
         field: mutable(Val::Ref(reference(true, exactly_third()))),
     };
-    prints(&rt, alloc, &references, "(array (mut (ref null exact 3)))")?;
+    prints(&rt, alloc, &references, "(array (mut (ref null exact 3)))");
     let bytes = ArrayType {
         field: fixed(Storage::I8),
     };
-    prints(&rt, alloc, &bytes, "(array i8)")
+    prints(&rt, alloc, &bytes, "(array i8)");
 }
 
 #[test]
-fn composite_types_print_what_they_are(rt: HostRuntime) -> Result<(), Fail> {
+fn composite_types_print_what_they_are(rt: HostRuntime) {
     let alloc = rt.alloc();
-    let functions = CompositeType::Function(function(alloc, &[], &[])?);
-    prints(&rt, alloc, &functions, "(func)")?;
-    let structs = CompositeType::Struct(structure(alloc, &[])?);
-    prints(&rt, alloc, &structs, "(struct)")?;
+    let functions = CompositeType::Function(function(alloc, &[], &[]).expect(&rt, "memory"));
+    prints(&rt, alloc, &functions, "(func)");
+    let structs = CompositeType::Struct(structure(alloc, &[]).expect(&rt, "memory"));
+    prints(&rt, alloc, &structs, "(struct)");
     let doubles = CompositeType::Array(ArrayType {
         field: fixed(Storage::Val(Val::F64)),
     });
-    prints(&rt, alloc, &doubles, "(array f64)")
+    prints(&rt, alloc, &doubles, "(array f64)");
 }

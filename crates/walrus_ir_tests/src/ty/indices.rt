@@ -1,18 +1,17 @@
 //! That the maps can be filled, and what they then answer.
 use crate::assertions::assert_equal;
-use std::test::Fail;
 use walrus_ty::{
     FunctionId, GlobalId, Id, IdsToIndices, IndicesToIds, NoIndex, TypeId, UnknownIndex,
 };
 
 #[test]
-fn an_index_stands_for_the_id_that_was_pushed_then(rt: HostRuntime) -> Result<(), Fail> {
+fn an_index_stands_for_the_id_that_was_pushed_then(rt: HostRuntime) {
     let mut ids = IndicesToIds::new(rt.alloc());
     assert_equal(&rt, ids.get_type(0), Err(UnknownIndex(0)));
-    ids.push_type(Id::from_index(7))?;
-    ids.push_type(Id::from_index(9))?;
-    ids.push_func(Id::from_index(5))?;
-    ids.push_global(Id::from_index(6))?;
+    ids.push_type(Id::from_index(7)).expect(&rt, "memory");
+    ids.push_type(Id::from_index(9)).expect(&rt, "memory");
+    ids.push_func(Id::from_index(5)).expect(&rt, "memory");
+    ids.push_global(Id::from_index(6)).expect(&rt, "memory");
     assert_equal(&rt, ids.get_type(0), Ok(Id::from_index(7)));
     assert_equal(&rt, ids.get_type(1), Ok(Id::from_index(9)));
     assert_equal(&rt, ids.get_type(2), Err(UnknownIndex(2)));
@@ -23,11 +22,10 @@ fn an_index_stands_for_the_id_that_was_pushed_then(rt: HostRuntime) -> Result<()
     ids.remap_type(0, Id::from_index(8));
     assert_equal(&rt, ids.get_type(0), Ok(Id::from_index(8)));
     assert_equal(&rt, ids.get_type(1), Ok(Id::from_index(9)));
-    Ok(())
 }
 
 #[test]
-fn an_id_gets_the_number_of_earlier_ones_of_its_kind(rt: HostRuntime) -> Result<(), Fail> {
+fn an_id_gets_the_number_of_earlier_ones_of_its_kind(rt: HostRuntime) {
     let mut indices = IdsToIndices::new(rt.alloc());
     let seven: TypeId = Id::from_index(7);
     let nine: TypeId = Id::from_index(9);
@@ -38,8 +36,8 @@ fn an_id_gets_the_number_of_earlier_ones_of_its_kind(rt: HostRuntime) -> Result<
         indices.get_type_index(seven),
         Err(NoIndex::OfType(seven)),
     );
-    indices.push_type(nine)?;
-    indices.push_type(seven)?;
+    indices.push_type(nine).expect(&rt, "memory");
+    indices.push_type(seven).expect(&rt, "memory");
     assert_equal(&rt, indices.get_type_index(nine), Ok(0));
     assert_equal(&rt, indices.get_type_index(seven), Ok(1));
     assert_equal(
@@ -52,18 +50,17 @@ fn an_id_gets_the_number_of_earlier_ones_of_its_kind(rt: HostRuntime) -> Result<
         indices.get_global_index(global),
         Err(NoIndex::OfGlobal(global)),
     );
-    indices.push_func(func)?;
-    indices.push_global(global)?;
+    indices.push_func(func).expect(&rt, "memory");
+    indices.push_global(global).expect(&rt, "memory");
     assert_equal(&rt, indices.get_func_index(func), Ok(0));
     assert_equal(&rt, indices.get_global_index(global), Ok(0));
-    Ok(())
 }
 
 #[test]
-fn several_indices_stand_for_ids_in_a_row(rt: HostRuntime) -> Result<(), Fail> {
+fn several_indices_stand_for_ids_in_a_row(rt: HostRuntime) {
     let mut ids = IndicesToIds::new(rt.alloc());
-    ids.push_type(Id::from_index(9))?;
-    ids.push_types(4, 2)?;
+    ids.push_type(Id::from_index(9)).expect(&rt, "memory");
+    ids.push_types(4, 2).expect(&rt, "memory");
     assert_equal(&rt, ids.type_count(), 3);
     assert_equal(&rt, ids.get_type(0), Ok(Id::from_index(9)));
     assert_equal(&rt, ids.get_type(1), Ok(Id::from_index(4)));
@@ -72,5 +69,4 @@ fn several_indices_stand_for_ids_in_a_row(rt: HostRuntime) -> Result<(), Fail> {
     assert_equal(&rt, ids.get_type(1), Ok(Id::from_index(4)));
     assert_equal(&rt, ids.get_type(2), Err(UnknownIndex(2)));
     assert_equal(&rt, ids.into_types().len(), 2);
-    Ok(())
 }

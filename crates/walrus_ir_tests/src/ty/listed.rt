@@ -2,7 +2,6 @@
 use crate::assertions::assert_equal;
 use std::alloc::{AllocError, Global};
 use std::cmp::Ordering;
-use std::test::Fail;
 use walrus_ty::{Field, FieldType, Listed, Storage, StructType, Val};
 
 fn numbers(alloc: Global) -> Result<Listed<u32>, AllocError> {
@@ -10,8 +9,8 @@ fn numbers(alloc: Global) -> Result<Listed<u32>, AllocError> {
 }
 
 #[test]
-fn a_list_has_items_at_places(rt: HostRuntime) -> Result<(), Fail> {
-    let list = numbers(rt.alloc())?;
+fn a_list_has_items_at_places(rt: HostRuntime) {
+    let list = numbers(rt.alloc()).expect(&rt, "memory");
     assert!(rt; list.len() == 3);
     assert!(rt; !list.is_empty());
     assert_equal(&rt, list[0], 3);
@@ -19,41 +18,38 @@ fn a_list_has_items_at_places(rt: HostRuntime) -> Result<(), Fail> {
     let none: Listed<u32> = Listed::from_vec(Vec::new(rt.alloc()));
     assert_equal(&rt, none.len(), 0);
     assert!(rt; none.is_empty());
-    Ok(())
 }
 
 #[test]
-fn a_list_gives_its_items_in_order(rt: HostRuntime) -> Result<(), Fail> {
-    let list = numbers(rt.alloc())?;
+fn a_list_gives_its_items_in_order(rt: HostRuntime) {
+    let list = numbers(rt.alloc()).expect(&rt, "memory");
     let mut seen = Vec::new(rt.alloc());
     for item in list.iter() {
-        seen.push(*item)?;
+        seen.push(*item).expect(&rt, "memory");
     }
     assert_equal(&rt, seen.as_slice(), [3, 1, 4].as_slice());
-    Ok(())
 }
 
 #[test]
-fn a_list_grows_and_shrinks_at_the_end(rt: HostRuntime) -> Result<(), Fail> {
-    let mut list = numbers(rt.alloc())?;
-    list.push(5)?;
+fn a_list_grows_and_shrinks_at_the_end(rt: HostRuntime) {
+    let mut list = numbers(rt.alloc()).expect(&rt, "memory");
+    list.push(5).expect(&rt, "memory");
     assert_equal(&rt, list.as_slice(), [3, 1, 4, 5].as_slice());
     assert_equal(&rt, list.pop(), Some(5));
     assert_equal(&rt, list.pop(), Some(4));
     assert_equal(&rt, list.as_slice(), [3, 1].as_slice());
     let mut none: Listed<u32> = Listed::from_vec(Vec::new(rt.alloc()));
     assert_equal(&rt, none.pop(), None);
-    Ok(())
 }
 
 #[test]
-fn a_field_is_made_mutable_in_place(rt: HostRuntime) -> Result<(), Fail> {
+fn a_field_is_made_mutable_in_place(rt: HostRuntime) {
     let field: FieldType = Field {
         element_type: Storage::Val(Val::I64),
         mutable: false,
     };
     let mut made = StructType {
-        fields: Listed::from_vec(vec![in rt.alloc(); field, field]?),
+        fields: Listed::from_vec(vec![in rt.alloc(); field, field].expect(&rt, "memory")),
     };
     assert!(rt; made.fields.len() == 2);
     made.fields[1].mutable = true;
@@ -67,17 +63,15 @@ fn a_field_is_made_mutable_in_place(rt: HostRuntime) -> Result<(), Fail> {
     };
     assert!(rt; made.fields.len() == 2);
     assert_equal(&rt, made.fields[0].element_type, Storage::I8);
-    Ok(())
 }
 
 #[test]
-fn lists_compare_and_clone_by_their_items(rt: HostRuntime) -> Result<(), Fail> {
-    let list = numbers(rt.alloc())?;
-    let copy = list.clone()?;
+fn lists_compare_and_clone_by_their_items(rt: HostRuntime) {
+    let list = numbers(rt.alloc()).expect(&rt, "memory");
+    let copy = list.clone().expect(&rt, "memory");
     assert!(rt; list == copy);
-    let shorter = Listed::from_vec(vec![in rt.alloc(); 3, 1]?);
+    let shorter = Listed::from_vec(vec![in rt.alloc(); 3, 1].expect(&rt, "memory"));
     assert!(rt; list != shorter);
     assert!(rt; shorter.cmp(&list) == Ordering::Less);
     assert!(rt; list.partial_cmp(&shorter) == Some(Ordering::Greater));
-    Ok(())
 }

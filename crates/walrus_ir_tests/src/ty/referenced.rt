@@ -30,60 +30,45 @@ fn ty(alloc: Global, kind: CompositeType, supertype: Option<TypeId>) -> Type {
     Type::new(alloc, Id::from_index(9), kind, true, supertype)
 }
 
-// The places of the ids that the type is made with, after a 7 that is there before.
-fn referenced(alloc: Global, ty: &Type) -> Result<Vec<usize>, AllocError> {
-    let mut list = vec![in alloc; Id::from_index(7)]?;
-    ty.referenced_types(&mut list)?;
+// The type is made with the ids of these places, in this order. They come after a 7 that is there
+// before.
+fn makes(rt: &impl Abort, alloc: Global, ty: &Type, wanted: &[usize]) {
+    let mut list = vec![in alloc; Id::from_index(7)].expect(rt, "memory");
+    ty.referenced_types(&mut list).expect(rt, "memory");
     let mut places = Vec::new(alloc);
     for id in &list {
-        places.push(id.index())?;
+        places.push(id.index()).expect(rt, "memory");
     }
-    Ok(places)
+    assert_equal(rt, places.as_slice(), wanted);
 }
 
 #[test]
-fn the_supertype_comes_first_and_repeats_are_kept(rt: HostRuntime) -> Result<(), Fail> {
+fn the_supertype_comes_first_and_repeats_are_kept(rt: HostRuntime) {
     let alloc = rt.alloc();
-    let params = vec![in alloc; concrete(1), concrete(1)]?;
-    let results = vec![in alloc; reference(Heap::Exact(Id::from_index(0)))]?;
+    let params = vec![in alloc; concrete(1), concrete(1)].expect(&rt, "memory");
+    let results = vec![in alloc; reference(Heap::Exact(Id::from_index(0)))].expect(&rt, "memory");
     let kind = CompositeType::Function(FunctionType::new(params, results));
     let made = ty(alloc, kind, Some(Id::from_index(2)));
-    assert_equal(
-        &rt,
-        referenced(alloc, &made)?.as_slice(),
-        [7, 2, 1, 1, 0].as_slice(),
-    );
-    Ok(())
+    makes(&rt, alloc, &made, &[7, 2, 1, 1, 0]);
 }
 
 #[test]
-fn fields_come_in_order(rt: HostRuntime) -> Result<(), Fail> {
+fn fields_come_in_order(rt: HostRuntime) {
     let alloc = rt.alloc();
-    let fields = Listed::from_vec(vec![in alloc;
-        field(concrete(4)),
-        field(Val::I32),
-        field(concrete(3)),
-    ]?);
+    let (first, second, third) = (field(concrete(4)), field(Val::I32), field(concrete(3)));
+    let fields = vec![in alloc; first, second, third].expect(&rt, "memory");
+    let fields = Listed::from_vec(fields);
     let made = ty(alloc, CompositeType::Struct(StructType { fields }), None);
-    assert_equal(
-        &rt,
-        referenced(alloc, &made)?.as_slice(),
-        [7, 4, 3].as_slice(),
-    );
+    makes(&rt, alloc, &made, &[7, 4, 3]);
     let array = CompositeType::Array(ArrayType {
         field: field(concrete(5)),
     });
     let made = ty(alloc, array, Some(Id::from_index(6)));
-    assert_equal(
-        &rt,
-        referenced(alloc, &made)?.as_slice(),
-        [7, 6, 5].as_slice(),
-    );
-    Ok(())
+    makes(&rt, alloc, &made, &[7, 6, 5]);
 }
 
 #[test]
-fn a_type_may_be_made_with_no_id(rt: HostRuntime) -> Result<(), Fail> {
+fn a_type_may_be_made_with_no_id(rt: HostRuntime) {
     let array = CompositeType::Array(ArrayType {
         field: FieldType {
             element_type: Storage::I8,
@@ -91,12 +76,7 @@ fn a_type_may_be_made_with_no_id(rt: HostRuntime) -> Result<(), Fail> {
         },
     });
     let made = ty(rt.alloc(), array, None);
-    assert_equal(
-        &rt,
-        referenced(rt.alloc(), &made)?.as_slice(),
-        [7].as_slice(),
-    );
-    Ok(())
+    makes(&rt, rt.alloc(), &made, &[7]);
 }
 
 // A type that is made with the ids 2, 1 and 0. Its list is asked for again after a refusal.

@@ -1,23 +1,21 @@
 //! Which types are named in value types.
 use crate::assertions::assert_equal;
-use std::test::Fail;
 use walrus_ty::{
     AbstractHeapType, Field, FieldType, Heap, HeapType, Id, RefType, Reference, Storage,
     StorageType, TypeId, Val, ValType,
 };
 
 #[test]
-fn a_heap_type_names_what_it_points_at(rt: HostRuntime) -> Result<(), Fail> {
+fn a_heap_type_names_what_it_points_at(rt: HostRuntime) {
     let id: TypeId = Id::from_index(3);
     assert_equal(&rt, HeapType::Concrete(id).type_id(), Some(id));
     assert_equal(&rt, HeapType::Exact(id).type_id(), Some(id));
     let func: HeapType = Heap::Abstract(AbstractHeapType::Func);
     assert_equal(&rt, func.type_id(), None);
-    Ok(())
 }
 
 #[test]
-fn a_field_names_what_its_reference_points_at(rt: HostRuntime) -> Result<(), Fail> {
+fn a_field_names_what_its_reference_points_at(rt: HostRuntime) {
     let id: TypeId = Id::from_index(3);
     let reference: RefType = Reference {
         nullable: false,
@@ -35,11 +33,10 @@ fn a_field_names_what_its_reference_points_at(rt: HostRuntime) -> Result<(), Fai
     assert_equal(&rt, field.type_id(), Some(id));
     assert_equal(&rt, ValType::V128.type_id(), None);
     assert_equal(&rt, StorageType::I8.type_id(), None);
-    Ok(())
 }
 
 #[test]
-fn a_record_names_by_index(rt: HostRuntime) -> Result<(), Fail> {
+fn a_record_names_by_index(rt: HostRuntime) {
     let reference: Reference<u32> = Reference {
         nullable: true,
         heap_type: Heap::Exact(7),
@@ -56,5 +53,4 @@ fn a_record_names_by_index(rt: HostRuntime) -> Result<(), Fail> {
     assert_equal(&rt, reference.heap_type.name(), Some(7));
     let plain: Val<u32> = Val::F64;
     assert_equal(&rt, plain.name(), None);
-    Ok(())
 }

@@ -7,6 +7,7 @@ mod plain;
 
 use super::log::{HookCall, walk};
 use super::*;
+use crate::assertions::assert_equal;
 use walrus_ir::{MemArg, Value};
 use walrus_types::{AbstractHeapType, HeapType, RefType};
 
@@ -24,37 +25,32 @@ fn concrete(index: usize) -> HeapType {
     HeapType::Concrete(id(index))
 }
 
-// Fails unless a walk reports just these fields and tags of the instruction. The sequences 1, 2 and
-// 3 may stand in it.
-fn shows(alloc: Global, instr: Instr, want: &str) -> Result<(), Fail> {
-    let text = reported(alloc, instr)?;
-    if text.as_str() == want {
-        Ok(())
-    } else {
-        Err(Fail::new(text))
-    }
+// A walk reports just these fields and tags of the instruction. The sequences 1, 2 and 3 may stand
+// in it.
+fn shows(rt: &impl Abort, alloc: Global, instr: Instr, want: &str) {
+    let text = reported(rt, alloc, instr);
+    assert_equal(rt, text.as_str(), want);
 }
 
 // What a walk reports of an instruction, but for the instruction itself.
-fn reported(alloc: Global, instr: Instr) -> Result<String, Fail> {
+fn reported(rt: &impl Abort, alloc: Global, instr: Instr) -> String {
     let mut f = empty(alloc);
-    add(alloc, &mut f, NOTHING, vec![in alloc; instr]?)?;
+    let outer = vec![in alloc; instr].expect(rt, "memory");
+    add(alloc, &mut f, NOTHING, outer).expect(rt, "memory");
     for _ in 0..3 {
-        add(alloc, &mut f, NOTHING, Vec::new(alloc))?;
+        add(alloc, &mut f, NOTHING, Vec::new(alloc)).expect(rt, "memory");
     }
     let func = f.local_func(Vec::new(alloc));
-    let (log, answer) = walk(alloc, &func, 100)?;
-    if answer != Ok(()) {
-        return Err(Fail::new("refused"));
-    }
+    let (log, answer) = walk(rt, alloc, &func, 100);
+    assert_equal(rt, answer, Ok(()));
     let mut text = String::new(alloc);
     for call in &log.calls {
-        add_field(alloc, &mut text, *call)?;
+        add_field(alloc, &mut text, *call).expect(rt, "memory");
     }
-    Ok(text)
+    text
 }
 
-fn add_field(alloc: Global, text: &mut String, call: HookCall) -> Result<(), Fail> {
+fn add_field(alloc: Global, text: &mut String, call: HookCall) -> Result<(), AllocError> {
     let (kind, index) = match call {
         HookCall::Seq(index) => ("seq", index),
         HookCall::Local(index) => ("local", index),

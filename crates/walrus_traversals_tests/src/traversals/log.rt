@@ -167,25 +167,26 @@ impl Visitor for Log {
     }
 }
 
-/// What a walk from sequence 0 wrote down before a call was refused, and what it answered. It fails
-/// on a body that is not nested.
+/// What a walk from sequence 0 of a nested body wrote down before a call was refused, and what it
+/// answered.
 pub(super) fn walk(
+    rt: &impl Abort,
     alloc: Global,
     func: &LocalFunction,
     limit: usize,
-) -> Result<(Log, Result<(), WalkError<Full>>), Fail> {
+) -> (Log, Result<(), WalkError<Full>>) {
     let mut log = Log {
         calls: Vec::new(alloc),
         limit,
         came: 0,
     };
     let start = id(0);
-    match check_nesting(alloc, func, start)? {
+    match check_nesting(alloc, func, start).expect(rt, "memory") {
         Nesting::Nested(_) => {
             let answer = dfs_in_order(alloc, &mut log, func, start);
-            Ok((log, answer))
+            (log, answer)
         }
-        Nesting::Cycle { .. } => Err(Fail::new("a cycle")),
-        Nesting::Unknown(_) => Err(Fail::new("an unknown sequence")),
+        Nesting::Cycle { .. } => panic!(rt; "a cycle"),
+        Nesting::Unknown(_) => panic!(rt; "an unknown sequence"),
     }
 }

@@ -16,20 +16,17 @@ fn reference(index: usize) -> RefType {
 }
 
 // Sequence 0 names sequence 1, in which the rest stands.
-fn body(alloc: Global) -> Result<LocalFunction, Fail> {
+fn body(rt: &impl Abort, alloc: Global) -> LocalFunction {
     let mut f = empty(alloc);
-    let table = table_of_catches(alloc)?;
-    add(
-        alloc,
-        &mut f,
-        InstrSeqType::MultiValue(id(9)),
-        vec![in alloc; table]?,
-    )?;
-    add(alloc, &mut f, NOTHING, named_things(alloc)?)?;
-    Ok(f.local_func(Vec::new(alloc)))
+    let table = table_of_catches(alloc).expect(rt, "memory");
+    let outer = vec![in alloc; table].expect(rt, "memory");
+    add(alloc, &mut f, InstrSeqType::MultiValue(id(9)), outer).expect(rt, "memory");
+    let inner = named_things(alloc).expect(rt, "memory");
+    add(alloc, &mut f, NOTHING, inner).expect(rt, "memory");
+    f.local_func(Vec::new(alloc))
 }
 
-fn table_of_catches(alloc: Global) -> Result<Instr, Fail> {
+fn table_of_catches(alloc: Global) -> Result<Instr, AllocError> {
     let clauses = vec![in alloc;
         TryTableCatch::CatchRef {
             tag: id(4),
@@ -42,7 +39,7 @@ fn table_of_catches(alloc: Global) -> Result<Instr, Fail> {
     }))
 }
 
-fn named_things(alloc: Global) -> Result<Vec<Instr>, Fail> {
+fn named_things(alloc: Global) -> Result<Vec<Instr>, AllocError> {
     Ok(vec![in alloc;
         Instr::from(Call { func: id(5) }),
         Instr::from(CallIndirect {
@@ -69,88 +66,50 @@ fn named_things(alloc: Global) -> Result<Vec<Instr>, Fail> {
     ]?)
 }
 
-fn indices<T>(alloc: Global, ids: &[Id<T>]) -> Result<Vec<usize>, Fail> {
+// The ids are those of these indices, in this order.
+fn hold<T>(rt: &impl Abort, alloc: Global, ids: &[Id<T>], wanted: &[usize]) {
     let mut list = Vec::new(alloc);
     for id in ids {
-        list.push(id.index())?;
+        list.push(id.index()).expect(rt, "memory");
     }
-    Ok(list)
+    assert_equal(rt, list.as_slice(), wanted);
 }
 
-fn collected(alloc: Global) -> Result<UsedIds, Fail> {
-    let func = body(alloc)?;
-    match used_ids(alloc, &func, id(0))? {
-        Some(ids) => Ok(ids),
-        None => Err(Fail::new("not nested")),
-    }
+fn collected(rt: &impl Abort, alloc: Global) -> UsedIds {
+    let func = body(rt, alloc);
+    let ids = used_ids(alloc, &func, id(0)).expect(rt, "memory");
+    ids.expect(rt, "a nested body")
 }
 
 #[test]
-fn each_kind_has_its_list(rt: HostRuntime) -> Result<(), Fail> {
+fn each_kind_has_its_list(rt: HostRuntime) {
     let alloc = rt.alloc();
-    let ids = collected(alloc)?;
-    assert_equal(
-        &rt,
-        indices(alloc, ids.functions.as_slice())?.as_slice(),
-        [5, 5].as_slice(),
-    );
-    assert_equal(
-        &rt,
-        indices(alloc, ids.types.as_slice())?.as_slice(),
-        [9, 6, 11].as_slice(),
-    );
-    assert_equal(
-        &rt,
-        indices(alloc, ids.tables.as_slice())?.as_slice(),
-        [7, 3].as_slice(),
-    );
-    assert_equal(
-        &rt,
-        indices(alloc, ids.tags.as_slice())?.as_slice(),
-        [4, 12].as_slice(),
-    );
-    assert_equal(
-        &rt,
-        indices(alloc, ids.instr_seqs.as_slice())?.as_slice(),
-        [1].as_slice(),
-    );
-    Ok(())
+    let ids = collected(&rt, alloc);
+    hold(&rt, alloc, ids.functions.as_slice(), &[5, 5]);
+    hold(&rt, alloc, ids.types.as_slice(), &[9, 6, 11]);
+    hold(&rt, alloc, ids.tables.as_slice(), &[7, 3]);
+    hold(&rt, alloc, ids.tags.as_slice(), &[4, 12]);
+    hold(&rt, alloc, ids.instr_seqs.as_slice(), &[1]);
 }
 
 #[test]
-fn each_kind_has_its_list_too(rt: HostRuntime) -> Result<(), Fail> {
+fn each_kind_has_its_list_too(rt: HostRuntime) {
     let alloc = rt.alloc();
-    let ids = collected(alloc)?;
-    assert_equal(
-        &rt,
-        indices(alloc, ids.locals.as_slice())?.as_slice(),
-        [8].as_slice(),
-    );
-    assert_equal(
-        &rt,
-        indices(alloc, ids.memories.as_slice())?.as_slice(),
-        [1].as_slice(),
-    );
-    assert_equal(
-        &rt,
-        indices(alloc, ids.data_segments.as_slice())?.as_slice(),
-        [2].as_slice(),
-    );
-    assert_equal(
-        &rt,
-        indices(alloc, ids.elements.as_slice())?.as_slice(),
-        [4].as_slice(),
-    );
+    let ids = collected(&rt, alloc);
+    hold(&rt, alloc, ids.locals.as_slice(), &[8]);
+    hold(&rt, alloc, ids.memories.as_slice(), &[1]);
+    hold(&rt, alloc, ids.data_segments.as_slice(), &[2]);
+    hold(&rt, alloc, ids.elements.as_slice(), &[4]);
     assert_equal(&rt, ids.globals.len(), 0);
-    Ok(())
 }
 
 #[test]
-fn a_body_that_is_not_nested_has_none(rt: HostRuntime) -> Result<(), Fail> {
+fn a_body_that_is_not_nested_has_none(rt: HostRuntime) {
     let alloc = rt.alloc();
     let mut f = empty(alloc);
-    add(alloc, &mut f, NOTHING, vec![in alloc; block(0)]?)?;
+    let instrs = vec![in alloc; block(0)].expect(&rt, "memory");
+    add(alloc, &mut f, NOTHING, instrs).expect(&rt, "memory");
     let func = f.local_func(Vec::new(alloc));
-    assert!(rt; used_ids(alloc, &func, id(0))?.is_none());
-    Ok(())
+    let ids = used_ids(alloc, &func, id(0)).expect(&rt, "memory");
+    assert!(rt; ids.is_none());
 }

@@ -1,5 +1,5 @@
 //! Worked walks.
-use super::log::{Full, HookCall, walk};
+use super::log::{Full, HookCall, Log, walk};
 use super::*;
 use crate::assertions::assert_equal;
 use walrus_ir::{
@@ -10,8 +10,33 @@ use walrus_types::{AbstractHeapType, HeapType, Listed, ModuleTypes, RefType, Val
 
 const ALL: usize = 1_000_000;
 
+// The log of a whole walk.
+fn walk_whole(rt: &impl Abort, alloc: Global, func: &LocalFunction) -> Log {
+    let (log, answer) = walk(rt, alloc, func, ALL);
+    assert_equal(rt, answer, Ok(()));
+    log
+}
+
+// A whole walk has these words.
+fn says(rt: &impl Abort, alloc: Global, func: &LocalFunction, text: &str) {
+    let log = walk_whole(rt, alloc, func);
+    let said = words(alloc, log.calls.as_slice()).expect(rt, "memory");
+    assert_equal(rt, said.as_str(), text);
+}
+
+// Adds a sequence of this type with these instructions.
+fn add_sequence(
+    rt: &impl Abort,
+    alloc: Global,
+    f: &mut FunctionBuilder,
+    ty: InstrSeqType,
+    instrs: Vec<Instr>,
+) {
+    add(alloc, f, ty, instrs).expect(rt, "memory");
+}
+
 // The words of the worked rows: starts and ends, instructions and tags.
-fn words(alloc: Global, calls: &[HookCall]) -> Result<String, Fail> {
+fn words(alloc: Global, calls: &[HookCall]) -> Result<String, AllocError> {
     let mut text = String::new(alloc);
     for call in calls {
         add_word(alloc, &mut text, *call)?;
@@ -19,7 +44,7 @@ fn words(alloc: Global, calls: &[HookCall]) -> Result<String, Fail> {
     Ok(text)
 }
 
-fn add_word(alloc: Global, text: &mut String, call: HookCall) -> Result<(), Fail> {
+fn add_word(alloc: Global, text: &mut String, call: HookCall) -> Result<(), AllocError> {
     let word = match call {
         HookCall::Start(_) => "start ",
         HookCall::End(_) => "end ",
@@ -60,7 +85,7 @@ fn typed(ty: usize) -> InstrSeqType {
 
 // Sequence 0 is the entry, 1 the block, 2 and 3 its arms, 4 the body of the `Try`, 5 and 6 its
 // handlers.
-fn test_function(alloc: Global) -> Result<LocalFunction, Fail> {
+fn test_function(rt: &impl Abort, alloc: Global) -> LocalFunction {
     let mut f = empty(alloc);
     let handlers = vec![in alloc;
         LegacyCatch::Catch {
@@ -68,7 +93,8 @@ fn test_function(alloc: Global) -> Result<LocalFunction, Fail> {
             handler: id(5),
         },
         LegacyCatch::CatchAll { handler: id(6) },
-    ]?;
+    ]
+    .expect(rt, "memory");
     let attempt = Instr::from(Try {
         seq: id(4),
         catches: Listed::from_vec(handlers),
@@ -82,94 +108,88 @@ fn test_function(alloc: Global) -> Result<LocalFunction, Fail> {
         attempt,
         number(10),
         dropping(),
-    ]?;
-    add(alloc, &mut f, typed(OUTER), entry)?;
+    ]
+    .expect(rt, "memory");
+    add(alloc, &mut f, typed(OUTER), entry).expect(rt, "memory");
     let both = Instr::from(IfElse {
         consequent: id(2),
         alternative: id(3),
     });
-    let inside = vec![in alloc; number(2), dropping(), both, number(5), dropping()]?;
-    add(alloc, &mut f, typed(INNER), inside)?;
+    let inside = vec![in alloc; number(2), dropping(), both, number(5), dropping()].expect(
+        rt, "memory",
+    );
+    add(alloc, &mut f, typed(INNER), inside).expect(rt, "memory");
     for n in [3, 4, 7, 8, 9] {
-        let instrs = vec![in alloc; number(n), dropping()]?;
-        add(alloc, &mut f, typed(INNER), instrs)?;
+        let instrs = vec![in alloc; number(n), dropping()].expect(rt, "memory");
+        add(alloc, &mut f, typed(INNER), instrs).expect(rt, "memory");
     }
-    Ok(f.local_func(Vec::new(alloc)))
+    f.local_func(Vec::new(alloc))
 }
 
 const IN_ORDER: &str =
     "start 1 drop block start 2 drop if-else start 3 drop end start 4 drop end 5 drop end 6 drop try tag start 7 drop end start 8 drop end start 9 drop end 10 drop end ";
 
 #[test]
-fn sequences_are_visited_in_order(rt: HostRuntime) -> Result<(), Fail> {
+fn sequences_are_visited_in_order(rt: HostRuntime) {
     let alloc = rt.alloc();
-    let func = test_function(alloc)?;
-    let (log, answer) = walk(alloc, &func, ALL)?;
-    assert_equal(&rt, answer, Ok(()));
-    let text = words(alloc, log.calls.as_slice())?;
-    assert_equal(&rt, text.as_str(), IN_ORDER);
-    Ok(())
+    let func = test_function(&rt, alloc);
+    says(&rt, alloc, &func, IN_ORDER);
 }
 
 // Every hook call in turn is refused: the log is that of the whole walk, cut there, and the error is
 // that of the refused call.
 #[test]
-fn a_refusing_hook_cuts_the_walk(rt: HostRuntime) -> Result<(), Fail> {
+fn a_refusing_hook_cuts_the_walk(rt: HostRuntime) {
     let alloc = rt.alloc();
-    let func = test_function(alloc)?;
-    let (whole, answer) = walk(alloc, &func, ALL)?;
-    assert_equal(&rt, answer, Ok(()));
+    let func = test_function(&rt, alloc);
+    let whole = walk_whole(&rt, alloc, &func);
     for limit in 0..whole.calls.len() {
-        let (log, answer) = walk(alloc, &func, limit)?;
+        let (log, answer) = walk(&rt, alloc, &func, limit);
         assert_equal(&rt, answer, Err(WalkError::Hook(Full(limit))));
         assert!(rt; log.calls.as_slice() == &whole.calls[..limit]);
     }
-    Ok(())
 }
 
 #[test]
-fn labels_of_a_try_table_are_not_entered(rt: HostRuntime) -> Result<(), Fail> {
+fn labels_of_a_try_table_are_not_entered(rt: HostRuntime) {
     let alloc = rt.alloc();
     let mut f = empty(alloc);
-    let clauses = vec![in alloc;
-        TryTableCatch::Catch {
-            tag: id(0),
-            label: id(2),
-        },
-        TryTableCatch::CatchAll { label: id(3) },
-    ]?;
+    let caught = TryTableCatch::Catch {
+        tag: id(0),
+        label: id(2),
+    };
+    let all = TryTableCatch::CatchAll { label: id(3) };
+    let clauses = vec![in alloc; caught, all].expect(&rt, "memory");
     let table = Instr::from(TryTable {
         seq: id(1),
         catches: Listed::from_vec(clauses),
     });
-    let entry = vec![in alloc; number(1), dropping(), table, number(99), dropping()]?;
-    add(alloc, &mut f, typed(OUTER), entry)?;
-    let inside = vec![in alloc; number(5), dropping()]?;
-    add(alloc, &mut f, typed(INNER), inside)?;
-    add(alloc, &mut f, typed(INNER), Vec::new(alloc))?;
-    add(alloc, &mut f, typed(INNER), Vec::new(alloc))?;
-    let func = f.local_func(Vec::new(alloc));
-    let (log, answer) = walk(alloc, &func, ALL)?;
-    assert_equal(&rt, answer, Ok(()));
-    let text = words(alloc, log.calls.as_slice())?;
-    assert_equal(
+    let entry = vec![in alloc; number(1), dropping(), table, number(99), dropping()];
+    add_sequence(
         &rt,
-        text.as_str(),
-        "start 1 drop try-table tag start 5 drop end 99 drop end ",
+        alloc,
+        &mut f,
+        typed(OUTER),
+        entry.expect(&rt, "memory"),
     );
-    Ok(())
+    let inside = vec![in alloc; number(5), dropping()].expect(&rt, "memory");
+    add_sequence(&rt, alloc, &mut f, typed(INNER), inside);
+    add_sequence(&rt, alloc, &mut f, typed(INNER), Vec::new(alloc));
+    add_sequence(&rt, alloc, &mut f, typed(INNER), Vec::new(alloc));
+    let func = f.local_func(Vec::new(alloc));
+    let text = "start 1 drop try-table tag start 5 drop end 99 drop end ";
+    says(&rt, alloc, &func, text);
 }
 
 #[test]
-fn fields_follow_their_instruction(rt: HostRuntime) -> Result<(), Fail> {
+fn fields_follow_their_instruction(rt: HostRuntime) {
     let alloc = rt.alloc();
     let mut types = ModuleTypes::new(alloc);
-    let mut f = FunctionBuilder::new(alloc, &mut types, &[], &[])?;
+    let mut f = FunctionBuilder::new(alloc, &mut types, &[], &[]).expect(&rt, "memory");
     let mut b = f.func_body();
-    b.call_indirect(id(0), id(1))?;
+    b.call_indirect(id(0), id(1)).expect(&rt, "memory");
     let func = f.local_func(Vec::new(alloc));
-    let (log, answer) = walk(alloc, &func, ALL)?;
-    assert_equal(&rt, answer, Ok(()));
+    let log = walk_whole(&rt, alloc, &func);
     let want = [
         HookCall::Start(0),
         HookCall::Ty(1),
@@ -179,14 +199,20 @@ fn fields_follow_their_instruction(rt: HostRuntime) -> Result<(), Fail> {
         HookCall::End(0),
     ];
     assert!(rt; log.calls.as_slice() == want.as_slice());
-    let (log, answer) = walk(alloc, &func, 3)?;
+    let (log, answer) = walk(&rt, alloc, &func, 3);
     assert_equal(&rt, answer, Err(WalkError::Hook(Full(3))));
     assert!(rt; log.calls.as_slice() == &want[..3]);
-    Ok(())
+}
+
+fn funcref() -> ValType {
+    ValType::Ref(RefType {
+        nullable: true,
+        heap_type: HeapType::Abstract(AbstractHeapType::Func),
+    })
 }
 
 #[test]
-fn heap_types_are_reported_whole(rt: HostRuntime) -> Result<(), Fail> {
+fn heap_types_are_reported_whole(rt: HostRuntime) {
     let alloc = rt.alloc();
     let mut f = empty(alloc);
     let cast = Instr::from(BrOnCast {
@@ -196,16 +222,14 @@ fn heap_types_are_reported_whole(rt: HostRuntime) -> Result<(), Fail> {
         to_nullable: true,
         to_heap_type: HeapType::Concrete(id(3)),
     });
-    let funcref = ValType::Ref(RefType {
-        nullable: true,
-        heap_type: HeapType::Abstract(AbstractHeapType::Func),
+    let select = Instr::from(Select {
+        ty: Some(funcref()),
     });
-    let select = Instr::from(Select { ty: Some(funcref) });
-    let ty = InstrSeqType::Simple(Some(funcref));
-    add(alloc, &mut f, ty, vec![in alloc; cast, select]?)?;
+    let ty = InstrSeqType::Simple(Some(funcref()));
+    let instrs = vec![in alloc; cast, select].expect(&rt, "memory");
+    add_sequence(&rt, alloc, &mut f, ty, instrs);
     let func = f.local_func(Vec::new(alloc));
-    let (log, answer) = walk(alloc, &func, ALL)?;
-    assert_equal(&rt, answer, Ok(()));
+    let log = walk_whole(&rt, alloc, &func);
     let want = [
         HookCall::Start(0),
         HookCall::AbstractHeap(AbstractHeapType::Func),
@@ -217,62 +241,46 @@ fn heap_types_are_reported_whole(rt: HostRuntime) -> Result<(), Fail> {
         HookCall::End(0),
     ];
     assert!(rt; log.calls.as_slice() == want.as_slice());
-    Ok(())
 }
 
 // A sequence that two blocks name is visited for each.
 #[test]
-fn a_shared_sequence_is_visited_each_time(rt: HostRuntime) -> Result<(), Fail> {
+fn a_shared_sequence_is_visited_each_time(rt: HostRuntime) {
     let alloc = rt.alloc();
     let mut f = empty(alloc);
-    add(
-        alloc,
-        &mut f,
-        typed(OUTER),
-        vec![in alloc; block(1), block(1)]?,
-    )?;
-    add(alloc, &mut f, typed(INNER), vec![in alloc; number(5)]?)?;
+    let entry = vec![in alloc; block(1), block(1)].expect(&rt, "memory");
+    add_sequence(&rt, alloc, &mut f, typed(OUTER), entry);
+    let inside = vec![in alloc; number(5)].expect(&rt, "memory");
+    add_sequence(&rt, alloc, &mut f, typed(INNER), inside);
     let func = f.local_func(Vec::new(alloc));
-    let (log, answer) = walk(alloc, &func, ALL)?;
-    assert_equal(&rt, answer, Ok(()));
-    let text = words(alloc, log.calls.as_slice())?;
-    assert_equal(
+    says(
         &rt,
-        text.as_str(),
+        alloc,
+        &func,
         "start block start 5 end block start 5 end end ",
     );
-    Ok(())
 }
 
 #[test]
-fn depth_of_a_walk_is_bounded_by_memory_alone(rt: HostRuntime) -> Result<(), Fail> {
+fn depth_of_a_walk_is_bounded_by_memory_alone(rt: HostRuntime) {
     let alloc = rt.alloc();
-    let func = chain(alloc, 10_000)?;
-    let (log, answer) = walk(alloc, &func, ALL)?;
-    assert_equal(&rt, answer, Ok(()));
+    let func = chain(&rt, alloc, 10_000);
+    let log = walk_whole(&rt, alloc, &func);
     let starts = log
         .calls
         .iter()
         .filter(|call| matches!(call, HookCall::Start(_)))
         .count();
     assert_equal(&rt, starts, 10_001);
-    Ok(())
 }
 
 #[test]
-fn errors_print(rt: HostRuntime) -> Result<(), Fail> {
+fn errors_print(rt: HostRuntime) {
     let alloc = rt.alloc();
     let memory: WalkError<Full> = WalkError::Memory;
-    assert_equal(
-        &rt,
-        format!(in alloc; "{memory}")?.as_str(),
-        "out of memory",
-    );
+    let text = format!(in alloc; "{memory}").expect(&rt, "memory");
+    assert_equal(&rt, text.as_str(), "out of memory");
     let hook = WalkError::Hook(Full(3));
-    assert_equal(
-        &rt,
-        format!(in alloc; "{hook}")?.as_str(),
-        "no room for call 3",
-    );
-    Ok(())
+    let text = format!(in alloc; "{hook}").expect(&rt, "memory");
+    assert_equal(&rt, text.as_str(), "no room for call 3");
 }

@@ -2,7 +2,6 @@
 use crate::fixtures::{Shape, entry, to};
 use std::alloc::{AllocError, Global};
 use std::slice;
-use std::test::Fail;
 use walrus_types::{
     CompAt, EntryAt, GroupAt, HashKeys, HeapAt, Listed, ReadError, StorageAt, ValAt,
     is_normal_form, normalise,
@@ -137,16 +136,15 @@ fn is_right(alloc: Global, choices: &[u32]) -> Result<bool, AllocError> {
 }
 
 #[test]
-fn up_to_three_entries(rt: HostRuntime) -> Result<(), Fail> {
+fn up_to_three_entries(rt: HostRuntime) {
     let alloc = rt.alloc();
     for first in 0..CHOICES {
-        assert!(rt; is_right(alloc, &[first])?);
+        assert!(rt; is_right(alloc, &[first]).expect(&rt, "memory"));
         for second in 0..CHOICES {
-            assert!(rt; is_right(alloc, &[first, second])?);
+            assert!(rt; is_right(alloc, &[first, second]).expect(&rt, "memory"));
             for third in 0..CHOICES {
-                assert!(rt; is_right(alloc, &[first, second, third])?);
+                assert!(rt; is_right(alloc, &[first, second, third]).expect(&rt, "memory"));
             }
         }
     }
-    Ok(())
 }

@@ -48,69 +48,63 @@ fn has_one_empty_group(types: &ModuleTypes) -> bool {
 }
 
 #[test]
-fn live_ids_leave_out_the_dead(rt: HostRuntime) -> Result<(), Fail> {
+fn live_ids_leave_out_the_dead(rt: HostRuntime) {
     let mut types = ModuleTypes::new(rt.alloc());
-    assert!(rt; types.live_ids()?.is_empty());
-    types.add(&[], &[])?;
-    add_namers(rt.alloc(), &mut types, &[None, None])?;
-    delete(&rt, &mut types, 1)?;
-    assert!(rt; are(types.live_ids()?.as_slice(), &[0, 2]));
-    Ok(())
+    assert!(rt; types.live_ids().expect(&rt, "memory").is_empty());
+    types.add(&[], &[]).expect(&rt, "memory");
+    add_namers(rt.alloc(), &mut types, &[None, None]).expect(&rt, "memory");
+    delete(&rt, &mut types, 1).expect(&rt, "memory");
+    assert!(rt; are(types.live_ids().expect(&rt, "memory").as_slice(), &[0, 2]));
 }
 
 #[test]
-fn a_type_that_dies_leaves_its_group(rt: HostRuntime) -> Result<(), Fail> {
+fn a_type_that_dies_leaves_its_group(rt: HostRuntime) {
     let mut types = ModuleTypes::new(rt.alloc());
-    types.add(&[], &[])?;
-    add_namers(rt.alloc(), &mut types, &[None, None])?;
-    delete(&rt, &mut types, 1)?;
+    types.add(&[], &[]).expect(&rt, "memory");
+    add_namers(rt.alloc(), &mut types, &[None, None]).expect(&rt, "memory");
+    delete(&rt, &mut types, 1).expect(&rt, "memory");
     assert!(rt; !types.contains(TypeId::from_index(1)));
     assert!(rt; types.rec_group_for_type(TypeId::from_index(1)).is_none());
     assert!(rt; has_ids(&types, 0, &[0]));
-    Ok(())
 }
 
 #[test]
-fn types_that_name_each_other_stay(rt: HostRuntime) -> Result<(), Fail> {
+fn types_that_name_each_other_stay(rt: HostRuntime) {
     let mut types = ModuleTypes::new(rt.alloc());
-    add_namers(rt.alloc(), &mut types, &[Some(1), Some(0)])?;
+    add_namers(rt.alloc(), &mut types, &[Some(1), Some(0)]).expect(&rt, "memory");
     assert_equal(&rt, try_delete(&rt, &mut types, 0), Ok(false));
     assert!(rt; types.contains(TypeId::from_index(0)));
     assert!(rt; types.contains(TypeId::from_index(1)));
-    Ok(())
 }
 
 #[test]
-fn a_whole_group_dies(rt: HostRuntime) -> Result<(), Fail> {
+fn a_whole_group_dies(rt: HostRuntime) {
     let mut types = ModuleTypes::new(rt.alloc());
-    add_namers(rt.alloc(), &mut types, &[Some(1), Some(0)])?;
+    add_namers(rt.alloc(), &mut types, &[Some(1), Some(0)]).expect(&rt, "memory");
     assert_equal(&rt, delete_group(&rt, &mut types, 0), Ok(()));
     assert!(rt; !types.contains(TypeId::from_index(0)));
     assert!(rt; !types.contains(TypeId::from_index(1)));
     assert!(rt; has_one_empty_group(&types));
-    Ok(())
 }
 
 #[test]
-fn a_type_dies_after_the_last_that_names_it(rt: HostRuntime) -> Result<(), Fail> {
+fn a_type_dies_after_the_last_that_names_it(rt: HostRuntime) {
     let mut types = ModuleTypes::new(rt.alloc());
-    add_namers(rt.alloc(), &mut types, &[Some(1), None, Some(2)])?;
+    add_namers(rt.alloc(), &mut types, &[Some(1), None, Some(2)]).expect(&rt, "memory");
     assert_equal(&rt, try_delete(&rt, &mut types, 1), Ok(false));
     assert_equal(&rt, try_delete(&rt, &mut types, 0), Ok(true));
     assert_equal(&rt, try_delete(&rt, &mut types, 1), Ok(true));
     assert_equal(&rt, try_delete(&rt, &mut types, 2), Ok(true));
     assert!(rt; has_one_empty_group(&types));
     assert!(rt; types.rec_group_for_type(TypeId::from_index(0)).is_none());
-    Ok(())
 }
 
 // A name in another group does not keep a type.
 #[test]
-fn names_from_outside_do_not_count(rt: HostRuntime) -> Result<(), Fail> {
+fn names_from_outside_do_not_count(rt: HostRuntime) {
     let mut types = ModuleTypes::new(rt.alloc());
-    add_namers(rt.alloc(), &mut types, &[None])?;
-    add_namers(rt.alloc(), &mut types, &[Some(0)])?;
+    add_namers(rt.alloc(), &mut types, &[None]).expect(&rt, "memory");
+    add_namers(rt.alloc(), &mut types, &[Some(0)]).expect(&rt, "memory");
     assert_equal(&rt, try_delete(&rt, &mut types, 0), Ok(true));
     assert!(rt; types.contains(TypeId::from_index(1)));
-    Ok(())
 }

@@ -86,10 +86,10 @@ fn live_types(types: &ModuleTypes) -> [bool; 6] {
 }
 
 #[test]
-fn every_deletion_succeeds(rt: HostRuntime) -> Result<(), Fail> {
-    let mut arena = four_items(rt.alloc())?;
-    let mut set = four_values(rt.alloc())?;
-    let mut types = six_types(rt.alloc())?;
+fn every_deletion_succeeds(rt: HostRuntime) {
+    let mut arena = four_items(rt.alloc()).expect(&rt, "memory");
+    let mut set = four_values(rt.alloc()).expect(&rt, "memory");
+    let mut types = six_types(rt.alloc()).expect(&rt, "memory");
     // Nothing takes memory from here on.
     assert_equal(&rt, delete_item(&rt, &mut arena), Ok(()));
     assert_equal(&rt, live_items(&arena), [false, true, true, true]);
@@ -121,5 +121,4 @@ fn every_deletion_succeeds(rt: HostRuntime) -> Result<(), Fail> {
     assert_equal(&rt, delete_types(&rt, &mut types), Ok(()));
     assert_equal(&rt, live_types(&types), [false; 6]);
     assert!(rt; has_ids(&types, 2, &[]));
-    Ok(())
 }

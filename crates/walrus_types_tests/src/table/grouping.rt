@@ -22,90 +22,94 @@ fn two_namers(
 }
 
 #[test]
-fn the_types_of_a_group_may_name_each_other(rt: HostRuntime) -> Result<(), Fail> {
+fn the_types_of_a_group_may_name_each_other(rt: HostRuntime) {
     let alloc = rt.alloc();
     let mut types = ModuleTypes::new(alloc);
-    types.add(&[], &[])?;
-    let ids = types.add_rec_group(2, |ids| two_namers(alloc, ids))?;
+    types.add(&[], &[]).expect(&rt, "memory");
+    let ids = types
+        .add_rec_group(2, |ids| two_namers(alloc, ids))
+        .expect(&rt, "memory");
     assert!(rt; are(ids.as_slice(), &[1, 2]));
     let first = TypeId::from_index(1);
     assert!(rt; types.contains(first));
     let second = reference(TypeId::from_index(2));
-    assert!(rt; *types.get(first).kind() == structure(alloc, &[second])?);
+    assert!(rt; *types.get(first).kind() == structure(alloc, &[second]).expect(&rt, "memory"));
     assert_equal(&rt, types.get(first).id(), first);
-    Ok(())
 }
 
 #[test]
-fn a_group_knows_its_types(rt: HostRuntime) -> Result<(), Fail> {
+fn a_group_knows_its_types(rt: HostRuntime) {
     let alloc = rt.alloc();
     let mut types = ModuleTypes::new(alloc);
-    types.add(&[], &[])?;
-    types.add_rec_group(2, |ids| two_namers(alloc, ids))?;
+    types.add(&[], &[]).expect(&rt, "memory");
+    types
+        .add_rec_group(2, |ids| two_namers(alloc, ids))
+        .expect(&rt, "memory");
     let groups = types.rec_groups();
     assert_equal(&rt, groups.len(), 2);
     assert!(rt; !groups[0].is_explicit);
     assert!(rt; are(groups[0].types.as_slice(), &[0]));
     assert!(rt; groups[1].is_explicit);
     assert!(rt; are(groups[1].types.as_slice(), &[1, 2]));
-    Ok(())
 }
 
 #[test]
-fn a_type_knows_its_group(rt: HostRuntime) -> Result<(), Fail> {
+fn a_type_knows_its_group(rt: HostRuntime) {
     let alloc = rt.alloc();
     let mut types = ModuleTypes::new(alloc);
-    types.add(&[], &[])?;
-    types.add_rec_group(2, |ids| two_namers(alloc, ids))?;
+    types.add(&[], &[]).expect(&rt, "memory");
+    types
+        .add_rec_group(2, |ids| two_namers(alloc, ids))
+        .expect(&rt, "memory");
     let group = types.rec_group_for_type(TypeId::from_index(2));
     assert!(rt; group.is_some_and(|g| g.is_explicit && are(g.types.as_slice(), &[1, 2])));
     let group = types.rec_group_for_type(TypeId::from_index(0));
     assert!(rt; group.is_some_and(|g| !g.is_explicit && are(g.types.as_slice(), &[0])));
     assert!(rt; types.rec_group_for_type(TypeId::from_index(3)).is_none());
-    Ok(())
 }
 
 #[test]
-fn a_group_is_built_from_the_ids_it_will_have(rt: HostRuntime) -> Result<(), Fail> {
+fn a_group_is_built_from_the_ids_it_will_have(rt: HostRuntime) {
     let alloc = rt.alloc();
     let mut types = ModuleTypes::new(alloc);
-    types.add(&[], &[])?;
-    let ids = types.add_rec_group(2, |ids| {
-        let (a, b) = (ids[0], ids[1]);
-        let first = structure(alloc, &[reference(b)])?;
-        let second = structure(alloc, &[reference(a)])?;
-        Ok(vec![in alloc; member(first), member(second)]?)
-    })?;
+    types.add(&[], &[]).expect(&rt, "memory");
+    let ids = types
+        .add_rec_group(2, |ids| {
+            let (a, b) = (ids[0], ids[1]);
+            let first = structure(alloc, &[reference(b)])?;
+            let second = structure(alloc, &[reference(a)])?;
+            Ok(vec![in alloc; member(first), member(second)]?)
+        })
+        .expect(&rt, "memory");
     assert!(rt; are(ids.as_slice(), &[1, 2]));
     let (a, b) = (TypeId::from_index(1), TypeId::from_index(2));
     assert!(rt; types.contains(a));
     assert!(rt; types.contains(b));
-    assert!(rt; *types.get(a).kind() == structure(alloc, &[reference(b)])?);
-    assert!(rt; *types.get(b).kind() == structure(alloc, &[reference(a)])?);
-    Ok(())
+    assert!(rt; *types.get(a).kind() == structure(alloc, &[reference(b)]).expect(&rt, "memory"));
+    assert!(rt; *types.get(b).kind() == structure(alloc, &[reference(a)]).expect(&rt, "memory"));
 }
 
 #[test]
-fn a_group_may_be_empty(rt: HostRuntime) -> Result<(), Fail> {
+fn a_group_may_be_empty(rt: HostRuntime) {
     let alloc = rt.alloc();
     let mut types = ModuleTypes::new(alloc);
-    let ids = types.add_rec_group(0, |_| Ok(Vec::new(alloc)))?;
+    let ids = types
+        .add_rec_group(0, |_| Ok(Vec::new(alloc)))
+        .expect(&rt, "memory");
     assert!(rt; ids.is_empty());
     assert_equal(&rt, types.rec_groups().len(), 1);
     assert!(rt; types.rec_groups()[0].is_explicit);
     assert!(rt; types.rec_groups()[0].types.as_slice().is_empty());
-    assert_equal(&rt, types.add(&[], &[])?.index(), 0);
-    Ok(())
+    assert_equal(&rt, types.add(&[], &[]).expect(&rt, "memory").index(), 0);
 }
 
 #[test]
-fn a_group_that_was_not_built_uses_up_no_id(rt: HostRuntime) -> Result<(), Fail> {
+fn a_group_that_was_not_built_uses_up_no_id(rt: HostRuntime) {
     let mut types = ModuleTypes::new(rt.alloc());
     let refused = types.add_rec_group(1, |_| Err(AllocError)).err();
     assert_equal(&rt, refused, Some(AddRecGroupError::Memory));
     assert_equal(&rt, types.rec_groups().len(), 0);
-    assert_equal(&rt, types.add(&[], &[])?.index(), 0);
-    Ok(())
+    assert_equal(&rt, types.add(&[], &[]).expect(&rt, "memory").index(), 0);
 }
 
 // Why a group of one type is refused where so many are asked for.
@@ -115,7 +119,7 @@ fn refusal(alloc: Global, types: &mut ModuleTypes, count: usize) -> Option<AddRe
 }
 
 #[test]
-fn a_group_with_a_type_too_few_uses_up_no_id(rt: HostRuntime) -> Result<(), Fail> {
+fn a_group_with_a_type_too_few_uses_up_no_id(rt: HostRuntime) {
     let mut types = ModuleTypes::new(rt.alloc());
     let refused = refusal(rt.alloc(), &mut types, 2);
     assert_equal(
@@ -124,8 +128,7 @@ fn a_group_with_a_type_too_few_uses_up_no_id(rt: HostRuntime) -> Result<(), Fail
         Some(AddRecGroupError::Count { wanted: 2, got: 1 }),
     );
     assert_equal(&rt, types.rec_groups().len(), 0);
-    assert_equal(&rt, types.add(&[], &[])?.index(), 0);
-    Ok(())
+    assert_equal(&rt, types.add(&[], &[]).expect(&rt, "memory").index(), 0);
 }
 
 #[test]

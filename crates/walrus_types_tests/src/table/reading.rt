@@ -13,9 +13,11 @@ fn a_new_table_has_no_types(rt: HostRuntime) {
 
 // Two parameters and one result.
 #[test]
-fn a_function_type_lends_its_lists(rt: HostRuntime) -> Result<(), Fail> {
+fn a_function_type_lends_its_lists(rt: HostRuntime) {
     let mut types = ModuleTypes::new(rt.alloc());
-    let id = types.add(&[Val::I32, Val::I64], &[Val::F32])?;
+    let id = types
+        .add(&[Val::I32, Val::I64], &[Val::F32])
+        .expect(&rt, "memory");
     assert!(rt; types.contains(id));
     if let CompositeType::Function(_) = types.get(id).kind() {
         assert!(rt; types.params(id) == [Val::I32, Val::I64].as_slice());
@@ -23,16 +25,18 @@ fn a_function_type_lends_its_lists(rt: HostRuntime) -> Result<(), Fail> {
         let (params, results) = types.params_results(id);
         assert_equal(&rt, params.len(), 2);
         assert_equal(&rt, results.len(), 1);
-        return Ok(());
+        return;
     }
     unreachable!()
 }
 
 #[test]
-fn a_new_type_has_no_name(rt: HostRuntime) -> Result<(), Fail> {
+fn a_new_type_has_no_name(rt: HostRuntime) {
     let alloc = rt.alloc();
     let mut types = ModuleTypes::new(alloc);
-    let id = types.add_composite(function(alloc), false, Some(TypeId::from_index(7)))?;
+    let id = types
+        .add_composite(function(alloc), false, Some(TypeId::from_index(7)))
+        .expect(&rt, "memory");
     assert!(rt; types.contains(id));
     let ty = types.get(id);
     assert_equal(&rt, ty.id(), id);
@@ -40,7 +44,6 @@ fn a_new_type_has_no_name(rt: HostRuntime) -> Result<(), Fail> {
     assert_equal(&rt, ty.supertype, Some(TypeId::from_index(7)));
     assert!(rt; ty.name.is_none());
     assert!(rt; !ty.is_for_function_entry());
-    Ok(())
 }
 
 // The sum of the ids, each times ten for each type before it.
@@ -53,13 +56,12 @@ fn ids_in_order(types: &ModuleTypes) -> usize {
 }
 
 #[test]
-fn iter_goes_over_the_live_types(rt: HostRuntime) -> Result<(), Fail> {
+fn iter_goes_over_the_live_types(rt: HostRuntime) {
     let mut types = ModuleTypes::new(rt.alloc());
-    types.add(&[], &[])?;
-    types.add(&[Val::I32], &[])?;
-    types.add(&[Val::I64], &[])?;
+    types.add(&[], &[]).expect(&rt, "memory");
+    types.add(&[Val::I32], &[]).expect(&rt, "memory");
+    types.add(&[Val::I64], &[]).expect(&rt, "memory");
     assert_equal(&rt, ids_in_order(&types), 12);
-    delete(&rt, &mut types, 1)?;
+    delete(&rt, &mut types, 1).expect(&rt, "memory");
     assert_equal(&rt, ids_in_order(&types), 2);
-    Ok(())
 }
