@@ -2,6 +2,7 @@
 use crate::assertions::assert_equal;
 use std::alloc::{AllocError, Global};
 use std::cmp::Ordering;
+use std::test::Fail;
 use walrus_ty::{Field, FieldType, Listed, Storage, StructType, Val};
 
 fn numbers(alloc: Global) -> Result<Listed<u32>, AllocError> {
@@ -43,13 +44,13 @@ fn a_list_grows_and_shrinks_at_the_end(rt: HostRuntime) {
 }
 
 #[test]
-fn a_field_is_made_mutable_in_place(rt: HostRuntime) {
+fn a_field_is_made_mutable_in_place(rt: HostRuntime) -> Result<(), Fail> {
     let field: FieldType = Field {
         element_type: Storage::Val(Val::I64),
         mutable: false,
     };
     let mut made = StructType {
-        fields: Listed::from_vec(vec![in rt.alloc(); field, field].expect(&rt, "memory")),
+        fields: Listed::from_vec(vec![in rt.alloc(); field, field]?),
     };
     assert!(rt; made.fields.len() == 2);
     made.fields[1].mutable = true;
@@ -63,6 +64,7 @@ fn a_field_is_made_mutable_in_place(rt: HostRuntime) {
     };
     assert!(rt; made.fields.len() == 2);
     assert_equal(&rt, made.fields[0].element_type, Storage::I8);
+    Ok(())
 }
 
 #[test]
