@@ -10,34 +10,39 @@ use Rattle.walrus_sections.specs.SlotMap.{TypeGroup}
 use Rattle.walrus_sections.specs.Emission.{IsMember, IsWritten, IsWrittenBefore}
 
 module _ (gs : List TypeGroup) (definition : ℕ → Definition) (is_entry : ℕ → Bool) where
-  -- k stands in the group g, or in a written group before it
-  pub record HasIndexBy (g k : ℕ) : Type 0 where
+  -- the id stands in the group, or in a written group before it
+  pub record HasIndexBy (group id : ℕ) : Type 0 where
     pub home : ℕ
     pub place : ℕ
     pub written : IsWritten gs is_entry home
-    pub member : IsMember gs home place k
-    pub by : (home ≡ g) ⊎ IsWrittenBefore gs definition home g
+    pub member : IsMember gs home place id
+    pub by : (home ≡ group) ⊎ IsWrittenBefore gs definition home group
 
-  -- the t-th name k of i, which is the u-th member of the written group g, has no index when g is
-  -- written
-  pub record IsMissing (g u t i k : ℕ) : Type 0 where
-    pub written : IsWritten gs is_entry g
-    pub member : IsMember gs g u i
-    pub name : slice_get (names_of (definition i)) t ≡ Some k
-    pub missing : ¬ (HasIndexBy g k)
+  -- an id has this place in this group, which is written; of its names the one at this position,
+  -- `named`, has no index when the group is written
+  pub record IsMissing (group place position id named : ℕ) : Type 0 where
+    pub written : IsWritten gs is_entry group
+    pub member : IsMember gs group place id
+    pub name : slice_get (names_of (definition id)) position ≡ Some named
+    pub missing : ¬ (HasIndexBy group named)
 
-  -- the t-th name of the u-th member of g is written before the s-th of the v-th member of h
+  -- of two names, each by its group, its member's place there and its position in the member's
+  -- definition, the one is written before the other
   abbrev pub Precedes : ℕ → ℕ → ℕ → ℕ → ℕ → ℕ → Type 0
-  Precedes g u t h v s =
-      IsWrittenBefore gs definition g h ⊎ ((g ≡ h) × ((u < v) ⊎ ((u ≡ v) × (t < s))))
+  Precedes group place position other_group other_place other_position =
+      IsWrittenBefore gs definition group other_group ⊎ ((group ≡ other_group) ×
+      ((place < other_place) ⊎ ((place ≡ other_place) × (position < other_position))))
 
-  -- of all names that have no index when they are written, k in i is the first
-  pub record IsFirstMissing (i k : ℕ) : Type 0 where
+  -- of all names that have no index when they are written, the name `named` of the id is the first
+  pub record IsFirstMissing (id named : ℕ) : Type 0 where
     pub group : ℕ
     pub place : ℕ
     pub name : ℕ
-    pub is : IsMissing group place name i k
-    pub first : (g u t j l : ℕ) → IsMissing g u t j l → ¬ (Precedes g u t group place name)
+    pub is : IsMissing group place name id named
+    pub first :
+        (other_group other_place other_name other_id other_named : ℕ) →
+        IsMissing other_group other_place other_name other_id other_named →
+        ¬ (Precedes other_group other_place other_name group place name)
 
 -- how many members the written groups have
 abbrev pub written_count : (ℕ → Bool) → List TypeGroup → ℕ

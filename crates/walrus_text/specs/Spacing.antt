@@ -12,9 +12,9 @@ pub data ShortensTo (u : List ℕ) : List ℕ → Type 0 where
   feed_by_feed : (a b : List ℕ) → ShortensTo u (a ++ 10 ∷ b) → ShortensTo u (a ++ 10 ∷ 10 ∷ b)
 
 -- a text between two line feeds, so that spaces at its ends stand beside one too
-abbrev pub framed : List ℕ → List ℕ
-framed text = 10 ∷ (text ++ 10 ∷ [])
+abbrev pub between_line_feeds : List ℕ → List ℕ
+between_line_feeds text = 10 ∷ (text ++ 10 ∷ [])
 
 -- the two can be shortened to one
 abbrev pub IsSameButForSpace : List ℕ → List ℕ → Type 0
-IsSameButForSpace t u = (v : List ℕ) × ShortensTo v (framed t) × ShortensTo v (framed u)
+IsSameButForSpace t u = (v : List ℕ) × ShortensTo v (between_line_feeds t) × ShortensTo v (between_line_feeds u)

@@ -67,8 +67,9 @@ pub record IsEmitted (t : Table) (out : List GroupAt) (x : IndexMap) : Type 0 wh
       (id : ℕ) → (IsSome (x.index id) ↔
       IsWrittenId (type_groups t.groups) (is_entry_at t.types.slots) id)
   pub complete :
-      (g u t' i k : ℕ) → ¬ (IsMissing (type_groups t.groups) (definition_at t.types.slots)
-      (is_entry_at t.types.slots) g u t' i k)
+      (group place position id named : ℕ) →
+      ¬ (IsMissing (type_groups t.groups) (definition_at t.types.slots)
+      (is_entry_at t.types.slots) group place position id named)
 
 -- of all names in the table's written groups that have no index when they are written, `to` in
 -- `from` is the first

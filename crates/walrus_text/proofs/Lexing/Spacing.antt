@@ -5,7 +5,7 @@ use Rattle.std.specs.List.{slice_split, onto_first}
 use Rattle.std.proofs.lemmas.Bool.{eqb-true}
 use Rattle.std.proofs.lemmas.List.Splits.{slice_split-cons_yes, slice_split-cons_no}
 use Rattle.walrus_text.specs.Words.{has_items, words_of, lines_of, space_before_each, text_of}
-use Rattle.walrus_text.specs.Spacing.{ShortensTo, as_it_is, space_by_space, space_after_feed, space_before_feed, feed_by_feed, framed, IsSameButForSpace}
+use Rattle.walrus_text.specs.Spacing.{ShortensTo, as_it_is, space_by_space, space_after_feed, space_before_feed, feed_by_feed, between_line_feeds, IsSameButForSpace}
 
 abbrev Lines : Type 0
 Lines = List (List (List ℕ))
@@ -187,7 +187,7 @@ lines_kept v _ (space_after_feed a b h) = same_lines a (10 ∷ 32 ∷ b) (10 ∷
 lines_kept v _ (space_before_feed a b h) = same_lines a (32 ∷ 10 ∷ b) (10 ∷ b) (before_feed_alike b) ∙ lines_kept v (a ++ 10 ∷ b) h
 lines_kept v _ (feed_by_feed a b h) = same_lines a (10 ∷ 10 ∷ b) (10 ∷ b) (feed_alike b) ∙ lines_kept v (a ++ 10 ∷ b) h
 
-framed_lines : (t : List ℕ) → lines_of (framed t) ≡ lines_of t
+framed_lines : (t : List ℕ) → lines_of (between_line_feeds t) ≡ lines_of t
 framed_lines t = same_lines t (10 ∷ []) [] (record { first = λ p. refl; others = refl }) ∙ ap lines_of (append-nil t)
 
 keep : (c : ℕ) (v t : List ℕ) → ShortensTo v t → ShortensTo (c ∷ v) (c ∷ t)
@@ -205,7 +205,7 @@ abbrev tail_in_word : List ℕ → List ℕ
 tail_in_word t = first_word (first_line t) ++ (space_before_each (other_words (first_line t)) ++ 10 ∷ text_of (other_lines t))
 
 record Tidies (t : List ℕ) : Type 0 where
-  after_feed : ShortensTo (10 ∷ text_of (lines_of t)) (framed t)
+  after_feed : ShortensTo (10 ∷ text_of (lines_of t)) (between_line_feeds t)
   after_space : ShortensTo (tail_after_space t) (32 ∷ (t ++ 10 ∷ []))
   in_word : ShortensTo (tail_in_word t) (t ++ 10 ∷ [])
 
@@ -262,7 +262,7 @@ tidies (c ∷ t) = by_feed (c == 10) refl (tidies t) where
   by_feed false e h = by_space (c == 32) refl e h
 
 pub lines_of_same : (t u : List ℕ) → IsSameButForSpace t u → lines_of t ≡ lines_of u
-lines_of_same t u (v, h, k) = sym (framed_lines t) ∙ (lines_kept v (framed t) h ∙ (sym (lines_kept v (framed u) k) ∙ framed_lines u))
+lines_of_same t u (v, h, k) = sym (framed_lines t) ∙ (lines_kept v (between_line_feeds t) h ∙ (sym (lines_kept v (between_line_feeds u) k) ∙ framed_lines u))
 
 pub same_from_lines : (t u : List ℕ) → lines_of t ≡ lines_of u → IsSameButForSpace t u
 same_from_lines t u e = (10 ∷ text_of (lines_of t), (tidies t).after_feed, to _ _ _ (ap (λ ls. 10 ∷ text_of ls) (sym e)) (tidies u).after_feed)

@@ -1,5 +1,5 @@
--- A few small numbers for a type, by which most types can be lossless_key apart before their lists
--- are looked at.
+-- A few small numbers for a type, by which most types can be told apart before their lists are
+-- looked at.
 -- Of this crate's own working; it serves the order of types, in which a table is written.
 -- WebAssembly core specification, "Types", composite types.
 use Rattle.std.specs.Prelude.{ℕ, ◌+◌, ◌*◌, ◌==◌, cond, Bool, true, false, List, [], ◌∷◌, ◌++◌, map, Option, Some, None}
@@ -28,29 +28,53 @@ sort_key_cmp v w =
     (ordering_then (nat_cmp v.2 w.2)
     (ordering_then (nat_cmp v.3 w.3) (ordering_then (nat_cmp v.4 w.4) (nat_cmp v.5 w.5)))))
 
+-- the place of all heap types that name a type, behind the abstract ones
+abbrev pub named_heap : ℕ
+named_heap = 12
+
+-- how many places heap types have
+abbrev pub heap_places : ℕ
+heap_places = 13
+
+-- the place of the first reference, behind the numbers and the vector
+abbrev pub first_reference : ℕ
+first_reference = 5
+
+-- the place of a reference to a type, and of one that may be null
+abbrev pub named_place : ℕ
+named_place = 17
+
+abbrev pub named_or_null_place : ℕ
+named_or_null_place = 30
+
+-- the place of the first packed type, behind the references
+abbrev pub first_packed : ℕ
+first_packed = 31
+
 -- the place of a heap type in the order; all that name a type have one place
 abbrev pub heap_place : Heap ℕ → ℕ
 heap_place (heap.Abstract a) = abstract_index a
-heap_place (heap.Concrete k) = 12
-heap_place (heap.Exact k) = 12
+heap_place (heap.Concrete k) = named_heap
+heap_place (heap.Exact k) = named_heap
 
--- the place of a value type in the order
+-- the place of a value type in the order: references that may be null stand behind the others
 abbrev pub val_place : Val ℕ → ℕ
 val_place val.I32 = 0
 val_place val.I64 = 1
 val_place val.F32 = 2
 val_place val.F64 = 3
 val_place val.V128 = 4
-val_place (val.Ref r) = 5 + (13 * bool_index r.nullable + heap_place r.heap_type)
+val_place (val.Ref r) =
+    first_reference + (heap_places * bool_index r.nullable + heap_place r.heap_type)
 
 abbrev pub storage_place : Storage ℕ → ℕ
 storage_place (storage.Val v) = val_place v
-storage_place storage.I8 = 31
-storage_place storage.I16 = 32
+storage_place storage.I8 = first_packed
+storage_place storage.I16 = first_packed + 1
 
 -- whether this is the place of the references to types, nullable or not
 abbrev pub is_named : ℕ → Bool
-is_named i = cond (i == 17) true (i == 30)
+is_named i = cond (i == named_place) true (i == named_or_null_place)
 
 -- the rank of what has the place i and is mutable where m says so: the lesser of two has the lesser
 -- rank, or both name a type and have the same
@@ -59,7 +83,7 @@ rank i m = 2 * (i + 1) + cond (is_named i) 0 (bool_index m)
 
 -- whether this is the rank of something that names a type
 abbrev pub is_open : ℕ → Bool
-is_open n = cond (n == 36) true (n == 62)
+is_open n = cond (n == rank named_place false) true (n == rank named_or_null_place false)
 
 abbrev pub val_rank : Val ℕ → ℕ
 val_rank v = rank (val_place v) false

@@ -70,27 +70,33 @@ written_group d w = cond w.is_explicit (Rec (map d w.ids)) (Single (d (slice_ind
 abbrev pub with_indices : (ℕ → Option ℕ) → (ℕ → Definition) → ℕ → Definition
 with_indices index definition i = renamed (λ k. unwrap_or (index k) 0) (definition i)
 
--- the u-th id of the a-th group is i, and its t-th name k is none of the ids up to the end of this
--- group
+-- the id has this place in this group of the list; of its names the one at this position, `named`, is
+-- none of the ids up to the end of the group
 pub record IsMissingIn (definition : ℕ → Definition) (ws : List TypeGroup)
-    (a u t i k : ℕ) : Type 0 where
-  pub group : a < length ws
-  pub member : slice_get (group_at ws a).ids u ≡ Some i
-  pub name : slice_get (names_of (definition i)) t ≡ Some k
-  pub missing : ¬ (Contains (ids_in (take (a + 1) ws)) k)
+    (group_index place position id named : ℕ) : Type 0 where
+  pub group : group_index < length ws
+  pub member : slice_get (group_at ws group_index).ids place ≡ Some id
+  pub name : slice_get (names_of (definition id)) position ≡ Some named
+  pub missing : ¬ (Contains (ids_in (take (group_index + 1) ws)) named)
 
--- of the names in groups in order, this one comes before that
+-- of two names, each by its group, its member's place there and its position in the member's
+-- definition, the one comes before the other
 abbrev pub ComesBefore : ℕ → ℕ → ℕ → ℕ → ℕ → ℕ → Type 0
-ComesBefore a u t b v s = (a < b) ⊎ ((a ≡ b) × ((u < v) ⊎ ((u ≡ v) × (t < s))))
+ComesBefore group place position other_group other_place other_position =
+    (group < other_group) ⊎ ((group ≡ other_group) ×
+    ((place < other_place) ⊎ ((place ≡ other_place) × (position < other_position))))
 
+-- of all names that are missing in the groups, the name `named` of the id is the first
 pub record IsFirstMissingIn (definition : ℕ → Definition) (ws : List TypeGroup)
-    (i k : ℕ) : Type 0 where
+    (id named : ℕ) : Type 0 where
   pub group : ℕ
   pub place : ℕ
   pub name : ℕ
-  pub is : IsMissingIn definition ws group place name i k
+  pub is : IsMissingIn definition ws group place name id named
   pub first :
-      (a u t j l : ℕ) → IsMissingIn definition ws a u t j l → ¬ (ComesBefore a u t group place name)
+      (other_group other_place other_name other_id other_named : ℕ) →
+      IsMissingIn definition ws other_group other_place other_name other_id other_named →
+      ¬ (ComesBefore other_group other_place other_name group place name)
 
 -- the written groups, in the order in which they are written
 pub record IsWritingOrder (gs : List TypeGroup) (definition : ℕ → Definition) (is_entry : ℕ → Bool)
@@ -108,7 +114,9 @@ pub record AreWritten (definition : ℕ → Definition) (ws : List TypeGroup) (o
     (x : IndexMap) : Type 0 where
   pub indexes : Indexes (ids_in ws) x
   pub section : section_of out ≡ map (written_group (with_indices x.index definition)) ws
-  pub complete : (a u t i k : ℕ) → ¬ (IsMissingIn definition ws a u t i k)
+  pub complete :
+      (group place position id named : ℕ) →
+      ¬ (IsMissingIn definition ws group place position id named)
 
 -- how many ids the groups at these places have
 abbrev pub id_count : List TypeGroup → List ℕ → ℕ

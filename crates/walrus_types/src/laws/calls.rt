@@ -7,7 +7,7 @@ ghost use Rattle.std.specs.Fn.{FnOnceTakesAt};
 ghost use Rattle.std.specs.List.{IsDistinct, range_with_len};
 ghost use Rattle.walrus_ty.specs.Types.{unnamed_type, function};
 ghost use Rattle.walrus_ty.specs.declared.ty.composite.CompositeType.TheVariants as kind;
-ghost use Rattle.walrus_types.specs.Table.{Deletes, DeletesAll, DeletesGroup, next_id};
+ghost use Rattle.walrus_types.specs.Table.{Deletes, DeletesAll, DeletesGroup, IsNamedInGroup, next_id};
 ghost use Rattle.walrus_types.specs.TableCalls.{IsAddition, IsCall};
 ghost use Rattle.walrus_types.specs.TableLends.{with_type};
 ghost use Rattle.walrus_types.specs.TypesById.{IsLive};
@@ -119,6 +119,9 @@ pub fn delete_all(types: &mut ModuleTypes, ids: &[TypeId]) -> Result<(), AllocEr
 /// `try_delete` of a table.
 pub fn try_delete(types: &mut ModuleTypes, id: TypeId) -> Result<bool, AllocError>
     requires { IsLive types.old.types.slots id }
+    ensures answer { IfOk result
+        (λ deleted. MatchBool deleted (IsNamedInGroup types.old id → ⊥)
+        (IsNamedInGroup types.old id)) }
     ensures deletes { IfOk result
         (λ deleted. MatchBool deleted (Deletes types.old types.new id) (types.new ≡ types.old)) }
     ensures ok { OnOk result (IsCall types.old types.new []) }
