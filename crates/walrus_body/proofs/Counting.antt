@@ -6,7 +6,7 @@ use Rattle.walrus_ir.specs.declared.ir.exceptions.LegacyCatch.TheVariants as leg
 use Rattle.walrus_ir.specs.declared.ir.exceptions.TryTableCatch.TheVariants as clause
 use Rattle.walrus_ir.specs.declared.ir.instr.Instr.{Instr}
 use Rattle.walrus_functions.specs.Body.{Body, sequence}
-use Rattle.walrus_body.specs.Counting.{counted, CutWalk}
+use Rattle.walrus_body.specs.Counting.{with_budget, CutWalk}
 use Rattle.walrus_body.specs.Extents.{Extent, Full, Partial, Visit, Call, Then, Each, Both}
 use Rattle.walrus_body.specs.Fields.{Row, no_field, one, two, three, with_catches, with_legacy_catches, row, VisitsType, VisitsCatch, VisitsLegacyCatch, VisitsRow}
 use Rattle.walrus_body.specs.Hooks.{Hook, Steps, start_instr_seq, end_instr_seq, visit_instr, visit_instr_seq_id, visit_heap_type, visit_type_id, visit_tag_id}
@@ -57,11 +57,11 @@ module _ {V : Type 0} where
       ]
 
 module _ {V : Type 0} (step : Steps V) where
-  call_counts : (hook : Hook) → Counts (Call step hook) (Call (counted step) hook)
+  call_counts : (hook : Hook) → Counts (Call step hook) (Call (with_budget step) hook)
   call_counts hook v x Full w y h m = (suc m, (h, refl))
   call_counts hook v x Partial w y h m = (m, (ap (λ u. (u, m)) h.0, h.1))
 
-  catch_counts : Counts (VisitsCatch step) (VisitsCatch (counted step))
+  catch_counts : Counts (VisitsCatch step) (VisitsCatch (with_budget step))
   catch_counts v (clause.Catch tag label) e w c h m =
       let a = call_counts visit_tag_id v tag e w h.0 h.1 m in (a.0, (h.0, a.1, h.2))
   catch_counts v (clause.CatchRef tag label) e w c h m =
@@ -69,13 +69,13 @@ module _ {V : Type 0} (step : Steps V) where
   catch_counts v (clause.CatchAll label) e w c h m = (m, (ap (λ u. (u, m)) h.0, h.1))
   catch_counts v (clause.CatchAllRef label) e w c h m = (m, (ap (λ u. (u, m)) h.0, h.1))
 
-  legacy_counts : Counts (VisitsLegacyCatch step) (VisitsLegacyCatch (counted step))
+  legacy_counts : Counts (VisitsLegacyCatch step) (VisitsLegacyCatch (with_budget step))
   legacy_counts v (legacy.Catch tag handler) e w c h m =
       let a = call_counts visit_tag_id v tag e w h.0 h.1 m in (a.0, (h.0, a.1, h.2))
   legacy_counts v (legacy.CatchAll handler) e w c h m = (m, (ap (λ u. (u, m)) h.0, h.1))
   legacy_counts v (legacy.Delegate depth) e w c h m = (m, (ap (λ u. (u, m)) h.0, h.1))
 
-  type_counts : Counts (VisitsType step) (VisitsType (counted step))
+  type_counts : Counts (VisitsType step) (VisitsType (with_budget step))
   type_counts v (MultiValue id) e w ty h m =
       let a = call_counts visit_type_id v id e w h.0 h.1 m in (a.0, (h.0, a.1, h.2))
   type_counts v (Simple (Some (val.Ref r))) e w ty h m =
@@ -87,63 +87,63 @@ module _ {V : Type 0} (step : Steps V) where
   type_counts v (Simple (Some val.V128)) e w ty h m = (m, (ap (λ u. (u, m)) h.0, h.1))
   type_counts v (Simple None) e w ty h m = (m, (ap (λ u. (u, m)) h.0, h.1))
 
-  row_counts : (i : Instr) (r : Row) (v : V) (e : Extent) (w : V) (j : Instr) → VisitsRow step v i r e w j → (m : ℕ) → (n : ℕ) × VisitsRow (counted step) (v, n) i r e (w, m) j
+  row_counts : (i : Instr) (r : Row) (v : V) (e : Extent) (w : V) (j : Instr) → VisitsRow step v i r e w j → (m : ℕ) → (n : ℕ) × VisitsRow (with_budget step) (v, n) i r e (w, m) j
   row_counts i no_field v e w j h m = (m, (ap (λ u. (u, m)) h.0, h.1))
   row_counts i (one hook x put) v e w j h m =
       let a = call_counts hook v x e w h.0 h.1 m in (a.0, (h.0, a.1, h.2))
   row_counts i (two hook follow x y put) v e w j h m =
-      let a = both_counts (Call step hook) (Call step follow) (Call (counted step) hook) (Call (counted step) follow)
+      let a = both_counts (Call step hook) (Call step follow) (Call (with_budget step) hook) (Call (with_budget step) follow)
       (call_counts hook) (call_counts follow) v (x, y) e w (h.0, h.1) h.2 m in
       (a.0, (h.0, h.1, a.1, h.3))
   row_counts i (three hook follow last x y z put) v e w j h m =
-      let a = both_counts (Call step hook) (Both (Call step follow) (Call step last)) (Call (counted step) hook) (Both (Call (counted step) follow) (Call (counted step) last))
+      let a = both_counts (Call step hook) (Both (Call step follow) (Call step last)) (Call (with_budget step) hook) (Both (Call (with_budget step) follow) (Call (with_budget step) last))
       (call_counts hook)
-      (both_counts (Call step follow) (Call step last) (Call (counted step) follow) (Call (counted step) last) (call_counts follow) (call_counts last))
+      (both_counts (Call step follow) (Call step last) (Call (with_budget step) follow) (Call (with_budget step) last) (call_counts follow) (call_counts last))
       v (x, (y, z)) e w (h.0, (h.1, h.2)) h.3 m in
       (a.0, (h.0, h.1, h.2, a.1, h.4))
   row_counts i (with_catches x y put) v e w j h m =
-      let a = both_counts (Call step visit_instr_seq_id) (Each (VisitsCatch step)) (Call (counted step) visit_instr_seq_id) (Each (VisitsCatch (counted step)))
-      (call_counts visit_instr_seq_id) (each_counts (VisitsCatch step) (VisitsCatch (counted step)) catch_counts)
+      let a = both_counts (Call step visit_instr_seq_id) (Each (VisitsCatch step)) (Call (with_budget step) visit_instr_seq_id) (Each (VisitsCatch (with_budget step)))
+      (call_counts visit_instr_seq_id) (each_counts (VisitsCatch step) (VisitsCatch (with_budget step)) catch_counts)
       v (x, y) e w (h.0, h.1) h.2 m in
       (a.0, (h.0, h.1, a.1, h.3))
   row_counts i (with_legacy_catches x y put) v e w j h m =
-      let a = both_counts (Call step visit_instr_seq_id) (Each (VisitsLegacyCatch step)) (Call (counted step) visit_instr_seq_id) (Each (VisitsLegacyCatch (counted step)))
-      (call_counts visit_instr_seq_id) (each_counts (VisitsLegacyCatch step) (VisitsLegacyCatch (counted step)) legacy_counts)
+      let a = both_counts (Call step visit_instr_seq_id) (Each (VisitsLegacyCatch step)) (Call (with_budget step) visit_instr_seq_id) (Each (VisitsLegacyCatch (with_budget step)))
+      (call_counts visit_instr_seq_id) (each_counts (VisitsLegacyCatch step) (VisitsLegacyCatch (with_budget step)) legacy_counts)
       v (x, y) e w (h.0, h.1) h.2 m in
       (a.0, (h.0, h.1, a.1, h.3))
 
-  fields_counts : Counts (VisitsFieldsOf step) (VisitsFieldsOf (counted step))
+  fields_counts : Counts (VisitsFieldsOf step) (VisitsFieldsOf (with_budget step))
   fields_counts v x e w y h m = let a = row_counts x.0 (row x.0) v e w y.0 h.0 m in (a.0, (a.1, h.1))
 
-  instr_counts : Counts (VisitsInstr step) (VisitsInstr (counted step))
+  instr_counts : Counts (VisitsInstr step) (VisitsInstr (with_budget step))
   instr_counts =
-      then_counts (Call step visit_instr) (VisitsFieldsOf step) (Call (counted step) visit_instr) (VisitsFieldsOf (counted step))
+      then_counts (Call step visit_instr) (VisitsFieldsOf step) (Call (with_budget step) visit_instr) (VisitsFieldsOf (with_budget step))
       (call_counts visit_instr) fields_counts
 
-  type_of_counts : Counts (VisitsTypeOf step) (VisitsTypeOf (counted step))
+  type_of_counts : Counts (VisitsTypeOf step) (VisitsTypeOf (with_budget step))
   type_of_counts v s e w t h m = let a = type_counts v s.ty e w h.0 h.1 m in (a.0, (h.0, a.1, h.2))
 
-  instrs_of_counts : Counts (VisitsInstrsOf step) (VisitsInstrsOf (counted step))
+  instrs_of_counts : Counts (VisitsInstrsOf step) (VisitsInstrsOf (with_budget step))
   instrs_of_counts v s e w t h m =
-      let a = each_counts (VisitsInstr step) (VisitsInstr (counted step)) instr_counts v s.instrs e w h.0 h.1 m in
+      let a = each_counts (VisitsInstr step) (VisitsInstr (with_budget step)) instr_counts v s.instrs e w h.0 h.1 m in
       (a.0, (h.0, a.1, h.2))
 
-  sequence_counts : Counts (VisitsSequence step) (VisitsSequence (counted step))
+  sequence_counts : Counts (VisitsSequence step) (VisitsSequence (with_budget step))
   sequence_counts =
       then_counts (Call step start_instr_seq) (Then (VisitsTypeOf step) (Then (VisitsInstrsOf step) (Call step end_instr_seq)))
-      (Call (counted step) start_instr_seq) (Then (VisitsTypeOf (counted step)) (Then (VisitsInstrsOf (counted step)) (Call (counted step) end_instr_seq)))
+      (Call (with_budget step) start_instr_seq) (Then (VisitsTypeOf (with_budget step)) (Then (VisitsInstrsOf (with_budget step)) (Call (with_budget step) end_instr_seq)))
       (call_counts start_instr_seq)
       (then_counts (VisitsTypeOf step) (Then (VisitsInstrsOf step) (Call step end_instr_seq))
-      (VisitsTypeOf (counted step)) (Then (VisitsInstrsOf (counted step)) (Call (counted step) end_instr_seq))
+      (VisitsTypeOf (with_budget step)) (Then (VisitsInstrsOf (with_budget step)) (Call (with_budget step) end_instr_seq))
       type_of_counts
-      (then_counts (VisitsInstrsOf step) (Call step end_instr_seq) (VisitsInstrsOf (counted step)) (Call (counted step) end_instr_seq) instrs_of_counts (call_counts end_instr_seq)))
+      (then_counts (VisitsInstrsOf step) (Call step end_instr_seq) (VisitsInstrsOf (with_budget step)) (Call (with_budget step) end_instr_seq) instrs_of_counts (call_counts end_instr_seq)))
 
-  block_counts : (s t : V × Body) (q : ℕ) (e : Extent) → VisitsBlock step s q e t → (m : ℕ) → (n : ℕ) × VisitsBlock (counted step) ((s.0, n), s.1) q e ((t.0, m), t.1)
+  block_counts : (s t : V × Body) (q : ℕ) (e : Extent) → VisitsBlock step s q e t → (m : ℕ) → (n : ℕ) × VisitsBlock (with_budget step) ((s.0, n), s.1) q e ((t.0, m), t.1)
   block_counts s t q e h m =
       let a = sequence_counts s.0 (sequence s.1 q) e t.0 h.0 h.1 m in (a.0, (h.0, a.1, h.2))
 
   mutual
-    walk_counts : (s t : V × Body) (q : ℕ) (e : Extent) → Walks step s q e t → (m : ℕ) → (n : ℕ) × Walks (counted step) ((s.0, n), s.1) q e ((t.0, m), t.1)
+    walk_counts : (s t : V × Body) (q : ℕ) (e : Extent) → Walks step s q e t → (m : ℕ) → (n : ℕ) × Walks (with_budget step) ((s.0, n), s.1) q e ((t.0, m), t.1)
     walk_counts s t q e (goes_on a k b p f v r) m =
         let y = walks_count k t (last_first_of k.1 q) e r m in
         let x = block_counts s k q Full v y.0 in
@@ -152,7 +152,7 @@ module _ {V : Type 0} (step : Steps V) where
         let x = block_counts s t q Partial v m in
         (x.0, stops ((s.0, x.0), s.1) ((t.0, m), t.1) q x.1)
 
-    walks_count : (s t : V × Body) (qs : List ℕ) (e : Extent) → WalksAll step s qs e t → (m : ℕ) → (n : ℕ) × WalksAll (counted step) ((s.0, n), s.1) qs e ((t.0, m), t.1)
+    walks_count : (s t : V × Body) (qs : List ℕ) (e : Extent) → WalksAll step s qs e t → (m : ℕ) → (n : ℕ) × WalksAll (with_budget step) ((s.0, n), s.1) qs e ((t.0, m), t.1)
     walks_count s t [] e (none a f) m = (m, none ((s.0, m), s.1) e)
     walks_count s t (q ∷ qs) e (next a k b p ps f w r) m =
         let y = walks_count k t qs e r m in

@@ -3,7 +3,7 @@ use Rattle.std.proofs.lemmas.Bool.{cases_lt}
 use Rattle.std.proofs.Common.{◌≡◌, ℕ, zero, suc, ◌+◌, ◌<◌, ◌≤◌, inl, inr, true, false, cond, ltb, List, [], ◌∷◌, ◌++◌, length, refl, sym, ap, ◌∙◌, subst, arith}
 use Rattle.std.specs.List.{AllByRecursion}
 use Rattle.walrus_functions.specs.Body.{Body, Knows}
-use Rattle.walrus_functions.specs.Nesting.{Reached, at_start, below, IsNested}
+use Rattle.walrus_functions.specs.Nesting.{IsReachable, at_start, below, IsNested}
 use Rattle.walrus_body.specs.Steps.{SameNesting, Within, visits, sum_of, depth}
 use Rattle.walrus_body.specs.Walks.{last_first_of}
 use Rattle.walrus_body.proofs.Members.{all_members, all_weaker, child_from_last_first}
@@ -40,7 +40,7 @@ under_lt r t i (suc n) l h =
     elim (cases_lt i n) [ inl k ↦ (let a = under_lt r t i n k h in omega arith) | inr k ↦ last r t i n (omega arith) h ]
 
 pub within_at :
-    (body : Body) (start : ℕ) (h : IsNested body start) (n : ℕ) (q : ℕ) → Reached body start q →
+    (body : Body) (start : ℕ) (h : IsNested body start) (n : ℕ) (q : ℕ) → IsReachable body start q →
     under h.0 (h.0 q) (length body.seqs) < n → Within body n q
 unfolding Within
 within_at body start h zero q r lt = absurd (omega arith)

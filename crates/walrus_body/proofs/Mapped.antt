@@ -9,7 +9,7 @@ use Rattle.walrus_ir.specs.Sequence.{Sequence, empty_sequence}
 use Rattle.walrus_ir.specs.declared.instr_seq_type.InstrSeqType.TheVariants.{Simple}
 use Rattle.std.specs.Prelude.{None}
 use Rattle.walrus_functions.specs.Body.{Body, sequence, with_sequence}
-use Rattle.walrus_functions.specs.Nesting.{Reached}
+use Rattle.walrus_functions.specs.Nesting.{IsReachable}
 use Rattle.walrus_body.specs.Extents.{Full}
 use Rattle.walrus_body.specs.FieldMaps.{FieldMap, MapsFields, IsMapped, mapped_sequence}
 use Rattle.walrus_body.specs.Hooks.{Steps}
@@ -107,12 +107,12 @@ module _ (f : FieldMap) where
   }
 
   -- the sequences that are not reached are as they were
-  pub others_kept : (s t : Body) (start : ℕ) (visits : List ℕ) → Unfolds s start visits → IsMapped f visits s t → (id : ℕ) → (Reached s start id → ⊥) → sequence t id ≡ sequence s id
+  pub others_kept : (s t : Body) (start : ℕ) (visits : List ℕ) → Unfolds s start visits → IsMapped f visits s t → (id : ℕ) → (IsReachable s start id → ⊥) → sequence t id ≡ sequence s id
   others_kept s t start visits u h id n =
       h.sequences id ∙ ap (λ k. iterate (mapped_sequence f) k (sequence s id)) (none_counted id visits (λ m. n (reached_from_visited s start visits u id m)))
 
   -- where no sequence is named twice, each that is reached is mapped once
-  pub once_mapped : (s t : Body) (start : ℕ) (visits : List ℕ) → Unfolds s start visits → IsMapped f visits s t → IsTree s start → (id : ℕ) → Reached s start id → sequence t id ≡ mapped_sequence f (sequence s id)
+  pub once_mapped : (s t : Body) (start : ℕ) (visits : List ℕ) → Unfolds s start visits → IsMapped f visits s t → IsTree s start → (id : ℕ) → IsReachable s start id → sequence t id ≡ mapped_sequence f (sequence s id)
   once_mapped s t start visits u h tree id r =
       let e = unfolding_unique s start tree.0 visits tree.1 u in
       let F : List ℕ → Type 0 = λ l. IsDistinct nat_eq l in

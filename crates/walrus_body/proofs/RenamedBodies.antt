@@ -1,7 +1,7 @@
 -- The visitor that renames types maps fields.
 use Rattle.std.proofs.Common.{◌≡◌, ℕ, List, refl}
 use Rattle.walrus_functions.specs.Body.{Body, sequence}
-use Rattle.walrus_functions.specs.Nesting.{Reached}
+use Rattle.walrus_functions.specs.Nesting.{IsReachable}
 use Rattle.walrus_body.specs.Extents.{Full}
 use Rattle.walrus_body.specs.FieldMaps.{MapsFields, IsMapped}
 use Rattle.walrus_body.specs.Hooks.{Steps}
@@ -31,8 +31,8 @@ module _ (names : List ℕ) (s : Body) (t : List ℕ × Body) (start : ℕ) (w :
   body_renamed =
       let r = walk_maps renames names (renamed_at names) (renames_by_map names) (names, s) t start refl w in (r.0, r.1, r.3)
 
-  pub renamed_once : IsTree s start → (id : ℕ) → Reached s start id → sequence t.1 id ≡ renamed_sequence names (sequence s id)
+  pub renamed_once : IsTree s start → (id : ℕ) → IsReachable s start id → sequence t.1 id ≡ renamed_sequence names (sequence s id)
   renamed_once = once_mapped (renamed_at names) s t.1 start body_renamed.0 body_renamed.1 body_renamed.2
 
-  pub others_not_renamed : (id : ℕ) → (Reached s start id → ⊥) → sequence t.1 id ≡ sequence s id
+  pub others_not_renamed : (id : ℕ) → (IsReachable s start id → ⊥) → sequence t.1 id ≡ sequence s id
   others_not_renamed = others_kept (renamed_at names) s t.1 start body_renamed.0 body_renamed.1 body_renamed.2

@@ -1,7 +1,7 @@
 -- The unfolding of a body visits what is reached, and depends on the nesting alone.
 use Rattle.std.proofs.Common.{◌≡◌, ℕ, inl, inr, List, [], ◌∷◌, ◌++◌, refl, sym, ap, ◌∙◌, subst}
 use Rattle.walrus_functions.specs.Body.{Body}
-use Rattle.walrus_functions.specs.Nesting.{IsChild, Reached, at_start, below}
+use Rattle.walrus_functions.specs.Nesting.{IsChild, IsReachable, at_start, below}
 use Rattle.walrus_body.specs.Steps.{SameNesting}
 use Rattle.walrus_body.specs.Unfolding.{Unfolds, UnfoldAll, then_below, no_child, then_rest}
 use Rattle.walrus_body.specs.Walks.{last_first_of}
@@ -32,14 +32,14 @@ module _ (f : Body) where
 
   module _ (start : ℕ) where
     mutual
-      visit_reached : (q : ℕ) (vs : List ℕ) → Unfolds f q vs → Reached f start q → (c : ℕ) → Member c vs → Reached f start c
+      visit_reached : (q : ℕ) (vs : List ℕ) → Unfolds f q vs → IsReachable f start q → (c : ℕ) → Member c vs → IsReachable f start c
       visit_reached q _ (then_below a vs h) r c m =
           elim m [
-            | inl e ↦ subst (Reached f start) (sym e) r
+            | inl e ↦ subst (IsReachable f start) (sym e) r
             | inr n ↦ visits_reached (last_first_of f q) vs h (λ d k. below q d r (child_from_last_first f q d k)) c n
           ]
 
-      visits_reached : (qs vs : List ℕ) → UnfoldAll f qs vs → ((d : ℕ) → Member d qs → Reached f start d) → (c : ℕ) → Member c vs → Reached f start c
+      visits_reached : (qs vs : List ℕ) → UnfoldAll f qs vs → ((d : ℕ) → Member d qs → IsReachable f start d) → (c : ℕ) → Member c vs → IsReachable f start c
       visits_reached [] _ no_child r c m = absurd m
       visits_reached (q ∷ qs) _ (then_rest a b vs os h k) r c m =
           elim (member_parts c vs os m) [
@@ -75,10 +75,10 @@ module _ (f : Body) where
         ]
 
   -- what is visited is reached
-  pub reached_from_visited : (start : ℕ) (vs : List ℕ) → Unfolds f start vs → (c : ℕ) → Member c vs → Reached f start c
+  pub reached_from_visited : (start : ℕ) (vs : List ℕ) → Unfolds f start vs → (c : ℕ) → Member c vs → IsReachable f start c
   reached_from_visited start vs h c m = visit_reached start start vs h at_start c m
 
   -- what is reached is visited
-  pub visited_from_reached : (start : ℕ) (vs : List ℕ) → Unfolds f start vs → (c : ℕ) → Reached f start c → Member c vs
+  pub visited_from_reached : (start : ℕ) (vs : List ℕ) → Unfolds f start vs → (c : ℕ) → IsReachable f start c → Member c vs
   visited_from_reached start vs h _ at_start = first_visited start vs h
   visited_from_reached start vs h _ (below p c r i) = child_visited start vs h p c (visited_from_reached start vs h p r) i

@@ -8,12 +8,12 @@ use Rattle.walrus_body.specs.Walks.{Walks}
 module _ {V : Type 0} where
   -- each step of a visitor with a budget is one of the visitor, and takes one from the budget; with
   -- none left there is no step
-  abbrev pub counted : Steps V → Steps (V × ℕ)
-  counted step hook v x w y = step hook v.0 x w.0 y × (v.1 ≡ suc w.1)
+  abbrev pub with_budget : Steps V → Steps (V × ℕ)
+  with_budget step hook v x w y = step hook v.0 x w.0 y × (v.1 ≡ suc w.1)
 
   -- the walk that is cut after k hook calls: its budget is k, and all of it is spent
   abbrev pub CutWalk : Steps V → ℕ → V × Body → ℕ → V × Body → Type 0
-  CutWalk step k s id t = Walks (counted step) ((s.0, k), s.1) id Partial ((t.0, 0), t.1)
+  CutWalk step k s id t = Walks (with_budget step) ((s.0, k), s.1) id Partial ((t.0, 0), t.1)
 
   -- what a hook leaves is determined by what it is given
   abbrev pub IsFunction : Steps V → Type 0

@@ -6,13 +6,13 @@ use Rattle.walrus_body.specs.FieldMaps.{mapped_sequence}
 use Rattle.walrus_body.specs.Hooks.{Hook, Given, start_instr_seq, end_instr_seq, visit_instr, visit_instr_seq_id, visit_heap_type, visit_function_id, visit_type_id, visit_table_id, visit_local_id, visit_global_id, visit_value, visit_memory_id, visit_data_id, visit_element_id, visit_tag_id}
 
 -- the new id of a type: what stands at its place in the list, and past the end the id itself
-abbrev pub renamed : List ℕ → ℕ → ℕ
-renamed names id = slice_index_or names id id
+abbrev pub new_type_id : List ℕ → ℕ → ℕ
+new_type_id names id = slice_index_or names id id
 
 -- the ids of types are renamed, and so are those in heap types; nothing else changes
 abbrev pub renamed_at : List ℕ → (hook : Hook) → Given hook → Given hook
-renamed_at names visit_type_id id = renamed names id
-renamed_at names visit_heap_type ty = heap_renamed (renamed names) ty
+renamed_at names visit_type_id id = new_type_id names id
+renamed_at names visit_heap_type ty = heap_renamed (new_type_id names) ty
 renamed_at names start_instr_seq x = x
 renamed_at names end_instr_seq x = x
 renamed_at names visit_instr x = x

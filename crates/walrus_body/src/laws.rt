@@ -2,7 +2,7 @@
 //! which a caller gets by calling it.
 ghost use Rattle.std.specs.Prelude.{◌≡◌, ◌↔◌, ℕ, List, Contains};
 ghost use Rattle.walrus_functions.specs.Body.{Body, sequence};
-ghost use Rattle.walrus_functions.specs.Nesting.{IsNested, Reached};
+ghost use Rattle.walrus_functions.specs.Nesting.{IsNested, IsReachable};
 ghost use Rattle.walrus_body.specs.Counting.{CutWalk, IsFunction};
 ghost use Rattle.walrus_body.specs.Extents.{Full, Partial};
 ghost use Rattle.walrus_body.specs.FieldMaps.{FieldMap, MapsFields, IsMapped};
@@ -40,7 +40,7 @@ pub fn nested_sequences_have_a_full_walk<V: VisitorMut>()
 /// determines it.
 pub fn unfoldings_visit_what_is_reached()
     ensures reached { (f : Body) (start : ℕ) (visits : List ℕ) → Unfolds f start visits →
-        (id : ℕ) → (Contains visits id ↔ Reached f start id) }
+        (id : ℕ) → (Contains visits id ↔ IsReachable f start id) }
     ensures determined { (f : Body) (start : ℕ) (visits others : List ℕ) →
         Unfolds f start visits → Unfolds f start others → visits ≡ others }
 {}
@@ -74,9 +74,9 @@ pub fn rename_types_renames_the_body()
         (visits : List ℕ) × Unfolds s start visits × IsMapped (renamed_at names) visits s t.1 }
     ensures once { (names : List ℕ) (s : Body) (t : List ℕ × Body) (start : ℕ) →
         Walks ⟦<RenameTypes as VisitorMut>⟧.step (names, s) start Full t → IsTree s start →
-        (id : ℕ) → Reached s start id →
+        (id : ℕ) → IsReachable s start id →
         sequence t.1 id ≡ renamed_sequence names (sequence s id) }
     ensures others { (names : List ℕ) (s : Body) (t : List ℕ × Body) (start : ℕ) →
         Walks ⟦<RenameTypes as VisitorMut>⟧.step (names, s) start Full t →
-        (id : ℕ) → (Reached s start id → ⊥) → sequence t.1 id ≡ sequence s id }
+        (id : ℕ) → (IsReachable s start id → ⊥) → sequence t.1 id ≡ sequence s id }
 {}

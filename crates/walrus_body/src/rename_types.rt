@@ -1,7 +1,7 @@
 //! A visitor that renames types.
 ghost use Rattle.std.specs.Prelude.{◌≡◌};
 ghost use Rattle.walrus_ty.specs.Value.{heap_renamed};
-ghost use Rattle.walrus_body.specs.Renaming.{renamed, renamed_at};
+ghost use Rattle.walrus_body.specs.Renaming.{new_type_id, renamed_at};
 
 use crate::VisitorMut;
 use std::convert::Infallible;
@@ -53,7 +53,7 @@ impl RenameTypes {
     }
 
     fn rename(&self, id: &mut TypeId)
-        ensures { id.new ≡ renamed self.now id.old }
+        ensures { id.new ≡ new_type_id self.now id.old }
     {
         let at = id.index();
         if at < self.names.len() {
@@ -62,7 +62,7 @@ impl RenameTypes {
     }
 
     fn rename_heap_type(&self, ty: &mut HeapType)
-        ensures { ty.new ≡ heap_renamed (renamed self.now) ty.old }
+        ensures { ty.new ≡ heap_renamed (new_type_id self.now) ty.old }
     {
         match ty {
             Heap::Concrete(id) => self.rename(id),

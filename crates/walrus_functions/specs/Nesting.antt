@@ -35,16 +35,16 @@ abbrev pub IsChild : Body → ℕ → ℕ → Type 0
 IsChild f parent child = Contains (children_of f parent) child
 
 -- what is reached from `start` through children
-pub data Reached (f : Body) (start : ℕ) : ℕ → Type 0 where
-  at_start : Reached f start start
-  below : (parent child : ℕ) → Reached f start parent → IsChild f parent child
-      → Reached f start child
+pub data IsReachable (f : Body) (start : ℕ) : ℕ → Type 0 where
+  at_start : IsReachable f start start
+  below : (parent child : ℕ) → IsReachable f start parent → IsChild f parent child
+      → IsReachable f start child
 
 -- a rank under which the body is nested: every sequence that is reached is known, and its children
 -- have lesser ranks
 pub record IsRank (f : Body) (start : ℕ) (rank : ℕ → ℕ) : Type 0 where
-  pub known : (id : ℕ) → Reached f start id → Knows f id
-  pub falls : (parent child : ℕ) → Reached f start parent → IsChild f parent child
+  pub known : (id : ℕ) → IsReachable f start id → Knows f id
+  pub falls : (parent child : ℕ) → IsReachable f start parent → IsChild f parent child
       → rank child < rank parent
 
 -- the body is nested from `start`

@@ -21,19 +21,19 @@ AreInOneGroup t a b =
 
 -- a root is needed, so is a live type that a needed one names, and so is what stands in one group
 -- with a needed one
-pub data Needed (t : Table) (roots : List ℕ) : ℕ → Type 0 where
-  root : (id : ℕ) → Contains roots id → Needed t roots id
+pub data IsNeeded (t : Table) (roots : List ℕ) : ℕ → Type 0 where
+  root : (id : ℕ) → Contains roots id → IsNeeded t roots id
   named :
-      (user id : ℕ) → Needed t roots user → IsNamedBy t user id → IsLive t.types.slots id →
-      Needed t roots id
-  grouped : (mate id : ℕ) → Needed t roots mate → AreInOneGroup t mate id → Needed t roots id
+      (user id : ℕ) → IsNeeded t roots user → IsNamedBy t user id → IsLive t.types.slots id →
+      IsNeeded t roots id
+  grouped : (mate id : ℕ) → IsNeeded t roots mate → AreInOneGroup t mate id → IsNeeded t roots id
 
 -- these are the live types that are not needed, in the order of their ids
 pub record AreUnused (t : Table) (roots ids : List ℕ) : Type 0 where
   pub unused :
-      (id : ℕ) → Contains ids id → IsLive t.types.slots id × (Needed t roots id → ⊥)
+      (id : ℕ) → Contains ids id → IsLive t.types.slots id × (IsNeeded t roots id → ⊥)
   pub others :
-      (id : ℕ) → IsLive t.types.slots id → (Contains ids id → ⊥) → Needed t roots id
+      (id : ℕ) → IsLive t.types.slots id → (Contains ids id → ⊥) → IsNeeded t roots id
   pub in_order : IsStrictlyIncreasing ids
 
 -- the types of which P holds stay as they were: at their ids, in their groups, and found by value

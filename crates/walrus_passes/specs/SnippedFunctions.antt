@@ -38,8 +38,8 @@ unreachable_body f = record {
 }
 
 -- the function whose body is a single `unreachable`
-abbrev pub snipped : FunctionWithArgs → FunctionWithArgs
-snipped f = with_body (unreachable_body f.body) f
+abbrev pub unreachable_function : FunctionWithArgs → FunctionWithArgs
+unreachable_function f = with_body (unreachable_body f.body) f
 
 -- the function of the id is what `change` makes of it, and all others are as they were
 abbrev pub Changes :

@@ -10,7 +10,7 @@ use Rattle.walrus_ir.specs.declared.ir.instr.Instr.{Instr}
 use Rattle.walrus_ir.specs.declared.ir.instr.Instr.TheVariants as instr
 use Rattle.walrus_functions.specs.Body.{Body, sequence, instrs_of}
 use Rattle.walrus_functions.specs.Locals.{FunctionWithArgs}
-use Rattle.walrus_functions.specs.Nesting.{IsNested, Reached}
+use Rattle.walrus_functions.specs.Nesting.{IsNested, IsReachable}
 
 -- the body is nested from its entry, if it has one
 abbrev pub HasNestedBody : Body → Type 0
@@ -18,7 +18,7 @@ HasNestedBody f = (start : ℕ) → f.entry ≡ Some start → IsNested f start
 
 -- the sequence is reached from the entry
 abbrev pub IsInBody : Body → ℕ → Type 0
-IsInBody f id = (start : ℕ) × (f.entry ≡ Some start) × Reached f start id
+IsInBody f id = (start : ℕ) × (f.entry ≡ Some start) × IsReachable f start id
 
 -- the types that a value type names, if there is one
 abbrev pub types_of : Option (Val ℕ) → List ℕ

@@ -10,5 +10,6 @@ use Rattle.walrus_types.specs.TableEmission.{type_groups, definition_at, is_entr
 -- before it
 abbrev pub IsWellNamed : Table → Type 0
 IsWellNamed t =
-    (g u n i k : ℕ) → ¬ (IsMissing (type_groups t.groups) (definition_at t.types.slots)
-    (is_entry_at t.types.slots) g u n i k)
+    (group place position id named : ℕ) →
+    ¬ (IsMissing (type_groups t.groups) (definition_at t.types.slots)
+    (is_entry_at t.types.slots) group place position id named)

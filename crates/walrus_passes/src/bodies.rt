@@ -1,6 +1,6 @@
 //! Passes that replace the bodies of functions.
 ghost use Rattle.std.specs.Prelude.{◌≡◌, ◌<◌, length, IfOk, OnOk, OnErr};
-ghost use Rattle.walrus_passes.specs.SnippedFunctions.{with_body, unreachable_body, snipped, type_of_entry, name_or, Changes};
+ghost use Rattle.walrus_passes.specs.SnippedFunctions.{with_body, unreachable_body, unreachable_function, type_of_entry, name_or, Changes};
 
 use std::alloc::{AllocError, Global};
 use std::mem;
@@ -28,7 +28,7 @@ use walrus_types::FunctionId;
 /// ```
 pub fn snip(alloc: Global, funcs: &mut LocalFunctions, id: FunctionId) -> Result<(), AllocError>
     requires { id < length funcs.old }
-    ensures ok { OnOk result (Changes funcs.old funcs.new id snipped) }
+    ensures ok { OnOk result (Changes funcs.old funcs.new id unreachable_function) }
     ensures err { OnErr result (funcs.new ≡ funcs.old) }
 {
     let body = unreachable_body(alloc, funcs.get(id))?;

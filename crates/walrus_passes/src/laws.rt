@@ -8,14 +8,14 @@ ghost use Rattle.walrus_ir.specs.ConstExpr.{referenced_ids};
 ghost use Rattle.walrus_ir.specs.Locals.{LocalVariable};
 ghost use Rattle.walrus_ir.specs.declared.const_expr.ConstExpr.{ConstExpr};
 ghost use Rattle.walrus_passes.specs.IndexMaps.{new_index, index_through};
-ghost use Rattle.walrus_passes.specs.NeededTypes.{Needed, Keeps};
+ghost use Rattle.walrus_passes.specs.NeededTypes.{IsNeeded, Keeps};
 ghost use Rattle.walrus_passes.specs.UsedTypes.{UsesType};
 
 /// What a function uses stays where it stands among the roots: a table that keeps the types which
 /// the roots need, as [`delete_unused_types`](crate::delete_unused_types) leaves it, has each type
 /// that the function uses as it was.
 pub fn used_types_are_kept()
-    ensures { (old new : Table) (roots : List ℕ) → Keeps (Needed old roots) old new →
+    ensures { (old new : Table) (roots : List ℕ) → Keeps (IsNeeded old roots) old new →
         (locals : List LocalVariable) (f : FunctionWithArgs) →
         ((id : ℕ) → UsesType locals f id → Contains roots id) →
         (id : ℕ) → UsesType locals f id →
@@ -25,7 +25,7 @@ pub fn used_types_are_kept()
 /// What a constant expression names stays where it stands among the roots, as
 /// [`referenced_types`](walrus_ir::ConstExpr::referenced_types) puts it there.
 pub fn referenced_types_are_kept()
-    ensures { (old new : Table) (roots : List ℕ) → Keeps (Needed old roots) old new →
+    ensures { (old new : Table) (roots : List ℕ) → Keeps (IsNeeded old roots) old new →
         (init : ConstExpr) →
         ((id : ℕ) → Contains (referenced_ids init) id → Contains roots id) →
         (id : ℕ) → Contains (referenced_ids init) id →

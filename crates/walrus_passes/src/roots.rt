@@ -50,7 +50,7 @@ pub fn used_types(
     ensures types { IfOk result (λ o. IfSome o (λ ids. (id : ℕ) →
         Contains ids.items id ↔ UsesType locals.now func.now id)) }
 {
-    let Some(seqs) = reached(alloc, func)? else {
+    let Some(seqs) = reachable_seqs(alloc, func)? else {
         return Ok(None);
     };
     let mut used = vec![in alloc; func.ty()]?;
@@ -60,7 +60,10 @@ pub fn used_types(
 }
 
 // The sequences that are reached from the entry, or `None` where the body is not nested.
-fn reached(alloc: Global, func: &LocalFunction) -> Result<Option<Vec<InstrSeqId>>, AllocError>
+fn reachable_seqs(
+    alloc: Global,
+    func: &LocalFunction,
+) -> Result<Option<Vec<InstrSeqId>>, AllocError>
     ensures nested { IfOk result (λ o. IsSome o ↔ HasNestedBody func.now.body) }
     ensures reached { IfOk result (λ o. IfSome o (λ ids. (id : ℕ) →
         Contains ids.items id ↔ IsInBody func.now.body id)) }

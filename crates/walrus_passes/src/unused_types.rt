@@ -2,7 +2,7 @@
 ghost use Rattle.std.specs.Prelude.{◌≡◌, ◌↔◌, ◌≤◌, ℕ, All, IfOk, OnOk, OnErr};
 ghost use Rattle.walrus_types.specs.TypesById.{IsLive};
 ghost use Rattle.walrus_types.specs.Table.{IsTable, DeletesAll};
-ghost use Rattle.walrus_passes.specs.NeededTypes.{Needed, AreUnused, Keeps};
+ghost use Rattle.walrus_passes.specs.NeededTypes.{IsNeeded, AreUnused, Keeps};
 ghost use Rattle.walrus_passes.specs.WellNamed.{IsWellNamed};
 
 mod marking;
@@ -48,8 +48,8 @@ pub fn delete_unused_types(
     ensures deleted { IfOk result (λ ids. AreUnused types.old roots.now ids.items) }
     ensures ok { IfOk result (λ ids. DeletesAll types.old ids.items types.new) }
     ensures live { OnOk result
-        ((id : ℕ) → IsLive types.new.types.slots id ↔ Needed types.old roots.now id) }
-    ensures kept { OnOk result (Keeps (Needed types.old roots.now) types.old types.new) }
+        ((id : ℕ) → IsLive types.new.types.slots id ↔ IsNeeded types.old roots.now id) }
+    ensures kept { OnOk result (Keeps (IsNeeded types.old roots.now) types.old types.new) }
     ensures well_named { OnOk result (IsWellNamed types.old → IsWellNamed types.new) }
     ensures err { OnErr result (types.new ≡ types.old) }
 {
@@ -72,7 +72,7 @@ fn unused_types(
     let groups = types.rec_groups();
     let mut marking = Marking::new(alloc, greatest(live.as_slice()), groups.len())?;
     marking.mark_needed(alloc, types, roots)?;
-    marking.unmarked(alloc, live.as_slice())
+    marking.unmarked_ids(alloc, live.as_slice())
 }
 
 // The greatest of these ids, as a number, or 0 where there are none.

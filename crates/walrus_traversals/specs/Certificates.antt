@@ -2,7 +2,7 @@
 use Rattle.std.specs.Prelude.{◌≡◌, ℕ, suc, ◌<◌, ◌↔◌, ⊤, List, All, Contains, Some, slice_get, length, nat_eq}
 use Rattle.std.specs.List.{IsDistinct}
 use Rattle.walrus_functions.specs.Body.{Body, Knows}
-use Rattle.walrus_functions.specs.Nesting.{IsChild, Reached}
+use Rattle.walrus_functions.specs.Nesting.{IsChild, IsReachable}
 use Rattle.walrus_traversals.specs.declared.nesting.Nesting.{Nesting}
 use Rattle.walrus_traversals.specs.declared.nesting.Nesting.TheVariants.{Nested, Cycle, Unknown}
 
@@ -11,7 +11,7 @@ pub record ShowsNested (f : Body) (start : ℕ) (list : List ℕ) : Type 0 where
   -- no id stands in it twice
   pub once : IsDistinct nat_eq list
   -- it holds just what is reached
-  pub reached : (id : ℕ) → Contains list id ↔ Reached f start id
+  pub reached : (id : ℕ) → Contains list id ↔ IsReachable f start id
   -- with a sequence it holds the children
   pub closed : (parent child : ℕ) →
       Contains list parent → IsChild f parent child → Contains list child

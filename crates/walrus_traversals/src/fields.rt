@@ -1,7 +1,7 @@
 //! What an instruction reports to visitors.
 ghost use Rattle.std.specs.Prelude.{◌≡◌};
 ghost use Rattle.walrus_traversals.specs.Events.{fields, type_of};
-ghost use Rattle.walrus_traversals.specs.Steps.Fields.{reported};
+ghost use Rattle.walrus_traversals.specs.Steps.Fields.{field_events};
 
 use walrus_ir::{
     DataId, ElementId, FunctionId, GlobalId, Instr, InstrSeqId, InstrSeqType, LocalId, MemoryId,
@@ -38,7 +38,7 @@ pub(crate) enum Fields {
 /// The fields that are reported, in declared order. Each arm is written out, so that a new
 /// instruction can't be forgotten.
 pub(crate) fn fields_of(instr: &Instr) -> Fields
-    ensures { reported result ≡ fields instr.now }
+    ensures { field_events result ≡ fields instr.now }
 {
     match instr {
         Instr::Block(x) => Fields::One(Field::InstrSeq(x.seq)),
@@ -152,7 +152,7 @@ pub(crate) fn fields_of(instr: &Instr) -> Fields
 
 /// What the type of a sequence reports.
 pub(crate) fn fields_of_type(ty: &InstrSeqType) -> Fields
-    ensures { reported result ≡ type_of ty.now }
+    ensures { field_events result ≡ type_of ty.now }
 {
     match ty {
         InstrSeqType::MultiValue(id) => Fields::One(Field::Ty(*id)),

@@ -2,7 +2,7 @@
 //! which a caller gets by calling it.
 ghost use Rattle.std.specs.Prelude.{◌≡◌, ◌↔◌, ℕ};
 ghost use Rattle.walrus_functions.specs.Body.{Body, Knows, sequence};
-ghost use Rattle.walrus_functions.specs.Nesting.{IsNested, IsChild, Reached};
+ghost use Rattle.walrus_functions.specs.Nesting.{IsNested, IsChild, IsReachable};
 ghost use Rattle.walrus_traversals.specs.Certificates.{Shows, AnswersNested};
 ghost use Rattle.walrus_traversals.specs.Events.{events, events_of};
 
@@ -21,9 +21,9 @@ pub fn nested_exactly(func: &LocalFunction, start: InstrSeqId, answer: &Nesting)
 /// it.
 pub fn nested_throughout()
     ensures known { (f : Body) (start id : ℕ) →
-        IsNested f start → Reached f start id → Knows f id }
+        IsNested f start → IsReachable f start id → Knows f id }
     ensures nested { (f : Body) (start id : ℕ) →
-        IsNested f start → Reached f start id → IsNested f id }
+        IsNested f start → IsReachable f start id → IsNested f id }
 {}
 
 /// The events of a nested sequence are its own, with those of the sequences inside it at their

@@ -2,7 +2,7 @@
 use Rattle.std.proofs.Common.{◌≡◌, ◌≢◌, ℕ, zero, suc, ◌<◌, ◌⊎◌, inl, inr, Bool, true, false, cond, nat_eq, eqb-true, List, [], ◌∷◌, length, refl, sym, subst, ◌∙◌, arith, Contains, All, get_or, set, get_or-set_same, get_or-set_other}
 use Rattle.std.proofs.lemmas.Bool.{eqb-false}
 use Rattle.std.proofs.lemmas.List.{length-set}
-use Rattle.walrus_passes.specs.Steps.Marking.{State, is_marked, IsMarked, marked, all_marked, unmarked, steps_left}
+use Rattle.walrus_passes.specs.Steps.Marking.{State, is_marked, IsMarked, with_mark, with_marks, unmarked_count, steps_left}
 use Rattle.walrus_passes.proofs.UnusedTypes.Elements.{contains_none, contains_first, contains_rest, contains_cases, all_rest, all_first}
 
 -- marks and work came, of ids of which P holds, and nothing went
@@ -55,7 +55,7 @@ grows_more P Q s new more a = record {
 -- one mark more
 unmarked_set :
     (marks : List Bool) (id : ℕ) → id < length marks → get_or marks id false ≡ false →
-    suc (unmarked (set marks id true)) ≡ unmarked marks
+    suc (unmarked_count (set marks id true)) ≡ unmarked_count marks
 unmarked_set [] id below none = absurd (omega (arith, below))
 unmarked_set (true ∷ marks) zero below none = absurd (cc)
 unmarked_set (false ∷ marks) zero below none = omega arith
@@ -94,14 +94,14 @@ module _ (s : State) (id : ℕ) (below : id < length s.marks) where
     steps = (let fewer = unmarked_set s.marks id below none in omega (arith, fewer));
   }
 
-  pub marked_grows : Grows (λ x. x ≡ id) s (marked id s)
+  pub marked_grows : Grows (λ x. x ≡ id) s (with_mark id s)
   marked_grows = by_test (is_marked s id) refl
     where
       by_test : (b : Bool) → b ≡ is_marked s id → Grows (λ x. x ≡ id) s (cond b s grown)
       by_test true e = grows_none (λ x. x ≡ id) s
       by_test false e = mark_grows (sym e)
 
-  pub marked_here : IsMarked (marked id s) id
+  pub marked_here : IsMarked (with_mark id s) id
   marked_here = by_test (is_marked s id) refl
     where
       by_test : (b : Bool) → b ≡ is_marked s id → IsMarked (cond b s grown) id
@@ -110,7 +110,7 @@ module _ (s : State) (id : ℕ) (below : id < length s.marks) where
 
 still_below :
     (s : State) (id : ℕ) (ids : List ℕ) → All (λ x. x < length s.marks) (id ∷ ids) →
-    All (λ x. x < length (marked id s).marks) ids
+    All (λ x. x < length (with_mark id s).marks) ids
 still_below s id ids all = λ k d b.
     let grows = marked_grows s id (all_first (λ x. x < length s.marks) id ids all) in
     let low = all_rest (λ x. x < length s.marks) id ids all k d b in
@@ -118,29 +118,29 @@ still_below s id ids all = λ k d b.
 
 pub all_grow :
     (s : State) (ids : List ℕ) → All (λ x. x < length s.marks) ids →
-    Grows (Contains ids) s (all_marked ids s)
+    Grows (Contains ids) s (with_marks ids s)
 all_grow s [] all = grows_none (Contains []) s
 all_grow s (id ∷ ids) all =
     let first = marked_grows s id (all_first (λ x. x < length s.marks) id ids all) in
-    let rest = all_grow (marked id s) ids (still_below s id ids all) in
-    grows_both (Contains (id ∷ ids)) s (marked id s) (all_marked ids (marked id s))
-    (grows_more (λ x. x ≡ id) (Contains (id ∷ ids)) s (marked id s) (λ x e. subst (Contains (id ∷ ids)) (sym e) (contains_first id ids)) first)
-    (grows_more (Contains ids) (Contains (id ∷ ids)) (marked id s) (all_marked ids (marked id s)) (λ x c. contains_rest id ids x c) rest)
+    let rest = all_grow (with_mark id s) ids (still_below s id ids all) in
+    grows_both (Contains (id ∷ ids)) s (with_mark id s) (with_marks ids (with_mark id s))
+    (grows_more (λ x. x ≡ id) (Contains (id ∷ ids)) s (with_mark id s) (λ x e. subst (Contains (id ∷ ids)) (sym e) (contains_first id ids)) first)
+    (grows_more (Contains ids) (Contains (id ∷ ids)) (with_mark id s) (with_marks ids (with_mark id s)) (λ x c. contains_rest id ids x c) rest)
 
 pub all_here :
     (s : State) (ids : List ℕ) → All (λ x. x < length s.marks) ids → (x : ℕ) → Contains ids x →
-    IsMarked (all_marked ids s) x
+    IsMarked (with_marks ids s) x
 all_here s [] all x c = absurd (contains_none x c)
 all_here s (id ∷ ids) all x c = elim (contains_cases id ids x c) [
-  | inl e ↦ (let rest = all_grow (marked id s) ids (still_below s id ids all) in subst (IsMarked (all_marked ids (marked id s))) (sym e) (rest.kept id (marked_here s id (all_first (λ x. x < length s.marks) id ids all))))
-  | inr k ↦ all_here (marked id s) ids (still_below s id ids all) x k
+  | inl e ↦ (let rest = all_grow (with_mark id s) ids (still_below s id ids all) in subst (IsMarked (with_marks ids (with_mark id s))) (sym e) (rest.kept id (marked_here s id (all_first (λ x. x < length s.marks) id ids all))))
+  | inr k ↦ all_here (with_mark id s) ids (still_below s id ids all) x k
 ]
 
 -- the marks are as many
 pub marks_stay :
-    (s : State) (ids : List ℕ) → length (all_marked ids s).marks ≡ length s.marks
+    (s : State) (ids : List ℕ) → length (with_marks ids s).marks ≡ length s.marks
 marks_stay s [] = refl
-marks_stay s (id ∷ ids) = marks_stay (marked id s) ids ∙ one (is_marked s id)
+marks_stay s (id ∷ ids) = marks_stay (with_mark id s) ids ∙ one (is_marked s id)
   where
     one : (b : Bool) → length (cond b s (record { marks = set s.marks id true; work = id ∷ s.work })).marks ≡ length s.marks
     one true = refl

@@ -7,18 +7,18 @@ use Rattle.walrus_ty.specs.SameTypes.{type_eq}
 use Rattle.walrus_types.specs.TypesById.{live_type, IsLive, passes}
 use Rattle.walrus_types.specs.Table.{Table, IsTable, rec_group_at, DeletesAll}
 use Rattle.walrus_types.proofs.Tables.Places.{any_has, has_any}
-use Rattle.walrus_passes.specs.NeededTypes.{Needed, root, named, grouped, AreUnused, Keeps}
+use Rattle.walrus_passes.specs.NeededTypes.{IsNeeded, root, named, grouped, AreUnused, Keeps}
 use Rattle.walrus_passes.proofs.UnusedTypes.Elements.{contains_from_get, get_from_contains}
 use Rattle.walrus_passes.proofs.UnusedTypes.Deleting.{leaves, group_stays, group_goes}
 use Rattle.walrus_passes.proofs.UnusedTypes.Found.{found_parts, found_left, found_still}
 
 module _ (old new : Table) (roots ids : List ℕ) (is : IsTable old) (live : All (IsLive old.types.slots) roots) (unused : AreUnused old roots ids) (all : DeletesAll old ids new) where
-  needed_live : (id : ℕ) → Needed old roots id → IsLive old.types.slots id
+  needed_live : (id : ℕ) → IsNeeded old roots id → IsLive old.types.slots id
   needed_live id (root x h) = All-contains (IsLive old.types.slots) roots x live h
   needed_live id (named user x u n l) = l
   needed_live id (grouped mate x m (k, u, v, here, there)) = is.live k v x there
 
-  needed_stays : (id : ℕ) → Needed old roots id → Contains ids id → ⊥
+  needed_stays : (id : ℕ) → IsNeeded old roots id → Contains ids id → ⊥
   needed_stays id n c = (unused.unused id c).1 n
 
   alive : (o : Option ModuleType) → o ≡ None → IsSome o → ⊥
@@ -30,7 +30,7 @@ module _ (old new : Table) (roots ids : List ℕ) (is : IsTable old) (live : All
       let none : Contains ids id → ⊥ = λ c. alive (live_type new.types.slots id) (l.dies id c) h in
       (subst (λ (o : Option ModuleType). IsSome o) (l.stays id none) h, none)
 
-  pub live_needed : (id : ℕ) → IsLive new.types.slots id ↔ Needed old roots id
+  pub live_needed : (id : ℕ) → IsLive new.types.slots id ↔ IsNeeded old roots id
   live_needed id = (
     λ h. (let w = was_live id h in unused.others id w.0 w.1),
     λ n. subst (λ (o : Option ModuleType). IsSome o) (sym ((leaves old new ids all).stays id (needed_stays id n))) (needed_live id n),
@@ -41,7 +41,7 @@ module _ (old new : Table) (roots ids : List ℕ) (is : IsTable old) (live : All
   passes_live q (Some ty) h = refl
 
   -- whether an id is among those that go
-  goes_or_needed : (id : ℕ) → IsLive old.types.slots id → (Needed old roots id → ⊥) → Contains ids id
+  goes_or_needed : (id : ℕ) → IsLive old.types.slots id → (IsNeeded old roots id → ⊥) → Contains ids id
   goes_or_needed id l none = by_test (list_any (nat_eq id) ids) refl
     where
       by_test : (b : Bool) → b ≡ list_any (nat_eq id) ids → Contains ids id
@@ -51,7 +51,7 @@ module _ (old new : Table) (roots ids : List ℕ) (is : IsTable old) (live : All
           differ : true ≡ false → ⊥
           differ h = cc
 
-  pub needed_kept : Keeps (Needed old roots) old new
+  pub needed_kept : Keeps (IsNeeded old roots) old new
   needed_kept = record {
     types = λ id n. (leaves old new ids all).stays id (needed_stays id n);
     next = (leaves old new ids all).next;

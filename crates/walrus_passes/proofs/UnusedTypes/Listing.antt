@@ -9,7 +9,7 @@ use Rattle.std.proofs.lemmas.Bool.Decides.{nat_tests}
 use Rattle.walrus_types.specs.TypesById.{live_type, IsLive}
 use Rattle.walrus_types.specs.Table.{Table, IsTable, live_ids}
 use Rattle.walrus_types.proofs.Tables.Places.{live_below, range_get}
-use Rattle.walrus_passes.specs.NeededTypes.{Needed, AreUnused}
+use Rattle.walrus_passes.specs.NeededTypes.{IsNeeded, AreUnused}
 use Rattle.walrus_passes.specs.Steps.Marking.{State, is_marked, MarksNeeded, Covers, no_marks}
 use Rattle.walrus_passes.proofs.UnusedTypes.Elements.{contains_none, contains_first, contains_rest, contains_cases, contains_from_get}
 
@@ -103,7 +103,7 @@ unused_from t roots s ids marks is = subst (AreUnused t roots) (sym is) (record 
   in_order = increasing 0 (filter (λ id. not (is_marked s id)) (live_ids t)) (filter_rises (λ id. not (is_marked s id)) 0 (live_ids t) (filter_rises (λ id. is_some (live_type t.types.slots id)) 0 (range_with_len 0 (length t.types.slots)) (range_rises 0 (length t.types.slots))));
 })
   where
-    by_mark : (id : ℕ) → IsLive t.types.slots id → (Contains (filter (λ id. not (is_marked s id)) (live_ids t)) id → ⊥) → (b : Bool) → b ≡ is_marked s id → Needed t roots id
+    by_mark : (id : ℕ) → IsLive t.types.slots id → (Contains (filter (λ id. not (is_marked s id)) (live_ids t)) id → ⊥) → (b : Bool) → b ≡ is_marked s id → IsNeeded t roots id
     by_mark id live none true e = (marks id).0 (sym e)
     by_mark id live none false e = absurd (none (kept_by_filter (λ id. not (is_marked s id)) (live_ids t) id (live_listed t id live) (ap not (sym e))))
 

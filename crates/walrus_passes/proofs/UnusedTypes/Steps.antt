@@ -3,7 +3,7 @@ use Rattle.std.proofs.Common.{◌≡◌, ℕ, ◌+◌, ◌<◌, ◌≤◌, List,
 use Rattle.std.proofs.lemmas.List.Elements.{All-more}
 use Rattle.walrus_types.specs.declared.table.rec_group.RecGroup.{RecGroup}
 use Rattle.walrus_types.specs.Table.{Table, group_with}
-use Rattle.walrus_passes.specs.Steps.Marking.{State, all_marked, all_reached, members_of, Covers}
+use Rattle.walrus_passes.specs.Steps.Marking.{State, with_marks, with_all_group_marks, members_of, Covers}
 use Rattle.walrus_passes.proofs.UnusedTypes.Growing.{marks_stay}
 use Rattle.walrus_passes.proofs.UnusedTypes.Reaching.{IsMateOf, covers_grown, all_reached_grow, members_below}
 
@@ -14,7 +14,7 @@ greatest_more ids k x old new below is all more here =
     All-more (λ id. id ≤ new) ids k x below (λ j d b. (let low = all j d b in omega (arith, low, more))) (omega (arith, is, here))
 
 pub next_below :
-    (s self : State) (ids : List ℕ) (k x : ℕ) → self ≡ all_marked (take k ids) s →
+    (s self : State) (ids : List ℕ) (k x : ℕ) → self ≡ with_marks (take k ids) s →
     All (λ id. id < length s.marks) ids → k < length ids → x ≡ get_or ids k x →
     x < length self.marks
 next_below s self ids k x is all below read =
@@ -24,10 +24,10 @@ next_below s self ids k x is all below read =
     omega (arith, stay, size, low, read)
 
 pub next_covered :
-    (t : Table) (s self : State) (ids : List ℕ) (k : ℕ) → self ≡ all_reached t (take k ids) s →
+    (t : Table) (s self : State) (ids : List ℕ) (k : ℕ) → self ≡ with_all_group_marks t (take k ids) s →
     Covers t s → Covers t self
 next_covered t s self ids k is c =
-    subst (Covers t) (sym is) (covers_grown t (IsMateOf t (take k ids)) s (all_reached t (take k ids) s) c (all_reached_grow t s (take k ids) c))
+    subst (Covers t) (sym is) (covers_grown t (IsMateOf t (take k ids)) s (with_all_group_marks t (take k ids) s) c (all_reached_grow t s (take k ids) c))
 
 pub group_below :
     (t : Table) (s : State) (id : ℕ) (g : RecGroup) (xs : List ℕ) → Covers t s →

@@ -11,7 +11,7 @@ use Rattle.walrus_types.specs.TypesById.{TypeSlots, live_type, IsLive}
 use Rattle.walrus_types.specs.Table.{Table, IsTable, IsIdAt, rec_group_at, DeletesAll}
 use Rattle.walrus_types.specs.TableEmission.{type_groups, slot_definition, definition_at, slot_is_entry, is_entry_at}
 use Rattle.walrus_types.proofs.Emission.PairsOfGroups.{at_member, to_member}
-use Rattle.walrus_passes.specs.NeededTypes.{Needed, named, grouped, AreUnused, Keeps}
+use Rattle.walrus_passes.specs.NeededTypes.{IsNeeded, named, grouped, AreUnused, Keeps}
 use Rattle.walrus_passes.specs.WellNamed.{IsWellNamed}
 use Rattle.walrus_passes.proofs.UnusedTypes.Elements.{contains_from_get}
 use Rattle.walrus_passes.proofs.UnusedTypes.Keeping.{needed_kept}
@@ -41,25 +41,25 @@ names_at slots i k live n = by_type (live_type slots i) live n
     by_type (Some ty) l n = n
 
 module _ (old new : Table) (roots ids : List ℕ) (is : IsTable old) (live : All (IsLive old.types.slots) roots) (unused : AreUnused old roots ids) (all : DeletesAll old ids new) where
-  kept : Keeps (Needed old roots) old new
+  kept : Keeps (IsNeeded old roots) old new
   kept = needed_kept old new roots ids is live unused all
 
-  same_group : (g u i : ℕ) → IsIdAt old.groups g u i → Needed old roots i → (v j : ℕ) → IsIdAt new.groups g v j → IsIdAt old.groups g v j
+  same_group : (g u i : ℕ) → IsIdAt old.groups g u i → IsNeeded old roots i → (v j : ℕ) → IsIdAt new.groups g v j → IsIdAt old.groups g v j
   same_group g u i m n v j h = subst (λ (x : RecGroup). slice_get x.types v ≡ Some j) (kept.groups g u i m n) h
 
-  still_there : (g u i : ℕ) → IsIdAt old.groups g u i → Needed old roots i → (v j : ℕ) → IsIdAt old.groups g v j → IsIdAt new.groups g v j
+  still_there : (g u i : ℕ) → IsIdAt old.groups g u i → IsNeeded old roots i → (v j : ℕ) → IsIdAt old.groups g v j → IsIdAt new.groups g v j
   still_there g u i m n v j h = subst (λ (x : RecGroup). slice_get x.types v ≡ Some j) (sym (kept.groups g u i m n)) h
 
 module _ (old new : Table) (roots ids : List ℕ) (is : IsTable old) (live : All (IsLive old.types.slots) roots) (unused : AreUnused old roots ids) (all : DeletesAll old ids new) where
-  keeps : Keeps (Needed old roots) old new
+  keeps : Keeps (IsNeeded old roots) old new
   keeps = kept old new roots ids is live unused all
 
-  same_definition : (i : ℕ) → Needed old roots i → definition_at new.types.slots i ≡ definition_at old.types.slots i
+  same_definition : (i : ℕ) → IsNeeded old roots i → definition_at new.types.slots i ≡ definition_at old.types.slots i
   same_definition i n = ap slot_definition (keeps.types i n)
 
   -- a needed id of a group, of which more is said
-  module _ (g u i : ℕ) (m : IsIdAt old.groups g u i) (n : Needed old roots i) where
-    mate : (v j : ℕ) → IsIdAt old.groups g v j → Needed old roots j
+  module _ (g u i : ℕ) (m : IsIdAt old.groups g u i) (n : IsNeeded old roots i) where
+    mate : (v j : ℕ) → IsIdAt old.groups g v j → IsNeeded old roots j
     mate v j h = grouped i j n (g, u, v, m, h)
 
     written_before : IsWritten (type_groups new.groups) (is_entry_at new.types.slots) g → IsWritten (type_groups old.groups) (is_entry_at old.types.slots) g
@@ -90,14 +90,14 @@ own_name t old is g u i h v k m w m' w' n free =
 
 module _ (old new : Table) (roots ids : List ℕ) (is : IsTable old) (live : All (IsLive old.types.slots) roots) (unused : AreUnused old roots ids) (all : DeletesAll old ids new) where
   -- the u-th member i of g names k, and both are needed
-  module _ (g u i n k : ℕ) (m : IsIdAt old.groups g u i) (needed : Needed old roots i) (name : slice_get (names_of (definition_at old.types.slots i)) n ≡ Some k) where
+  module _ (g u i n k : ℕ) (m : IsIdAt old.groups g u i) (needed : IsNeeded old roots i) (name : slice_get (names_of (definition_at old.types.slots i)) n ≡ Some k) where
     named_old : Names (definition_at old.types.slots i) k
     named_old = contains_from_get (names_of (definition_at old.types.slots i)) n k name
 
     named_new : Names (definition_at new.types.slots i) k
     named_new = subst (λ (d : Definition). Names d k) (sym (same_definition old new roots ids is live unused all i needed)) named_old
 
-    also_needed : IsLive old.types.slots k → Needed old roots k
+    also_needed : IsLive old.types.slots k → IsNeeded old roots k
     also_needed l = named i k needed (names_at old.types.slots i k (is.live g u i m) named_old) l
 
     indexed_after : HasIndexBy (type_groups old.groups) (definition_at old.types.slots) (is_entry_at old.types.slots) g k → HasIndexBy (type_groups new.groups) (definition_at new.types.slots) (is_entry_at new.types.slots) g k
@@ -125,7 +125,7 @@ module _ (old new : Table) (roots ids : List ℕ) (is : IsTable old) (live : All
   pub well_named_after : IsWellNamed old → IsWellNamed new
   well_named_after well g u n i k miss = nothing_stands (rec_group_at new.groups g) u i ((kept old new roots ids is live unused all).emptied g (λ v j m needed.
       let there = same_group old new roots ids is live unused all g v j m needed u i here in
-      let too : Needed old roots i = grouped j i needed (g, v, u, m, there) in
+      let too : IsNeeded old roots i = grouped j i needed (g, v, u, m, there) in
       let name : slice_get (names_of (definition_at old.types.slots i)) n ≡ Some k = subst (λ (d : Definition). slice_get (names_of d) n ≡ Some k) (same_definition old new roots ids is live unused all i too) miss.name in
       well g u n i k (record {
         written = written_before old new roots ids is live unused all g u i there too miss.written;

@@ -6,7 +6,7 @@ use Rattle.walrus_ty.specs.Views.{referenced_ids}
 use Rattle.walrus_types.specs.declared.table.rec_group.RecGroup.{RecGroup}
 use Rattle.walrus_types.specs.TypesById.{live_type, IsLive}
 use Rattle.walrus_types.specs.Table.{Table, IsTable, group_with}
-use Rattle.walrus_passes.specs.NeededTypes.{Needed}
+use Rattle.walrus_passes.specs.NeededTypes.{IsNeeded}
 
 -- a mark for each id, and the work that comes next first
 pub record State : Type 0 where
@@ -31,34 +31,34 @@ abbrev pub with_work : ℕ → State → State
 with_work id s = record s { work = id ∷ s.work }
 
 -- an id that has no mark gets one, and its names are to be followed
-abbrev pub marked : ℕ → State → State
-marked id s =
+abbrev pub with_mark : ℕ → State → State
+with_mark id s =
     if is_marked s id then s else record { marks = slice_set s.marks id true; work = id ∷ s.work }
 
 -- each of these in turn
-abbrev pub all_marked : List ℕ → State → State
-all_marked ids s = fold (λ s id. marked id s) s ids
+abbrev pub with_marks : List ℕ → State → State
+with_marks ids s = fold (λ s id. with_mark id s) s ids
 
 abbrev pub members_of : Option RecGroup → List ℕ
 members_of None = []
 members_of (Some g) = g.types
 
 -- the group of an id that has no mark is marked
-abbrev pub reached : Table → ℕ → State → State
-reached t id s =
-    if is_marked s id then s else all_marked (members_of (group_with t.groups id)) s
+abbrev pub with_group_marks : Table → ℕ → State → State
+with_group_marks t id s =
+    if is_marked s id then s else with_marks (members_of (group_with t.groups id)) s
 
 -- each of these in turn
-abbrev pub all_reached : Table → List ℕ → State → State
-all_reached t ids s = fold (λ s id. reached t id s) s ids
+abbrev pub with_all_group_marks : Table → List ℕ → State → State
+with_all_group_marks t ids s = fold (λ s id. with_group_marks t id s) s ids
 
 abbrev pub ids_in : Option ModuleType → List ℕ
 ids_in None = []
 ids_in (Some ty) = referenced_ids ty
 
 -- the ids that the type of the id names
-abbrev pub ids_named : Table → ℕ → List ℕ
-ids_named t id = ids_in (live_type t.types.slots id)
+abbrev pub named_ids : Table → ℕ → List ℕ
+named_ids t id = ids_in (live_type t.types.slots id)
 
 -- the table is one, and there is a mark for each of its types
 pub record Covers (t : Table) (s : State) : Type 0 where
@@ -67,14 +67,14 @@ pub record Covers (t : Table) (s : State) : Type 0 where
 
 -- just what the roots need is marked
 abbrev pub MarksNeeded : Table → List ℕ → State → Type 0
-MarksNeeded t roots s = (id : ℕ) → IsMarked s id ↔ Needed t roots id
+MarksNeeded t roots s = (id : ℕ) → IsMarked s id ↔ IsNeeded t roots id
 
 -- how many ids have no mark
-abbrev pub unmarked : List Bool → ℕ
-unmarked [] = 0
-unmarked (true ∷ marks) = unmarked marks
-unmarked (false ∷ marks) = 1 + unmarked marks
+abbrev pub unmarked_count : List Bool → ℕ
+unmarked_count [] = 0
+unmarked_count (true ∷ marks) = unmarked_count marks
+unmarked_count (false ∷ marks) = 1 + unmarked_count marks
 
 -- how many steps are left
 abbrev pub steps_left : State → ℕ
-steps_left s = length s.work + unmarked s.marks
+steps_left s = length s.work + unmarked_count s.marks

@@ -2,7 +2,7 @@
 ghost use Rattle.std.specs.Prelude.{◌≡◌, ◌<◌, ◌+◌, [], ◌∷◌, length, All, IfOk, OnOk, MatchOption, filter, not};
 ghost use Rattle.walrus_types.specs.TypesById.{IsLive};
 ghost use Rattle.walrus_types.specs.Table.{IsTable};
-ghost use Rattle.walrus_passes.specs.Steps.Marking.{no_marks, with_work, is_marked, marked, all_marked, reached, all_reached, ids_named, Covers, IsUnmarked, MarksNeeded};
+ghost use Rattle.walrus_passes.specs.Steps.Marking.{no_marks, with_work, is_marked, with_mark, with_marks, with_group_marks, with_all_group_marks, named_ids, Covers, IsUnmarked, MarksNeeded};
 
 use std::alloc::{AllocError, Global};
 use std::marker::Model;
@@ -70,7 +70,8 @@ impl Marking {
     fn visit(&mut self, alloc: Global, types: &ModuleTypes, id: TypeId) -> Result<(), AllocError>
         requires live { IsLive types.now.types.slots id }
         requires covers { Covers types.now self.old }
-        ensures { OnOk result (self.new ≡ all_reached types.now (ids_named types.now id) self.old) }
+        ensures { OnOk result
+            (self.new ≡ with_all_group_marks types.now (named_ids types.now id) self.old) }
     {
         let mut names = Vec::new(alloc);
         types.get(id).referenced_types(&mut names)?;
@@ -84,7 +85,7 @@ impl Marking {
         ids: &[TypeId],
     ) -> Result<(), AllocError>
         requires { Covers types.now self.old }
-        ensures { OnOk result (self.new ≡ all_reached types.now ids.now self.old) }
+        ensures { OnOk result (self.new ≡ with_all_group_marks types.now ids.now self.old) }
     {
         for id in ids {
             self.reach(types, *id)?;
@@ -95,7 +96,7 @@ impl Marking {
     // Marks the group of an id that has no mark yet. Where it isn't live there is none.
     fn reach(&mut self, types: &ModuleTypes, id: TypeId) -> Result<(), AllocError>
         requires { Covers types.now self.old }
-        ensures { OnOk result (self.new ≡ reached types.now id self.old) }
+        ensures { OnOk result (self.new ≡ with_group_marks types.now id self.old) }
     {
         if self.is_marked(id) {
             return Ok(());
@@ -115,7 +116,7 @@ impl Marking {
     // Marks each of these in turn.
     fn mark_all(&mut self, ids: &[TypeId]) -> Result<(), AllocError>
         requires { All (λ id. id < length self.old.marks) ids.now }
-        ensures { OnOk result (self.new ≡ all_marked ids.now self.old) }
+        ensures { OnOk result (self.new ≡ with_marks ids.now self.old) }
     {
         for id in ids {
             self.mark(*id)?;
@@ -126,7 +127,7 @@ impl Marking {
     // Marks an id that has no mark yet: its names are to be followed.
     fn mark(&mut self, id: TypeId) -> Result<(), AllocError>
         requires { id < length self.old.marks }
-        ensures { OnOk result (self.new ≡ marked id self.old) }
+        ensures { OnOk result (self.new ≡ with_mark id self.old) }
     {
         if self.marks[id.index()] {
             return Ok(());
@@ -137,7 +138,11 @@ impl Marking {
     }
 
     // Those of these ids that have no mark.
-    pub(super) fn unmarked(&self, alloc: Global, ids: &[TypeId]) -> Result<Vec<TypeId>, AllocError>
+    pub(super) fn unmarked_ids(
+        &self,
+        alloc: Global,
+        ids: &[TypeId],
+    ) -> Result<Vec<TypeId>, AllocError>
         ensures { IfOk result (λ v. v.items ≡ filter (λ id. not (is_marked self.now id)) ids.now) }
     {
         let mut unmarked = Vec::new(alloc);

@@ -4,7 +4,7 @@ use Rattle.std.specs.List.{slice_get}
 use Rattle.std.proofs.lemmas.Bool.{eqb-true, eq-eqb}
 use Rattle.std.proofs.lemmas.Option.{slice_get_within}
 use Rattle.walrus_functions.specs.Body.{Body, Knows}
-use Rattle.walrus_functions.specs.Nesting.{Reached, at_start, below, IsRank, IsNested}
+use Rattle.walrus_functions.specs.Nesting.{IsReachable, at_start, below, IsRank, IsNested}
 use Rattle.walrus_traversals.specs.Certificates.{ShowsNested, IsPath, ShowsCycle, ShowsUnknown, Shows, AnswersNested}
 use Rattle.walrus_traversals.specs.declared.nesting.Nesting.{Nesting}
 use Rattle.walrus_traversals.specs.declared.nesting.Nesting.TheVariants.{Nested, Cycle, Unknown}
@@ -45,8 +45,8 @@ module _ (f : Body) (start : ℕ) where
   }
 
   -- all on a path is reached
-  pub path_reached : (path : List ℕ) → IsPath f start path → (i id : ℕ) → slice_get path i ≡ Some id → Reached f start id
-  path_reached path p zero id h = let e : start ≡ id = (let b = p.begins in cc) in subst (Reached f start) e at_start
+  pub path_reached : (path : List ℕ) → IsPath f start path → (i id : ℕ) → slice_get path i ≡ Some id → IsReachable f start id
+  path_reached path p zero id h = let e : start ≡ id = (let b = p.begins in cc) in subst (IsReachable f start) e at_start
   path_reached path p (suc i) id h =
       let at = get_at path i (let w = slice_get_within path (suc i) id h in omega arith) in
       below at.0 id (path_reached path p i at.0 at.1) (p.children i at.0 id at.1 h)
@@ -95,13 +95,13 @@ module _ (f : Body) (start : ℕ) where
 
 -- what is reached from a child is reached
 reached_on :
-    (f : Body) (start child : ℕ) → Reached f start child → (id : ℕ) → Reached f child id →
-    Reached f start id
+    (f : Body) (start child : ℕ) → IsReachable f start child → (id : ℕ) → IsReachable f child id →
+    IsReachable f start id
 reached_on f start child r id at_start = r
 reached_on f start child r id (below parent c s k) = below parent id (reached_on f start child r parent s) k
 
 -- a body is nested from each sequence that it reaches
-pub nested_below : (f : Body) (start id : ℕ) → IsNested f start → Reached f start id → IsNested f id
+pub nested_below : (f : Body) (start id : ℕ) → IsNested f start → IsReachable f start id → IsNested f id
 nested_below f start id n r = (
   n.0,
   record {

@@ -8,9 +8,9 @@ use Rattle.std.proofs.lemmas.List.Elements.{All-push, Contains-push, Contains-pu
 use Rattle.walrus_ir.specs.Sequence.{Sequence}
 use Rattle.walrus_ir.specs.declared.ir.instr.Instr.{Instr}
 use Rattle.walrus_functions.specs.Body.{Body, Knows}
-use Rattle.walrus_functions.specs.Nesting.{IsChild, Reached, at_start, below, children_of}
+use Rattle.walrus_functions.specs.Nesting.{IsChild, IsReachable, at_start, below, children_of}
 use Rattle.walrus_traversals.specs.Certificates.{ShowsNested, IsPath, ShowsCycle, ShowsUnknown}
-use Rattle.walrus_traversals.specs.Steps.Searching.{State, children_in, with_work, entered, left, IsStacked, IsCovered, IsDone, AreMarks, IsSound, work_ahead, steps_left}
+use Rattle.walrus_traversals.specs.Steps.Searching.{State, children_in, with_work, after_enter, after_leave, IsStacked, IsCovered, IsDone, AreMarks, IsSound, work_ahead, steps_left}
 use Rattle.walrus_traversals.specs.declared.nesting.search.Mark.{Mark}
 use Rattle.walrus_traversals.specs.declared.nesting.search.Mark.TheVariants.{New, Open, Done}
 use Rattle.walrus_traversals.specs.declared.nesting.search.Work.{Work}
@@ -114,7 +114,7 @@ module _ (f : Body) (start : ℕ) where
   stacked_children path (c ∷ cs) id ws all p s =
       (path_push path id c p (all c (in_head c cs)), stacked_children path cs id ws (λ child m. all child (in_tail c cs child m)) p s)
 
-  done_push : (done : List ℕ) (id : ℕ) → IsDone f start done → (Contains done id → ⊥) → Reached f start id → Knows f id → ((child : ℕ) → IsChild f id child → Contains done child) → IsDone f start (done ++ id ∷ [])
+  done_push : (done : List ℕ) (id : ℕ) → IsDone f start done → (Contains done id → ⊥) → IsReachable f start id → Knows f id → ((child : ℕ) → IsChild f id child → Contains done child) → IsDone f start (done ++ id ∷ [])
   done_push done id d fresh reached known earlier = record {
     once = λ i j x h k. elim (get_cases done id i x h) [
       | inl a ↦ elim (get_cases done id j x k) [
@@ -126,7 +126,7 @@ module _ (f : Body) (start : ℕ) where
         | inr b ↦ a.0 ∙ sym b.0
       ]
     ];
-    reached = All-push (Reached f start) done id d.reached reached;
+    reached = All-push (IsReachable f start) done id d.reached reached;
     known = All-push (Knows f) done id d.known known;
     children_first = λ i parent child h c. elim (get_cases done id i parent h) [
       | inl a ↦ (let first = d.children_first i parent child a c in (first.0, first.1, get_left done (id ∷ []) first.0 child first.2))
@@ -231,7 +231,7 @@ ahead_left f first (Done ∷ marks) (suc i) k h = ahead_left f (suc first) marks
 
 pub enter_sound :
     (f : Body) (s : State) (id : ℕ) → Knows f id → slice_get s.marks id ≡ Some New →
-    IsSound f (with_work (Enter id) s) → IsSound f (entered f id s)
+    IsSound f (with_work (Enter id) s) → IsSound f (after_enter f id s)
 enter_sound f s id known new h = record {
   marks = marks_entered f s.marks s.path s.done id h.marks new;
   known = All-push (Knows f) s.path id h.known known;
@@ -247,7 +247,7 @@ entered_long cs ws id = length-append (map Enter cs) (Leave id ∷ ws) ∙ ap (�
 
 pub enter_fewer :
     (f : Body) (s : State) (id : ℕ) → slice_get s.marks id ≡ Some New →
-    steps_left f (entered f id s) < steps_left f (with_work (Enter id) s)
+    steps_left f (after_enter f id s) < steps_left f (with_work (Enter id) s)
 enter_fewer f s id new =
     let falls = ahead_entered f 0 s.marks id id (length s.path) (omega arith) new in
     let long = entered_long (children_of f id) s.work id in
@@ -290,7 +290,7 @@ taken before path id e =
     ap (take (length path - 1)) e ∙ take_at before (id ∷ []) (length path - 1) short
 
 pub leave_sound :
-    (f : Body) (s : State) (id : ℕ) → IsSound f (with_work (Leave id) s) → IsSound f (left id s)
+    (f : Body) (s : State) (id : ℕ) → IsSound f (with_work (Leave id) s) → IsSound f (after_leave id s)
 leave_sound f s id h =
     let before = h.stacked.0 in
     let e = taken before s.path id h.stacked.1 in
@@ -298,7 +298,7 @@ leave_sound f s id h =
 
 pub leave_fewer :
     (f : Body) (s : State) (id : ℕ) → IsSound f (with_work (Leave id) s) →
-    steps_left f (left id s) < steps_left f (with_work (Leave id) s)
+    steps_left f (after_leave id s) < steps_left f (with_work (Leave id) s)
 leave_fewer f s id h =
     let mark = leave_at f s id h.stacked.0 h.stacked.1 h.marks in
     let same = ahead_left f 0 s.marks id (length h.stacked.0) mark in
@@ -370,7 +370,7 @@ missing_shows f s id unknown h =
 -- at the end of all work the list is that of a nested body
 all_reached :
     (f : Body) (start : ℕ) (list : List ℕ) → IsDone f start list → Contains list start → (id : ℕ) →
-    Reached f start id → Contains list id
+    IsReachable f start id → Contains list id
 all_reached f start list d first id at_start = first
 all_reached f start list d first id (below parent child r c) =
     let at = get_from_contains list parent (all_reached f start list d first parent r) in
@@ -382,7 +382,7 @@ done_shows :
     ShowsNested f start list
 done_shows f start list d first = record {
   once = distinct_from_once list d.once;
-  reached = λ id. (λ m. let at = get_from_contains list id m in all_at (Reached f start) list at.0 id d.reached at.1, all_reached f start list d first id);
+  reached = λ id. (λ m. let at = get_from_contains list id m in all_at (IsReachable f start) list at.0 id d.reached at.1, all_reached f start list d first id);
   closed = λ parent child m c.
       let at = get_from_contains list parent m in
       let k = d.children_first at.0 parent child at.1 c in
@@ -398,7 +398,7 @@ end_shows f s h e =
     done_shows f s.start s.done h.listed (elim covered [ inl k ↦ k | inr k ↦ absurd (none_in s.start k) ])
 
 -- the same of the state that a call leaves, by its parts
-pub left_is : (s : State) (id len at : ℕ) (path done : List ℕ) → len ≡ length s.path → at ≡ id → path ≡ take (len - 1) s.path → done ≡ s.done ++ id ∷ [] → record s { marks = slice_set s.marks at Done; path = path; done = done } ≡ left id s
+pub left_is : (s : State) (id len at : ℕ) (path done : List ℕ) → len ≡ length s.path → at ≡ id → path ≡ take (len - 1) s.path → done ≡ s.done ++ id ∷ [] → record s { marks = slice_set s.marks at Done; path = path; done = done } ≡ after_leave id s
 left_is s id len at path done a b d e = cc
 
 pub record Enters (f : Body) (s : State) (id len at : ℕ) (path : List ℕ) (seq : Sequence)
@@ -418,7 +418,7 @@ pub pushed_first :
     (old new : List Work) (w : Work) → new ≡ old ++ w ∷ [] → reverse new ≡ w ∷ reverse old
 pushed_first old new w e = ap (reverse {A = Work}) e ∙ reverse_push old w
 
-pub entered_is : (f : Body) (s : State) (id len at : ℕ) (path : List ℕ) (seq : Sequence) (instrs : List (Instr × ℕ)) (pushed work : List Work) → Enters f s id len at path seq instrs pushed work → record s { marks = slice_set s.marks at (Open len); path = path; work = reverse work } ≡ entered f id s
+pub entered_is : (f : Body) (s : State) (id len at : ℕ) (path : List ℕ) (seq : Sequence) (instrs : List (Instr × ℕ)) (pushed work : List Work) → Enters f s id len at path seq instrs pushed work → record s { marks = slice_set s.marks at (Open len); path = path; work = reverse work } ≡ after_enter f id s
 entered_is f s id len at path seq instrs pushed work l =
     let a = l.place in
     let b = l.size in

@@ -6,7 +6,7 @@ use Rattle.walrus_ir.specs.declared.ir.instr.Instr.{Instr}
 use Rattle.walrus_functions.specs.Body.{Body, sequence, Knows}
 use Rattle.walrus_traversals.specs.Events.{Event, StartInstrSeq, EndInstrSeq, own_events, type_of, events_of_instrs, events_of, events_to, events}
 use Rattle.walrus_functions.specs.Nesting.{children}
-use Rattle.walrus_functions.specs.Nesting.{children_of, Reached, at_start, below, IsNested}
+use Rattle.walrus_functions.specs.Nesting.{children_of, IsReachable, at_start, below, IsNested}
 
 -- all that is reached from q is known, and no path from it has more than n sequences
 unfoldable pub Within : Body → ℕ → ℕ → Type 0
@@ -54,7 +54,7 @@ all_from_contains P [] h = tt
 all_from_contains P (x ∷ xs) h = (h x (0, omega arith, refl), all_from_contains P xs (λ y m. h y (suc m.0, omega arith, m.2)))
 
 pub within_at :
-    (f : Body) (start : ℕ) (h : IsNested f start) (n q : ℕ) → Reached f start q →
+    (f : Body) (start : ℕ) (h : IsNested f start) (n q : ℕ) → IsReachable f start q →
     under h.0 (h.0 q) (length f.seqs) < n → Within f n q
 unfolding Within
 within_at f start h zero q r lt = absurd (omega arith)

@@ -20,8 +20,8 @@ event (field.Ty id) = VisitTypeId id
 event (field.Value x) = VisitValue x
 event (field.HeapType h) = VisitHeapType h
 
-abbrev pub reported : Fields → List Event
-reported None = []
-reported (One a) = event a ∷ []
-reported (Two a b) = event a ∷ event b ∷ []
-reported (Three a b c) = event a ∷ event b ∷ event c ∷ []
+abbrev pub field_events : Fields → List Event
+field_events None = []
+field_events (One a) = event a ∷ []
+field_events (Two a b) = event a ∷ event b ∷ []
+field_events (Three a b c) = event a ∷ event b ∷ event c ∷ []

@@ -3,7 +3,7 @@ use Rattle.std.specs.Prelude.{◌≡◌, ℕ, suc, ◌+◌, ◌<◌, ◌⊎◌, 
 use Rattle.std.specs.List.{flat_map}
 use Rattle.walrus_ir.specs.declared.ir.instr.Instr.{Instr}
 use Rattle.walrus_functions.specs.Body.{Body, Knows}
-use Rattle.walrus_functions.specs.Nesting.{children, children_of, IsChild, Reached}
+use Rattle.walrus_functions.specs.Nesting.{children, children_of, IsChild, IsReachable}
 use Rattle.walrus_traversals.specs.Certificates.{IsPath, ShowsCycle, ShowsUnknown}
 use Rattle.walrus_traversals.specs.declared.nesting.search.Mark.{Mark}
 use Rattle.walrus_traversals.specs.declared.nesting.search.Mark.TheVariants.{New, Open, Done}
@@ -29,16 +29,16 @@ abbrev pub with_work : Work → State → State
 with_work w s = record s { work = w ∷ s.work }
 
 -- the state after a sequence was entered: its children come next, and then it is left
-abbrev pub entered : Body → ℕ → State → State
-entered f id s = record s {
+abbrev pub after_enter : Body → ℕ → State → State
+after_enter f id s = record s {
   marks = slice_set s.marks id (Open (length s.path));
   path = s.path ++ id ∷ [];
   work = map Enter (children_of f id) ++ Leave id ∷ s.work;
 }
 
 -- the state after the last sequence on the path was left
-abbrev pub left : ℕ → State → State
-left id s = record s {
+abbrev pub after_leave : ℕ → State → State
+after_leave id s = record s {
   marks = slice_set s.marks id Done;
   path = take (length s.path - 1) s.path;
   done = s.done ++ id ∷ [];
@@ -66,7 +66,7 @@ IsCovered f start done ahead (Leave id ∷ rest) =
 -- the ids of a list were done one after another, each once, and after its children
 pub record IsDone (f : Body) (start : ℕ) (done : List ℕ) : Type 0 where
   pub once : (i j id : ℕ) → slice_get done i ≡ Some id → slice_get done j ≡ Some id → i ≡ j
-  pub reached : All (Reached f start) done
+  pub reached : All (IsReachable f start) done
   pub known : All (Knows f) done
   pub children_first : (i parent child : ℕ) →
       slice_get done i ≡ Some parent → IsChild f parent child →

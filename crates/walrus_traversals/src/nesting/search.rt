@@ -4,7 +4,7 @@ ghost use Rattle.std.specs.List.{flat_map};
 ghost use Rattle.walrus_functions.specs.Body.{Body, Knows};
 ghost use Rattle.walrus_functions.specs.Nesting.{handlers, children};
 ghost use Rattle.walrus_traversals.specs.Certificates.{Shows};
-ghost use Rattle.walrus_traversals.specs.Steps.Searching.{children_in, with_work, entered, left, IsSound, Finds, steps_left};
+ghost use Rattle.walrus_traversals.specs.Steps.Searching.{children_in, with_work, after_enter, after_leave, IsSound, Finds, steps_left};
 ghost use Rattle.walrus_traversals.specs.declared.nesting.search.Found.TheVariants.{Nothing};
 ghost use Rattle.walrus_traversals.specs.declared.nesting.search.Work.TheVariants.{Enter};
 
@@ -163,7 +163,7 @@ impl Search {
     fn enter(&mut self, func: &LocalFunction, id: InstrSeqId) -> Result<(), AllocError>
         requires known { Knows func.now.body id }
         requires marked { id < length self.old.marks }
-        ensures { OnOk result (self.new ≡ entered func.now.body id self.old) }
+        ensures { OnOk result (self.new ≡ after_enter func.now.body id self.old) }
     {
         self.marks[id.index()] = Mark::Open(self.path.len());
         self.path.push(id)?;
@@ -174,7 +174,7 @@ impl Search {
     // Leaves the last sequence on the path.
     fn leave(&mut self, id: InstrSeqId) -> Result<(), AllocError>
         requires { id < length self.old.marks }
-        ensures { OnOk result (self.new ≡ left id self.old) }
+        ensures { OnOk result (self.new ≡ after_leave id self.old) }
     {
         self.marks[id.index()] = Mark::Done;
         self.path.pop();

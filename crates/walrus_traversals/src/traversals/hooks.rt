@@ -2,7 +2,7 @@
 ghost use Rattle.std.specs.Prelude.{◌≡◌, OnOk, OnErr};
 ghost use Rattle.std.specs.List.{flat_map, FoldsTo};
 ghost use Rattle.walrus_traversals.specs.Events.{own_events, tags, tag_of_clause, tag_of_legacy, AfterFirst};
-ghost use Rattle.walrus_traversals.specs.Steps.Fields.{event, reported};
+ghost use Rattle.walrus_traversals.specs.Steps.Fields.{event, field_events};
 
 use crate::Visitor;
 use crate::fields::{Field, Fields, fields_of};
@@ -24,8 +24,8 @@ pub(super) fn report<V: Visitor>(
 
 /// Reports fields in order.
 pub(super) fn report_fields<V: Visitor>(visitor: &mut V, fields: Fields) -> Result<(), V::Error>
-    ensures ok { OnOk result (FoldsTo V.step visitor.old (reported fields) visitor.new) }
-    ensures err { OnErr result (AfterFirst V.step visitor.old (reported fields) visitor.new) }
+    ensures ok { OnOk result (FoldsTo V.step visitor.old (field_events fields) visitor.new) }
+    ensures err { OnErr result (AfterFirst V.step visitor.old (field_events fields) visitor.new) }
 {
     match fields {
         Fields::None => Ok(()),

@@ -17,4 +17,4 @@ returns-clause-unused c =
     let s = c.mark_needed.new.self in
     let shown = c.as_slice-2.ensures.value in
     let listed = c.in_ok-live.ensures in
-    IfOk-weaker c.unmarked.result _ _ (λ v is. unused_from t c.args.roots.now s v.items c.in_ok-mark_needed.ensures (rw listed at (rw shown at is))) c.unmarked.ensures
+    IfOk-weaker c.unmarked_ids.result _ _ (λ v is. unused_from t c.args.roots.now s v.items c.in_ok-mark_needed.ensures (rw listed at (rw shown at is))) c.unmarked_ids.ensures
