@@ -24,13 +24,13 @@ goes_on at front count i bytes n after total lt h so_far =
     let one : with_front front (items_at at (count - i) bytes) ≡ with_front (front ++ n ∷ []) (items_at at (count - (i + 1)) after) = rw (k, h) (regroup front n (items_at at (count - (i + 1)) after)) in
     sym one ∙ so_far
 
-pub ends : {A : Type 0} (at : List ℕ → Reading A) (e : ReadError) (front : List A) (count i : ℕ) (bytes : List ℕ) (total : Reading (List A)) → i < count → Fails e (at bytes)
-    → with_front front (items_at at (count - i) bytes) ≡ total → Fails e total
+pub ends : {A : Type 0} (at : List ℕ → Reading A) (left : List ℕ) (e : ReadError) (front : List A) (count i : ℕ) (bytes : List ℕ) (total : Reading (List A)) → i < count → Fails left e (at bytes)
+    → with_front front (items_at at (count - i) bytes) ≡ total → Fails left e total
 unfolding items_at
-ends at errors.Memory front count i bytes total lt h so_far = tt
-ends at (errors.Fault f) front count i bytes total lt h so_far =
+ends at left errors.Memory front count i bytes total lt h so_far = tt
+ends at left (errors.Reason r) front count i bytes total lt h so_far =
     let k : count - i ≡ suc (count - (i + 1)) = omega arith in
-    let one : with_front front (items_at at (count - i) bytes) ≡ Err f = rw (k, h) refl in
+    let one : with_front front (items_at at (count - i) bytes) ≡ Err (record { left = length left; reason = r }) = rw (k, h) refl in
     sym so_far ∙ one
 
 pub is_done : {A : Type 0} (at : List ℕ → Reading A) (front : List A) (count i : ℕ) (bytes : List ℕ) (total : Reading (List A)) → count ≤ i → with_front front (items_at at (count - i) bytes) ≡ total → total ≡ Ok (front, bytes)

@@ -1,5 +1,5 @@
 -- Reading a section group by group: what was read of it, and what the next answer says of it.
-use Rattle.std.proofs.Common.{◌≡◌, ℕ, zero, suc, ◌+◌, ◌-◌, ◌<◌, ◌≤◌, true, false, nat_lt, nat_eq, ltb-true, ltb-false, List, [], ◌∷◌, ◌++◌, length, Option, Some, None, Result, Ok, Err, refl, sym, ap, subst, ◌∙◌, append-nil, arith}
+use Rattle.std.proofs.Common.{◌≡◌, ℕ, zero, suc, ◌+◌, ◌-◌, ◌<◌, ◌≤◌, true, false, nat_eq, eqb-true, List, [], ◌∷◌, ◌++◌, length, Result, Ok, Err, refl, sym, ap, subst, ◌∙◌, append-nil, ne_eqb, arith}
 use Rattle.walrus_ty.specs.declared.records.GroupAt.{GroupAt}
 use Rattle.walrus_binary.specs.declared.error.Expected.TheVariants as expected
 use Rattle.walrus_binary.specs.declared.error.Fault.{Fault}
@@ -9,8 +9,8 @@ use Rattle.walrus_binary.specs.Leb128.{IsU32}
 use Rattle.walrus_binary.specs.Grammar.{IsRecType, IsTypes}
 use Rattle.walrus_binary.specs.SectionProgress.{BeginsWithGroups}
 use Rattle.walrus_binary.specs.Steps.Reading.{◌>>=◌, Fails, wanted, u32_at, items_at, vec_at, group_at, types_at}
-use Rattle.walrus_binary.specs.Steps.Progress.{front_at, groups_before, progress, IsReadTo, next_at}
-use Rattle.walrus_binary.proofs.Basics.{Reading, bind_ok, value_is, rest_is, which}
+use Rattle.walrus_binary.specs.Steps.Progress.{front_at, groups_before, progress, IsReadTo}
+use Rattle.walrus_binary.proofs.Basics.{Reading, bind_ok, value_is, rest_is}
 use Rattle.walrus_binary.proofs.Integers.{u32_sound}
 use Rattle.walrus_binary.proofs.Lists.{with_front, items_take}
 use Rattle.walrus_binary.proofs.Groups.{group_sound, types_take}
@@ -96,9 +96,9 @@ no_count : (bytes : List ℕ) (f : Fault) → u32_at bytes ≡ Err f → types_a
 unfolding types_at vec_at
 no_count bytes f h = rw h refl
 
-pub count_fails : (bytes : List ℕ) (e : ReadError) → Fails e (u32_at bytes) → Fails e (types_at bytes)
-count_fails bytes errors.Memory h = tt
-count_fails bytes (errors.Fault f) h = no_count bytes f h
+pub count_fails : (bytes left : List ℕ) (e : ReadError) → Fails left e (u32_at bytes) → Fails left e (types_at bytes)
+count_fails bytes left errors.Memory h = tt
+count_fails bytes left (errors.Reason r) h = no_count bytes (record { left = length left; reason = r }) h
 
 -- ---- what was read
 
@@ -137,7 +137,8 @@ pub record IsReadOn (bytes : List ℕ) (remaining : ℕ) (group : GroupAt) (afte
   pub groups : groups_before (remaining - 1) bytes ≡ groups_before remaining bytes ++ group ∷ []
   pub read_to : IsReadTo bytes (remaining - 1) after
 
-group_follows : (bytes : List ℕ) (remaining : ℕ) (left : List ℕ) (group : GroupAt) (after : List ℕ)
+-- a group is answered
+pub group_follows : (bytes : List ℕ) (remaining : ℕ) (left : List ℕ) (group : GroupAt) (after : List ℕ)
     → IsReadTo bytes remaining left → 0 < remaining → group_at left ≡ Ok (group, after)
     → IsReadOn bytes remaining group after
 group_follows bytes remaining left group after r some h =
@@ -153,29 +154,6 @@ group_follows bytes remaining left group after r some h =
           (omega (arith, r.within)) more;
     }
 
-abbrev next : Option (GroupAt × List ℕ) → Result (Option (GroupAt × List ℕ)) Fault
-next x = Ok x
-
-abbrev read_group : GroupAt × List ℕ → Reading GroupAt
-read_group x = Ok x
-
-some_is : (a b : GroupAt × List ℕ) → next (Some a) ≡ next (Some b) → a ≡ b
-some_is a b e = cc
-
--- a group is answered
-pub reads_on : (bytes : List ℕ) (remaining : ℕ) (left : List ℕ) (group : GroupAt) (after : List ℕ)
-    → IsReadTo bytes remaining left → next_at remaining left ≡ Ok (Some (group, after))
-    → IsReadOn bytes remaining group after
-unfolding next_at
-reads_on bytes remaining left group after r e =
-    which (nat_lt 0 remaining) _ _ (next (Some (group, after))) e
-    (λ h q.
-    let a = bind_ok (group_at left) (λ x. next (Some x)) (Some (group, after)) q in
-    let same : a.0 ≡ (group, after) = some_is a.0 (group, after) a.2 in
-    group_follows bytes remaining left group after r (ltb-true 0 remaining h) (a.1 ∙ ap read_group same))
-    (λ h q. which (nat_eq (length left) 0) (next None) (wanted left expected.End) (next (Some (group, after))) q
-    (λ h1 q1. absurd cc) (λ h1 q1. absurd cc))
-
 -- ---- the end
 
 nothing_more : (front : List GroupAt) (n : ℕ) (left : List ℕ) → n ≡ 0
@@ -183,50 +161,24 @@ nothing_more : (front : List GroupAt) (n : ℕ) (left : List ℕ) → n ≡ 0
 unfolding items_at
 nothing_more front n left e = rw e (ap (λ (gs : List GroupAt). Ok (gs, left)) (append-nil front))
 
-none_left : (n : ℕ) → nat_lt 0 n ≡ false → n ≡ 0
-none_left n h = let le = ltb-false 0 n h in omega (arith, le)
-
 all_read : (bytes : List ℕ) (remaining : ℕ) (left : List ℕ) → IsReadTo bytes remaining left
-    → nat_lt 0 remaining ≡ false → vec_at group_at bytes ≡ Ok (groups_before remaining bytes, left)
-all_read bytes remaining left r h =
+    → remaining ≡ 0 → vec_at group_at bytes ≡ Ok (groups_before remaining bytes, left)
+all_read bytes remaining left r none =
     goes_on bytes remaining left r
-    ∙ nothing_more (groups_before remaining bytes) remaining left (none_left remaining h)
+    ∙ nothing_more (groups_before remaining bytes) remaining left none
 
 whole : (bytes : List ℕ) (groups : List GroupAt) (left : List ℕ) → vec_at group_at bytes ≡ Ok (groups, left)
-    → nat_eq (length left) 0 ≡ true → types_at bytes ≡ Ok groups
+    → left ≡ [] → types_at bytes ≡ Ok groups
 unfolding types_at
 whole bytes groups left e h = rw (e, h) refl
 
-not_none : {P : Type 0} (a : GroupAt × List ℕ) → next (Some a) ≡ next None → P
-not_none a e = absurd cc
-
--- none is answered
-pub none_remain : (remaining : ℕ) (left : List ℕ) → next_at remaining left ≡ Ok None → remaining ≡ 0
-unfolding next_at
-none_remain remaining left e =
-    which (nat_lt 0 remaining) _ _ (next None) e
-    (λ h q. let a = bind_ok (group_at left) (λ x. next (Some x)) None q in not_none a.0 a.2)
-    (λ h q. none_left remaining h)
-
 pub ends : (bytes : List ℕ) (remaining : ℕ) (left : List ℕ) → IsReadTo bytes remaining left
-    → next_at remaining left ≡ Ok None → IsTypes bytes (groups_before remaining bytes)
-unfolding next_at
-ends bytes remaining left r e =
-    which (nat_lt 0 remaining) _ _ (next None) e
-    (λ h q. let a = bind_ok (group_at left) (λ x. next (Some x)) None q in not_none a.0 a.2)
-    (λ h q. which (nat_eq (length left) 0) (next None) (wanted left expected.End) (next None) q
-    (λ h1 q1. types_take bytes (groups_before remaining bytes)
-    (whole bytes (groups_before remaining bytes) left (all_read bytes remaining left r h) h1))
-    (λ h1 q1. absurd cc))
+    → remaining ≡ 0 → left ≡ [] → IsTypes bytes (groups_before remaining bytes)
+ends bytes remaining left r none empty =
+    types_take bytes (groups_before remaining bytes)
+    (whole bytes (groups_before remaining bytes) left (all_read bytes remaining left r none) empty)
 
 -- ---- a fault
-
-abbrev fault : Fault → Result (Option (GroupAt × List ℕ)) Fault
-fault f = Err f
-
-group_fails : (read : Reading GroupAt) (f : Fault) → (read >>= (λ x. next (Some x))) ≡ fault f → read ≡ Err f
-group_fails (Ok x) f e = absurd cc
-group_fails (Err d) f e = let same : d ≡ f = cc in ap (λ k. Err k) same
 
 first_fails : (n : ℕ) (left : List ℕ) (f : Fault) → 0 < n → group_at left ≡ Err f
     → items_at group_at n left ≡ Err f
@@ -239,31 +191,35 @@ vec_fails : (bytes : List ℕ) (front : List GroupAt) (read : Reading (List Grou
 unfolding types_at
 vec_fails bytes front read f e h = rw (e, h) refl
 
-trails : (bytes : List ℕ) (groups : List GroupAt) (left : List ℕ) (f : Fault)
-    → vec_at group_at bytes ≡ Ok (groups, left) → nat_eq (length left) 0 ≡ false
-    → wanted {A = List GroupAt} left expected.End ≡ Err f → types_at bytes ≡ Err f
+pub next_fails : (bytes : List ℕ) (remaining : ℕ) (left : List ℕ) (f : Fault) → IsReadTo bytes remaining left
+    → 0 < remaining → group_at left ≡ Err f → types_at bytes ≡ Err f
+next_fails bytes remaining left f r some h =
+    vec_fails bytes (groups_before remaining bytes) (items_at group_at remaining left) f
+    (goes_on bytes remaining left r) (first_fails remaining left f some h)
+
+-- what is wrong with the next group is wrong with the section
+pub fails : (bytes : List ℕ) (remaining : ℕ) (left after : List ℕ) (e : ReadError) → IsReadTo bytes remaining left
+    → 0 < remaining → Fails after e (group_at left) → Fails after e (types_at bytes)
+fails bytes remaining left after errors.Memory r some h = tt
+fails bytes remaining left after (errors.Reason k) r some h =
+    next_fails bytes remaining left (record { left = length after; reason = k }) r some h
+
+-- so are bytes behind the last group
+pub trails : (bytes : List ℕ) (remaining : ℕ) (left : List ℕ) → IsReadTo bytes remaining left
+    → remaining ≡ 0 → (left ≡ [] → ⊥) → types_at bytes ≡ wanted left expected.End
 unfolding types_at
-trails bytes groups left f e h q = rw (e, h) q
+trails bytes remaining [] r none some = absurd (some refl)
+trails bytes remaining (b ∷ left) r none some =
+    rw (all_read bytes remaining (b ∷ left) r none, ne_eqb (suc (length left)) 0 (λ q. omega (arith, q))) refl
 
-same_fault : (left : List ℕ) (f : Fault) → wanted left expected.End ≡ fault f
-    → wanted {A = List GroupAt} left expected.End ≡ Err f
-same_fault left f e = cc
+-- ---- what the code's tests say
 
-next_fails : (bytes : List ℕ) (remaining : ℕ) (left : List ℕ) (f : Fault) → IsReadTo bytes remaining left
-    → next_at remaining left ≡ Err f → types_at bytes ≡ Err f
-unfolding next_at
-next_fails bytes remaining left f r e =
-    which (nat_lt 0 remaining) _ _ (fault f) e
-    (λ h q. vec_fails bytes (groups_before remaining bytes) (items_at group_at remaining left) f
-    (goes_on bytes remaining left r)
-    (first_fails remaining left f (ltb-true 0 remaining h) (group_fails (group_at left) f q)))
-    (λ h q. which (nat_eq (length left) 0) (next None) (wanted left expected.End) (fault f) q
-    (λ h1 q1. absurd cc)
-    (λ h1 q1. trails bytes (groups_before remaining bytes) left f (all_read bytes remaining left r h) h1
-    (same_fault left f q1)))
+pub nothing_left : (left : List ℕ) → nat_eq (length left) 0 ≡ true → left ≡ []
+nothing_left [] h = refl
+nothing_left (b ∷ left) h = absurd (let q = eqb-true (suc (length left)) 0 h in omega (arith, q))
 
--- what is wrong with the next answer is wrong with the section
-pub fails : (bytes : List ℕ) (remaining : ℕ) (left : List ℕ) (e : ReadError) → IsReadTo bytes remaining left
-    → Fails e (next_at remaining left) → Fails e (types_at bytes)
-fails bytes remaining left errors.Memory r h = tt
-fails bytes remaining left (errors.Fault f) r h = next_fails bytes remaining left f r h
+pub something_left : (left : List ℕ) → nat_eq (length left) 0 ≡ false → left ≡ [] → ⊥
+something_left left h e = let none : nat_eq (length left) 0 ≡ true = rw e refl in absurd cc
+
+pub some_remain : (n : ℕ) → (n ≡ 0 → ⊥) → 0 < n
+some_remain n h = omega (arith, h)

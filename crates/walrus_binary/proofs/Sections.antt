@@ -118,31 +118,35 @@ begun_before bytes f e =
 
 -- ---- an error
 
-pub error_within : (bytes : List ℕ) (e : ReadError) → Fails e (types_at bytes) → IsWithin (length bytes) e
-error_within bytes errors.Memory h = tt
-error_within bytes (errors.Fault f) h = left_fits bytes f h
+abbrev fault_at : List ℕ → Reason → Fault
+fault_at left r = record { left = length left; reason = r }
 
-pub error_refused : (bytes : List ℕ) (e : ReadError) → Fails e (types_at bytes)
-    → IfSome (error_offset (error_refusal (length bytes) e)) (λ offset. IsNoText bytes)
-error_refused bytes errors.Memory h = tt
-error_refused bytes (errors.Fault f) h = refused bytes f h
+pub error_within : (bytes left : List ℕ) (e : ReadError) → Fails left e (types_at bytes)
+    → IsWithin (length bytes) (length left) e
+error_within bytes left errors.Memory h = tt
+error_within bytes left (errors.Reason r) h = left_fits bytes (fault_at left r) h
 
-pub error_placed : (bytes : List ℕ) (e : ReadError) → Fails e (types_at bytes)
-    → IfSome (error_offset (error_refusal (length bytes) e)) (λ offset. offset ≤ length bytes)
-error_placed bytes errors.Memory h = tt
-error_placed bytes (errors.Fault f) h = lies_within bytes f h
+pub error_refused : (bytes left : List ℕ) (e : ReadError) → Fails left e (types_at bytes)
+    → IfSome (error_offset (error_refusal (length bytes) (length left) e)) (λ offset. IsNoText bytes)
+error_refused bytes left errors.Memory h = tt
+error_refused bytes left (errors.Reason r) h = refused bytes (fault_at left r) h
 
-pub error_stuck : (bytes : List ℕ) (e : ReadError) → Fails e (types_at bytes)
-    → IfSome (error_offset (error_refusal (length bytes) e))
-    (λ offset. IsSeenThere (error_refusal (length bytes) e) → offset < length bytes →
+pub error_placed : (bytes left : List ℕ) (e : ReadError) → Fails left e (types_at bytes)
+    → IfSome (error_offset (error_refusal (length bytes) (length left) e)) (λ offset. offset ≤ length bytes)
+error_placed bytes left errors.Memory h = tt
+error_placed bytes left (errors.Reason r) h = lies_within bytes (fault_at left r) h
+
+pub error_stuck : (bytes left : List ℕ) (e : ReadError) → Fails left e (types_at bytes)
+    → IfSome (error_offset (error_refusal (length bytes) (length left) e))
+    (λ offset. IsSeenThere (error_refusal (length bytes) (length left) e) → offset < length bytes →
     BeginsNoText (take (offset + 1) bytes))
-error_stuck bytes errors.Memory h = tt
-error_stuck bytes (errors.Fault f) h = stuck_there bytes f h
+error_stuck bytes left errors.Memory h = tt
+error_stuck bytes left (errors.Reason r) h = stuck_there bytes (fault_at left r) h
 
-pub error_begun : (bytes : List ℕ) (e : ReadError) → Fails e (types_at bytes)
-    → IfSome (error_offset (error_refusal (length bytes) e)) (λ offset. IsBegun (take offset bytes))
-error_begun bytes errors.Memory h = tt
-error_begun bytes (errors.Fault f) h = begun_before bytes f h
+pub error_begun : (bytes left : List ℕ) (e : ReadError) → Fails left e (types_at bytes)
+    → IfSome (error_offset (error_refusal (length bytes) (length left) e)) (λ offset. IsBegun (take offset bytes))
+error_begun bytes left errors.Memory h = tt
+error_begun bytes left (errors.Reason r) h = begun_before bytes (fault_at left r) h
 
 -- ---- the first bad byte
 

@@ -3,7 +3,7 @@ ghost use Rattle.std.specs.Prelude.{◌≡◌, ◌+◌, ◌<◌, ◌≤◌, leng
 ghost use Rattle.walrus_binary.specs.Grammar.{IsTypes};
 ghost use Rattle.walrus_binary.specs.Faults.{IsNoText, BeginsNoText, IsBegun};
 ghost use Rattle.walrus_binary.specs.Faults.{IsSeenThere, error_offset};
-ghost use Rattle.walrus_binary.specs.Steps.Reading.{Gives, types_at};
+ghost use Rattle.walrus_binary.specs.Steps.Reading.{GivesAll, types_at};
 
 mod composite;
 mod group;
@@ -53,19 +53,21 @@ pub fn decode_types(alloc: Global, bytes: &[u8]) -> Result<Vec<GroupAt>, DecodeE
     ensures begun { IfErr result (λ e. IfSome (error_offset e) (λ offset.
         IsBegun (take offset bytes.now))) }
 {
-    match read_types(alloc, bytes) {
+    let mut input = bytes;
+    match read_types(alloc, &mut input) {
         Ok(groups) => Ok(groups),
-        Err(error) => Err(error.refusal(bytes.len())),
+        Err(error) => Err(error.refusal(bytes.len(), input.len())),
     }
 }
 
+/// Takes all that there is.
 #[tactic(auto, unfolding(crate::specs::Steps::Reading::types_at))]
-fn read_types(alloc: Global, bytes: &[u8]) -> Result<Vec<GroupAt>, ReadError>
-    ensures { Gives (λ groups. groups.items) result (types_at bytes.now) }
+fn read_types(alloc: Global, input: &mut &[u8]) -> Result<Vec<GroupAt>, ReadError>
+    ensures { GivesAll (λ groups. groups.items) result input.new.now (types_at input.old.now) }
 {
-    let (groups, rest) = read_vec(alloc, bytes)?;
-    if !rest.is_empty() {
-        return Err(ReadError::at(rest, Expected::End));
+    let groups = read_vec(alloc, input)?;
+    if !input.is_empty() {
+        return Err(ReadError::expected(Expected::End));
     }
     Ok(groups)
 }

@@ -132,8 +132,7 @@ pub enum Reason {
     NotHeld(NotHeld),
 }
 
-/// Where bytes stop being a text. The reason comes first, since an answer keeps it where it keeps
-/// whole fields of what is read otherwise, and is then moved with fewer instructions.
+/// Where bytes stop being a text.
 #[derive(Clone, Copy, PartialEq, Eq, Debug)]
 pub struct Fault {
     pub reason: Reason,
@@ -141,10 +140,11 @@ pub struct Fault {
     pub left: usize,
 }
 
-/// Why a part of a section could not be read.
+/// Why a part of a section could not be read. The place of a fault is where the input is left: so an
+/// error is small, and what is read moves past it in few instructions.
 #[derive(Clone, Copy, PartialEq, Eq, Debug)]
 pub enum ReadError {
-    Fault(Fault),
+    Reason(Reason),
     /// Memory was refused.
     Memory,
 }
@@ -174,45 +174,29 @@ impl Fault {
 }
 
 impl ReadError {
-    /// What was expected where these bytes are left.
-    pub fn at(bytes: &[u8], expected: Expected) -> ReadError
-        ensures { result ≡ errors.Fault
-            (record { left = length bytes.now; reason = reason.Expected expected }) }
+    /// What was expected where the input is left.
+    pub fn expected(expected: Expected) -> ReadError
+        ensures { result ≡ errors.Reason (reason.Expected expected) }
     {
-        ReadError::Fault(Fault {
-            left: bytes.len(),
-            reason: Reason::Expected(expected),
-        })
+        ReadError::Reason(Reason::Expected(expected))
     }
 
-    /// What stands where these bytes are left, and no record can hold.
-    pub fn not_held(bytes: &[u8], what: NotHeld) -> ReadError
-        ensures { result ≡ errors.Fault
-            (record { left = length bytes.now; reason = reason.NotHeld what }) }
+    /// What stands where the input is left, and no record can hold.
+    pub fn not_held(what: NotHeld) -> ReadError
+        ensures { result ≡ errors.Reason (reason.NotHeld what) }
     {
-        ReadError::Fault(Fault {
-            left: bytes.len(),
-            reason: Reason::NotHeld(what),
-        })
+        ReadError::Reason(Reason::NotHeld(what))
     }
 
-    /// What a caller of the crate is told, in bytes of this length.
-    pub fn refusal(self, len: usize) -> DecodeError
-        requires { IsWithin len self }
-        ensures { result ≡ error_refusal len self }
+    /// What a caller of the crate is told, where so many bytes are left of `len`.
+    pub fn refusal(self, len: usize, left: usize) -> DecodeError
+        requires { IsWithin len left self }
+        ensures { result ≡ error_refusal len left self }
     {
         match self {
-            ReadError::Fault(fault) => fault.refusal(len),
+            ReadError::Reason(reason) => Fault { reason, left }.refusal(len),
             ReadError::Memory => DecodeError::Memory,
         }
-    }
-}
-
-impl From<Fault> for ReadError {
-    ghost from_gives = { λ f e. e ≡ errors.Fault f };
-
-    fn from(fault: Fault) -> ReadError {
-        ReadError::Fault(fault)
     }
 }
 

@@ -1,9 +1,9 @@
 //! Integers in LEB128.
 //! WebAssembly core specification, "Binary Format", integers.
-ghost use Rattle.std.specs.Prelude.{◌≡◌, ◌≤◌, ◌<◌, ◌^◌, ◌++◌, ℕ, IfOk, IfSome, OnOk, Ok};
+ghost use Rattle.std.specs.Prelude.{◌≡◌, ◌≤◌, ◌<◌, ◌^◌, ◌++◌, ℕ, IfSome, OnOk};
 ghost use Rattle.walrus_binary.specs.Leb128.{IsU32, IsS33};
 ghost use Rattle.walrus_binary.specs.Steps.Writing.{IsEnough, integer_text, u32_text, s33_text};
-ghost use Rattle.walrus_binary.specs.Steps.Reading.{Gives, integer_at, u32_at, s33_at};
+ghost use Rattle.walrus_binary.specs.Steps.Reading.{Gives, Finds, integer_at, u32_at, s33_at};
 ghost use Rattle.walrus_binary.specs.Steps.Framing.{Reads};
 
 use crate::error::{Expected, Fault, ReadError};
@@ -11,76 +11,93 @@ use std::alloc::AllocError;
 
 const U32_LIMIT: u64 = 1 << 32;
 
-/// A `u32` at the front, and the bytes after it.
+/// Takes a `u32` from the front.
 #[inline(always)]
-pub fn read_u32(bytes: &[u8]) -> Result<(u32, &[u8]), ReadError>
-    ensures { Gives (λ x. (x.0, x.1.now)) result (u32_at bytes.now) }
+pub fn read_u32(input: &mut &[u8]) -> Result<u32, ReadError>
+    ensures { Gives (λ n. n) result input.new.now (u32_at input.old.now) }
 {
-    if let Some(read) = read_short(0x80, bytes) {
-        return Ok(read);
-    }
-    let (number, rest) = read_integer(0x80, U32_LIMIT, bytes)?;
-    Ok((number as u32, rest))
+    read_number(0x80, input)
+}
+
+/// Takes a type's index as an `s33` from the front.
+#[inline(always)]
+pub fn read_s33(input: &mut &[u8]) -> Result<u32, ReadError>
+    ensures { Gives (λ n. n) result input.new.now (s33_at input.old.now) }
+{
+    read_number(0x40, input)
 }
 
 /// The size of a section as a `u32` at the front, and the bytes after it.
 pub fn read_size(bytes: &[u8]) -> Result<(u32, &[u8]), Fault>
     ensures { Reads (λ x. (x.0, x.1.now)) result (u32_at bytes.now) }
 {
-    let (number, rest) = read_integer(0x80, U32_LIMIT, bytes)?;
-    Ok((number as u32, rest))
-}
-
-/// A type's index as an `s33` at the front, and the bytes after it.
-pub fn read_s33(bytes: &[u8]) -> Result<(u32, &[u8]), ReadError>
-    ensures { Gives (λ x. (x.0, x.1.now)) result (s33_at bytes.now) }
-{
-    if let Some(read) = read_short(0x40, bytes) {
-        return Ok(read);
+    let mut rest = bytes;
+    match read_integer(0x80, U32_LIMIT, &mut rest) {
+        Some(size) => Ok((size as u32, rest)),
+        None => Err(Fault::at(rest, Expected::Integer)),
     }
-    let (number, rest) = read_integer(0x40, U32_LIMIT, bytes)?;
-    Ok((number as u32, rest))
 }
 
-/// A number of one byte or two whose last is below `end`, as most are: what `read_integer` answers
-/// too, which costs more.
+/// Takes a number whose last byte is below `end`. Most have one byte: it is told here, and where it
+/// is called.
 #[inline(always)]
 #[tactic(auto, unfolding(crate::specs::Steps::Reading::integer_at))]
-fn read_short(end: u8, bytes: &[u8]) -> Option<(u32, &[u8])>
+fn read_number(end: u8, input: &mut &[u8]) -> Result<u32, ReadError>
     requires { end ≤ 0x80 }
-    ensures { IfSome result (λ x. integer_at end (2 ^ 32) bytes.now ≡ Ok (x.0, x.1.now)) }
+    ensures { Gives (λ n. n) result input.new.now (integer_at end (2 ^ 32) input.old.now) }
 {
-    match bytes {
-        [byte, rest @ ..] if *byte < end => Some((u32::from(*byte), rest)),
-        [low, high, rest @ ..] if *low >= 0x80 && *high < end => {
-            Some((u32::from(*high) * 0x80 + u32::from(*low - 0x80), rest))
+    match *input {
+        [byte, rest @ ..] if *byte < end => {
+            *input = rest;
+            Ok(u32::from(*byte))
         }
-        _ => None,
+        _ => read_long_number(end, input),
     }
 }
 
-/// A number below `limit` whose last byte is below `end`.
+/// The same for a number of two bytes, as most others have, or of any length.
 #[tactic(auto, unfolding(crate::specs::Steps::Reading::integer_at))]
-fn read_integer(end: u8, limit: u64, bytes: &[u8]) -> Result<(u64, &[u8]), Fault>
-    requires { limit ≤ 2 ^ 32 }
-    ensures gives { Reads (λ x. (x.0, x.1.now)) result (integer_at end limit bytes.now) }
-    ensures bound { IfOk result (λ x. x.0 < limit) }
+fn read_long_number(end: u8, input: &mut &[u8]) -> Result<u32, ReadError>
+    requires { end ≤ 0x80 }
+    ensures { Gives (λ n. n) result input.new.now (integer_at end (2 ^ 32) input.old.now) }
 {
-    let [byte, rest @ ..] = bytes else {
-        return Err(Fault::at(bytes, Expected::Integer));
+    match *input {
+        [low, high, rest @ ..] if *low >= 0x80 && *high < end => {
+            *input = rest;
+            Ok(u32::from(*high) * 0x80 + u32::from(*low - 0x80))
+        }
+        _ => match read_integer(end, U32_LIMIT, input) {
+            Some(number) => Ok(number as u32),
+            None => Err(ReadError::expected(Expected::Integer)),
+        },
+    }
+}
+
+/// Takes a number below `limit` whose last byte is below `end`. With `None` the input is left where
+/// an integer was expected.
+#[tactic(auto, unfolding(crate::specs::Steps::Reading::integer_at))]
+fn read_integer(end: u8, limit: u64, input: &mut &[u8]) -> Option<u64>
+    requires { limit ≤ 2 ^ 32 }
+    ensures finds { Finds result input.new.now (integer_at end limit input.old.now) }
+    ensures bound { IfSome result (λ n. n < limit) }
+{
+    let [byte, rest @ ..] = *input else {
+        return None;
     };
     let byte = *byte;
     if byte < 0x80 {
         if byte >= end || u64::from(byte) >= limit {
-            return Err(Fault::at(bytes, Expected::Integer));
+            return None;
         }
-        return Ok((u64::from(byte), rest));
+        *input = rest;
+        return Some(u64::from(byte));
     }
     if limit <= 0x80 {
-        return Err(Fault::at(bytes, Expected::Integer));
+        return None;
     }
-    let (high, rest) = read_integer(end, limit / 0x80, rest)?;
-    Ok((high * 0x80 + u64::from(byte - 0x80), rest))
+    *input = rest;
+    let high = read_integer(end, limit / 0x80, input)?;
+    Some(high * 0x80 + u64::from(byte - 0x80))
 }
 
 /// Puts the shortest text of a `u32` at the end.

@@ -1,10 +1,9 @@
--- Reading a section group by group: what was read of it, and what comes next.
-use Rattle.std.specs.Prelude.{◌≡◌, ℕ, ◌-◌, ◌≤◌, List, [], length, Option, Some, None, Result, Ok, Err, nat_eq, nat_lt, cond}
+-- Reading a section group by group: what was read of it.
+use Rattle.std.specs.Prelude.{◌≡◌, ℕ, ◌-◌, ◌≤◌, List, [], Result, Ok, Err}
 use Rattle.walrus_ty.specs.declared.records.GroupAt.{GroupAt}
-use Rattle.walrus_binary.specs.declared.error.Expected.TheVariants as expected
 use Rattle.walrus_binary.specs.declared.error.Fault.{Fault}
 use Rattle.walrus_binary.specs.SectionProgress.{SectionProgress}
-use Rattle.walrus_binary.specs.Steps.Reading.{◌>>=◌, wanted, u32_at, items_at, group_at}
+use Rattle.walrus_binary.specs.Steps.Reading.{◌>>=◌, u32_at, items_at, group_at}
 
 -- the groups before the last ones of the count, and the bytes after them
 unfoldable pub front_at : ℕ → List ℕ → Result (List GroupAt × List ℕ) Fault
@@ -28,9 +27,3 @@ pub record IsReadTo (bytes : List ℕ) (remaining : ℕ) (left : List ℕ) : Typ
   pub counts : u32_at bytes ≡ Ok (count, texts)
   pub within : remaining ≤ count
   pub groups : items_at group_at (count - remaining) texts ≡ Ok (groups_before remaining bytes, left)
-
--- the next group, where there are so many, and the bytes after it; or the end
-unfoldable pub next_at : ℕ → List ℕ → Result (Option (GroupAt × List ℕ)) Fault
-next_at remaining bytes =
-    cond (nat_lt 0 remaining) (group_at bytes >>= (λ x. Ok (Some x)))
-    (cond (nat_eq (length bytes) 0) (Ok None) (wanted bytes expected.End))

@@ -31,18 +31,30 @@ abbrev pub ◌>>=◌ : {A B : Type 0} → Result A Fault → (A → Result B Fau
 (Ok x) >>= f = f x
 (Err e) >>= f = Err e
 
--- the error is the fault that reading ends with, unless memory was refused
-abbrev pub Fails : {Y : Type 0} → ReadError → Result Y Fault → Type 0
-Fails errors.Memory read = Unit {0}
-Fails (errors.Fault f) read = read ≡ Err f
-
--- what a function answered, seen by view, is what reading gives, unless memory was refused
-abbrev pub Gives : {X Y : Type 0} → (X → Y) → Result X ReadError → Result Y Fault → Type 0
-Gives view (Ok x) read = read ≡ Ok (view x)
-Gives view (Err e) read = Fails e read
-
 abbrev pub wanted : {A : Type 0} → List ℕ → Expected → Result A Fault
 wanted bytes e = Err (record { left = length bytes; reason = reason.Expected e })
+
+-- The error, where so much is left of the input, is the fault that reading ends with, unless memory
+-- was refused.
+abbrev pub Fails : {Y : Type 0} → List ℕ → ReadError → Result Y Fault → Type 0
+Fails left errors.Memory read = Unit {0}
+Fails left (errors.Reason r) read = read ≡ Err (record { left = length left; reason = r })
+
+-- What a function answered, seen by view, and what it left of the input are what reading gives,
+-- unless memory was refused.
+abbrev pub Gives : {X Y : Type 0} → (X → Y) → Result X ReadError → List ℕ → Result (Y × List ℕ) Fault → Type 0
+Gives view (Ok x) left read = read ≡ Ok (view x, left)
+Gives view (Err e) left read = Fails left e read
+
+-- the same where reading says nothing of what is left
+abbrev pub GivesAll : {X Y : Type 0} → (X → Y) → Result X ReadError → List ℕ → Result Y Fault → Type 0
+GivesAll view (Ok x) left read = read ≡ Ok (view x)
+GivesAll view (Err e) left read = Fails left e read
+
+-- the same of an integer, which has one fault
+abbrev pub Finds : Option ℕ → List ℕ → Result (ℕ × List ℕ) Fault → Type 0
+Finds (Some n) left read = read ≡ Ok (n, left)
+Finds None left read = read ≡ wanted left expected.Integer
 
 abbrev pub unheld : {A : Type 0} → List ℕ → NotHeld → Result A Fault
 unheld bytes e = Err (record { left = length bytes; reason = reason.NotHeld e })
@@ -168,12 +180,18 @@ function_at bytes =
     vec_at val_at bytes >>= (λ ps. vec_at val_at ps.1 >>= (λ rs.
     Ok (comp.Function ps.0 rs.0, rs.1)))
 
+abbrev pub struct_at : List ℕ → Result (CompAt × List ℕ) Fault
+struct_at bytes = vec_at field_at bytes >>= (λ fs. Ok (comp.Struct fs.0, fs.1))
+
+abbrev pub array_at : List ℕ → Result (CompAt × List ℕ) Fault
+array_at bytes = field_at bytes >>= (λ f. Ok (comp.Array f.0, f.1))
+
 unfoldable pub comp_at : List ℕ → Result (CompAt × List ℕ) Fault
 comp_at [] = wanted [] expected.CompType
 comp_at (b ∷ bytes) =
     cond (nat_eq b 0x60) (function_at bytes)
-    (cond (nat_eq b 0x5F) (vec_at field_at bytes >>= (λ fs. Ok (comp.Struct fs.0, fs.1)))
-    (cond (nat_eq b 0x5E) (field_at bytes >>= (λ f. Ok (comp.Array f.0, f.1)))
+    (cond (nat_eq b 0x5F) (struct_at bytes)
+    (cond (nat_eq b 0x5E) (array_at bytes)
     (cond (nat_eq b 0x5D) (unheld (b ∷ bytes) held.Continuation)
     (cond (nat_eq b 0x65) (unheld (b ∷ bytes) held.Shared)
     (cond (nat_eq b 0x4C || nat_eq b 0x4D) (unheld (b ∷ bytes) held.Descriptor)
@@ -189,24 +207,32 @@ supertype_at bytes =
     (cond (nat_eq n.0 1) (u32_at n.1 >>= (λ k. Ok (Some k.0, k.1)))
     (unheld bytes held.Supertypes)))
 
+-- what reading a composite type gives, as a definition of it
+abbrev pub as_entry : Bool → Option ℕ → Result (CompAt × List ℕ) Fault → Result (EntryAt × List ℕ) Fault
+as_entry is_final supertype read =
+    read >>= (λ c. Ok (record { comp = c.0; is_final = is_final; supertype = supertype }, c.1))
+
 unfoldable pub declared_at : Bool → List ℕ → Result (EntryAt × List ℕ) Fault
 declared_at is_final bytes =
-    supertype_at bytes >>= (λ s. comp_at s.1 >>= (λ c.
-    Ok (record { comp = c.0; is_final = is_final; supertype = s.0 }, c.1)))
+    supertype_at bytes >>= (λ s. as_entry is_final s.0 (comp_at s.1))
 
 unfoldable pub entry_at : List ℕ → Result (EntryAt × List ℕ) Fault
 entry_at [] = wanted [] expected.RecType
 entry_at (b ∷ bytes) =
     cond (nat_eq b 0x50) (declared_at false bytes)
     (cond (nat_eq b 0x4F) (declared_at true bytes)
-    (comp_at (b ∷ bytes) >>= (λ c.
-    Ok (record { comp = c.0; is_final = true; supertype = None }, c.1))))
+    (as_entry true None (comp_at (b ∷ bytes))))
+
+abbrev pub rec_at : List ℕ → Result (GroupAt × List ℕ) Fault
+rec_at bytes = vec_at entry_at bytes >>= (λ es. Ok (group.Rec es.0, es.1))
+
+abbrev pub single_at : List ℕ → Result (GroupAt × List ℕ) Fault
+single_at bytes = entry_at bytes >>= (λ e. Ok (group.Single e.0, e.1))
 
 unfoldable pub group_at : List ℕ → Result (GroupAt × List ℕ) Fault
 group_at [] = wanted [] expected.RecType
 group_at (b ∷ bytes) =
-    cond (nat_eq b 0x4E) (vec_at entry_at bytes >>= (λ es. Ok (group.Rec es.0, es.1)))
-    (entry_at (b ∷ bytes) >>= (λ e. Ok (group.Single e.0, e.1)))
+    cond (nat_eq b 0x4E) (rec_at bytes) (single_at (b ∷ bytes))
 
 -- all of the bytes
 unfoldable pub types_at : List ℕ → Result (List GroupAt) Fault

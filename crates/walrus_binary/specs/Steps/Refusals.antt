@@ -15,11 +15,11 @@ with_reason offset (reason.NotHeld what) = decode.NotHeld offset what
 abbrev pub refusal : ℕ → Fault → DecodeError
 refusal len fault = with_reason (len - fault.left) fault.reason
 
--- no more bytes are left there than these
-abbrev pub IsWithin : ℕ → ReadError → Type 0
-IsWithin len (errors.Fault fault) = fault.left ≤ len
-IsWithin len errors.Memory = Unit {0}
+-- no more bytes are left at a fault than these
+abbrev pub IsWithin : ℕ → ℕ → ReadError → Type 0
+IsWithin len left (errors.Reason r) = left ≤ len
+IsWithin len left errors.Memory = Unit {0}
 
-abbrev pub error_refusal : ℕ → ReadError → DecodeError
-error_refusal len (errors.Fault fault) = refusal len fault
-error_refusal len errors.Memory = decode.Memory
+abbrev pub error_refusal : ℕ → ℕ → ReadError → DecodeError
+error_refusal len left (errors.Reason r) = refusal len (record { left = left; reason = r })
+error_refusal len left errors.Memory = decode.Memory

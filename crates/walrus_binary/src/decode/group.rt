@@ -1,7 +1,8 @@
 //! Definitions and recursion groups.
 //! WebAssembly core specification, "Binary Format", types.
 ghost use Rattle.std.specs.Prelude.{◌≡◌};
-ghost use Rattle.walrus_binary.specs.Steps.Reading.{Gives, supertype_at, declared_at, entry_at, group_at};
+ghost use Rattle.walrus_binary.specs.Steps.Reading.{Gives, supertype_at, declared_at, entry_at};
+ghost use Rattle.walrus_binary.specs.Steps.Reading.{rec_at, single_at, group_at};
 
 use crate::decode::composite::read_comp;
 use crate::decode::list::{Decode, read_vec};
@@ -10,88 +11,98 @@ use crate::leb128::read_u32;
 use std::alloc::Global;
 use walrus_ty::{EntryAt, GroupAt, Listed};
 
-#[inline(always)]
+/// Takes a recursion group from the front: several definitions behind `rec`, or one alone.
 #[tactic(auto, unfolding(crate::specs::Steps::Reading::group_at))]
-pub fn read_group(alloc: Global, bytes: &[u8]) -> Result<(GroupAt, &[u8]), ReadError>
-    ensures { Gives (λ x. (x.0, x.1.now)) result (group_at bytes.now) }
+pub fn read_group(alloc: Global, input: &mut &[u8]) -> Result<GroupAt, ReadError>
+    ensures { Gives (λ g. g) result input.new.now (group_at input.old.now) }
 {
-    match bytes {
-        [] => Err(ReadError::at(bytes, Expected::RecType)),
+    match *input {
+        [] => Err(ReadError::expected(Expected::RecType)),
         [0x4E, rest @ ..] => {
-            let (entries, rest) = read_vec(alloc, rest)?;
-            Ok((GroupAt::Rec(Listed::from_vec(entries)), rest))
+            *input = rest;
+            read_rec(alloc, input)
         }
-        [_, ..] => {
-            let (entry, rest) = read_entry(alloc, bytes)?;
-            Ok((GroupAt::Single(entry), rest))
-        }
+        [_, ..] => read_single(alloc, input),
     }
 }
 
+fn read_rec(alloc: Global, input: &mut &[u8]) -> Result<GroupAt, ReadError>
+    ensures { Gives (λ g. g) result input.new.now (rec_at input.old.now) }
+{
+    let entries = Listed::from_vec(read_vec(alloc, input)?);
+    Ok(GroupAt::Rec(entries))
+}
+
+fn read_single(alloc: Global, input: &mut &[u8]) -> Result<GroupAt, ReadError>
+    ensures { Gives (λ g. g) result input.new.now (single_at input.old.now) }
+{
+    match read_entry(alloc, input) {
+        Ok(entry) => Ok(GroupAt::Single(entry)),
+        Err(error) => Err(error),
+    }
+}
+
+/// Takes a definition from the front.
 #[inline(always)]
 #[tactic(auto, unfolding(crate::specs::Steps::Reading::entry_at))]
-fn read_entry(alloc: Global, bytes: &[u8]) -> Result<(EntryAt, &[u8]), ReadError>
-    ensures { Gives (λ x. (x.0, x.1.now)) result (entry_at bytes.now) }
+fn read_entry(alloc: Global, input: &mut &[u8]) -> Result<EntryAt, ReadError>
+    ensures { Gives (λ e. e) result input.new.now (entry_at input.old.now) }
 {
-    match bytes {
-        [] => Err(ReadError::at(bytes, Expected::RecType)),
-        [0x50, rest @ ..] => read_declared(alloc, false, rest),
-        [0x4F, rest @ ..] => read_declared(alloc, true, rest),
-        [_, ..] => {
-            let (comp, rest) = read_comp(alloc, bytes)?;
-            let entry = EntryAt {
-                comp,
-                is_final: true,
-                supertype: None,
-            };
-            Ok((entry, rest))
+    match *input {
+        [] => Err(ReadError::expected(Expected::RecType)),
+        [0x50, rest @ ..] => {
+            *input = rest;
+            read_declared(alloc, false, input)
         }
+        [0x4F, rest @ ..] => {
+            *input = rest;
+            read_declared(alloc, true, input)
+        }
+        [_, ..] => read_comp(alloc, true, None, input),
     }
 }
 
 /// What stands behind `sub` or `sub final`.
-#[inline(always)]
 #[tactic(auto, unfolding(crate::specs::Steps::Reading::declared_at))]
-fn read_declared(alloc: Global, is_final: bool, bytes: &[u8]) -> Result<(EntryAt, &[u8]), ReadError>
-    ensures { Gives (λ x. (x.0, x.1.now)) result (declared_at is_final bytes.now) }
+fn read_declared(alloc: Global, is_final: bool, input: &mut &[u8]) -> Result<EntryAt, ReadError>
+    ensures { Gives (λ e. e) result input.new.now (declared_at is_final input.old.now) }
 {
-    let (supertype, rest) = read_supertype(bytes)?;
-    let (comp, rest) = read_comp(alloc, rest)?;
-    let entry = EntryAt {
-        comp,
-        is_final,
-        supertype,
-    };
-    Ok((entry, rest))
+    let supertype = read_supertype(input)?;
+    read_comp(alloc, is_final, supertype, input)
 }
 
+/// The one supertype, if there is one. Several are told where their count begins.
+#[inline(always)]
 #[tactic(auto, unfolding(crate::specs::Steps::Reading::supertype_at))]
-fn read_supertype(bytes: &[u8]) -> Result<(Option<u32>, &[u8]), ReadError>
-    ensures { Gives (λ x. (x.0, x.1.now)) result (supertype_at bytes.now) }
+fn read_supertype(input: &mut &[u8]) -> Result<Option<u32>, ReadError>
+    ensures { Gives (λ s. s) result input.new.now (supertype_at input.old.now) }
 {
-    let (count, rest) = read_u32(bytes)?;
-    match count {
-        0 => Ok((None, rest)),
+    let start = *input;
+    match read_u32(input)? {
+        0 => Ok(None),
         1 => {
-            let (index, rest) = read_u32(rest)?;
-            Ok((Some(index), rest))
+            let index = read_u32(input)?;
+            Ok(Some(index))
         }
-        _ => Err(ReadError::not_held(bytes, NotHeld::Supertypes)),
+        _ => {
+            *input = start;
+            Err(ReadError::not_held(NotHeld::Supertypes))
+        }
     }
 }
 
 impl Decode for EntryAt {
     ghost reading = { entry_at };
 
-    fn read(alloc: Global, bytes: &[u8]) -> Result<(EntryAt, &[u8]), ReadError> {
-        read_entry(alloc, bytes)
+    fn read(alloc: Global, input: &mut &[u8]) -> Result<EntryAt, ReadError> {
+        read_entry(alloc, input)
     }
 }
 
 impl Decode for GroupAt {
     ghost reading = { group_at };
 
-    fn read(alloc: Global, bytes: &[u8]) -> Result<(GroupAt, &[u8]), ReadError> {
-        read_group(alloc, bytes)
+    fn read(alloc: Global, input: &mut &[u8]) -> Result<GroupAt, ReadError> {
+        read_group(alloc, input)
     }
 }

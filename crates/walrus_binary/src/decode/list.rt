@@ -13,9 +13,9 @@ pub trait Decode: Sized {
     /// The value at the front of bytes, and the bytes after it.
     ghost reading: { List ℕ → Result (Self × List ℕ) Fault };
 
-    /// Reads the value at the front, and answers it with the bytes after it.
-    fn read(alloc: Global, bytes: &[u8]) -> Result<(Self, &[u8]), ReadError>
-        ensures { Gives (λ x. (x.0, x.1.now)) result (reading bytes.now) };
+    /// Takes the value from the front. With an error the input is left at the fault.
+    fn read(alloc: Global, input: &mut &[u8]) -> Result<Self, ReadError>
+        ensures { Gives (λ x. x) result input.new.now (reading input.old.now) };
 }
 
 /// For how many items room is taken at most before they are read.
@@ -25,31 +25,29 @@ const MOST_RESERVED: usize = 1000;
 /// list, as that of the results often is, costs no call.
 #[inline(always)]
 #[tactic(auto, unfolding(crate::specs::Steps::Reading::vec_at, crate::specs::Steps::Reading::items_at))]
-pub fn read_vec<T: Decode + Drop>(alloc: Global, bytes: &[u8]) -> Result<(Vec<T>, &[u8]), ReadError>
-    ensures { Gives (λ x. (x.0.items, x.1.now)) result (vec_at T.reading bytes.now) }
+pub fn read_vec<T: Decode + Drop>(alloc: Global, input: &mut &[u8]) -> Result<Vec<T>, ReadError>
+    ensures { Gives (λ xs. xs.items) result input.new.now (vec_at T.reading input.old.now) }
 {
-    let (count, rest) = read_u32(bytes)?;
+    let count = read_u32(input)?;
     if count == 0 {
-        return Ok((Vec::new(alloc), rest));
+        return Ok(Vec::new(alloc));
     }
-    read_items(alloc, count, rest)
+    read_items(alloc, count, input)
 }
 
 fn read_items<T: Decode + Drop>(
     alloc: Global,
     count: u32,
-    bytes: &[u8],
-) -> Result<(Vec<T>, &[u8]), ReadError>
-    ensures { Gives (λ x. (x.0.items, x.1.now)) result (items_at T.reading count bytes.now) }
+    input: &mut &[u8],
+) -> Result<Vec<T>, ReadError>
+    ensures { Gives (λ xs. xs.items) result input.new.now (items_at T.reading count input.old.now) }
 {
-    let mut items = Vec::with_capacity(alloc, room(count, bytes.len()))?;
-    let mut rest = bytes;
+    let mut items = Vec::with_capacity(alloc, room(count, input.len()))?;
     for _ in 0..count {
-        let (item, after) = T::read(alloc, rest)?;
+        let item = T::read(alloc, input)?;
         items.push(item)?;
-        rest = after;
     }
-    Ok((items, rest))
+    Ok(items)
 }
 
 /// For how many items room is taken before they are read, where so many bytes are left: none where

@@ -1,11 +1,8 @@
 //! Reading a type section group by group.
 ghost use Rattle.std.specs.Prelude.{◌≡◌, ◌+◌, ◌<◌, ◌≤◌, [], ◌∷◌, ◌++◌, length, take, IfOk, IfErr, IfSome, IfNone, OnOk, OnErr};
-ghost use Rattle.std.specs.Option.{option_map};
 ghost use Rattle.walrus_binary.specs.Grammar.{IsTypes};
 ghost use Rattle.walrus_binary.specs.Faults.{IsNoText, BeginsNoText, IsBegun};
 ghost use Rattle.walrus_binary.specs.Faults.{IsSeenThere, error_offset};
-ghost use Rattle.walrus_binary.specs.Steps.Reading.{Gives};
-ghost use Rattle.walrus_binary.specs.Steps.Progress.{next_at};
 
 use crate::decode::group::read_group;
 use crate::error::{DecodeError, Expected, ReadError};
@@ -22,14 +19,16 @@ use walrus_ty::GroupAt;
 /// [`remaining_count`](TypeSectionReader::remaining_count) goes down with each group, so that a
 /// loop over them ends.
 ///
-/// # How many groups a section has of several types
+/// # Whether a section has a group behind `rec`
+///
+/// The last call finds the end, or the bytes that stand there.
 ///
 /// ```
 /// let mut reader = TypeSectionReader::new(alloc, bytes)?;
-/// let mut recursive = 0_u64;
-/// while let Some(group) = reader.next_group()? {
-///     if let GroupAt::Rec(_) = group {
-///         recursive += 1;
+/// let mut has_rec = false;
+/// for _ in 0..=reader.remaining_count() {
+///     if let Some(GroupAt::Rec(_)) = reader.next_group()? {
+///         has_rec = true;
 ///     }
 /// }
 /// ```
@@ -85,14 +84,15 @@ impl<'a> TypeSectionReader<'a> {
         ensures begun { IfErr result (λ e. IfSome (error_offset e) (λ offset.
             IsBegun (take offset bytes.now))) }
     {
-        match read_u32(bytes) {
-            Ok((remaining, rest)) => Ok(TypeSectionReader {
+        let mut rest = bytes;
+        match read_u32(&mut rest) {
+            Ok(remaining) => Ok(TypeSectionReader {
                 alloc,
                 bytes,
                 rest,
                 remaining,
             }),
-            Err(error) => Err(error.refusal(bytes.len())),
+            Err(error) => Err(error.refusal(bytes.len(), rest.len())),
         }
     }
 
@@ -145,34 +145,21 @@ impl<'a> TypeSectionReader<'a> {
         ensures begun { IfErr result (λ e. IfSome (error_offset e) (λ offset.
             IsBegun (take offset self.old.bytes))) }
     {
-        match read_next(self.alloc, self.remaining, self.rest) {
-            Ok(Some((group, rest))) => {
+        let mut rest = self.rest;
+        if self.remaining == 0 {
+            if rest.is_empty() {
+                return Ok(None);
+            }
+            let error = ReadError::expected(Expected::End);
+            return Err(error.refusal(self.bytes.len(), rest.len()));
+        }
+        match read_group(self.alloc, &mut rest) {
+            Ok(group) => {
                 self.rest = rest;
                 self.remaining -= 1;
                 Ok(Some(group))
             }
-            Ok(None) => Ok(None),
-            Err(error) => Err(error.refusal(self.bytes.len())),
+            Err(error) => Err(error.refusal(self.bytes.len(), rest.len())),
         }
     }
-}
-
-/// The next group, where so many are still to come, and the bytes after it; `None` at the end.
-#[inline(always)]
-#[tactic(auto, unfolding(crate::specs::Steps::Progress::next_at))]
-fn read_next(
-    alloc: Global,
-    remaining: u32,
-    bytes: &[u8],
-) -> Result<Option<(GroupAt, &[u8])>, ReadError>
-    ensures { Gives (option_map (λ x. (x.0, x.1.now))) result (next_at remaining bytes.now) }
-{
-    if remaining > 0 {
-        let (group, rest) = read_group(alloc, bytes)?;
-        return Ok(Some((group, rest)));
-    }
-    if !bytes.is_empty() {
-        return Err(ReadError::at(bytes, Expected::End));
-    }
-    Ok(None)
 }

@@ -7,95 +7,110 @@ use crate::error::{Expected, NotHeld, ReadError};
 use crate::leb128::{read_s33, read_u32};
 use walrus_ty::{AbstractHeapType, HeapAt, RefAt, ValAt};
 
-/// A value type at the front, and the bytes after it.
+/// Takes a value type from the front.
 #[inline(always)]
 #[tactic(auto, unfolding(crate::specs::Steps::Reading::val_at))]
-pub fn read_val(bytes: &[u8]) -> Result<(ValAt, &[u8]), ReadError>
-    ensures { Gives (λ x. (x.0, x.1.now)) result (val_at bytes.now) }
+pub fn read_val(input: &mut &[u8]) -> Result<ValAt, ReadError>
+    ensures { Gives (λ v. v) result input.new.now (val_at input.old.now) }
 {
-    match bytes {
-        [] => Err(ReadError::at(bytes, Expected::ValType)),
-        [0x7F, rest @ ..] => Ok((ValAt::I32, rest)),
-        [0x7E, rest @ ..] => Ok((ValAt::I64, rest)),
-        [0x7D, rest @ ..] => Ok((ValAt::F32, rest)),
-        [0x7C, rest @ ..] => Ok((ValAt::F64, rest)),
-        [0x7B, rest @ ..] => Ok((ValAt::V128, rest)),
+    match *input {
+        [] => Err(ReadError::expected(Expected::ValType)),
+        [0x7F, rest @ ..] => {
+            *input = rest;
+            Ok(ValAt::I32)
+        }
+        [0x7E, rest @ ..] => {
+            *input = rest;
+            Ok(ValAt::I64)
+        }
+        [0x7D, rest @ ..] => {
+            *input = rest;
+            Ok(ValAt::F32)
+        }
+        [0x7C, rest @ ..] => {
+            *input = rest;
+            Ok(ValAt::F64)
+        }
+        [0x7B, rest @ ..] => {
+            *input = rest;
+            Ok(ValAt::V128)
+        }
         [_, ..] => {
-            let (reference, rest) = read_reference(bytes)?;
-            Ok((ValAt::Ref(reference), rest))
+            let reference = read_reference(input)?;
+            Ok(ValAt::Ref(reference))
         }
     }
 }
 
 #[tactic(auto, unfolding(crate::specs::Steps::Reading::reference_at))]
-fn read_reference(bytes: &[u8]) -> Result<(RefAt, &[u8]), ReadError>
-    ensures { Gives (λ x. (x.0, x.1.now)) result (reference_at bytes.now) }
+fn read_reference(input: &mut &[u8]) -> Result<RefAt, ReadError>
+    ensures { Gives (λ r. r) result input.new.now (reference_at input.old.now) }
 {
-    let [byte, rest @ ..] = bytes else {
-        return Err(ReadError::at(bytes, Expected::ValType));
+    let [byte, rest @ ..] = *input else {
+        return Err(ReadError::expected(Expected::ValType));
     };
     let byte = *byte;
     if byte == 0x63 || byte == 0x64 {
-        let (heap_type, rest) = read_heap(rest)?;
+        *input = rest;
+        let heap_type = read_heap(input)?;
         let nullable = byte == 0x63;
-        return Ok((
-            RefAt {
-                nullable,
-                heap_type,
-            },
-            rest,
-        ));
+        return Ok(RefAt {
+            nullable,
+            heap_type,
+        });
     }
     match abstract_heap_type(byte) {
         Some(heap_type) => {
+            *input = rest;
             let heap_type = HeapAt::Abstract(heap_type);
-            Ok((
-                RefAt {
-                    nullable: true,
-                    heap_type,
-                },
-                rest,
-            ))
+            Ok(RefAt {
+                nullable: true,
+                heap_type,
+            })
         }
-        None if byte == 0x68 || byte == 0x75 => {
-            Err(ReadError::not_held(bytes, NotHeld::Continuation))
-        }
-        None => Err(ReadError::at(bytes, Expected::ValType)),
+        None if byte == 0x68 || byte == 0x75 => Err(ReadError::not_held(NotHeld::Continuation)),
+        None => Err(ReadError::expected(Expected::ValType)),
     }
 }
 
+#[inline(always)]
 #[tactic(auto, unfolding(crate::specs::Steps::Reading::heap_at))]
-fn read_heap(bytes: &[u8]) -> Result<(HeapAt, &[u8]), ReadError>
-    ensures { Gives (λ x. (x.0, x.1.now)) result (heap_at bytes.now) }
+fn read_heap(input: &mut &[u8]) -> Result<HeapAt, ReadError>
+    ensures { Gives (λ h. h) result input.new.now (heap_at input.old.now) }
 {
-    let [byte, rest @ ..] = bytes else {
-        return Err(ReadError::at(bytes, Expected::HeapType));
+    let [byte, rest @ ..] = *input else {
+        return Err(ReadError::expected(Expected::HeapType));
     };
     let byte = *byte;
     if byte == 0x62 {
-        let (index, rest) = read_u32(rest)?;
-        return Ok((HeapAt::Exact(index), rest));
+        *input = rest;
+        let index = read_u32(input)?;
+        return Ok(HeapAt::Exact(index));
     }
     match abstract_heap_type(byte) {
-        Some(heap_type) => Ok((HeapAt::Abstract(heap_type), rest)),
-        None => read_index(byte, bytes),
+        Some(heap_type) => {
+            *input = rest;
+            Ok(HeapAt::Abstract(heap_type))
+        }
+        None => read_index(byte, input),
     }
 }
 
 /// A heap type whose first byte stands for no abstract one.
+#[inline(always)]
 #[tactic(auto, unfolding(crate::specs::Steps::Reading::index_at))]
-fn read_index(byte: u8, bytes: &[u8]) -> Result<(HeapAt, &[u8]), ReadError>
-    ensures { Gives (λ x. (x.0, x.1.now)) result (index_at byte bytes.now) }
+fn read_index(byte: u8, input: &mut &[u8]) -> Result<HeapAt, ReadError>
+    ensures { Gives (λ h. h) result input.new.now (index_at byte input.old.now) }
 {
     if byte < 0x40 || byte >= 0x80 {
-        let (index, rest) = read_s33(bytes)?;
-        return Ok((HeapAt::Concrete(index), rest));
+        let index = read_s33(input)?;
+        return Ok(HeapAt::Concrete(index));
     }
     match byte {
-        0x65 => Err(ReadError::not_held(bytes, NotHeld::Shared)),
-        0x68 => Err(ReadError::not_held(bytes, NotHeld::Continuation)),
-        0x75 => Err(ReadError::not_held(bytes, NotHeld::Continuation)),
-        _ => Err(ReadError::at(bytes, Expected::HeapType)),
+        0x65 => Err(ReadError::not_held(NotHeld::Shared)),
+        0x68 => Err(ReadError::not_held(NotHeld::Continuation)),
+        0x75 => Err(ReadError::not_held(NotHeld::Continuation)),
+        _ => Err(ReadError::expected(Expected::HeapType)),
     }
 }
 

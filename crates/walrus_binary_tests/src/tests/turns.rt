@@ -17,6 +17,32 @@ fn is_at_end(reader: &mut TypeSectionReader<'_>) -> bool {
     matches!(reader.next_group(), Ok(None))
 }
 
+/// The example in the docs of the reader, word for word.
+fn has_rec(alloc: Global, bytes: &[u8]) -> Result<bool, DecodeError> {
+    let mut reader = TypeSectionReader::new(alloc, bytes)?;
+    let mut has_rec = false;
+    for _ in 0..=reader.remaining_count() {
+        if let Some(GroupAt::Rec(_)) = reader.next_group()? {
+            has_rec = true;
+        }
+    }
+    Ok(has_rec)
+}
+
+#[test]
+fn a_rec_is_found_among_the_groups(rt: HostRuntime) -> Result<(), Fail> {
+    let alloc = rt.alloc();
+    let with_rec = [2, 0x5E, 0x78, 0, 0x4E, 1, 0x5F, 0];
+    assert_equal(&rt, has_rec(alloc, &with_rec), Ok(true));
+    assert_equal(&rt, has_rec(alloc, &[1, 0x5E, 0x78, 0]), Ok(false));
+    let end = DecodeError::Malformed {
+        offset: 4,
+        expected: Expected::End,
+    };
+    assert_equal(&rt, has_rec(alloc, &[1, 0x5E, 0x78, 0, 0x5E]), Err(end));
+    Ok(())
+}
+
 #[test]
 fn groups_of_a_section_come_in_turn(rt: HostRuntime) -> Result<(), Fail> {
     let bytes = [
