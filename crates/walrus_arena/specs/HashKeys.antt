@@ -10,9 +10,9 @@ abbrev pub InitialHasher : Type 0
 InitialHasher = FoldHasher
 
 -- std's hasher, fed nothing
-abbrev pub fixed : InitialHasher
-fixed = folding.initial
+abbrev pub fixed_hasher : InitialHasher
+fixed_hasher = folding.initial
 
 -- std's hasher, fed the one key and then the other
-abbrev pub keyed : ℕ → ℕ → InitialHasher
-keyed first second = fold folding.write folding.initial (fed.u64 first ++ fed.u64 second)
+abbrev pub hasher_with_keys : ℕ → ℕ → InitialHasher
+hasher_with_keys first second = fold folding.write folding.initial (fed.u64 first ++ fed.u64 second)

@@ -1,6 +1,6 @@
 //! The keys of a set's hash.
 ghost use Rattle.std.specs.Prelude.{◌≡◌};
-ghost use Rattle.walrus_arena.specs.HashKeys.{fixed, keyed};
+ghost use Rattle.walrus_arena.specs.HashKeys.{fixed_hasher, hasher_with_keys};
 
 use std::hash::{BuildHasher, FoldHasher, Hasher};
 use std::marker::Model;
@@ -40,7 +40,7 @@ impl Model for HashKeys {
 impl HashKeys {
     /// The same keys in every run of every program.
     pub fn fixed() -> HashKeys
-        ensures { result ≡ fixed }
+        ensures { result ≡ fixed_hasher }
     {
         HashKeys {
             initial: FoldHasher::default(),
@@ -49,7 +49,7 @@ impl HashKeys {
 
     /// Keys of the caller's choice.
     pub fn new(first: u64, second: u64) -> HashKeys
-        ensures { result ≡ keyed first second }
+        ensures { result ≡ hasher_with_keys first second }
     {
         let mut initial = FoldHasher::default();
         initial.write_u64(first);

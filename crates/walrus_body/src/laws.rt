@@ -7,7 +7,7 @@ ghost use Rattle.walrus_body.specs.Counting.{CutWalk, IsFunction};
 ghost use Rattle.walrus_body.specs.Extents.{Full, Partial};
 ghost use Rattle.walrus_body.specs.FieldMaps.{FieldMap, MapsFields, IsMapped};
 ghost use Rattle.walrus_body.specs.Premises.{HasSteps, KeepsNesting};
-ghost use Rattle.walrus_body.specs.Renaming.{renamed_at, renamed_sequence};
+ghost use Rattle.walrus_body.specs.Renaming.{rename_at, rename_sequence};
 ghost use Rattle.walrus_body.specs.Unfolding.{Unfolds, IsTree};
 ghost use Rattle.walrus_body.specs.Walks.{Walks};
 
@@ -71,11 +71,11 @@ pub fn rename_types_renames_the_body()
         Walks ⟦<RenameTypes as VisitorMut>⟧.step (names, s) start Full t → t.0 ≡ names }
     ensures body { (names : List ℕ) (s : Body) (t : List ℕ × Body) (start : ℕ) →
         Walks ⟦<RenameTypes as VisitorMut>⟧.step (names, s) start Full t →
-        (visits : List ℕ) × Unfolds s start visits × IsMapped (renamed_at names) visits s t.1 }
+        (visits : List ℕ) × Unfolds s start visits × IsMapped (rename_at names) visits s t.1 }
     ensures once { (names : List ℕ) (s : Body) (t : List ℕ × Body) (start : ℕ) →
         Walks ⟦<RenameTypes as VisitorMut>⟧.step (names, s) start Full t → IsTree s start →
         (id : ℕ) → IsReachable s start id →
-        sequence t.1 id ≡ renamed_sequence names (sequence s id) }
+        sequence t.1 id ≡ rename_sequence names (sequence s id) }
     ensures others { (names : List ℕ) (s : Body) (t : List ℕ × Body) (start : ℕ) →
         Walks ⟦<RenameTypes as VisitorMut>⟧.step (names, s) start Full t →
         (id : ℕ) → (IsReachable s start id → ⊥) → sequence t.1 id ≡ sequence s id }

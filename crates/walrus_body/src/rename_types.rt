@@ -1,7 +1,7 @@
 //! A visitor that renames types.
 ghost use Rattle.std.specs.Prelude.{◌≡◌};
-ghost use Rattle.walrus_ty.specs.Value.{heap_renamed};
-ghost use Rattle.walrus_body.specs.Renaming.{new_type_id, renamed_at};
+ghost use Rattle.walrus_ty.specs.Value.{rename_heap};
+ghost use Rattle.walrus_body.specs.Renaming.{new_type_id, rename_at};
 
 use crate::VisitorMut;
 use std::convert::Infallible;
@@ -62,7 +62,7 @@ impl RenameTypes {
     }
 
     fn rename_heap_type(&self, ty: &mut HeapType)
-        ensures { ty.new ≡ heap_renamed (new_type_id self.now) ty.old }
+        ensures { ty.new ≡ rename_heap (new_type_id self.now) ty.old }
     {
         match ty {
             Heap::Concrete(id) => self.rename(id),
@@ -77,7 +77,7 @@ impl VisitorMut for RenameTypes {
 
     ghost use Rattle.walrus_body.specs.Hooks.{Hook, Given};
 
-    ghost step = { λ hook v x w y. (w ≡ v) × (y ≡ renamed_at v hook x) };
+    ghost step = { λ hook v x w y. (w ≡ v) × (y ≡ rename_at v hook x) };
 
     fn start_instr_seq_mut(&mut self, _seq: &mut InstrSeq) -> Result<(), Infallible> {
         Ok(())

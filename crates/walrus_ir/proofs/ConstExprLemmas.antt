@@ -7,12 +7,12 @@ use Rattle.std.proofs.lemmas.List.Folds.{find-append}
 use Rattle.walrus_ty.specs.declared.error.NoIndex.{NoIndex}
 use Rattle.walrus_ty.specs.declared.ty.value.Heap.{Heap}
 use Rattle.walrus_ty.specs.declared.ty.value.Heap.TheVariants as heap
-use Rattle.walrus_ty.specs.Value.{heap_renamed}
+use Rattle.walrus_ty.specs.Value.{rename_heap}
 use Rattle.walrus_ir.specs.declared.const_expr.ConstOp.{ConstOp}
 use Rattle.walrus_ir.specs.declared.const_expr.ConstOp.TheVariants as op
 use Rattle.walrus_ir.specs.declared.const_expr.ConstOpAt.{ConstOpAt}
 use Rattle.walrus_ir.specs.declared.const_expr.ConstOpAt.TheVariants as at
-use Rattle.walrus_ir.specs.ConstExpr.{LookUp, Name, Renaming, after, expr_of, first_missing, look_up, no_index, op_names, ops_of, op_read, op_written, op_renamed}
+use Rattle.walrus_ir.specs.ConstExpr.{LookUp, Name, Renaming, after, expr_of, first_missing, look_up, no_index, op_names, ops_of, op_read, op_written, rename_op}
 
 one_back : (only : ConstOp) → ops_of (expr_of (only ∷ [])) ≡ only ∷ []
 one_back (op.I32Const n) = refl
@@ -24,21 +24,21 @@ ops_back (only ∷ []) = one_back only
 ops_back (first ∷ second ∷ rest) = refl
 
 heap_both :
-    (g f : ℕ → ℕ) (h : Heap ℕ) → heap_renamed g (heap_renamed f h) ≡ heap_renamed (λ k. g (f k)) h
+    (g f : ℕ → ℕ) (h : Heap ℕ) → rename_heap g (rename_heap f h) ≡ rename_heap (λ k. g (f k)) h
 heap_both g f (heap.Abstract a) = refl
 heap_both g f (heap.Concrete k) = refl
 heap_both g f (heap.Exact k) = refl
 
 module _ (f g : Renaming) where
-  op_both : (o : ConstOpAt) → op_written g (op_read f o) ≡ op_renamed (after g f) o
+  op_both : (o : ConstOpAt) → op_written g (op_read f o) ≡ rename_op (after g f) o
   op_both (at.RefNull h) = ap at.RefNull (heap_both g.types f.types h)
   op_both other = refl
 
-  ops_both : (ops : List ConstOpAt) → map (op_written g) (map (op_read f) ops) ≡ map (op_renamed (after g f)) ops
+  ops_both : (ops : List ConstOpAt) → map (op_written g) (map (op_read f) ops) ≡ map (rename_op (after g f)) ops
   ops_both [] = refl
   ops_both (o ∷ ops) = λ i. op_both o i ∷ ops_both ops i
 
-  pub both_ways : (ops : List ConstOpAt) → map (op_written g) (ops_of (expr_of (map (op_read f) ops))) ≡ map (op_renamed (after g f)) ops
+  pub both_ways : (ops : List ConstOpAt) → map (op_written g) (ops_of (expr_of (map (op_read f) ops))) ≡ map (rename_op (after g f)) ops
   both_ways ops = ap (map (op_written g)) (ops_back (map (op_read f) ops)) ∙ ops_both ops
 
 -- what one operation lacks is the first that all of them lack, where those before it lack nothing

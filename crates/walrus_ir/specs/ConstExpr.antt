@@ -11,7 +11,7 @@ use Rattle.walrus_ty.specs.declared.ty.value.Reference.{Reference}
 use Rattle.walrus_ty.specs.IdLists.{IdLists}
 use Rattle.walrus_ty.specs.Indices.{type_indices, func_indices, global_indices}
 use Rattle.walrus_ty.specs.Lookups.{value_or_zero}
-use Rattle.walrus_ty.specs.Value.{heap_names, heap_renamed}
+use Rattle.walrus_ty.specs.Value.{heap_names, rename_heap}
 use Rattle.walrus_ir.specs.declared.value.Value.{Value}
 use Rattle.walrus_ir.specs.declared.value.Value.TheVariants as value
 use Rattle.walrus_ir.specs.declared.const_expr.ConstExpr.{ConstExpr}
@@ -115,7 +115,7 @@ op_names other = []
 
 -- the nullable reference type to this heap type, with each number sent through the map
 abbrev pub null_of : (ℕ → ℕ) → Heap ℕ → Reference ℕ
-null_of f h = record { nullable = true; heap_type = heap_renamed f h }
+null_of f h = record { nullable = true; heap_type = rename_heap f h }
 
 -- an operation read with each name sent through the map; a null reference is read as nullable
 abbrev pub op_read : Renaming → ConstOpAt → ConstOp
@@ -151,7 +151,7 @@ op_written f (op.F32Const n) = at.F32Const n
 op_written f (op.F64Const n) = at.F64Const n
 op_written f (op.V128Const n) = at.V128Const n
 op_written f (op.GlobalGet k) = at.GlobalGet (f.globals k)
-op_written f (op.RefNull r) = at.RefNull (heap_renamed f.types r.heap_type)
+op_written f (op.RefNull r) = at.RefNull (rename_heap f.types r.heap_type)
 op_written f (op.RefFunc k) = at.RefFunc (f.funcs k)
 op_written f op.I32Add = at.I32Add
 op_written f op.I32Sub = at.I32Sub
@@ -169,29 +169,29 @@ op_written f (op.ArrayNewDefault k) = at.ArrayNewDefault (f.types k)
 op_written f (op.ArrayNewFixed k len) = at.ArrayNewFixed (f.types k) len
 
 -- an operation with each name sent through the map
-abbrev pub op_renamed : Renaming → ConstOpAt → ConstOpAt
-op_renamed f (at.I32Const n) = at.I32Const n
-op_renamed f (at.I64Const n) = at.I64Const n
-op_renamed f (at.F32Const n) = at.F32Const n
-op_renamed f (at.F64Const n) = at.F64Const n
-op_renamed f (at.V128Const n) = at.V128Const n
-op_renamed f (at.GlobalGet k) = at.GlobalGet (f.globals k)
-op_renamed f (at.RefNull h) = at.RefNull (heap_renamed f.types h)
-op_renamed f (at.RefFunc k) = at.RefFunc (f.funcs k)
-op_renamed f at.I32Add = at.I32Add
-op_renamed f at.I32Sub = at.I32Sub
-op_renamed f at.I32Mul = at.I32Mul
-op_renamed f at.I64Add = at.I64Add
-op_renamed f at.I64Sub = at.I64Sub
-op_renamed f at.I64Mul = at.I64Mul
-op_renamed f at.RefI31 = at.RefI31
-op_renamed f at.AnyConvertExtern = at.AnyConvertExtern
-op_renamed f at.ExternConvertAny = at.ExternConvertAny
-op_renamed f (at.StructNew k) = at.StructNew (f.types k)
-op_renamed f (at.StructNewDefault k) = at.StructNewDefault (f.types k)
-op_renamed f (at.ArrayNew k) = at.ArrayNew (f.types k)
-op_renamed f (at.ArrayNewDefault k) = at.ArrayNewDefault (f.types k)
-op_renamed f (at.ArrayNewFixed k len) = at.ArrayNewFixed (f.types k) len
+abbrev pub rename_op : Renaming → ConstOpAt → ConstOpAt
+rename_op f (at.I32Const n) = at.I32Const n
+rename_op f (at.I64Const n) = at.I64Const n
+rename_op f (at.F32Const n) = at.F32Const n
+rename_op f (at.F64Const n) = at.F64Const n
+rename_op f (at.V128Const n) = at.V128Const n
+rename_op f (at.GlobalGet k) = at.GlobalGet (f.globals k)
+rename_op f (at.RefNull h) = at.RefNull (rename_heap f.types h)
+rename_op f (at.RefFunc k) = at.RefFunc (f.funcs k)
+rename_op f at.I32Add = at.I32Add
+rename_op f at.I32Sub = at.I32Sub
+rename_op f at.I32Mul = at.I32Mul
+rename_op f at.I64Add = at.I64Add
+rename_op f at.I64Sub = at.I64Sub
+rename_op f at.I64Mul = at.I64Mul
+rename_op f at.RefI31 = at.RefI31
+rename_op f at.AnyConvertExtern = at.AnyConvertExtern
+rename_op f at.ExternConvertAny = at.ExternConvertAny
+rename_op f (at.StructNew k) = at.StructNew (f.types k)
+rename_op f (at.StructNewDefault k) = at.StructNewDefault (f.types k)
+rename_op f (at.ArrayNew k) = at.ArrayNew (f.types k)
+rename_op f (at.ArrayNewDefault k) = at.ArrayNewDefault (f.types k)
+rename_op f (at.ArrayNewFixed k len) = at.ArrayNewFixed (f.types k) len
 
 -- the operation that gives this constant
 abbrev pub constant : Value → ConstOp

@@ -8,7 +8,7 @@ ghost use Rattle.walrus_ty.specs.Value.{val_name};
 ghost use Rattle.walrus_ir.specs.declared.instr_seq_type.InstrSeqType.{InstrSeqType as BlockType};
 ghost use Rattle.walrus_ir.specs.declared.const_expr.ConstOp.{ConstOp};
 ghost use Rattle.walrus_ir.specs.declared.const_expr.ConstOpAt.{ConstOpAt};
-ghost use Rattle.walrus_ir.specs.ConstExpr.{Renaming, after, expr_of, ops_of, op_read, op_written, op_renamed};
+ghost use Rattle.walrus_ir.specs.ConstExpr.{Renaming, after, expr_of, ops_of, op_read, op_written, rename_op};
 
 use crate::{InstrSeqType, Local};
 use std::hash::Hash;
@@ -19,7 +19,7 @@ pub fn operations_come_back()
     ensures operations { (ops : List ConstOp) → ops_of (expr_of ops) ≡ ops }
     ensures both_ways { (f g : Renaming) (ops : List ConstOpAt) →
         map (op_written g) (ops_of (expr_of (map (op_read f) ops))) ≡
-        map (op_renamed (after g f)) ops }
+        map (rename_op (after g f)) ops }
 {}
 
 /// Equal block types are the same in every part.

@@ -6,7 +6,7 @@
 -- of its own group and of earlier ones.
 use Rattle.std.specs.Prelude.{◌≡◌, ℕ, ◌<◌, ◌≤◌, Bool, true, false, ◌⊎◌, List, [], length, slice_index_or, Some, None}
 use Rattle.std.specs.declared.cmp.Ordering.TheVariants.{Less}
-use Rattle.walrus_ty.specs.Definition.{Definition, Names, renamed, definition_cmp}
+use Rattle.walrus_ty.specs.Definition.{Definition, Names, rename, definition_cmp}
 use Rattle.walrus_ty.specs.Groups.{Section}
 use Rattle.walrus_sections.specs.Section.{index_space, IsFilled}
 use Rattle.walrus_sections.specs.SlotMap.{TypeGroup}
@@ -86,7 +86,7 @@ pub record IsEmission (gs : List TypeGroup) (definition : ℕ → Definition) (i
   -- and each is written as it is defined, its names sent through m
   pub same :
       (x : WrittenMember gs is_entry) →
-      (index_space n).definition (m x.id) ≡ renamed m (definition x.id)
+      (index_space n).definition (m x.id) ≡ rename m (definition x.id)
   -- an explicit group is written as a `Rec`, whole and in its order, any other as a `Single`, and
   -- nothing for an empty one
   pub filled : IsFilled n

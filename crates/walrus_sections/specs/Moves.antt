@@ -5,7 +5,7 @@
 -- moves its names move along.
 use Rattle.std.specs.Prelude.{◌≡◌, ℕ, suc, ◌<◌, ◌≤◌, ◌-◌, ◌==◌, nat_lt, cond, [], ◌∷◌, ◌++◌, map, length, ◌⊎◌}
 use Rattle.std.specs.declared.cmp.Ordering.TheVariants.{Less}
-use Rattle.walrus_ty.specs.Definition.{Definition, Names, renamed, definition_cmp}
+use Rattle.walrus_ty.specs.Definition.{Definition, Names, rename, definition_cmp}
 use Rattle.walrus_ty.specs.Groups.{Group, Single, Rec, Section}
 use Rattle.walrus_sections.specs.Section.{IndexSpace, index_space, IsSingle, IsWellNamed}
 
@@ -18,9 +18,9 @@ abbrev pub skip : ℕ → ℕ → ℕ → ℕ
 skip i j k = cond (k == i) j (cond (nat_lt k i) k (k - 1))
 
 -- each name k replaced by m k
-abbrev pub renamed_group : (ℕ → ℕ) → Group → Group
-renamed_group m (Single d) = Single (renamed m d)
-renamed_group m (Rec ds) = Rec (map (renamed m) ds)
+abbrev pub rename_group : (ℕ → ℕ) → Group → Group
+rename_group m (Single d) = Single (rename m d)
+rename_group m (Rec ds) = Rec (map (rename m) ds)
 
 -- r is s with the neighbouring `Single`s i and i + 1 exchanged, and each name i or i + 1 with them
 pub record IsExchanged (s r : Section) (i : ℕ) : Type 0 where
@@ -29,7 +29,7 @@ pub record IsExchanged (s r : Section) (i : ℕ) : Type 0 where
   pub second : Definition
   pub after : Section
   pub s_is : s ≡ before ++ Single first ∷ Single second ∷ after
-  pub r_is : r ≡ map (renamed_group (exchange i)) (before ++ Single second ∷ Single first ∷ after)
+  pub r_is : r ≡ map (rename_group (exchange i)) (before ++ Single second ∷ Single first ∷ after)
   pub place : (index_space before).count ≡ i
 
 -- the renumbered swap: the two name no type at all
@@ -52,7 +52,7 @@ pub record DropsRepeat (s r : Section) (i j : ℕ) : Type 0 where
   pub dropped : Definition
   pub after : Section
   pub s_is : s ≡ before ++ Single dropped ∷ after
-  pub r_is : r ≡ map (renamed_group (skip i j)) (before ++ after)
+  pub r_is : r ≡ map (rename_group (skip i j)) (before ++ after)
   pub place : (index_space before).count ≡ i
   pub earlier : j < i
   pub earlier_single : IsSingle (index_space s) j
@@ -66,7 +66,7 @@ pub record SwapsNeighbours (s r : Section) (i : ℕ) : Type 0 where
   pub second_own : (k : ℕ) → Names exchanged.second k → k ≡ suc i
   pub order :
       definition_cmp exchanged.first exchanged.second ≡
-      definition_cmp (renamed (exchange i) exchanged.first) (renamed (exchange i) exchanged.second)
+      definition_cmp (rename (exchange i) exchanged.first) (rename (exchange i) exchanged.second)
 
 -- one move leads from s to r
 pub data Move (s r : Section) : Type 0 where

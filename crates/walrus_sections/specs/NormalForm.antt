@@ -8,7 +8,7 @@
 use Rattle.std.specs.Prelude.{◌≡◌, ℕ, ◌<◌, ◌≤◌, Some, ◌↔◌, ◌⊎◌, List, length, slice_index_or}
 use Rattle.std.specs.List.{range_with_len}
 use Rattle.std.specs.declared.cmp.Ordering.TheVariants.{Less}
-use Rattle.walrus_ty.specs.Definition.{Names, renamed, definition_cmp}
+use Rattle.walrus_ty.specs.Definition.{Names, rename, definition_cmp}
 use Rattle.walrus_sections.specs.Section.{IndexSpace, index_space, IsSingle, IsInRec, IsFilled}
 use Rattle.walrus_ty.specs.Groups.{Section}
 
@@ -33,7 +33,7 @@ pub record IsNormal (s n : IndexSpace) (m : ℕ → ℕ) : Type 0 where
   pub below : (i : ℕ) → i < s.count → m i < n.count
   pub onto : (p : ℕ) → p < n.count → (i : ℕ) × (i < s.count) × (m i ≡ p)
   -- and each definition goes to itself, its names sent through m
-  pub same : (i : ℕ) → i < s.count → n.definition (m i) ≡ renamed m (s.definition i)
+  pub same : (i : ℕ) → i < s.count → n.definition (m i) ≡ rename m (s.definition i)
   -- the `Rec`s of n are those of s, in their order: place t of the k-th goes to place t of the
   -- k-th, and there is no further one
   pub rec_to_rec :

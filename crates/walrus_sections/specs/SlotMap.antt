@@ -5,13 +5,13 @@
 -- of its own group and of earlier ones.
 use Rattle.std.specs.Prelude.{◌≡◌, ℕ, suc, ◌+◌, ◌<◌, ◌==◌, Bool, true, false, cond, List, [], ◌∷◌, length}
 use Rattle.std.specs.List.{range_with_len}
-use Rattle.walrus_ty.specs.Definition.{Definition, Names, renamed}
+use Rattle.walrus_ty.specs.Definition.{Definition, Names, rename}
 use Rattle.walrus_sections.specs.Section.{IndexSpace, IsSingle, IsInRec}
 use Rattle.walrus_ty.specs.Groups.{Section, Single, Rec}
 
 -- what i defines over slots; a live slot i holds it
 abbrev pub read_definition : IndexSpace → (ℕ → ℕ) → ℕ → Definition
-read_definition s r i = renamed r (s.definition i)
+read_definition s r i = rename r (s.definition i)
 
 -- j is a candidate for i: an earlier `Single` with a live slot that holds what i defines
 pub record IsCandidate (s : IndexSpace) (r : ℕ → ℕ) (i j : ℕ) : Type 0 where

@@ -9,7 +9,7 @@ use Rattle.std.specs.Ordering.{nat_cmp, ordering_then}
 use Rattle.std.specs.Cmp.Lexicographic.{slice_cmp}
 use Rattle.walrus_ty.specs.declared.ty.value.Val.{Val}
 use Rattle.walrus_ty.specs.declared.ty.value.Field.{Field}
-use Rattle.walrus_ty.specs.Value.{val_names, field_names, val_renamed, field_renamed, val_cmp, field_cmp, bool_cmp}
+use Rattle.walrus_ty.specs.Value.{val_names, field_names, rename_val, rename_field, val_cmp, field_cmp, bool_cmp}
 
 pub data Composite : Type 0 where
   Function : (params : List (Val ℕ)) (results : List (Val ℕ)) → Composite
@@ -47,16 +47,16 @@ Names d k = Contains (names_of d) k
 
 -- the same with each number k replaced by m k
 
-abbrev pub composite_renamed : (ℕ → ℕ) → Composite → Composite
-composite_renamed m (Function params results) =
-    Function (map (val_renamed m) params) (map (val_renamed m) results)
-composite_renamed m (Struct fields) = Struct (map (field_renamed m) fields)
-composite_renamed m (Array field) = Array (field_renamed m field)
+abbrev pub rename_composite : (ℕ → ℕ) → Composite → Composite
+rename_composite m (Function params results) =
+    Function (map (rename_val m) params) (map (rename_val m) results)
+rename_composite m (Struct fields) = Struct (map (rename_field m) fields)
+rename_composite m (Array field) = Array (rename_field m field)
 
-abbrev pub renamed : (ℕ → ℕ) → Definition → Definition
-renamed m d =
+abbrev pub rename : (ℕ → ℕ) → Definition → Definition
+rename m d =
     record {
-      composite = composite_renamed m d.composite;
+      composite = rename_composite m d.composite;
       is_final = d.is_final;
       supertype = option_map m d.supertype;
     }

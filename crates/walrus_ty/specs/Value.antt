@@ -72,29 +72,29 @@ field_names f = storage_names f.element_type
 
 -- the same with each number k replaced by m k
 
-abbrev pub heap_renamed : (ℕ → ℕ) → Heap ℕ → Heap ℕ
-heap_renamed m (heap.Abstract a) = heap.Abstract a
-heap_renamed m (heap.Concrete k) = heap.Concrete (m k)
-heap_renamed m (heap.Exact k) = heap.Exact (m k)
+abbrev pub rename_heap : (ℕ → ℕ) → Heap ℕ → Heap ℕ
+rename_heap m (heap.Abstract a) = heap.Abstract a
+rename_heap m (heap.Concrete k) = heap.Concrete (m k)
+rename_heap m (heap.Exact k) = heap.Exact (m k)
 
-abbrev pub reference_renamed : (ℕ → ℕ) → Reference ℕ → Reference ℕ
-reference_renamed m r = record { nullable = r.nullable; heap_type = heap_renamed m r.heap_type }
+abbrev pub rename_reference : (ℕ → ℕ) → Reference ℕ → Reference ℕ
+rename_reference m r = record { nullable = r.nullable; heap_type = rename_heap m r.heap_type }
 
-abbrev pub val_renamed : (ℕ → ℕ) → Val ℕ → Val ℕ
-val_renamed m (val.Ref r) = val.Ref (reference_renamed m r)
-val_renamed m val.I32 = val.I32
-val_renamed m val.I64 = val.I64
-val_renamed m val.F32 = val.F32
-val_renamed m val.F64 = val.F64
-val_renamed m val.V128 = val.V128
+abbrev pub rename_val : (ℕ → ℕ) → Val ℕ → Val ℕ
+rename_val m (val.Ref r) = val.Ref (rename_reference m r)
+rename_val m val.I32 = val.I32
+rename_val m val.I64 = val.I64
+rename_val m val.F32 = val.F32
+rename_val m val.F64 = val.F64
+rename_val m val.V128 = val.V128
 
-abbrev pub storage_renamed : (ℕ → ℕ) → Storage ℕ → Storage ℕ
-storage_renamed m (storage.Val v) = storage.Val (val_renamed m v)
-storage_renamed m storage.I8 = storage.I8
-storage_renamed m storage.I16 = storage.I16
+abbrev pub rename_storage : (ℕ → ℕ) → Storage ℕ → Storage ℕ
+rename_storage m (storage.Val v) = storage.Val (rename_val m v)
+rename_storage m storage.I8 = storage.I8
+rename_storage m storage.I16 = storage.I16
 
-abbrev pub field_renamed : (ℕ → ℕ) → Field ℕ → Field ℕ
-field_renamed m f = record { element_type = storage_renamed m f.element_type; mutable = f.mutable }
+abbrev pub rename_field : (ℕ → ℕ) → Field ℕ → Field ℕ
+rename_field m f = record { element_type = rename_storage m f.element_type; mutable = f.mutable }
 
 -- the order: false before true, abstract heap types and the cases of each kind in the order in
 -- which they are declared, a reference by nullability and then by heap type, a field by what it

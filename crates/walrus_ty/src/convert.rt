@@ -3,14 +3,14 @@ ghost use Rattle.std.specs.Prelude.{◌≡◌, None, Some, IsTrue, IfOk, IfErr, 
 ghost use Rattle.walrus_ty.specs.declared.error.NoIndex.TheVariants.{OfType};
 ghost use Rattle.walrus_ty.specs.declared.error.FromRecordError.TheVariants as reading;
 ghost use Rattle.walrus_ty.specs.declared.error.ToRecordError.TheVariants as writing;
-ghost use Rattle.walrus_ty.specs.Definition.{Function, has_lists, composite_names, composite_renamed, names_of, renamed, supertype_names};
+ghost use Rattle.walrus_ty.specs.Definition.{Function, has_lists, composite_names, rename_composite, names_of, rename, supertype_names};
 ghost use Rattle.walrus_ty.specs.IdLists.{type_at};
 ghost use Rattle.walrus_ty.specs.Indices.{type_index};
 ghost use Rattle.walrus_ty.specs.SubTypes.{sub_type_definition};
 ghost use Rattle.walrus_ty.specs.Lookups.{first_missing, value_or_zero, IfUnknownIndex, IfNoIndex};
 ghost use Rattle.walrus_ty.specs.Records.{comp_composite, entry_definition};
 ghost use Rattle.walrus_ty.specs.Types.{kind_composite, type_definition};
-ghost use Rattle.walrus_ty.specs.Value.{heap_names, heap_renamed, reference_names, reference_renamed, val_names, val_renamed, storage_names, storage_renamed, field_names, field_renamed};
+ghost use Rattle.walrus_ty.specs.Value.{heap_names, rename_heap, reference_names, rename_reference, val_names, rename_val, storage_names, rename_storage, field_names, rename_field};
 
 use crate::{
     ArrayType, CompAt, CompositeType, EntryAt, Field, FieldAt, FieldType, FromRecordError,
@@ -25,7 +25,7 @@ impl HeapType {
     /// takes no memory.
     pub fn from_record(at: &HeapAt, ids: &IndicesToIds) -> Result<HeapType, UnknownIndex>
         ensures renamed { IfOk result
-            (λ x. x ≡ heap_renamed (value_or_zero (type_at ids.now)) at.now) }
+            (λ x. x ≡ rename_heap (value_or_zero (type_at ids.now)) at.now) }
         ensures complete { OnOk result
             (first_missing (type_at ids.now) (heap_names at.now) ≡ None) }
         ensures missing { IfErr result (λ e.
@@ -41,7 +41,7 @@ impl HeapType {
     /// The record of this heap type. `NoIndex` has the id that lacks an index. It takes no memory.
     pub fn to_record(&self, indices: &IdsToIndices) -> Result<HeapAt, NoIndex>
         ensures renamed { IfOk result (λ x.
-            x ≡ heap_renamed (value_or_zero (type_index indices.now)) self.now) }
+            x ≡ rename_heap (value_or_zero (type_index indices.now)) self.now) }
         ensures complete { OnOk result
             (first_missing (type_index indices.now) (heap_names self.now) ≡ None) }
         ensures missing { IfErr result (λ e.
@@ -61,7 +61,7 @@ impl RefType {
     /// nothing. It takes no memory.
     pub fn from_record(at: &RefAt, ids: &IndicesToIds) -> Result<RefType, UnknownIndex>
         ensures renamed { IfOk result (λ x.
-            x ≡ reference_renamed (value_or_zero (type_at ids.now)) at.now) }
+            x ≡ rename_reference (value_or_zero (type_at ids.now)) at.now) }
         ensures complete { OnOk result
             (first_missing (type_at ids.now) (reference_names at.now) ≡ None) }
         ensures missing { IfErr result (λ e.
@@ -76,7 +76,7 @@ impl RefType {
     /// The record of this reference type. `NoIndex` has the id that lacks an index. It takes no memory.
     pub fn to_record(&self, indices: &IdsToIndices) -> Result<RefAt, NoIndex>
         ensures renamed { IfOk result (λ x.
-            x ≡ reference_renamed (value_or_zero (type_index indices.now)) self.now) }
+            x ≡ rename_reference (value_or_zero (type_index indices.now)) self.now) }
         ensures complete { OnOk result
             (first_missing (type_index indices.now) (reference_names self.now) ≡ None) }
         ensures missing { IfErr result (λ e.
@@ -95,7 +95,7 @@ impl ValType {
     /// It takes no memory.
     pub fn from_record(at: &ValAt, ids: &IndicesToIds) -> Result<ValType, UnknownIndex>
         ensures renamed { IfOk result
-            (λ x. x ≡ val_renamed (value_or_zero (type_at ids.now)) at.now) }
+            (λ x. x ≡ rename_val (value_or_zero (type_at ids.now)) at.now) }
         ensures complete { OnOk result (first_missing (type_at ids.now) (val_names at.now) ≡ None) }
         ensures missing { IfErr result (λ e.
             first_missing (type_at ids.now) (val_names at.now) ≡ Some e.0) }
@@ -113,7 +113,7 @@ impl ValType {
     /// The record of this value type. `NoIndex` has the id that lacks an index. It takes no memory.
     pub fn to_record(&self, indices: &IdsToIndices) -> Result<ValAt, NoIndex>
         ensures renamed { IfOk result (λ x.
-            x ≡ val_renamed (value_or_zero (type_index indices.now)) self.now) }
+            x ≡ rename_val (value_or_zero (type_index indices.now)) self.now) }
         ensures complete { OnOk result
             (first_missing (type_index indices.now) (val_names self.now) ≡ None) }
         ensures missing { IfErr result (λ e.
@@ -136,7 +136,7 @@ impl StorageType {
     /// It takes no memory.
     pub fn from_record(at: &StorageAt, ids: &IndicesToIds) -> Result<StorageType, UnknownIndex>
         ensures renamed { IfOk result (λ x.
-            x ≡ storage_renamed (value_or_zero (type_at ids.now)) at.now) }
+            x ≡ rename_storage (value_or_zero (type_at ids.now)) at.now) }
         ensures complete { OnOk result
             (first_missing (type_at ids.now) (storage_names at.now) ≡ None) }
         ensures missing { IfErr result (λ e.
@@ -152,7 +152,7 @@ impl StorageType {
     /// The record of this storage type. `NoIndex` has the id that lacks an index. It takes no memory.
     pub fn to_record(&self, indices: &IdsToIndices) -> Result<StorageAt, NoIndex>
         ensures renamed { IfOk result (λ x.
-            x ≡ storage_renamed (value_or_zero (type_index indices.now)) self.now) }
+            x ≡ rename_storage (value_or_zero (type_index indices.now)) self.now) }
         ensures complete { OnOk result
             (first_missing (type_index indices.now) (storage_names self.now) ≡ None) }
         ensures missing { IfErr result (λ e.
@@ -172,7 +172,7 @@ impl FieldType {
     /// It takes no memory.
     pub fn from_record(at: &FieldAt, ids: &IndicesToIds) -> Result<FieldType, UnknownIndex>
         ensures renamed { IfOk result
-            (λ x. x ≡ field_renamed (value_or_zero (type_at ids.now)) at.now) }
+            (λ x. x ≡ rename_field (value_or_zero (type_at ids.now)) at.now) }
         ensures complete { OnOk result
             (first_missing (type_at ids.now) (field_names at.now) ≡ None) }
         ensures missing { IfErr result (λ e.
@@ -187,7 +187,7 @@ impl FieldType {
     /// The record of this field type. `NoIndex` has the id that lacks an index. It takes no memory.
     pub fn to_record(&self, indices: &IdsToIndices) -> Result<FieldAt, NoIndex>
         ensures renamed { IfOk result (λ x.
-            x ≡ field_renamed (value_or_zero (type_index indices.now)) self.now) }
+            x ≡ rename_field (value_or_zero (type_index indices.now)) self.now) }
         ensures complete { OnOk result
             (first_missing (type_index indices.now) (field_names self.now) ≡ None) }
         ensures missing { IfErr result (λ e.
@@ -208,7 +208,7 @@ fn vals_from(
     ids: &IndicesToIds,
 ) -> Result<Vec<ValType>, FromRecordError>
     ensures renamed { IfOk result (λ x.
-        x.items ≡ map (val_renamed (value_or_zero (type_at ids.now))) records.now) }
+        x.items ≡ map (rename_val (value_or_zero (type_at ids.now))) records.now) }
     ensures complete { OnOk result
         (first_missing (type_at ids.now) (flat_map val_names records.now) ≡ None) }
     ensures missing { IfErr result (λ e. IfUnknownIndex e (λ k.
@@ -228,7 +228,7 @@ fn vals_to(
     indices: &IdsToIndices,
 ) -> Result<Vec<ValAt>, ToRecordError>
     ensures renamed { IfOk result (λ x.
-        x.items ≡ map (val_renamed (value_or_zero (type_index indices.now))) types.now) }
+        x.items ≡ map (rename_val (value_or_zero (type_index indices.now))) types.now) }
     ensures complete { OnOk result
         (first_missing (type_index indices.now) (flat_map val_names types.now) ≡ None) }
     ensures missing { IfErr result (λ e. IfNoIndex e (λ n.
@@ -249,7 +249,7 @@ fn fields_from(
     ids: &IndicesToIds,
 ) -> Result<Vec<FieldType>, FromRecordError>
     ensures renamed { IfOk result (λ x.
-        x.items ≡ map (field_renamed (value_or_zero (type_at ids.now))) records.now) }
+        x.items ≡ map (rename_field (value_or_zero (type_at ids.now))) records.now) }
     ensures complete { OnOk result
         (first_missing (type_at ids.now) (flat_map field_names records.now) ≡ None) }
     ensures missing { IfErr result (λ e. IfUnknownIndex e (λ k.
@@ -269,7 +269,7 @@ fn fields_to(
     indices: &IdsToIndices,
 ) -> Result<Vec<FieldAt>, ToRecordError>
     ensures renamed { IfOk result (λ x.
-        x.items ≡ map (field_renamed (value_or_zero (type_index indices.now))) types.now) }
+        x.items ≡ map (rename_field (value_or_zero (type_index indices.now))) types.now) }
     ensures complete { OnOk result
         (first_missing (type_index indices.now) (flat_map field_names types.now) ≡ None) }
     ensures missing { IfErr result (λ e. IfNoIndex e (λ n.
@@ -292,9 +292,9 @@ fn function_from(
     ids: &IndicesToIds,
 ) -> Result<FunctionType, FromRecordError>
     ensures params { IfOk result
-        (λ x. x.params ≡ map (val_renamed (value_or_zero (type_at ids.now))) params.now) }
+        (λ x. x.params ≡ map (rename_val (value_or_zero (type_at ids.now))) params.now) }
     ensures results { IfOk result
-        (λ x. x.results ≡ map (val_renamed (value_or_zero (type_at ids.now))) results.now) }
+        (λ x. x.results ≡ map (rename_val (value_or_zero (type_at ids.now))) results.now) }
     ensures complete { OnOk result
         (first_missing (type_at ids.now)
         (flat_map val_names params.now ++ flat_map val_names results.now) ≡ None) }
@@ -317,7 +317,7 @@ fn function_to(
 ) -> Result<CompAt, ToRecordError>
     ensures renamed { IfOk result (λ x.
         comp_composite x
-        ≡ composite_renamed (value_or_zero (type_index indices.now))
+        ≡ rename_composite (value_or_zero (type_index indices.now))
         (Function function.now.params function.now.results)) }
     ensures complete { OnOk result
         (first_missing (type_index indices.now)
@@ -346,7 +346,7 @@ impl CompositeType {
     ) -> Result<CompositeType, FromRecordError>
         ensures renamed { IfOk result (λ x.
             kind_composite x
-            ≡ composite_renamed (value_or_zero (type_at ids.now)) (comp_composite at.now)) }
+            ≡ rename_composite (value_or_zero (type_at ids.now)) (comp_composite at.now)) }
         ensures complete { OnOk result
             (first_missing (type_at ids.now) (composite_names (comp_composite at.now)) ≡ None) }
         ensures missing { IfErr result (λ e. IfUnknownIndex e (λ k.
@@ -376,7 +376,7 @@ impl CompositeType {
     pub fn to_record(&self, alloc: Global, indices: &IdsToIndices) -> Result<CompAt, ToRecordError>
         ensures renamed { IfOk result (λ x.
             comp_composite x
-            ≡ composite_renamed (value_or_zero (type_index indices.now))
+            ≡ rename_composite (value_or_zero (type_index indices.now))
             (kind_composite self.now)) }
         ensures complete { OnOk result
             (first_missing (type_index indices.now) (composite_names (kind_composite self.now)) ≡
@@ -422,7 +422,7 @@ impl SubType {
     ) -> Result<SubType, FromRecordError>
         ensures renamed { IfOk result (λ x.
             sub_type_definition x
-            ≡ renamed (value_or_zero (type_at ids.now)) (entry_definition at.now)) }
+            ≡ rename (value_or_zero (type_at ids.now)) (entry_definition at.now)) }
         ensures complete { OnOk result
             (first_missing (type_at ids.now) (names_of (entry_definition at.now)) ≡ None) }
         ensures missing { IfErr result (λ e. IfUnknownIndex e (λ k.
@@ -443,7 +443,7 @@ impl Type {
     pub fn to_record(&self, alloc: Global, indices: &IdsToIndices) -> Result<EntryAt, ToRecordError>
         ensures renamed { IfOk result (λ x.
             entry_definition x
-            ≡ renamed (value_or_zero (type_index indices.now)) (type_definition self.now)) }
+            ≡ rename (value_or_zero (type_index indices.now)) (type_definition self.now)) }
         ensures complete { OnOk result
             (first_missing (type_index indices.now) (names_of (type_definition self.now)) ≡ None) }
         ensures missing { IfErr result (λ e. IfNoIndex e (λ n.

@@ -6,24 +6,24 @@ ghost use Rattle.walrus_ty.specs.declared.ty.value.Reference.{Reference};
 ghost use Rattle.walrus_ty.specs.declared.ty.value.Val.{Val};
 ghost use Rattle.walrus_ty.specs.declared.ty.value.Storage.{Storage};
 ghost use Rattle.walrus_ty.specs.declared.ty.value.Field.{Field};
-ghost use Rattle.walrus_ty.specs.Definition.{Composite, Definition, composite_renamed, renamed};
-ghost use Rattle.walrus_ty.specs.Value.{heap_renamed, reference_renamed, val_renamed, storage_renamed, field_renamed};
+ghost use Rattle.walrus_ty.specs.Definition.{Composite, Definition, rename_composite, rename};
+ghost use Rattle.walrus_ty.specs.Value.{rename_heap, rename_reference, rename_val, rename_storage, rename_field};
 
 /// Renaming by f and then by g sends each name through both. So what `to_record` writes of what
 /// `from_record` read is the record with each index sent through both maps.
-pub fn renamed_by_both()
+pub fn rename_by_both()
     ensures heap_types { (f g : ℕ → ℕ) (h : Heap ℕ) →
-        heap_renamed g (heap_renamed f h) ≡ heap_renamed (λ k. g (f k)) h }
+        rename_heap g (rename_heap f h) ≡ rename_heap (λ k. g (f k)) h }
     ensures references { (f g : ℕ → ℕ) (r : Reference ℕ) →
-        reference_renamed g (reference_renamed f r) ≡ reference_renamed (λ k. g (f k)) r }
+        rename_reference g (rename_reference f r) ≡ rename_reference (λ k. g (f k)) r }
     ensures values { (f g : ℕ → ℕ) (v : Val ℕ) →
-        val_renamed g (val_renamed f v) ≡ val_renamed (λ k. g (f k)) v }
+        rename_val g (rename_val f v) ≡ rename_val (λ k. g (f k)) v }
     ensures storages { (f g : ℕ → ℕ) (s : Storage ℕ) →
-        storage_renamed g (storage_renamed f s) ≡ storage_renamed (λ k. g (f k)) s }
+        rename_storage g (rename_storage f s) ≡ rename_storage (λ k. g (f k)) s }
     ensures fields { (f g : ℕ → ℕ) (x : Field ℕ) →
-        field_renamed g (field_renamed f x) ≡ field_renamed (λ k. g (f k)) x }
+        rename_field g (rename_field f x) ≡ rename_field (λ k. g (f k)) x }
     ensures composites { (f g : ℕ → ℕ) (c : Composite) →
-        composite_renamed g (composite_renamed f c) ≡ composite_renamed (λ k. g (f k)) c }
+        rename_composite g (rename_composite f c) ≡ rename_composite (λ k. g (f k)) c }
     ensures definitions { (f g : ℕ → ℕ) (d : Definition) →
-        renamed g (renamed f d) ≡ renamed (λ k. g (f k)) d }
+        rename g (rename f d) ≡ rename (λ k. g (f k)) d }
 {}

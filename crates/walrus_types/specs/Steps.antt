@@ -4,8 +4,7 @@
 pub mod TableIndex
 pub mod TableReads
 pub mod FreeGroups
-pub mod PlacesInOrder
-pub mod Neighbours
+pub mod PendingGroups
 pub mod WrittenGroups
 pub mod SortKeys
 pub mod LosslessKeys

@@ -1,14 +1,12 @@
 //! Emission: the type section of a table.
-ghost use Rattle.std.specs.Prelude.{◌≡◌, ◌≤◌, ◌<◌, ◌^◌, ◌↔◌, IfOk, IfErr, IsTrue, IsErrOf, All, filter, length, not};
-ghost use Rattle.std.specs.List.{list_any};
+ghost use Rattle.std.specs.Prelude.{◌≤◌, ◌<◌, ◌^◌, ◌↔◌, IfOk, IfErr, IsTrue, IsErrOf, All};
 ghost use Rattle.walrus_types.specs.TypesById.{IsLive};
 ghost use Rattle.walrus_types.specs.declared.table.rec_group.RecGroup.{RecGroup};
-ghost use Rattle.walrus_types.specs.TableEmission.{type_groups, definition_at, is_entry_at, written_types, IfNameMissing, IsEmitted, MissesFirst};
+ghost use Rattle.walrus_types.specs.TableEmission.{type_groups, is_entry_at, written_types, IfNameMissing, IsEmitted, MissesFirst};
 ghost use Rattle.walrus_ty.specs.Indices.{IsEmpty, type_indices, func_indices, global_indices};
 ghost use Rattle.walrus_types.specs.declared.error.EmitError.TheVariants.{TooMany};
 ghost use Rattle.walrus_sections.specs.Refusal.{written_count};
-ghost use Rattle.walrus_types.specs.Steps.FreeGroups.{is_marked};
-ghost use Rattle.walrus_types.specs.Steps.WrittenGroups.{AreLosslessKeys, FailsBy, IsWritingOrder, id_count};
+ghost use Rattle.walrus_types.specs.Steps.WrittenGroups.{FailsBy};
 
 mod free;
 mod order;
@@ -16,11 +14,10 @@ mod sort_key;
 mod write;
 
 use crate::{EmitError, GroupAt, IdsToIndices, ModuleTypes, RecGroup};
-use free::{GroupInfo, classify_groups, is_written_group};
-use order::group_order;
-use sort_key::SortKey;
-use std::alloc::{AllocError, Global};
-use write::{pending_groups, write_groups};
+use free::is_written_group;
+use order::writing_order;
+use std::alloc::Global;
+use write::write_groups;
 
 // The least number of types that can't be written.
 const TOO_MANY: usize = 1 << 32;
@@ -88,62 +85,6 @@ fn write_table(
     ensures others { IfOk result (λ r. IsEmpty (func_indices r.1) × IsEmpty (global_indices r.1)) }
     ensures missing { IfErr result (λ e. FailsBy e (MissesFirst table.now)) }
 {
-    let WritingOrder {
-        places,
-        lossless_keys,
-    } = writing_order(alloc, table)?;
-    let groups = pending_groups(
-        alloc,
-        table.rec_groups(),
-        lossless_keys.as_slice(),
-        places.as_slice(),
-    )?;
-    write_groups(alloc, table, groups.as_slice())
-}
-
-// The places of the groups that are written, in the order in which they are. And of all groups in
-// their own order the lossless keys of their first types.
-#[derive(Drop)]
-struct WritingOrder {
-    places: Vec<usize>,
-    lossless_keys: Vec<Option<SortKey>>,
-}
-
-fn writing_order(alloc: Global, table: &ModuleTypes) -> Result<WritingOrder, AllocError>
-    ensures order { IfOk result
-        (λ o. IsWritingOrder (type_groups table.now.groups) (definition_at table.now.types.slots)
-        (is_entry_at table.now.types.slots) o.places.items) }
-    ensures count { IfOk result
-        (λ o. id_count (type_groups table.now.groups) o.places.items ≡
-        written_count (is_entry_at table.now.types.slots) (type_groups table.now.groups)) }
-    ensures lossless_keys { IfOk result
-        (λ o. AreLosslessKeys table.now.types.slots table.now.groups o.lossless_keys.items) }
-{
-    let groups = table.rec_groups();
-    let GroupInfo {
-        free,
-        heads,
-        written,
-        lossless_keys,
-    } = classify_groups(alloc, table, groups)?;
-    let order = group_order(alloc, free.as_slice(), heads)?;
-    let places = marked_places(alloc, written.as_slice(), order.as_slice())?;
-    Ok(WritingOrder {
-        places,
-        lossless_keys,
-    })
-}
-
-// Those of these places that are marked.
-fn marked_places(alloc: Global, marks: &[bool], order: &[usize]) -> Result<Vec<usize>, AllocError>
-    requires within { All (λ g. g < length marks.now) order.now }
-    ensures { IfOk result (λ v. v.items ≡ filter (is_marked marks.now) order.now) }
-{
-    let mut places = Vec::with_capacity(alloc, order.len())?;
-    for place in order {
-        if marks[*place] {
-            places.push(*place)?;
-        }
-    }
-    Ok(places)
+    let pending = writing_order(alloc, table)?;
+    write_groups(alloc, table, table.rec_groups(), pending.as_slice())
 }

@@ -1,7 +1,7 @@
 //! Reading a type section into a table of types.
 ghost use Rattle.std.specs.Prelude.{◌≡◌, ◌+◌, ◌⊎◌, [], ◌∷◌, ◌++◌, List, length, map, IfOk, IfErr, OnOk, OnErr, MatchResult, None, Some};
 ghost use Rattle.walrus_sections.specs.declared.error.ReadError.TheVariants as error;
-ghost use Rattle.walrus_ty.specs.Definition.{renamed};
+ghost use Rattle.walrus_ty.specs.Definition.{rename};
 ghost use Rattle.walrus_ty.specs.Groups.{Section, Single, Rec};
 ghost use Rattle.walrus_sections.specs.NormalForm.{image};
 ghost use Rattle.walrus_ty.specs.Records.{entry_definition, group_of, section_of};
@@ -160,7 +160,7 @@ fn read_single(
 ) -> Result<TypeId, FromRecordError>
     ensures ok { IfOk result
         (λ id. ReadsSingle types.old types.new
-        (type_of_definition (renamed (image ids.now.types) (entry_definition entry.now))
+        (type_of_definition (rename (image ids.now.types) (entry_definition entry.now))
         (length types.old.types.slots)) id) }
     ensures err { OnErr result (IsSameTable types.old types.new) }
 {
@@ -179,7 +179,7 @@ fn read_rec(
 ) -> Result<(), FromRecordError>
     ensures ok { OnOk result
         (ReadsRec types.old types.new
-        (map (renamed (image ids.now.types)) (map entry_definition entries.now))) }
+        (map (rename (image ids.now.types)) (map entry_definition entries.now))) }
     ensures err { OnErr result (IsSameTable types.old types.new) }
 {
     let members = members(types.allocator(), entries, ids)?;
@@ -194,7 +194,7 @@ fn members(
     ids: &IndicesToIds,
 ) -> Result<Vec<(CompositeType, bool, Option<TypeId>)>, FromRecordError>
     ensures { IfOk result (λ members. map member_definition members.items ≡
-        map (renamed (image ids.now.types)) (map entry_definition entries.now)) }
+        map (rename (image ids.now.types)) (map entry_definition entries.now)) }
 {
     let mut members = Vec::with_capacity(alloc, entries.len())?;
     for entry in entries {

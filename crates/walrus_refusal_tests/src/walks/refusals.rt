@@ -145,9 +145,9 @@ fn renaming(alloc: Global, names: [usize; 4]) -> Result<RenameTypes, AllocError>
 
 // Whether the types of the first sequences of the walk are these, and those of the others as they
 // were.
-fn are_begun(func: &LocalFunction, renamed: [usize; 4]) -> bool {
+fn are_begun(func: &LocalFunction, rename: [usize; 4]) -> bool {
     let types = walked_types(func);
-    let [a, b, c, d] = renamed;
+    let [a, b, c, d] = rename;
     types == [Some(0), Some(2), Some(1), Some(3)]
         || types == [Some(a), Some(2), Some(1), Some(3)]
         || types == [Some(a), Some(b), Some(1), Some(3)]

@@ -4,7 +4,7 @@ use Rattle.std.specs.List.{range_with_len}
 use Rattle.std.specs.declared.cmp.Ordering.TheVariants.{Less}
 use Rattle.std.proofs.lemmas.Bool.{cases_lt, cases_eq}
 use Rattle.std.proofs.lemmas.List.FromFn.{length-map-range_with_len, get_or-map-range_with_len}
-use Rattle.walrus_ty.specs.Definition.{Names, renamed, definition_cmp}
+use Rattle.walrus_ty.specs.Definition.{Names, rename, definition_cmp}
 use Rattle.walrus_ty.specs.Groups.{Section}
 use Rattle.walrus_sections.specs.Section.{places_from, index_space, NamesBelowEnds, IsWellNamed, IsInRec}
 use Rattle.walrus_sections.specs.SlotMap.{TypeGroup, read_groups, read_definition, IsSlotMap}
@@ -162,7 +162,7 @@ module _ (s : Section) (r : ℕ → ℕ) (wn : NamesBelowEnds (index_space s)) (
     em_onto : (p : ℕ) → p < (index_space out).count → (g : ℕ) × (u : ℕ) × (i : ℕ) × IsMember S g u i × (place i ≡ p)
     em_onto p h = let o = em.onto p h in let x = o.0 in (x.group, x.place, x.id, x.is_member, o.1)
 
-    em_same : (g u i : ℕ) → IsMember S g u i → (index_space out).definition (place i) ≡ renamed place (read_definition (index_space s) r i)
+    em_same : (g u i : ℕ) → IsMember S g u i → (index_space out).definition (place i) ≡ rename place (read_definition (index_space s) r i)
     em_same g u i m = em.same (written m)
 
     em_single : (g u i : ℕ) → IsMember S g u i → (group_at S g).is_explicit ≡ false → (index_space out).rec_position (place i) ≡ None

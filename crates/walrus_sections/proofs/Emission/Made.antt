@@ -4,14 +4,14 @@ use Rattle.std.specs.declared.cmp.Ordering.{Ordering}
 use Rattle.std.specs.declared.cmp.Ordering.TheVariants.{Less, Equal, Greater}
 use Rattle.std.specs.Ordering.{ordering_reverse}
 use Rattle.std.proofs.lemmas.Bool.{cases_lt, cases_eq}
-use Rattle.walrus_ty.specs.Definition.{Names, renamed, definition_cmp}
+use Rattle.walrus_ty.specs.Definition.{Names, rename, definition_cmp}
 use Rattle.walrus_sections.specs.Section.{IndexSpace, NamesBelowEnds, IsSingle}
 use Rattle.walrus_sections.specs.SlotMap.{read_definition, IsCandidate, IsSlotMap}
 use Rattle.walrus_sections.specs.NormalForm.{IsKept, IsAnchor, AreFree, IsNormal}
 use Rattle.walrus_sections.proofs.Sections.Lying.{IsLaidOut, in_or_out}
 use Rattle.walrus_sections.proofs.NormalForms.Again.{one_less}
 use Rattle.walrus_sections.proofs.Emission.ByIndex.{IsFixed, IsEmitted}
-use Rattle.walrus_ty.proofs.Names.Definitions.{Names-renamed, named_before, renamed_id, renamed_twice, renamed_agree, transfer, cmp_same, names_same, definitions_total}
+use Rattle.walrus_ty.proofs.Names.Definitions.{Names-rename, named_before, rename_id, rename_twice, rename_agree, transfer, cmp_same, names_same, definitions_total}
 
 module _ (s : IndexSpace) (r : ℕ → ℕ) (d : IsSlotMap s r) where
   own_or_sent : (i : ℕ) → i < s.count → (r i ≡ i) ⊎ IsCandidate s r i (r i)
@@ -34,7 +34,7 @@ module _ (s : IndexSpace) (r : ℕ → ℕ) (l : IsLaidOut s) (wn : NamesBelowEn
   -- a live slot of a `Single` that names itself holds what no earlier slot holds
   earlier_differs : (i j : ℕ) → i < j → j < s.count → r i ≡ i → r j ≡ j → IsSingle s j → (¬ (Names (s.definition j) j) → ⊥) → ¬ (read_definition s r i ≡ read_definition s r j)
   earlier_differs i j g h vi vj oj or_else q = or_else (λ nj.
-      (let a = Names-renamed r (s.definition j) j nj in
+      (let a = Names-rename r (s.definition j) j nj in
       let b = named_before r (s.definition i) (r j) (names_same (r j) (sym q) a) in
       let w = wn i (omega arith) b.0 b.1 in let f = l.fits i (omega arith) in
       let db = down s r d b.0 (omega arith) in let b2 = b.2 in
@@ -86,7 +86,7 @@ module _ (s n : IndexSpace) (r place : ℕ → ℕ) (l : IsLaidOut s) (wn : Name
   alike : (i j : ℕ) → i < s.count → j < s.count → n.definition (m i) ≡ n.definition (m j) → read_definition s r i ≡ read_definition s r j
   alike i j hi hj q =
       let ri = down s r d i hi in let rj = down s r d j hj in
-      let a : renamed place (read_definition s r (r i)) ≡ renamed place (read_definition s r (r j)) =
+      let a : rename place (read_definition s r (r i)) ≡ rename place (read_definition s r (r j)) =
       sym (e.definition (r i) (omega arith) (twice s r d i hi)) ∙ (q ∙ e.definition (r j) (omega arith) (twice s r d j hj)) in
       let names : (x : ℕ) → x < s.count → (k : ℕ) → Names (read_definition s r x) k → (k < s.count) × (r k ≡ k) = λ x hx k nk.
       (let b = named_before r (s.definition x) k nk in
@@ -95,7 +95,7 @@ module _ (s n : IndexSpace) (r place : ℕ → ℕ) (l : IsLaidOut s) (wn : Name
       (omega arith, ap r (sym b2) ∙ (tb ∙ b2))) in
       let t = transfer place (λ k. k) (read_definition s r (r i)) (read_definition s r (r j)) (λ k k' p u v.
       (let x = names (r i) (omega arith) k p in let y = names (r j) (omega arith) k' u in e.apart k k' x.0 y.0 x.1 y.1 v)) a in
-      sym (same s r d i hi) ∙ (sym (renamed_id (read_definition s r (r i))) ∙ (t ∙ (renamed_id (read_definition s r (r j)) ∙ same s r d j hj)))
+      sym (same s r d i hi) ∙ (sym (rename_id (read_definition s r (r i))) ∙ (t ∙ (rename_id (read_definition s r (r j)) ∙ same s r d j hj)))
 
   fixed_if : (i : ℕ) → i < s.count → IsAnchor s m i → IsFixed s r i
   fixed_if i h (inl x) = inl x
@@ -105,7 +105,7 @@ module _ (s n : IndexSpace) (r place : ℕ → ℕ) (l : IsLaidOut s) (wn : Name
         let w = wn i h k nk in let f = l.single_end i h o in
         let lt : k < i = elim (cases_eq k i) [ inl q ↦ absurd (ne q) | inr q ↦ omega arith ] in
         let dk = down s r d k (omega arith) in
-        inr (r k, Names-renamed r (s.definition i) k nk, λ q. omega arith))
+        inr (r k, Names-rename r (s.definition i) k nk, λ q. omega arith))
   ]
 
   anchor_if : (i : ℕ) → i < s.count → r i ≡ i → IsFixed s r i → IsAnchor s m i
@@ -115,10 +115,10 @@ module _ (s n : IndexSpace) (r place : ℕ → ℕ) (l : IsLaidOut s) (wn : Name
       inr (live_kept i h v, (b.0, b.1, λ q. x.2 (sym b.2 ∙ (ap r q ∙ v))))
 
   own_type : (i : ℕ) → i < s.count → r i ≡ i → ¬ (IsAnchor s m i) → read_definition s r i ≡ s.definition i
-  own_type i h v na = renamed_agree r (λ k. k) (s.definition i) (λ k nk. elim (cases_eq k i) [
+  own_type i h v na = rename_agree r (λ k. k) (s.definition i) (λ k nk. elim (cases_eq k i) [
     | inl q ↦ ap r q ∙ (v ∙ sym q)
     | inr q ↦ absurd (na (inr (live_kept i h v, (k, nk, q))))
-  ]) ∙ renamed_id (s.definition i)
+  ]) ∙ rename_id (s.definition i)
 
   free_made : (i j : ℕ) → i < j → j < s.count → IsKept m i → IsKept m j → AreFree s m i j → (m i < m j ↔ definition_cmp (s.definition i) (s.definition j) ≡ Less)
   free_made i j g h ki kj fr =
@@ -128,7 +128,7 @@ module _ (s n : IndexSpace) (r place : ℕ → ℕ) (l : IsLaidOut s) (wn : Name
       let tj = own_type j h vj (fr j (omega arith) (omega arith)) in
       let f = e.free i j g h vi vj (λ a u v va fx. fr a u v (anchor_if a (omega arith) va fx)) in
       let single : (a : ℕ) → i ≤ a → a ≤ j → IsSingle s a = λ a u v. elim (in_or_out (s.rec_position a)) [ inl o ↦ o | inr x ↦ absurd (fr a u v (inl x)) ] in
-      let ne : ¬ (s.definition i ≡ s.definition j) = λ q. differ s r l wn d i j g h vi vj (single i (omega arith) (omega arith)) (single j (omega arith) (omega arith)) (ap (renamed r) q) in
+      let ne : ¬ (s.definition i ≡ s.definition j) = λ q. differ s r l wn d i j g h vi vj (single i (omega arith) (omega arith)) (single j (omega arith) (omega arith)) (ap (rename r) q) in
       let pi = ap place vi in let pj = ap place vj in (
         (λ x. one_less (s.definition i) (s.definition j) ne (λ y. f.0 (omega arith) (cmp_same tj ti ∙ y))),
         (λ x. (let z = f.1 (λ y. greater_of (definition_cmp (s.definition i) (s.definition j)) (definition_cmp (s.definition j) (s.definition i)) (definitions_total.antisymm (s.definition j) (s.definition i)) x (sym (cmp_same tj ti) ∙ y)) in omega arith)),
@@ -138,7 +138,7 @@ module _ (s n : IndexSpace) (r place : ℕ → ℕ) (l : IsLaidOut s) (wn : Name
   normal_made = record {
     below = λ i h. (let z = down s r d i h in e.below (r i) (omega arith) (twice s r d i h));
     onto = λ p h. (let o = e.onto p h in (o.0, o.1, ap place o.2 ∙ o.3));
-    same = λ i h. (let z = down s r d i h in e.definition (r i) (omega arith) (twice s r d i h) ∙ (ap (renamed place) (same s r d i h) ∙ renamed_twice place r (s.definition i)));
+    same = λ i h. (let z = down s r d i h in e.definition (r i) (omega arith) (twice s r d i h) ∙ (ap (rename place) (same s r d i h) ∙ rename_twice place r (s.definition i)));
     rec_to_rec = λ i x h q. (let v = d.recs i h (x, q) in ap (λ y. n.rec_position (place y)) v ∙ (e.rec_position i h v ∙ q));
     rec_from_rec = λ p x h q. (let o = e.onto p h in (o.0, o.1, sym (e.rec_position o.0 o.1 o.2) ∙ (ap n.rec_position o.3 ∙ q)));
     selfs_kept = λ i h o q. live_kept i h (d.selfs i h o q);

@@ -1,7 +1,7 @@
 -- Emission looks only at what the members of the groups are.
 use Rattle.std.proofs.Common.{◌≡◌, ℕ, ◌∙◌, Bool, List, subst, sym, ap, inl, inr}
 use Rattle.std.specs.declared.cmp.Ordering.TheVariants.{Less}
-use Rattle.walrus_ty.specs.Definition.{Definition, Names, renamed, definition_cmp}
+use Rattle.walrus_ty.specs.Definition.{Definition, Names, rename, definition_cmp}
 use Rattle.walrus_ty.specs.Groups.{Section}
 use Rattle.walrus_sections.specs.SlotMap.{TypeGroup}
 use Rattle.walrus_sections.specs.Emission.{IsMember, IsWritten, WrittenMember, IsFreeGroup, IsInversion, IsWrittenBefore, IsEmission}
@@ -50,7 +50,7 @@ module _ (gs : List TypeGroup) where
       record {
         below = λ x. em.below (back x);
         onto = λ p h. (let o = em.onto p h in (same_member e b marked o.0, o.1));
-        same = λ x. em.same (back x) ∙ ap (renamed m) (same x.group x.place x.id x.is_member);
+        same = λ x. em.same (back x) ∙ ap (rename m) (same x.group x.place x.id x.is_member);
         filled = em.filled;
         single = λ x. em.single (back x);
         rec = λ x. em.rec (back x);

@@ -1,6 +1,6 @@
 -- The moves by index.
 use Rattle.std.specs.Prelude.{◌≡◌, ℕ, suc, ◌<◌, ◌≤◌, nat_lt, cond}
-use Rattle.walrus_ty.specs.Definition.{Names, renamed, definition_cmp}
+use Rattle.walrus_ty.specs.Definition.{Names, rename, definition_cmp}
 use Rattle.walrus_sections.specs.Section.{IndexSpace, IsSingle}
 use Rattle.walrus_sections.specs.Moves.{exchange, skip}
 
@@ -13,8 +13,8 @@ pub record IsSwapped (s r : IndexSpace) (i : ℕ) : Type 0 where
   pub second_single : IsSingle s (suc i)
   pub first_own : (k : ℕ) → Names (s.definition i) k → k ≡ i
   pub second_own : (k : ℕ) → Names (s.definition (suc i)) k → k ≡ suc i
-  pub order : definition_cmp (s.definition i) (s.definition (suc i)) ≡ definition_cmp (renamed (exchange i) (s.definition i)) (renamed (exchange i) (s.definition (suc i)))
-  pub definition : (k : ℕ) → k < s.count → r.definition k ≡ renamed (exchange i) (s.definition (exchange i k))
+  pub order : definition_cmp (s.definition i) (s.definition (suc i)) ≡ definition_cmp (rename (exchange i) (s.definition i)) (rename (exchange i) (s.definition (suc i)))
+  pub definition : (k : ℕ) → k < s.count → r.definition k ≡ rename (exchange i) (s.definition (exchange i k))
   pub rec_position : (k : ℕ) → k < s.count → r.rec_position k ≡ s.rec_position k
   pub end : (k : ℕ) → k < s.count → r.end k ≡ s.end k
 
@@ -30,7 +30,7 @@ pub record IsWithout (s r : IndexSpace) (i j : ℕ) : Type 0 where
   pub single : IsSingle s i
   pub earlier_single : IsSingle s j
   pub equal : s.definition i ≡ s.definition j
-  pub definition : (k : ℕ) → k < r.count → r.definition k ≡ renamed (skip i j) (s.definition (unskip i k))
+  pub definition : (k : ℕ) → k < r.count → r.definition k ≡ rename (skip i j) (s.definition (unskip i k))
   pub rec_position : (k : ℕ) → k < r.count → r.rec_position k ≡ s.rec_position (unskip i k)
   pub end_below : (k : ℕ) → k < i → r.end k ≡ s.end k
   pub end_above : (k : ℕ) → i ≤ k → k < r.count → suc (r.end k) ≡ s.end (suc k)

@@ -3,7 +3,7 @@ use Rattle.std.proofs.Common.{◌≡◌, ℕ, suc, ap, sym, ◌∙◌, arith, Li
 use Rattle.std.specs.List.{range_with_len}
 use Rattle.std.specs.Ordering.{ordering_reverse}
 use Rattle.std.proofs.lemmas.List.FromFn.{length-map-range_with_len, get_or-map-range_with_len}
-use Rattle.walrus_ty.specs.Definition.{renamed, definition_cmp}
+use Rattle.walrus_ty.specs.Definition.{rename, definition_cmp}
 use Rattle.walrus_sections.specs.Section.{IndexSpace, Place, index_space, index_space_of_places, IsFilled, IsWellNamed}
 use Rattle.walrus_ty.specs.Groups.{Section}
 use Rattle.walrus_sections.specs.Moves.{exchange, skip, Move, drop_empty_rec, drop_repeat, swap_neighbours, ChainTo, stop, forth, back, DescentTo, bottom, down}
@@ -37,8 +37,8 @@ swapped_back : (s r : IndexSpace) (i : ℕ) → IsSwapped s r i → IsSwapped r 
 swapped_back s r i sw =
     let z = sw.inside in
     let u = exchange i in
-    let ri : r.definition i ≡ renamed (exchange i) (s.definition (suc i)) = sw.definition i (omega arith) ∙ ap (λ y. renamed (exchange i) (s.definition y)) (exchange_first i) in
-    let rj : r.definition (suc i) ≡ renamed (exchange i) (s.definition i) = sw.definition (suc i) sw.inside ∙ ap (λ y. renamed (exchange i) (s.definition y)) (exchange_second i) in
+    let ri : r.definition i ≡ rename (exchange i) (s.definition (suc i)) = sw.definition i (omega arith) ∙ ap (λ y. rename (exchange i) (s.definition y)) (exchange_first i) in
+    let rj : r.definition (suc i) ≡ rename (exchange i) (s.definition i) = sw.definition (suc i) sw.inside ∙ ap (λ y. rename (exchange i) (s.definition y)) (exchange_second i) in
     record {
       count = sym sw.count;
       inside = (let c = sw.count in omega arith);
@@ -48,12 +48,12 @@ swapped_back s r i sw =
       second_own = λ k h. (let b = named_before (exchange i) (s.definition i) k (rw rj at h) in sym b.2 ∙ (ap (exchange i) (sw.first_own b.0 b.1) ∙ exchange_first i));
       order =
           (let e = s.definition i in let f = s.definition (suc i) in
-          let a : definition_cmp (renamed (exchange i) f) (renamed (exchange i) e) ≡ ordering_reverse (definition_cmp (renamed (exchange i) e) (renamed (exchange i) f)) = definitions_total.antisymm (renamed (exchange i) f) (renamed (exchange i) e) in
+          let a : definition_cmp (rename (exchange i) f) (rename (exchange i) e) ≡ ordering_reverse (definition_cmp (rename (exchange i) e) (rename (exchange i) f)) = definitions_total.antisymm (rename (exchange i) f) (rename (exchange i) e) in
           let b : definition_cmp f e ≡ ordering_reverse (definition_cmp e f) = definitions_total.antisymm f e in
-          let c : definition_cmp (renamed (exchange i) f) (renamed (exchange i) e) ≡ definition_cmp f e = a ∙ (ap ordering_reverse (sym sw.order) ∙ sym b) in
-          cmp_same ri rj ∙ (c ∙ sym (cmp_same (ap (renamed (exchange i)) ri ∙ exchanged_back i f) (ap (renamed (exchange i)) rj ∙ exchanged_back i e))));
+          let c : definition_cmp (rename (exchange i) f) (rename (exchange i) e) ≡ definition_cmp f e = a ∙ (ap ordering_reverse (sym sw.order) ∙ sym b) in
+          cmp_same ri rj ∙ (c ∙ sym (cmp_same (ap (rename (exchange i)) ri ∙ exchanged_back i f) (ap (rename (exchange i)) rj ∙ exchanged_back i e))));
       definition = λ k h. (let c = sw.count in
-          sym (exchanged_back i (s.definition k)) ∙ (ap (λ y. renamed (exchange i) (renamed (exchange i) (s.definition y))) (sym (exchange_twice i k)) ∙ ap (renamed (exchange i)) (sym (sw.definition (exchange i k) (exchange_within i k s.count sw.inside (omega arith))))));
+          sym (exchanged_back i (s.definition k)) ∙ (ap (λ y. rename (exchange i) (rename (exchange i) (s.definition y))) (sym (exchange_twice i k)) ∙ ap (rename (exchange i)) (sym (sw.definition (exchange i k) (exchange_within i k s.count sw.inside (omega arith))))));
       rec_position = λ k h. (let c = sw.count in sym (sw.rec_position k (omega arith)));
       end = λ k h. (let c = sw.count in sym (sw.end k (omega arith)));
     }

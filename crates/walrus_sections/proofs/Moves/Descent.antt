@@ -5,10 +5,10 @@ use Rattle.std.specs.declared.cmp.Ordering.TheVariants.{Less, Greater}
 use Rattle.std.specs.Ordering.{ordering_reverse}
 use Rattle.std.proofs.lemmas.Bool.{cases_eq}
 use Rattle.std.proofs.lemmas.List.{length-map}
-use Rattle.walrus_ty.specs.Definition.{renamed, definition_cmp}
+use Rattle.walrus_ty.specs.Definition.{rename, definition_cmp}
 use Rattle.walrus_sections.specs.Section.{IndexSpace, index_space}
 use Rattle.walrus_ty.specs.Groups.{Section, Single, Rec}
-use Rattle.walrus_sections.specs.Moves.{exchange, skip, renamed_group, DropsEmptyRec, DropsRepeat, SwapsNeighbours, AreOutOfOrder, HasFewerOutOfOrder, IsLower}
+use Rattle.walrus_sections.specs.Moves.{exchange, skip, rename_group, DropsEmptyRec, DropsRepeat, SwapsNeighbours, AreOutOfOrder, HasFewerOutOfOrder, IsLower}
 use Rattle.walrus_sections.proofs.Moves.ByIndex.{IsSwapped}
 use Rattle.walrus_sections.proofs.Moves.Exchange.{exchange_first, exchange_second, exchange_one, exchange_order, exchange_within}
 use Rattle.walrus_sections.proofs.Moves.SwappedPlaces.{swapped_by_index}
@@ -23,13 +23,13 @@ fewer_without_empty s r x =
 pub fewer_without_repeat : (s r : Section) (i j : ℕ) → DropsRepeat s r i j → length r < length s
 fewer_without_repeat s r i j x =
     let a = ap length x.s_is ∙ length-append x.before (Single x.dropped ∷ x.after) in
-    let b = ap length x.r_is ∙ (length-map (x.before ++ x.after) (renamed_group (skip i j)) ∙ length-append x.before x.after) in omega arith
+    let b = ap length x.r_is ∙ (length-map (x.before ++ x.after) (rename_group (skip i j)) ∙ length-append x.before x.after) in omega arith
 
 as_many : (s r : Section) (i : ℕ) → SwapsNeighbours s r i → length r ≡ length s
 as_many s r i x =
     let y = x.exchanged in
     let a = ap length y.s_is ∙ length-append y.before (Single y.first ∷ Single y.second ∷ y.after) in
-    let b = ap length y.r_is ∙ (length-map (y.before ++ Single y.second ∷ Single y.first ∷ y.after) (renamed_group (exchange i)) ∙ length-append y.before (Single y.second ∷ Single y.first ∷ y.after)) in
+    let b = ap length y.r_is ∙ (length-map (y.before ++ Single y.second ∷ Single y.first ∷ y.after) (rename_group (exchange i)) ∙ length-append y.before (Single y.second ∷ Single y.first ∷ y.after)) in
     omega arith
 
 less_if_greater : (o p : Ordering) → p ≡ ordering_reverse o → o ≡ Greater → p ≡ Less
@@ -58,8 +58,8 @@ module _ (s r : IndexSpace) (o : ℕ) (sw : IsSwapped s r o) (gr : definition_cm
   turned_greater : (i j : ℕ) → i ≡ o → j ≡ suc o → definition_cmp (r.definition j) (r.definition i) ≡ Greater
   turned_greater i j e f =
       let z = sw.inside in
-      let ri : r.definition i ≡ renamed (exchange o) (s.definition (suc o)) = ap r.definition e ∙ (sw.definition o (omega arith) ∙ ap (λ y. renamed (exchange o) (s.definition y)) (exchange_first o)) in
-      let rj : r.definition j ≡ renamed (exchange o) (s.definition o) = ap r.definition f ∙ (sw.definition (suc o) sw.inside ∙ ap (λ y. renamed (exchange o) (s.definition y)) (exchange_second o)) in
+      let ri : r.definition i ≡ rename (exchange o) (s.definition (suc o)) = ap r.definition e ∙ (sw.definition o (omega arith) ∙ ap (λ y. rename (exchange o) (s.definition y)) (exchange_first o)) in
+      let rj : r.definition j ≡ rename (exchange o) (s.definition o) = ap r.definition f ∙ (sw.definition (suc o) sw.inside ∙ ap (λ y. rename (exchange o) (s.definition y)) (exchange_second o)) in
       cmp_same rj ri ∙ (sym sw.order ∙ gr)
 
   sent_back : (i j : ℕ) → AreOutOfOrder r i j → AreOutOfOrder s (exchange o i) (exchange o j)

@@ -5,10 +5,10 @@ use Rattle.std.specs.declared.cmp.Ordering.TheVariants.{Less, Equal, Greater}
 use Rattle.std.specs.Ordering.{ordering_reverse}
 use Rattle.std.proofs.lemmas.Bool.{cases_eq}
 use Rattle.std.proofs.lemmas.Cmp.{tied_itself}
-use Rattle.walrus_ty.specs.Definition.{Names, renamed, definition_cmp}
+use Rattle.walrus_ty.specs.Definition.{Names, rename, definition_cmp}
 use Rattle.walrus_sections.specs.Section.{IndexSpace, index_space, IsSingle, IsFilled, IsWellNamed}
 use Rattle.walrus_ty.specs.Groups.{Single, Rec, Section}
-use Rattle.walrus_sections.specs.Moves.{exchange, skip, renamed_group, DropsEmptyRec, DropsRepeat, SwapsNeighbours, drop_empty_rec, drop_repeat, swap_neighbours, DescentTo, bottom, down}
+use Rattle.walrus_sections.specs.Moves.{exchange, skip, rename_group, DropsEmptyRec, DropsRepeat, SwapsNeighbours, drop_empty_rec, drop_repeat, swap_neighbours, DescentTo, bottom, down}
 use Rattle.walrus_sections.specs.NormalForm.{IsNormal}
 use Rattle.walrus_sections.proofs.Sections.Lying.{in_or_out}
 use Rattle.walrus_sections.proofs.Sections.Splits.{split, split_definition, split_two, two_definitions, length-places, filled-left, filled-right, filled-append, filled-map}
@@ -70,10 +70,10 @@ swapped_but s r o b sw ob h but gr i j g jb ne = elim (exchange_order o i j g) [
   | inr at ↦ (λ fr.
       (let ei = ap (exchange o) at.0 ∙ exchange_first o in
       let ej = ap (exchange o) at.1 ∙ exchange_second o in
-      let ri : (index_space r).definition i ≡ renamed (exchange o) ((index_space s).definition (suc o)) = sw.definition i (omega arith) ∙ ap (λ y. renamed (exchange o) ((index_space s).definition y)) ei in
-      let rj : (index_space r).definition j ≡ renamed (exchange o) ((index_space s).definition o) = sw.definition j (omega arith) ∙ ap (λ y. renamed (exchange o) ((index_space s).definition y)) ej in
-      let t = definitions_total.antisymm (renamed (exchange o) ((index_space s).definition (suc o))) (renamed (exchange o) ((index_space s).definition o)) in
-      let u : definition_cmp (renamed (exchange o) ((index_space s).definition o)) (renamed (exchange o) ((index_space s).definition (suc o))) ≡ Greater = sym sw.order ∙ gr in
+      let ri : (index_space r).definition i ≡ rename (exchange o) ((index_space s).definition (suc o)) = sw.definition i (omega arith) ∙ ap (λ y. rename (exchange o) ((index_space s).definition y)) ei in
+      let rj : (index_space r).definition j ≡ rename (exchange o) ((index_space s).definition o) = sw.definition j (omega arith) ∙ ap (λ y. rename (exchange o) ((index_space s).definition y)) ej in
+      let t = definitions_total.antisymm (rename (exchange o) ((index_space s).definition (suc o))) (rename (exchange o) ((index_space s).definition o)) in
+      let u : definition_cmp (rename (exchange o) ((index_space s).definition o)) (rename (exchange o) ((index_space s).definition (suc o))) ≡ Greater = sym sw.order ∙ gr in
       rw (ri, rj) (t ∙ ap ordering_reverse u)))
 ]
 
@@ -101,7 +101,7 @@ insert (suc o) b n s f w t pb h c but =
             | inr greater ↦ (
                 let k = split_two s o f (omega arith) po.single pp.single in
                 let en = two_definitions s o k in
-                let r = map (renamed_group (exchange o)) (k.before ++ Single k.f ∷ Single k.e ∷ k.after) in
+                let r = map (rename_group (exchange o)) (k.before ++ Single k.f ∷ Single k.e ∷ k.after) in
                 let first : (x : ℕ) → Names k.e x → x ≡ o = λ x q. po.own x (rw (en.0) q) in
                 let second : (x : ℕ) → Names k.f x → x ≡ suc o = λ x q. pp.own x (rw (en.1) q) in
                 let gr : definition_cmp k.e k.f ≡ Greater = rw (en.0, en.1) at greater in
@@ -185,7 +185,7 @@ tidied (suc n) s h f w = elim (find_twins (index_space s)) [
   | inl x ↦ (
       let i = x.0 in let j = x.2.0 in let tw = x.2.2 in
       let k = split s 0 0 i x.1 tw.second in
-      let r = map (renamed_group (skip i j)) (k.before ++ k.after) in
+      let r = map (rename_group (skip i j)) (k.before ++ k.after) in
       let mv : DropsRepeat s r i j = record {
         before = k.before;
         dropped = k.e;

@@ -4,7 +4,7 @@ use Rattle.std.specs.declared.cmp.Ordering.{Ordering}
 use Rattle.std.specs.declared.cmp.Ordering.TheVariants.{Less, Equal, Greater}
 use Rattle.std.specs.Ordering.{ordering_reverse}
 use Rattle.std.proofs.lemmas.Bool.{cases_lt, cases_eq}
-use Rattle.walrus_ty.specs.Definition.{Definition, Names, renamed, definition_cmp}
+use Rattle.walrus_ty.specs.Definition.{Definition, Names, rename, definition_cmp}
 use Rattle.walrus_sections.specs.Section.{IndexSpace, NamesBelowEnds, IsSingle}
 use Rattle.walrus_sections.specs.NormalForm.{IsKept, IsAnchor, AreFree, IsNormal}
 use Rattle.walrus_sections.specs.Moves.{exchange}
@@ -12,12 +12,12 @@ use Rattle.walrus_sections.proofs.Moves.ByIndex.{IsSwapped}
 use Rattle.walrus_sections.proofs.Moves.Exchange.{IsOther, where_is, exchange_first, exchange_second, exchange_twice, exchange_within, exchange_one, exchange_order}
 use Rattle.walrus_sections.proofs.Sections.Lying.{IsLaidOut, ends_before_single, names_at}
 use Rattle.walrus_sections.proofs.NormalForms.Again.{kept_differ}
-use Rattle.walrus_ty.proofs.Names.Definitions.{Names-renamed, named_before, renamed_id, renamed_twice, renamed_agree, cmp_agree, cmp_same, names_same, definitions_total, definition_exact}
+use Rattle.walrus_ty.proofs.Names.Definitions.{Names-rename, named_before, rename_id, rename_twice, rename_agree, cmp_agree, cmp_same, names_same, definitions_total, definition_exact}
 use Rattle.walrus_ty.proofs.Spelling.Tokens.{nat_less}
 use Rattle.walrus_sections.proofs.NormalForms.Kept.{own_name}
 
-pub nameless : (u : ℕ → ℕ) (e : Definition) → ((k : ℕ) → ¬ (Names e k)) → renamed u e ≡ e
-nameless u e h = renamed_agree u (λ k. k) e (λ k q. absurd (h k q)) ∙ renamed_id e
+pub nameless : (u : ℕ → ℕ) (e : Definition) → ((k : ℕ) → ¬ (Names e k)) → rename u e ≡ e
+nameless u e h = rename_agree u (λ k. k) e (λ k q. absurd (h k q)) ∙ rename_id e
 
 turned : (o p : Ordering) → p ≡ ordering_reverse o → p ≡ Less → o ≡ Greater
 turned Less p e h = cc
@@ -34,8 +34,8 @@ anchor_at : (s : IndexSpace) (m : ℕ → ℕ) (j k : ℕ) → j ≡ k → IsAnc
 anchor_at s m j k e h = rw e at h
 
 -- an exchange undone
-pub exchanged_back : (i : ℕ) (d : Definition) → renamed (exchange i) (renamed (exchange i) d) ≡ d
-exchanged_back i d = renamed_twice (exchange i) (exchange i) d ∙ (renamed_agree (λ k. exchange i (exchange i k)) (λ k. k) d (λ k _. exchange_twice i k) ∙ renamed_id d)
+pub exchanged_back : (i : ℕ) (d : Definition) → rename (exchange i) (rename (exchange i) d) ≡ d
+exchanged_back i d = rename_twice (exchange i) (exchange i) d ∙ (rename_agree (λ k. exchange i (exchange i k)) (λ k. k) d (λ k _. exchange_twice i k) ∙ rename_id d)
 
 module _ (s r : IndexSpace) (o : ℕ) (sw : IsSwapped s r o) where
   -- a `Single` comes from a `Single`
@@ -77,13 +77,13 @@ module _ (s r n : IndexSpace) (m : ℕ → ℕ) (i : ℕ) (l : IsLaidOut s) (wn 
   second_nameless e x h = let f = sw.second_own x h in
       second_not_kept e (c.selfs_kept (suc i) sw.inside sw.second_single (rw f at h))
 
-  one_image : m i ≡ m (suc i) → renamed m (s.definition i) ≡ s.definition (suc i)
+  one_image : m i ≡ m (suc i) → rename m (s.definition i) ≡ s.definition (suc i)
   one_image e = let z = sw.inside in
       sym (c.same i (omega arith)) ∙ (ap n.definition e ∙ (c.same (suc i) sw.inside ∙ nameless m (s.definition (suc i)) (second_nameless e)))
 
   first_nameless : m i ≡ m (suc i) → (x : ℕ) → ¬ (Names (s.definition i) x)
   first_nameless e x h =
-      let q = Names-renamed m (s.definition i) x h in
+      let q = Names-rename m (s.definition i) x h in
       second_nameless e (m x) (names_same (m x) (one_image e) q)
 
   two_equal : m i ≡ m (suc i) → s.definition i ≡ s.definition (suc i)
@@ -125,8 +125,8 @@ module _ (s r n : IndexSpace) (m : ℕ → ℕ) (i : ℕ) (l : IsLaidOut s) (wn 
         | inr x ↦ b x.1
       ]
 
-  definition_other : (k : ℕ) → k < s.count → IsOther i k → r.definition k ≡ renamed (exchange i) (s.definition k)
-  definition_other k h o = sw.definition k h ∙ ap (λ x. renamed (exchange i) (s.definition x)) o.stays
+  definition_other : (k : ℕ) → k < s.count → IsOther i k → r.definition k ≡ rename (exchange i) (s.definition k)
+  definition_other k h o = sw.definition k h ∙ ap (λ x. rename (exchange i) (s.definition x)) o.stays
 
   anchor_other : (k : ℕ) → k < s.count → IsAnchor r w k → IsOther i k × IsAnchor s m k
   anchor_other k h (inl x) =
@@ -166,7 +166,7 @@ module _ (s r n : IndexSpace) (m : ℕ → ℕ) (i : ℕ) (l : IsLaidOut s) (wn 
           kept_other_back k o x.0,
           (
             exchange i x.1.0,
-            (let q : Names (r.definition k) (exchange i x.1.0) = rw (definition_other k h o) (Names-renamed (exchange i) (s.definition k) x.1.0 x.1.1) in q),
+            (let q : Names (r.definition k) (exchange i x.1.0) = rw (definition_other k h o) (Names-rename (exchange i) (s.definition k) x.1.0 x.1.1) in q),
             λ f. x.1.2 (exchange_one i x.1.0 k (f ∙ sym o.stays)),
           ),
         ),
@@ -182,10 +182,10 @@ module _ (s r n : IndexSpace) (m : ℕ → ℕ) (i : ℕ) (l : IsLaidOut s) (wn 
 
   free_definition_if_one : m i ≡ m (suc i) → (k : ℕ) → k < s.count → IsKept m k → ¬ (IsAnchor s m k) → r.definition k ≡ s.definition k
   free_definition_if_one e k h kk na = elim (where_is i k) [
-    | inl x ↦ sw.definition k h ∙ (ap (λ y. renamed (exchange i) (s.definition y)) x.1 ∙ (nameless (exchange i) (s.definition (suc i)) (second_nameless e) ∙ (sym (two_equal e) ∙ ap s.definition (sym x.0))))
+    | inl x ↦ sw.definition k h ∙ (ap (λ y. rename (exchange i) (s.definition y)) x.1 ∙ (nameless (exchange i) (s.definition (suc i)) (second_nameless e) ∙ (sym (two_equal e) ∙ ap s.definition (sym x.0))))
     | inr z ↦ (elim z [
-      | inl x ↦ sw.definition k h ∙ (ap (λ y. renamed (exchange i) (s.definition y)) x.1 ∙ (nameless (exchange i) (s.definition i) (first_nameless e) ∙ (two_equal e ∙ ap s.definition (sym x.0))))
-      | inr o ↦ definition_other k h o ∙ (renamed_agree (exchange i) (λ y. y) (s.definition k) (λ x nx. (let f = own_name s m k x kk na nx in ap (exchange i) f ∙ (o.stays ∙ sym f))) ∙ renamed_id (s.definition k))
+      | inl x ↦ sw.definition k h ∙ (ap (λ y. rename (exchange i) (s.definition y)) x.1 ∙ (nameless (exchange i) (s.definition i) (first_nameless e) ∙ (two_equal e ∙ ap s.definition (sym x.0))))
+      | inr o ↦ definition_other k h o ∙ (rename_agree (exchange i) (λ y. y) (s.definition k) (λ x nx. (let f = own_name s m k x kk na nx in ap (exchange i) f ∙ (o.stays ∙ sym f))) ∙ rename_id (s.definition k))
     ])
   ]
 
@@ -198,7 +198,7 @@ module _ (s r n : IndexSpace) (m : ℕ → ℕ) (i : ℕ) (l : IsLaidOut s) (wn 
       let ux : exchange i x ≡ k = ap (exchange i) ex ∙ exchange_twice i k in
       let uy : exchange i y ≡ j = ap (exchange i) ey ∙ exchange_twice i j in
       nat_less (exchange i x) (exchange i y) (omega arith) ∙ sym (nat_less x y (omega arith)))) in
-      cmp_same (sw.definition k hk) (sw.definition j hj) ∙ (z ∙ cmp_same (renamed_id e) (renamed_id f))
+      cmp_same (sw.definition k hk) (sw.definition j hj) ∙ (z ∙ cmp_same (rename_id e) (rename_id f))
 
   free_swapped : (k j : ℕ) → k < j → j < s.count → IsKept w k → IsKept w j → AreFree r w k j → (w k < w j ↔ definition_cmp (r.definition k) (r.definition j) ≡ Less)
   free_swapped k j lt hj kk kj fr = elim (cases_eq (m i) (m (suc i))) [
@@ -241,13 +241,13 @@ module _ (s r n : IndexSpace) (m : ℕ → ℕ) (i : ℕ) (l : IsLaidOut s) (wn 
               let k0 : IsKept m i = rw tj at kj' in
               let fm : AreFree s m i (suc i) = free_other k j i (suc i) (omega arith) sw.inside (λ a o u v. (omega arith, omega arith)) fr in
               let f = c.free i (suc i) (omega arith) sw.inside k0 k1 fm in
-              let rk : r.definition k ≡ renamed (exchange i) (s.definition (suc i)) = sw.definition k (omega arith) ∙ ap (λ y. renamed (exchange i) (s.definition y)) tk in
-              let rj : r.definition j ≡ renamed (exchange i) (s.definition i) = sw.definition j hj ∙ ap (λ y. renamed (exchange i) (s.definition y)) tj in
+              let rk : r.definition k ≡ rename (exchange i) (s.definition (suc i)) = sw.definition k (omega arith) ∙ ap (λ y. rename (exchange i) (s.definition y)) tk in
+              let rj : r.definition j ≡ rename (exchange i) (s.definition i) = sw.definition j hj ∙ ap (λ y. rename (exchange i) (s.definition y)) tj in
               let wk : w k ≡ m (suc i) = ap m tk in
               let wj : w j ≡ m i = ap m tj in
               let o = definition_cmp (s.definition i) (s.definition (suc i)) in
               let p = definition_cmp (r.definition k) (r.definition j) in
-              let rev : p ≡ ordering_reverse o = rw (rk, rj) (definitions_total.antisymm (renamed (exchange i) (s.definition (suc i))) (renamed (exchange i) (s.definition i)) ∙ ap ordering_reverse (sym sw.order)) in
+              let rev : p ≡ ordering_reverse o = rw (rk, rj) (definitions_total.antisymm (rename (exchange i) (s.definition (suc i))) (rename (exchange i) (s.definition i)) ∙ ap ordering_reverse (sym sw.order)) in
               let ne : ¬ (o ≡ Equal) = λ q. kept_differ s n m c i (suc i) (omega arith) sw.inside k0 k1 sw.first_single sw.second_single (definition_exact (s.definition i) (s.definition (suc i)) q) in (
                 (λ x. turned_back o p rev (λ q. (let y = f.1 q in omega arith)) ne),
                 (λ x. (let g = turned o p rev x in elim (cases_lt (m i) (m (suc i))) [
@@ -302,7 +302,7 @@ module _ (s r n : IndexSpace) (m : ℕ → ℕ) (i : ℕ) (l : IsLaidOut s) (wn 
     below = λ k h. (let e = sw.count in c.below (exchange i k) (within k (omega arith)));
     onto = λ p h. (let o = c.onto p h in (exchange i o.0, (let e = sw.count in let z = within o.0 o.1 in omega arith), ap m (exchange_twice i o.0) ∙ o.2));
     same = λ k h. (let e = sw.count in let g : k < s.count = omega arith in
-        c.same (exchange i k) (within k g) ∙ (sym (renamed_twice w (exchange i) (s.definition (exchange i k)) ∙ renamed_agree (λ x. w (exchange i x)) m (s.definition (exchange i k)) (λ x q. ap m (exchange_twice i x))) ∙ ap (renamed w) (sym (sw.definition k g))));
+        c.same (exchange i k) (within k g) ∙ (sym (rename_twice w (exchange i) (s.definition (exchange i k)) ∙ rename_agree (λ x. w (exchange i x)) m (s.definition (exchange i k)) (λ x q. ap m (exchange_twice i x))) ∙ ap (rename w) (sym (sw.definition k g))));
     rec_to_rec = λ k x h e. (let q = sw.count in let g : k < s.count = omega arith in
         let f = sym (sw.rec_position k g) ∙ e in let o = rec_stays k x g f in
         ap (λ y. n.rec_position (m y)) o.stays ∙ c.rec_to_rec k x g f);

@@ -1,7 +1,7 @@
 -- How an exchange of neighbours looks by index.
 use Rattle.std.proofs.Common.{◌≡◌, ℕ, zero, suc, refl, ap, sym, ◌∙◌, inl, inr, arith, Option, None, List, [], ◌∷◌, ◌++◌, map, length, subst, length-append}
 use Rattle.std.proofs.lemmas.List.{length-map}
-use Rattle.walrus_ty.specs.Definition.{Definition, Names, renamed, definition_cmp}
+use Rattle.walrus_ty.specs.Definition.{Definition, Names, rename, definition_cmp}
 use Rattle.walrus_sections.specs.Section.{Place, places_from, index_space, index_space_of_places}
 use Rattle.walrus_ty.specs.Groups.{Single, Section}
 use Rattle.walrus_sections.specs.Moves.{exchange, IsRenumberedSwap, SwapsNeighbours}
@@ -9,7 +9,7 @@ use Rattle.walrus_sections.proofs.Moves.ByIndex.{IsSwapped}
 use Rattle.walrus_sections.proofs.Moves.Exchange.{where_is}
 use Rattle.walrus_sections.proofs.Moves.Swapped.{nameless}
 use Rattle.walrus_sections.proofs.Sections.Rows.{at}
-use Rattle.walrus_sections.proofs.Sections.Places.{renamed_place, places-map, places-append, at-map, at-here, at-next}
+use Rattle.walrus_sections.proofs.Sections.Places.{rename_place, places-map, places-append, at-map, at-here, at-next}
 
 at-other :
     (ps : List Place) (p q p' q' : Place) (rs : List Place) (k : ℕ) → ¬ (k ≡ length ps) →
@@ -38,12 +38,12 @@ module _ (u : ℕ → ℕ) (ps : List Place) (e f : Definition) (n : ℕ) (rs : 
   plain = ps ++ first_of e ∷ second_of f ∷ rs
 
   abbrev turned : List Place
-  turned = map (renamed_place (exchange (length ps))) (ps ++ first_of f ∷ second_of e ∷ rs)
+  turned = map (rename_place (exchange (length ps))) (ps ++ first_of f ∷ second_of e ∷ rs)
 
-  turned_definition : (k : ℕ) → (at turned k).definition ≡ renamed (exchange (length ps)) (at plain (exchange (length ps) k)).definition
+  turned_definition : (k : ℕ) → (at turned k).definition ≡ rename (exchange (length ps)) (at plain (exchange (length ps) k)).definition
   turned_definition k =
       let l = ps ++ first_of f ∷ second_of e ∷ rs in
-      let a : (at turned k).definition ≡ renamed (exchange (length ps)) (at l k).definition = ap (λ (p : Place). p.definition) (at-map (exchange (length ps)) l k) in
+      let a : (at turned k).definition ≡ rename (exchange (length ps)) (at l k).definition = ap (λ (p : Place). p.definition) (at-map (exchange (length ps)) l k) in
       let b : (at l k).definition ≡ (at plain (exchange (length ps) k)).definition = elim (where_is (length ps) k) [
         | inl x ↦ ap (λ y. (at l y).definition) x.0 ∙ (ap (λ (p : Place). p.definition) (at-here ps (first_of f) ((second_of e) ∷ rs)) ∙ (sym (ap (λ (p : Place). p.definition) (at-next ps (first_of e) ((second_of f) ∷ rs))) ∙ ap (λ y. (at plain y).definition) (sym x.1)))
         | inr z ↦ (elim z [
@@ -51,9 +51,9 @@ module _ (u : ℕ → ℕ) (ps : List Place) (e f : Definition) (n : ℕ) (rs : 
           | inr o ↦ ap (λ (p : Place). p.definition) (at-other ps (first_of f) (second_of e) (first_of e) (second_of f) rs k o.not_first o.not_second) ∙ ap (λ y. (at plain y).definition) (sym o.stays)
         ])
       ] in
-      a ∙ ap (renamed (exchange (length ps))) b
+      a ∙ ap (rename (exchange (length ps))) b
 
-  turned_else : (A : Type 0) (g : Place → A) → ((x : Definition) (p : Place) → g (renamed_place (exchange (length ps)) p) ≡ g p) → ((x y : Definition) → g (first_of x) ≡ g (first_of y)) → ((x y : Definition) → g (second_of x) ≡ g (second_of y)) → (k : ℕ) → g (at turned k) ≡ g (at plain k)
+  turned_else : (A : Type 0) (g : Place → A) → ((x : Definition) (p : Place) → g (rename_place (exchange (length ps)) p) ≡ g p) → ((x y : Definition) → g (first_of x) ≡ g (first_of y)) → ((x y : Definition) → g (second_of x) ≡ g (second_of y)) → (k : ℕ) → g (at turned k) ≡ g (at plain k)
   turned_else A g h hf hs k =
       let l = ps ++ first_of f ∷ second_of e ∷ rs in
       let b : g (at l k) ≡ g (at plain k) = elim (where_is (length ps) k) [
@@ -66,9 +66,9 @@ module _ (u : ℕ → ℕ) (ps : List Place) (e f : Definition) (n : ℕ) (rs : 
       ap g (at-map (exchange (length ps)) l k) ∙ (h e (at l k) ∙ b)
 
   turned_length : length turned ≡ length plain
-  turned_length = length-map (ps ++ first_of f ∷ second_of e ∷ rs) (renamed_place (exchange (length ps))) ∙ (length-append ps (first_of f ∷ second_of e ∷ rs) ∙ sym (length-append ps (first_of e ∷ second_of f ∷ rs)))
+  turned_length = length-map (ps ++ first_of f ∷ second_of e ∷ rs) (rename_place (exchange (length ps))) ∙ (length-append ps (first_of f ∷ second_of e ∷ rs) ∙ sym (length-append ps (first_of e ∷ second_of f ∷ rs)))
 
-  exchanged_by_index : ((k : ℕ) → Names e k → k ≡ length ps) → ((k : ℕ) → Names f k → k ≡ suc (length ps)) → definition_cmp e f ≡ definition_cmp (renamed (exchange (length ps)) e) (renamed (exchange (length ps)) f) → IsSwapped (index_space_of_places plain) (index_space_of_places turned) (length ps)
+  exchanged_by_index : ((k : ℕ) → Names e k → k ≡ length ps) → ((k : ℕ) → Names f k → k ≡ suc (length ps)) → definition_cmp e f ≡ definition_cmp (rename (exchange (length ps)) e) (rename (exchange (length ps)) f) → IsSwapped (index_space_of_places plain) (index_space_of_places turned) (length ps)
   exchanged_by_index fo so cmp =
       let first = at-here ps (first_of e) ((second_of f) ∷ rs) in
       let second = at-next ps (first_of e) ((second_of f) ∷ rs) in
@@ -98,10 +98,10 @@ swapped_by_index s r i x =
     let ps_s : places_from 0 0 s ≡ plain (λ k. k) ps y.first y.second a.0 rest = ap (places_from 0 0) y.s_is ∙ a.2 in
     let ps_r : places_from 0 0 r ≡ turned (λ k. k) ps y.first y.second a.0 rest =
     ap (places_from 0 0) y.r_is ∙ (places-map (exchange i) 0 0 (y.before ++ Single y.second ∷ Single y.first ∷ y.after)
-    ∙ (ap (map (renamed_place (exchange i))) (a.3 (Single y.second ∷ Single y.first ∷ y.after))
-    ∙ ap (λ j. map (renamed_place (exchange j)) (ps ++ record { definition = y.second; end = suc a.0; rec_position = None } ∷ record { definition = y.first; end = suc (suc a.0); rec_position = None } ∷ rest)) (sym place))) in
+    ∙ (ap (map (rename_place (exchange i))) (a.3 (Single y.second ∷ Single y.first ∷ y.after))
+    ∙ ap (λ j. map (rename_place (exchange j)) (ps ++ record { definition = y.second; end = suc a.0; rec_position = None } ∷ record { definition = y.first; end = suc (suc a.0); rec_position = None } ∷ rest)) (sym place))) in
     let z = exchanged_by_index (λ k. k) ps y.first y.second a.0 rest (λ k h. x.first_own k h ∙ sym place) (λ k h. x.second_own k h ∙ ap suc (sym place))
-    (subst (λ (j : ℕ). definition_cmp y.first y.second ≡ definition_cmp (renamed (exchange j) y.first) (renamed (exchange j) y.second)) (sym place) x.order) in
+    (subst (λ (j : ℕ). definition_cmp y.first y.second ≡ definition_cmp (rename (exchange j) y.first) (rename (exchange j) y.second)) (sym place) x.order) in
     finish (places_from 0 0 s) (places_from 0 0 r) (plain (λ k. k) ps y.first y.second a.0 rest) (turned (λ k. k) ps y.first y.second a.0 rest) (length ps) i ps_s ps_r place z
 
 pub swap_is_move : (s r : Section) (i : ℕ) → IsRenumberedSwap s r i → SwapsNeighbours s r i
@@ -110,5 +110,5 @@ swap_is_move s r i x = record {
   first_own = λ k h. absurd (x.first_nameless k h);
   second_own = λ k h. absurd (x.second_nameless k h);
   order = (let e = x.exchanged.first in let f = x.exchanged.second in
-      ap (λ y. definition_cmp y f) (sym (nameless (exchange i) e x.first_nameless)) ∙ ap (definition_cmp (renamed (exchange i) e)) (sym (nameless (exchange i) f x.second_nameless)));
+      ap (λ y. definition_cmp y f) (sym (nameless (exchange i) e x.first_nameless)) ∙ ap (definition_cmp (rename (exchange i) e)) (sym (nameless (exchange i) f x.second_nameless)));
 }

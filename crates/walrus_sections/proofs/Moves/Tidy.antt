@@ -3,14 +3,14 @@ use Rattle.std.proofs.Common.{◌≡◌, ℕ, zero, suc, ◌<◌, ◌≤◌, Lis
 use Rattle.std.specs.Prelude.{Contains}
 use Rattle.std.specs.declared.cmp.Ordering.TheVariants.{Less, Greater}
 use Rattle.std.proofs.lemmas.Bool.{cases_lt, cases_eq}
-use Rattle.walrus_ty.specs.Definition.{Definition, Names, names_of, renamed, definition_cmp}
+use Rattle.walrus_ty.specs.Definition.{Definition, Names, names_of, rename, definition_cmp}
 use Rattle.walrus_sections.specs.Section.{IndexSpace, IsSingle, IsInRec}
 use Rattle.walrus_sections.specs.Moves.{exchange}
 use Rattle.walrus_sections.specs.NormalForm.{NamesAnother, IsNormal}
 use Rattle.walrus_sections.proofs.Moves.ByIndex.{IsSwapped}
 use Rattle.walrus_sections.proofs.Moves.Exchange.{where_is, IsOther, exchange_twice, exchange_within, exchange_one}
 use Rattle.walrus_sections.proofs.Sections.Lying.{in_or_out, names_at}
-use Rattle.walrus_ty.proofs.Names.Definitions.{Names-renamed, renamed_id, cmp_agree, cmp_or_less, cmp_same}
+use Rattle.walrus_ty.proofs.Names.Definitions.{Names-rename, rename_id, cmp_agree, cmp_or_less, cmp_same}
 use Rattle.walrus_ty.proofs.Spelling.Tokens.{nat_less}
 use Rattle.walrus_sections.proofs.Moves.Swapped.{single_too, exchanged_back}
 
@@ -35,7 +35,7 @@ pub normal_itself : (t : IndexSpace) → IsTidy t → RisesTo t t.count → IsNo
 normal_itself t tidy up = record {
   below = λ i h. h;
   onto = λ p h. (p, h, refl);
-  same = λ i h. sym (renamed_id (t.definition i));
+  same = λ i h. sym (rename_id (t.definition i));
   rec_to_rec = λ i x h e. e;
   rec_from_rec = λ p x h e. (p, h, e);
   single_to_single = λ i h o. o;
@@ -85,10 +85,10 @@ plain_if t i h = elim (fix_or_plain t i) [ inl x ↦ absurd (h x) | inr x ↦ x 
 pub order_stays :
     (o : ℕ) (e f : Definition) → ((k : ℕ) → Names e k → k ≡ o) → ((k : ℕ) → Names f k → k ≡ suc o) →
     definition_cmp e f ≡ Greater →
-    definition_cmp e f ≡ definition_cmp (renamed (exchange o) e) (renamed (exchange o) f)
+    definition_cmp e f ≡ definition_cmp (rename (exchange o) e) (rename (exchange o) f)
 order_stays o e f he hf g =
     let r = cmp_or_less (λ k. k) (exchange o) e f (λ k l p q. (let a = he k p in let b = hf l q in omega arith)) in
-    let ie = renamed_id e in let jf = renamed_id f in
+    let ie = rename_id e in let jf = rename_id f in
     elim r [
       | inl x ↦ sym (cmp_same ie jf) ∙ x
       | inr x ↦ absurd (let y : definition_cmp e f ≡ Less = sym (cmp_same ie jf) ∙ x in cc)
@@ -112,7 +112,7 @@ module _ (s r : IndexSpace) (o : ℕ) (sw : IsSwapped s r o) where
           | inl z ↦ inl (z.0, sw.rec_position a h ∙ z.1)
           | inr z ↦ inr (
             exchange o z.0,
-            subst (λ (e : Definition). Names e (exchange o z.0)) (sym (sw.definition a h ∙ ap (λ y. renamed (exchange o) (s.definition y)) p.stays)) (Names-renamed (exchange o) (s.definition a) z.0 z.1),
+            subst (λ (e : Definition). Names e (exchange o z.0)) (sym (sw.definition a h ∙ ap (λ y. rename (exchange o) (s.definition y)) p.stays)) (Names-rename (exchange o) (s.definition a) z.0 z.1),
             λ f. z.2 (exchange_one o z.0 a (f ∙ sym p.stays)),
           )
         ],
@@ -144,7 +144,7 @@ module _ (s r : IndexSpace) (o : ℕ) (sw : IsSwapped s r o) where
       let b = ap (exchange o) (pj.own l q) ∙ exchange_twice o j in
       let a' = pi.own k p in let b' = pj.own l q in
       nat_less (exchange o k) (exchange o l) (omega arith) ∙ sym (nat_less k l (omega arith)))) in
-      cmp_same (sw.definition i (omega arith)) (sw.definition j hj) ∙ (z ∙ cmp_same (renamed_id e) (renamed_id f))
+      cmp_same (sw.definition i (omega arith)) (sw.definition j hj) ∙ (z ∙ cmp_same (rename_id e) (rename_id f))
 
   -- what rises in s rises in r, but for the two
   pub rise_goes : (i j : ℕ) → i < j → j < s.count → exchange o i < exchange o j → Rises s (exchange o i) (exchange o j) → Rises r i j
@@ -158,8 +158,8 @@ module _ (s r : IndexSpace) (o : ℕ) (sw : IsSwapped s r o) where
       let wi = exchange_within o i s.count sw.inside hi' in
       let wj = exchange_within o j s.count sw.inside hj' in
       let si = single_too s r o sw i hi' oi in let sj = single_too s r o sw j hj' oj in
-      let q : renamed (exchange o) (s.definition (exchange o i)) ≡ renamed (exchange o) (s.definition (exchange o j)) = sym (sw.definition i hi') ∙ (e ∙ sw.definition j hj') in
-      let p : s.definition (exchange o i) ≡ s.definition (exchange o j) = sym (exchanged_back o (s.definition (exchange o i))) ∙ (ap (renamed (exchange o)) q ∙ exchanged_back o (s.definition (exchange o j))) in
+      let q : rename (exchange o) (s.definition (exchange o i)) ≡ rename (exchange o) (s.definition (exchange o j)) = sym (sw.definition i hi') ∙ (e ∙ sw.definition j hj') in
+      let p : s.definition (exchange o i) ≡ s.definition (exchange o j) = sym (exchanged_back o (s.definition (exchange o i))) ∙ (ap (rename (exchange o)) q ∙ exchanged_back o (s.definition (exchange o j))) in
       elim (cases_lt (exchange o i) (exchange o j)) [
         | inl x ↦ tidy (exchange o i) (exchange o j) x wj si sj p
         | inr x ↦ (elim (cases_eq (exchange o i) (exchange o j)) [

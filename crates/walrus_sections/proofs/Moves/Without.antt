@@ -2,14 +2,14 @@
 use Rattle.std.proofs.Common.{◌≡◌, ℕ, suc, ◌<◌, ◌≤◌, ap, sym, ◌∙◌, inl, inr, arith, Some, ◌↔◌, subst}
 use Rattle.std.specs.declared.cmp.Ordering.TheVariants.{Less}
 use Rattle.std.proofs.lemmas.Bool.{cases_eq}
-use Rattle.walrus_ty.specs.Definition.{Names, renamed, definition_cmp}
+use Rattle.walrus_ty.specs.Definition.{Names, rename, definition_cmp}
 use Rattle.walrus_sections.specs.Section.{IndexSpace, NamesBelowEnds, IsSingle}
 use Rattle.walrus_sections.specs.Moves.{skip}
 use Rattle.walrus_sections.specs.NormalForm.{IsKept, IsAnchor, AreFree, IsNormal}
 use Rattle.walrus_sections.proofs.Moves.ByIndex.{unskip, IsWithout}
 use Rattle.walrus_sections.proofs.Moves.Skip.{gone, below, above, side, lower, higher, was, skip_gone, skip_below, skip_unskip, unskip_skip, unskip_rises, unskip_not, skip_rises}
 use Rattle.walrus_sections.proofs.Sections.Lying.{IsLaidOut, in_or_out, ends_before_single, names_at}
-use Rattle.walrus_ty.proofs.Names.Definitions.{Names-renamed, named_before, renamed_id, renamed_twice, cmp_agree, cmp_same}
+use Rattle.walrus_ty.proofs.Names.Definitions.{Names-rename, named_before, rename_id, rename_twice, cmp_agree, cmp_same}
 use Rattle.walrus_ty.proofs.Spelling.Tokens.{nat_less}
 use Rattle.walrus_sections.proofs.NormalForms.Kept.{own_name}
 
@@ -27,21 +27,21 @@ module _ (s r n : IndexSpace) (w : ℕ → ℕ) (i j : ℕ) (l : IsLaidOut s) (w
   high : (k : ℕ) → k < r.count → unskip i k < s.count
   high k h = let a = x.count in elim (was i k) [ lower g e ↦ omega arith | higher g e ↦ omega arith ]
 
-  definition_of : (k : ℕ) → k < s.count → ¬ (k ≡ i) → r.definition (skip i j k) ≡ renamed (skip i j) (s.definition k)
-  definition_of k h ne = x.definition (skip i j k) (low k h) ∙ ap (λ y. renamed (skip i j) (s.definition y)) (unskip_skip i j k ne)
+  definition_of : (k : ℕ) → k < s.count → ¬ (k ≡ i) → r.definition (skip i j k) ≡ rename (skip i j) (s.definition k)
+  definition_of k h ne = x.definition (skip i j k) (low k h) ∙ ap (λ y. rename (skip i j) (s.definition y)) (unskip_skip i j k ne)
 
   rec_position_of : (k : ℕ) → k < s.count → ¬ (k ≡ i) → r.rec_position (skip i j k) ≡ s.rec_position k
   rec_position_of k h ne = x.rec_position (skip i j k) (low k h) ∙ ap s.rec_position (unskip_skip i j k ne)
 
-  same_of : (k : ℕ) → k < s.count → ¬ (k ≡ i) → n.definition (m k) ≡ renamed m (s.definition k)
-  same_of k h ne = c.same (skip i j k) (low k h) ∙ (ap (renamed w) (definition_of k h ne) ∙ renamed_twice w (skip i j) (s.definition k))
+  same_of : (k : ℕ) → k < s.count → ¬ (k ≡ i) → n.definition (m k) ≡ rename m (s.definition k)
+  same_of k h ne = c.same (skip i j k) (low k h) ∙ (ap (rename w) (definition_of k h ne) ∙ rename_twice w (skip i j) (s.definition k))
 
-  same_without : (k : ℕ) → k < s.count → n.definition (m k) ≡ renamed m (s.definition k)
+  same_without : (k : ℕ) → k < s.count → n.definition (m k) ≡ rename m (s.definition k)
   same_without k h = elim (cases_eq k i) [
     | inr ne ↦ same_of k h ne
     | inl e ↦ (let ji = x.earlier in
         ap (λ y. n.definition (w y)) (ap (skip i j) e ∙ (skip_gone i j ∙ sym (skip_below i j j ji)))
-        ∙ (same_of j (omega arith) (λ q. omega arith) ∙ ap (renamed m) (sym x.equal ∙ ap s.definition (sym e))))
+        ∙ (same_of j (omega arith) (λ q. omega arith) ∙ ap (rename m) (sym x.equal ∙ ap s.definition (sym e))))
   ]
 
   rec_other : (k : ℕ) (v : ℕ × ℕ) → s.rec_position k ≡ Some v → ¬ (k ≡ i)
@@ -70,7 +70,7 @@ module _ (s r n : IndexSpace) (w : ℕ → ℕ) (i j : ℕ) (l : IsLaidOut s) (w
         let z = wn k h a.1.0 a.1.1 in let e = l.single_end k h o in
         let lt : a.1.0 < k = elim (cases_eq a.1.0 k) [ inl q ↦ absurd (a.1.2 q) | inr q ↦ omega arith ] in
         let up = skip_rises i j a.1.0 k x.earlier ne lt in
-        let nm : Names (r.definition (skip i j k)) (skip i j a.1.0) = rw (definition_of k h ne) (Names-renamed (skip i j) (s.definition k) a.1.0 a.1.1) in
+        let nm : Names (r.definition (skip i j k)) (skip i j a.1.0) = rw (definition_of k h ne) (Names-rename (skip i j) (s.definition k) a.1.0 a.1.1) in
         inr (kept_down k a.0, (skip i j a.1.0, nm, λ q. omega arith)))
   ]
 
@@ -102,7 +102,7 @@ module _ (s r n : IndexSpace) (w : ℕ → ℕ) (i j : ℕ) (l : IsLaidOut s) (w
       let a' = ap (skip i j) a in let b' = ap (skip i j) b in
       nat_less (skip i j y) (skip i j y') (omega arith) ∙ sym (nat_less y y' (omega arith)))) in
       let t : definition_cmp (r.definition (skip i j k)) (r.definition (skip i j q)) ≡ definition_cmp e e' =
-      cmp_same (definition_of k (omega arith) nk) (definition_of q h nq) ∙ (z ∙ cmp_same (renamed_id e) (renamed_id e')) in
+      cmp_same (definition_of k (omega arith) nk) (definition_of q h nq) ∙ (z ∙ cmp_same (rename_id e) (rename_id e')) in
       ((λ y. sym t ∙ f.0 y), (λ y. f.1 (t ∙ y)))
 
   selfs_without : (k : ℕ) → k < s.count → IsSingle s k → Names (s.definition k) k → IsKept m k
@@ -111,7 +111,7 @@ module _ (s r n : IndexSpace) (w : ℕ → ℕ) (i j : ℕ) (l : IsLaidOut s) (w
       let a : Names (s.definition j) k = rw (sym x.equal ∙ ap s.definition (sym q)) nk in
       let ji = x.earlier in
       let b = wn j (omega arith) k a in let e = l.single_end j (omega arith) x.earlier_single in omega arith) in
-      let nm : Names (r.definition (skip i j k)) (skip i j k) = rw (definition_of k h ne) (Names-renamed (skip i j) (s.definition k) k nk) in
+      let nm : Names (r.definition (skip i j k)) (skip i j k) = rw (definition_of k h ne) (Names-rename (skip i j) (s.definition k) k nk) in
       kept_up k ne (c.selfs_kept (skip i j k) (low k h) (rec_position_of k h ne ∙ o) nm)
 
   single_without : (k : ℕ) → k < s.count → IsSingle s k → IsSingle n (m k)

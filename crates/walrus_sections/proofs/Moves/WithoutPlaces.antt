@@ -2,14 +2,14 @@
 use Rattle.std.proofs.Common.{◌≡◌, ℕ, zero, suc, ◌+◌, ◌<◌, ◌≤◌, refl, ap, sym, ◌∙◌, inl, inr, arith, None, List, [], ◌∷◌, ◌++◌, map, length, length-append}
 use Rattle.std.proofs.lemmas.List.{length-map}
 use Rattle.std.proofs.lemmas.Bool.{cases_lt}
-use Rattle.walrus_ty.specs.Definition.{renamed}
+use Rattle.walrus_ty.specs.Definition.{rename}
 use Rattle.walrus_sections.specs.Section.{Place, places_from, index_space, index_space_of_places}
 use Rattle.walrus_ty.specs.Groups.{Single, Rec, Section}
 use Rattle.walrus_sections.specs.Moves.{skip, DropsEmptyRec, DropsRepeat}
 use Rattle.walrus_sections.proofs.Moves.ByIndex.{IsWithout}
 use Rattle.walrus_sections.proofs.Moves.Skip.{unskip_below, unskip_above}
 use Rattle.walrus_sections.proofs.Sections.Rows.{at}
-use Rattle.walrus_sections.proofs.Sections.Places.{renamed_place, places-map, places-append, at-map, shift, places-shift, at-here}
+use Rattle.walrus_sections.proofs.Sections.Places.{rename_place, places-map, places-append, at-map, shift, places-shift, at-here}
 
 -- an empty `Rec` changes nothing
 pub drop_empty_rec-places :
@@ -43,7 +43,7 @@ module _ (ps : List Place) (p : Place) (qs : List Place) (j : ℕ) where
   full = ps ++ p ∷ map shift qs
 
   abbrev less : List Place
-  less = map (renamed_place (skip (length ps) j)) (ps ++ qs)
+  less = map (rename_place (skip (length ps) j)) (ps ++ qs)
 
   without : j < length ps → p.rec_position ≡ None → (at full j).rec_position ≡ None → (at full j).definition ≡ p.definition → IsWithout (index_space_of_places full) (index_space_of_places less) (length ps) j
   without ji o oj eq =
@@ -51,7 +51,7 @@ module _ (ps : List Place) (p : Place) (qs : List Place) (j : ℕ) where
       let len = length-append ps (p ∷ map shift qs) in
       let len' = length-append ps qs in
       let lm = length-map qs shift in
-      let ll = length-map (ps ++ qs) (renamed_place u) in
+      let ll = length-map (ps ++ qs) (rename_place u) in
       let here = at-here ps p (map shift qs) in
       record {
         count = omega arith;
@@ -60,7 +60,7 @@ module _ (ps : List Place) (p : Place) (qs : List Place) (j : ℕ) where
         single = ap (λ (x : Place). x.rec_position) here ∙ o;
         earlier_single = oj;
         equal = ap (λ (x : Place). x.definition) here ∙ sym eq;
-        definition = λ k h. ap (λ (x : Place). x.definition) (at-map u (ps ++ qs) k) ∙ ap (renamed u) (elim (cases_lt k (length ps)) [
+        definition = λ k h. ap (λ (x : Place). x.definition) (at-map u (ps ++ qs) k) ∙ ap (rename u) (elim (cases_lt k (length ps)) [
           | inl g ↦ ap (λ (x : Place). x.definition) (at-before ps p qs (map shift qs) k g) ∙ ap (λ y. (at full y).definition) (sym (unskip_below (length ps) k g))
           | inr g ↦ sym (ap (λ (x : Place). x.definition) (at-after ps p qs k g (omega arith))) ∙ ap (λ y. (at full y).definition) (sym (unskip_above (length ps) k g))
         ]);
@@ -88,7 +88,7 @@ without_by_index s r i j x =
     let place : length ps ≡ i = x.place in
     let ji = x.earlier in
     let es : places_from 0 0 s ≡ ps ++ p ∷ map shift qs = ap (places_from 0 0) x.s_is ∙ (a.2 ∙ ap (λ y. ps ++ p ∷ y) (places-shift a.0 a.1 x.after)) in
-    let er : places_from 0 0 r ≡ map (renamed_place (skip (length ps) j)) (ps ++ qs) =
-    ap (places_from 0 0) x.r_is ∙ (places-map (skip i j) 0 0 (x.before ++ x.after) ∙ (ap (map (renamed_place (skip i j))) (a.3 x.after) ∙ ap (λ y. map (renamed_place (skip y j)) (ps ++ qs)) (sym place))) in
+    let er : places_from 0 0 r ≡ map (rename_place (skip (length ps) j)) (ps ++ qs) =
+    ap (places_from 0 0) x.r_is ∙ (places-map (skip i j) 0 0 (x.before ++ x.after) ∙ (ap (map (rename_place (skip i j))) (a.3 x.after) ∙ ap (λ y. map (rename_place (skip y j)) (ps ++ qs)) (sym place))) in
     let w = without ps p qs j (omega arith) refl (ap (λ y. (at y j).rec_position) (sym es) ∙ x.earlier_single) (ap (λ y. (at y j).definition) (sym es) ∙ x.equal) in
-    finish (places_from 0 0 s) (places_from 0 0 r) (ps ++ p ∷ map shift qs) (map (renamed_place (skip (length ps) j)) (ps ++ qs)) (length ps) i j es er place w
+    finish (places_from 0 0 s) (places_from 0 0 r) (ps ++ p ∷ map shift qs) (map (rename_place (skip (length ps) j)) (ps ++ qs)) (length ps) i j es er place w

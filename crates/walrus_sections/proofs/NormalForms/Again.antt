@@ -3,12 +3,12 @@ use Rattle.std.proofs.Common.{◌≡◌, ℕ, ◌<◌, refl, ap, sym, ◌∙◌,
 use Rattle.std.specs.declared.cmp.Ordering.{Ordering}
 use Rattle.std.specs.declared.cmp.Ordering.TheVariants.{Less, Equal, Greater}
 use Rattle.std.proofs.lemmas.Bool.{cases_lt, cases_eq}
-use Rattle.walrus_ty.specs.Definition.{Definition, Names, renamed, definition_cmp}
+use Rattle.walrus_ty.specs.Definition.{Definition, Names, rename, definition_cmp}
 use Rattle.walrus_sections.specs.Section.{IndexSpace, NamesBelowEnds, IsSingle}
 use Rattle.walrus_sections.specs.NormalForm.{IsKept, IsAnchor, AreFree, IsNormal}
 use Rattle.walrus_sections.proofs.Sections.Lying.{IsLaidOut, in_or_out}
 use Rattle.walrus_sections.proofs.NormalForms.Kept.{kept_one, anchor_kept, own_name}
-use Rattle.walrus_ty.proofs.Names.Definitions.{Names-renamed, named_before, renamed_id, cmp_or_less, cmp_same, definitions_total, definition_exact}
+use Rattle.walrus_ty.proofs.Names.Definitions.{Names-rename, named_before, rename_id, cmp_or_less, cmp_same, definitions_total, definition_exact}
 
 -- one `Rec` has one end
 same_rec_end :
@@ -46,7 +46,7 @@ pub kept_differ :
     IsKept m j → IsSingle s i → IsSingle s j → ¬ (s.definition i ≡ s.definition j)
 kept_differ s n m c i j g h ki kj oi oj e =
     let a = c.single_to_single i (omega arith) oi in let b = c.single_to_single j h oj in
-    let x : n.definition (m i) ≡ n.definition (m j) = c.same i (omega arith) ∙ (ap (renamed m) e ∙ sym (c.same j h)) in
+    let x : n.definition (m i) ≡ n.definition (m j) = c.same i (omega arith) ∙ (ap (rename m) e ∙ sym (c.same j h)) in
     elim (cases_lt (m i) (m j)) [
       | inl lt ↦ c.singles_differ (m i) (m j) lt (c.below j h) a b x
       | inr ge ↦ (elim (cases_eq (m i) (m j)) [
@@ -75,7 +75,7 @@ module _ (s n : IndexSpace) (m : ℕ → ℕ) (l : IsLaidOut s) (ln : IsLaidOut 
       let i = r.0 in
       let hi : i < s.count = omega arith in
       let e : m i ≡ p = r.3 ∙ o.2 in
-      let en : n.definition p ≡ renamed m (s.definition i) = ap n.definition (sym e) ∙ c.same i hi in
+      let en : n.definition p ≡ rename m (s.definition i) = ap n.definition (sym e) ∙ c.same i hi in
       let nb = named_before m (s.definition i) k (rw en at nk) in
       let j = nb.0 in
       let nb2 : m j ≡ k = nb.2 in
@@ -109,7 +109,7 @@ module _ (s n : IndexSpace) (m : ℕ → ℕ) (l : IsLaidOut s) (ln : IsLaidOut 
     | inl o ↦ (let k = r.1.0 in let nk = r.1.1 in let ne = r.1.2 in
         let z = wn i h k nk in let e = l.single_end i h o in
         let lt : k < i = elim (cases_eq k i) [ inl f ↦ absurd (ne f) | inr f ↦ omega arith ] in
-        let q : Names (n.definition (m i)) (m k) = rw (c.same i h) (Names-renamed m (s.definition i) k nk) in
+        let q : Names (n.definition (m i)) (m k) = rw (c.same i h) (Names-rename m (s.definition i) k nk) in
         inr ((λ j g f. omega arith), (m k, q, r.0 k lt)))
   ]
 
@@ -122,7 +122,7 @@ module _ (s n : IndexSpace) (m : ℕ → ℕ) (l : IsLaidOut s) (ln : IsLaidOut 
       (let e = own_name s m i k ki ai p in let f = own_name s m j k' kj aj q in
       let e' = ap m e in let f' = ap m f in omega arith)) in
       cmp_same (c.same i hi) (c.same j hj) ∙ (elim r [
-        | inl e ↦ e ∙ (cmp_same (renamed_id (s.definition i)) (renamed_id (s.definition j)) ∙ le)
+        | inl e ↦ e ∙ (cmp_same (rename_id (s.definition i)) (rename_id (s.definition j)) ∙ le)
         | inr e ↦ e
       ])
 
@@ -175,7 +175,7 @@ module _ (s n : IndexSpace) (m : ℕ → ℕ) (l : IsLaidOut s) (ln : IsLaidOut 
   normal_again = record {
     below = λ i h. h;
     onto = λ p h. (p, h, refl);
-    same = λ i h. sym (renamed_id (n.definition i));
+    same = λ i h. sym (rename_id (n.definition i));
     rec_to_rec = λ i x h e. e;
     rec_from_rec = λ p x h e. (p, h, e);
     single_to_single = λ i h o. o;

@@ -1,7 +1,7 @@
 -- Two normal forms of one section merge the same indices.
 use Rattle.std.proofs.Common.{◌≡◌, ℕ, zero, suc, ◌<◌, ◌≤◌, ap, sym, ◌∙◌, inl, inr, arith}
 use Rattle.std.proofs.lemmas.Bool.{cases_lt, cases_eq}
-use Rattle.walrus_ty.specs.Definition.{renamed}
+use Rattle.walrus_ty.specs.Definition.{rename}
 use Rattle.walrus_sections.specs.Section.{IndexSpace, NamesBelowEnds}
 use Rattle.walrus_sections.specs.NormalForm.{IsKept, IsAnchor, IsNormal}
 use Rattle.walrus_sections.proofs.Sections.Lying.{IsLaidOut, in_or_out, ends_before_single}
@@ -30,7 +30,7 @@ module _ (s n n' : IndexSpace) (m w : ℕ → ℕ) (l : IsLaidOut s) (wn : Names
         let oj = single_only s n m l c b j hb (omega arith) o e in
         let eb = ends_before_single s l b j g hb o in
         let end = l.single_end b hb o in
-        let same : renamed m (s.definition j) ≡ renamed m (s.definition b) = sym (c.same j (omega arith)) ∙ (ap n.definition e ∙ c.same b hb) in
+        let same : rename m (s.definition j) ≡ rename m (s.definition b) = sym (c.same j (omega arith)) ∙ (ap n.definition e ∙ c.same b hb) in
         let t = transfer m w (s.definition j) (s.definition b) (λ k k' p q u. ih k k'
         (let z = wn j (omega arith) k p in omega arith)
         (elim (cases_eq k' b) [

@@ -7,7 +7,7 @@ use Rattle.walrus_sections.specs.NormalForm.{IsKept, AreFree, IsNormal}
 use Rattle.walrus_sections.proofs.Sections.Lying.{IsLaidOut, in_or_out}
 use Rattle.walrus_sections.proofs.NormalForms.Kept.{kept_one, free_if_not}
 use Rattle.walrus_sections.proofs.NormalForms.Agree.{Agree, kept_agree, anchor_agree}
-use Rattle.walrus_ty.proofs.Names.Definitions.{renamed_agree}
+use Rattle.walrus_ty.proofs.Names.Definitions.{rename_agree}
 
 module _ (s n n' : IndexSpace) (m w : ℕ → ℕ) (c : IsNormal s n m) (d : IsNormal s n' w) (l : IsLaidOut s) (ag : Agree s m w) (ga : Agree s w m) where
   -- kept indices stand in the same order
@@ -72,7 +72,7 @@ module _ (s n n' : IndexSpace) (m w : ℕ → ℕ) (l : IsLaidOut s) (wn : Names
       let i = o.0 in
       let x = c.same i o.1 in
       let y = d.same i o.1 in
-      let z = renamed_agree m w (s.definition i) (λ k g. eq k (let a = wn i o.1 k g in let b = l.fits i o.1 in omega arith)) in
+      let z = rename_agree m w (s.definition i) (λ k g. eq k (let a = wn i o.1 k g in let b = l.fits i o.1 in omega arith)) in
       ap n.definition (sym o.2) ∙ (x ∙ (z ∙ (sym y ∙ ap n'.definition (sym (eq i o.1) ∙ o.2))))
 
 module _ (s n n' : IndexSpace) (m w : ℕ → ℕ) (c : IsNormal s n m) (d : IsNormal s n' w) (eq : (i : ℕ) → i < s.count → m i ≡ w i) where

@@ -2,35 +2,35 @@
 -- begins an index later.
 use Rattle.std.proofs.Common.{◌≡◌, ℕ, zero, suc, ◌+◌, refl, ap, ◌∙◌, arith, Some, None, List, [], ◌∷◌, ◌++◌, map, length}
 use Rattle.std.proofs.lemmas.List.{length-map}
-use Rattle.walrus_ty.specs.Definition.{Definition, renamed}
+use Rattle.walrus_ty.specs.Definition.{Definition, rename}
 use Rattle.walrus_sections.specs.Section.{Place, rec_places, recs_after, places_from}
 use Rattle.walrus_ty.specs.Groups.{Single, Rec, Section}
-use Rattle.walrus_sections.specs.Moves.{renamed_group}
+use Rattle.walrus_sections.specs.Moves.{rename_group}
 use Rattle.walrus_sections.proofs.Sections.Rows.{at}
 
-abbrev pub renamed_place : (ℕ → ℕ) → Place → Place
-renamed_place u p = record { definition = renamed u p.definition; end = p.end; rec_position = p.rec_position }
+abbrev pub rename_place : (ℕ → ℕ) → Place → Place
+rename_place u p = record { definition = rename u p.definition; end = p.end; rec_position = p.rec_position }
 
 rec_places-map :
     (u : ℕ → ℕ) (es : List Definition) (end k t : ℕ) (rest : List Place) →
-    rec_places (map (renamed u) es) end k t (map (renamed_place u) rest) ≡
-    map (renamed_place u) (rec_places es end k t rest)
+    rec_places (map (rename u) es) end k t (map (rename_place u) rest) ≡
+    map (rename_place u) (rec_places es end k t rest)
 rec_places-map u [] end k t rest = refl
-rec_places-map u (e ∷ es) end k t rest = ap (λ ps. record { definition = renamed u e; end = end; rec_position = Some (k, t) } ∷ ps) (rec_places-map u es end k (suc t) rest)
+rec_places-map u (e ∷ es) end k t rest = ap (λ ps. record { definition = rename u e; end = end; rec_position = Some (k, t) } ∷ ps) (rec_places-map u es end k (suc t) rest)
 
 recs_after-map :
-    (u : ℕ → ℕ) (es : List Definition) (k : ℕ) → recs_after (map (renamed u) es) k ≡ recs_after es k
+    (u : ℕ → ℕ) (es : List Definition) (k : ℕ) → recs_after (map (rename u) es) k ≡ recs_after es k
 recs_after-map u [] k = refl
 recs_after-map u (e ∷ es) k = refl
 
 pub places-map :
     (u : ℕ → ℕ) (b k : ℕ) (gs : Section) →
-    places_from b k (map (renamed_group u) gs) ≡ map (renamed_place u) (places_from b k gs)
+    places_from b k (map (rename_group u) gs) ≡ map (rename_place u) (places_from b k gs)
 places-map u b k [] = refl
-places-map u b k (Single e ∷ gs) = ap (λ ps. record { definition = renamed u e; end = suc b; rec_position = None } ∷ ps) (places-map u (suc b) k gs)
+places-map u b k (Single e ∷ gs) = ap (λ ps. record { definition = rename u e; end = suc b; rec_position = None } ∷ ps) (places-map u (suc b) k gs)
 places-map u b k (Rec es ∷ gs) =
     let q = places-map u (length es + b) (recs_after es k) gs in
-    rw (length-map es (renamed u), recs_after-map u es k) (ap (rec_places (map (renamed u) es) (length es + b) k 0) q ∙ rec_places-map u es (length es + b) k 0 (places_from (length es + b) (recs_after es k) gs))
+    rw (length-map es (rename u), recs_after-map u es k) (ap (rec_places (map (rename u) es) (length es + b) k 0) q ∙ rec_places-map u es (length es + b) k 0 (places_from (length es + b) (recs_after es k) gs))
 
 pub rec_places-append :
     (es : List Definition) (end k t : ℕ) (ps qs : List Place) →
@@ -55,7 +55,7 @@ places-append b k (Rec es ∷ gs) hs =
 
 pub at-map :
     (u : ℕ → ℕ) (ps : List Place) (k : ℕ) →
-    at (map (renamed_place u) ps) k ≡ renamed_place u (at ps k)
+    at (map (rename_place u) ps) k ≡ rename_place u (at ps k)
 at-map u [] k = refl
 at-map u (p ∷ ps) zero = refl
 at-map u (p ∷ ps) (suc k) = at-map u ps k

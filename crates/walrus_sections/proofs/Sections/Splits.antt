@@ -3,7 +3,7 @@ use Rattle.std.proofs.Common.{◌≡◌, ℕ, zero, suc, ◌+◌, ◌<◌, refl,
 use Rattle.walrus_ty.specs.Definition.{Definition}
 use Rattle.walrus_sections.specs.Section.{Place, recs_after, places_from, index_space, IsFilled}
 use Rattle.walrus_ty.specs.Groups.{Single, Rec, Section}
-use Rattle.walrus_sections.specs.Moves.{renamed_group}
+use Rattle.walrus_sections.specs.Moves.{rename_group}
 use Rattle.walrus_sections.proofs.Sections.Rows.{at, length-rec_places}
 use Rattle.walrus_sections.proofs.Sections.Places.{places-append, at-here, at-next}
 use Rattle.walrus_sections.proofs.Sections.Numbering.{rec_at_number}
@@ -72,7 +72,7 @@ filled-append (Single e ∷ gs) hs f g = filled-append gs hs f g
 filled-append (Rec [] ∷ gs) hs f g = f
 filled-append (Rec (e ∷ es) ∷ gs) hs f g = filled-append gs hs f g
 
-pub filled-map : (u : ℕ → ℕ) (gs : Section) → IsFilled gs → IsFilled (map (renamed_group u) gs)
+pub filled-map : (u : ℕ → ℕ) (gs : Section) → IsFilled gs → IsFilled (map (rename_group u) gs)
 filled-map u [] f = tt
 filled-map u (Single e ∷ gs) f = filled-map u gs f
 filled-map u (Rec [] ∷ gs) f = f

@@ -1,7 +1,7 @@
 -- The worked sections have the normal forms that they should.
 use Rattle.std.proofs.Common.{◌≡◌, ℕ, zero, suc, ◌<◌, [], ◌∷◌, length, slice_index_or, refl, ap, sym, inl, inr, ◌⊎◌, arith, Some, ◌↔◌}
 use Rattle.std.specs.declared.cmp.Ordering.TheVariants.{Less}
-use Rattle.walrus_ty.specs.Definition.{Definition, Names, names_of, renamed, definition_cmp}
+use Rattle.walrus_ty.specs.Definition.{Definition, Names, names_of, rename, definition_cmp}
 use Rattle.walrus_sections.specs.Moves.{IsRenumberedSwap}
 use Rattle.walrus_sections.specs.Section.{IndexSpace, index_space, IsSingle}
 use Rattle.walrus_sections.specs.NormalForm.{IsKept, IsAnchor, AreFree, IsNormalForm, image}
@@ -63,7 +63,7 @@ turned =
       laws = record {
         below = two (λ i. m i < 2) (omega arith) (omega arith);
         onto = two (λ p. (i : ℕ) × (i < 2) × (m i ≡ p)) (1, omega arith, refl) (0, omega arith, refl);
-        same = two (λ i. n.definition (m i) ≡ renamed m (s.definition i)) refl refl;
+        same = two (λ i. n.definition (m i) ≡ rename m (s.definition i)) refl refl;
         rec_to_rec = λ i x h. two (λ i. s.rec_position i ≡ Some x → n.rec_position (m i) ≡ Some x) (λ e. absurd cc) (λ e. absurd cc) i h;
         rec_from_rec = λ p x h. two (λ p. n.rec_position p ≡ Some x → (i : ℕ) × (i < 2) × (s.rec_position i ≡ Some x)) (λ e. absurd cc) (λ e. absurd cc) p h;
         single_to_single = two (λ i. IsSingle s i → IsSingle n (m i)) (λ o. refl) (λ o. refl);
@@ -87,7 +87,7 @@ merged =
       laws = record {
         below = three (λ i. m i < 2) (omega arith) (omega arith) (omega arith);
         onto = two (λ p. (i : ℕ) × (i < 3) × (m i ≡ p)) (0, omega arith, refl) (1, omega arith, refl);
-        same = three (λ i. n.definition (m i) ≡ renamed m (s.definition i)) refl refl refl;
+        same = three (λ i. n.definition (m i) ≡ rename m (s.definition i)) refl refl refl;
         rec_to_rec = λ i x h. three (λ i. s.rec_position i ≡ Some x → n.rec_position (m i) ≡ Some x) (λ e. absurd cc) (λ e. e) (λ e. absurd cc) i h;
         rec_from_rec = λ p x h. two (λ p. n.rec_position p ≡ Some x → (i : ℕ) × (i < 3) × (s.rec_position i ≡ Some x)) (λ e. absurd cc) (λ e. (1, omega arith, e)) p h;
         single_to_single = three (λ i. IsSingle s i → IsSingle n (m i)) (λ o. refl) (λ o. absurd cc) (λ o. refl);
@@ -118,7 +118,7 @@ both_kept =
       laws = record {
         below = two (λ i. m i < 2) (omega arith) (omega arith);
         onto = two (λ p. (i : ℕ) × (i < 2) × (m i ≡ p)) (0, omega arith, refl) (1, omega arith, refl);
-        same = two (λ i. s.definition (m i) ≡ renamed m (s.definition i)) refl refl;
+        same = two (λ i. s.definition (m i) ≡ rename m (s.definition i)) refl refl;
         rec_to_rec = λ i x h. two (λ i. s.rec_position i ≡ Some x → s.rec_position (m i) ≡ Some x) (λ e. absurd cc) (λ e. absurd cc) i h;
         rec_from_rec = λ p x h e. (p, h, e);
         single_to_single = two (λ i. IsSingle s i → IsSingle s (m i)) (λ o. refl) (λ o. refl);

@@ -1,13 +1,13 @@
 //! Whether a map keeps definitions, and definitions beside each other.
 ghost use Rattle.std.specs.Prelude.{◌≡◌, ℕ, ◌<◌, IsTrue, IfOk, ◌↔◌, length};
-ghost use Rattle.walrus_ty.specs.Definition.{definition_cmp, renamed};
+ghost use Rattle.walrus_ty.specs.Definition.{definition_cmp, rename};
 ghost use Rattle.walrus_ty.specs.Records.{entry_definition};
 ghost use Rattle.walrus_sections.specs.NormalForm.{image};
 ghost use Rattle.walrus_sections.specs.Section.{index_space_of_places};
 
 use super::anchors::image_of;
 use super::places::Place;
-use super::renaming::renamed_entry;
+use super::renaming::rename_entry;
 use std::alloc::{AllocError, Global};
 use std::cmp::Ordering;
 use walrus_ty::EntryAt;
@@ -23,7 +23,7 @@ pub(super) fn carries_definitions(
     requires { (i : ℕ) → i < length section.now → image map.now i < length output.now }
     ensures { IfOk result (λ b. IsTrue b ↔
         ((i : ℕ) → i < length section.now →
-        (index_space_of_places output.now).definition (image map.now i) ≡ renamed (image map.now)
+        (index_space_of_places output.now).definition (image map.now i) ≡ rename (image map.now)
         ((index_space_of_places section.now).definition i))) }
 {
     for index in 0..section.len() {
@@ -45,12 +45,12 @@ fn carries_definition(
     requires below { image map.now index < length output.now }
     ensures { IfOk result (λ b. IsTrue b ↔
         ((index_space_of_places output.now).definition (image map.now index) ≡
-        renamed (image map.now)
+        rename (image map.now)
         ((index_space_of_places section.now).definition index))) }
 {
-    let renamed = renamed_entry(alloc, section[index].entry(), map)?;
+    let rename = rename_entry(alloc, section[index].entry(), map)?;
     let carried = &output[image_of(map, index)];
-    Ok(are_same(carried.entry(), &renamed))
+    Ok(are_same(carried.entry(), &rename))
 }
 
 /// Whether two entries have the same definition.

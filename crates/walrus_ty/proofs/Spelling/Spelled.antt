@@ -15,8 +15,8 @@ use Rattle.walrus_ty.specs.declared.ty.value.Val.TheVariants as val
 use Rattle.walrus_ty.specs.declared.ty.value.Storage.{Storage}
 use Rattle.walrus_ty.specs.declared.ty.value.Storage.TheVariants as storage
 use Rattle.walrus_ty.specs.declared.ty.value.Field.{Field}
-use Rattle.walrus_ty.specs.Value.{heap_names, val_names, storage_names, field_names, heap_renamed, val_renamed, storage_renamed, field_renamed, bool_index, abstract_index, val_index, heap_cmp, reference_cmp, val_cmp, storage_cmp, field_cmp, bool_cmp}
-use Rattle.walrus_ty.specs.Definition.{Composite, Function, Struct, Array, Definition, Names, names_of, composite_names, supertype_names, composite_renamed, renamed, composite_cmp, supertype_cmp, definition_cmp}
+use Rattle.walrus_ty.specs.Value.{heap_names, val_names, storage_names, field_names, rename_heap, rename_val, rename_storage, rename_field, bool_index, abstract_index, val_index, heap_cmp, reference_cmp, val_cmp, storage_cmp, field_cmp, bool_cmp}
+use Rattle.walrus_ty.specs.Definition.{Composite, Function, Struct, Array, Definition, Names, names_of, composite_names, supertype_names, rename_composite, rename, composite_cmp, supertype_cmp, definition_cmp}
 use Rattle.walrus_ty.proofs.Spelling.Tokens.{Mark, Name, Spelling, Tells, retold, spelling_cmp}
 
 -- spelling, in front of what follows
@@ -145,14 +145,14 @@ list_orders f c h (x ∷ xs) (y ∷ ys) ts us =
 
 heap_renames :
     (m : ℕ → ℕ) (h : Heap ℕ) (ts : Spelling) →
-    retold m (heap_spelled h ts) ≡ heap_spelled (heap_renamed m h) (retold m ts)
+    retold m (heap_spelled h ts) ≡ heap_spelled (rename_heap m h) (retold m ts)
 heap_renames m (heap.Abstract a) ts = refl
 heap_renames m (heap.Concrete k) ts = refl
 heap_renames m (heap.Exact k) ts = refl
 
 val_renames :
     (m : ℕ → ℕ) (v : Val ℕ) (ts : Spelling) →
-    retold m (val_spelled v ts) ≡ val_spelled (val_renamed m v) (retold m ts)
+    retold m (val_spelled v ts) ≡ val_spelled (rename_val m v) (retold m ts)
 val_renames m (val.Ref r) ts = ap (λ us. Mark 5 ∷ Mark (bool_index r.nullable) ∷ us) (heap_renames m r.heap_type ts)
 val_renames m v ts = refl
 
@@ -216,22 +216,22 @@ orders d e = composite_orders d.composite e.composite _ _ ∙ ap (λ o. ordering
 
 storage_renames :
     (m : ℕ → ℕ) (a : Storage ℕ) (ts : Spelling) →
-    retold m (storage_spelled a ts) ≡ storage_spelled (storage_renamed m a) (retold m ts)
+    retold m (storage_spelled a ts) ≡ storage_spelled (rename_storage m a) (retold m ts)
 storage_renames m (storage.Val v) ts = ap (λ us. Mark 0 ∷ us) (val_renames m v ts)
 storage_renames m storage.I8 ts = refl
 storage_renames m storage.I16 ts = refl
 
 field_renames :
     (m : ℕ → ℕ) (f : Field ℕ) (ts : Spelling) →
-    retold m (field_spelled f ts) ≡ field_spelled (field_renamed m f) (retold m ts)
+    retold m (field_spelled f ts) ≡ field_spelled (rename_field m f) (retold m ts)
 field_renames m f ts = storage_renames m f.element_type (Mark (bool_index f.mutable) ∷ ts)
 
 composite_renames :
     (m : ℕ → ℕ) (c : Composite) (ts : Spelling) →
-    retold m (composite_spelled c ts) ≡ composite_spelled (composite_renamed m c) (retold m ts)
+    retold m (composite_spelled c ts) ≡ composite_spelled (rename_composite m c) (retold m ts)
 composite_renames m (Function ps rs) ts = ap (λ us. Mark 0 ∷ us)
-    (list_renames val_spelled m (val_renamed m) (val_renames m) ps (list_spelled val_spelled rs ts) ∙ ap (list_spelled val_spelled (map (val_renamed m) ps)) (list_renames val_spelled m (val_renamed m) (val_renames m) rs ts))
-composite_renames m (Struct fs) ts = ap (λ us. Mark 1 ∷ us) (list_renames field_spelled m (field_renamed m) (field_renames m) fs ts)
+    (list_renames val_spelled m (rename_val m) (val_renames m) ps (list_spelled val_spelled rs ts) ∙ ap (list_spelled val_spelled (map (rename_val m) ps)) (list_renames val_spelled m (rename_val m) (val_renames m) rs ts))
+composite_renames m (Struct fs) ts = ap (λ us. Mark 1 ∷ us) (list_renames field_spelled m (rename_field m) (field_renames m) fs ts)
 composite_renames m (Array f) ts = ap (λ us. Mark 2 ∷ us) (field_renames m f ts)
 
 supertype_renames :
@@ -240,8 +240,8 @@ supertype_renames m None = refl
 supertype_renames m (Some k) = refl
 
 -- renaming goes through spelling
-pub renames : (m : ℕ → ℕ) (d : Definition) → retold m (spelled d) ≡ spelled (renamed m d)
-renames m d = composite_renames m d.composite _ ∙ ap (λ us. composite_spelled (composite_renamed m d.composite) (Mark (bool_index d.is_final) ∷ us)) (supertype_renames m d.supertype)
+pub renames : (m : ℕ → ℕ) (d : Definition) → retold m (spelled d) ≡ spelled (rename m d)
+renames m d = composite_renames m d.composite _ ∙ ap (λ us. composite_spelled (rename_composite m d.composite) (Mark (bool_index d.is_final) ∷ us)) (supertype_renames m d.supertype)
 
 -- the numbers that a spelling tells, in its order
 abbrev pub told_names : Spelling → List ℕ

@@ -21,7 +21,9 @@ use Rattle.walrus_ty.specs.Indices.{IndexMap}
 use Rattle.walrus_ty.specs.Lookups.{value_or_zero}
 use Rattle.walrus_types.specs.Table as table
 use Rattle.walrus_types.specs.Table.{Table, IsTable}
-use Rattle.walrus_types.specs.TableEmission.{contents, type_groups, definition_at, is_entry_at, written_types, IfNameMissing, IsWrittenId, IsEmitted, MissesFirst}
+use Rattle.walrus_types.specs.TableEmission.{type_groups, definition_at, is_entry_at, written_types, IfNameMissing, IsWrittenId, IsEmitted, MissesFirst}
+use Rattle.walrus_types.specs.declared.emit.order.PendingGroup.{PendingGroup}
+use Rattle.walrus_types.specs.Steps.PendingGroups.{groups_of, places_of}
 use Rattle.walrus_types.specs.Steps.WrittenGroups.{AreWritten, FailsBy, IsApart, IsFirstMissingIn, IsWritingOrder, ids_in, in_order, id_count}
 use Rattle.walrus_sections.proofs.Emission.WrittenMembers.{written_member}
 use Rattle.walrus_types.proofs.Emission.IndexOfId.{Home, home, member_at}
@@ -110,23 +112,18 @@ module _ (t : Table) (known : IsTable t) (order : List ℕ) (ord : IsWritingOrde
   below : k < length order
   below = omega (arith, lt, length-map order (group_at (type_groups t.groups)))
 
-  inside : get_or order k 0 < length t.groups
-  inside = within t known order ord k 0 below
-
-  here : get_or (in_order (type_groups t.groups) order) k d ≡ contents (get_or t.groups (get_or order k 0) table.no_rec_group)
-  here = get_or-map (group_at (type_groups t.groups)) order k 0 d below ∙ get_or-map contents t.groups (get_or order k 0) table.no_rec_group no_group inside
-
-  pub live_in_order : All (IsLive t.types.slots) (get_or (in_order (type_groups t.groups) order) k d).ids
-  live_in_order = subst (λ (g : TypeGroup). All (IsLive t.types.slots) g.ids) (sym here) (live_groups t known (get_or order k 0) table.no_rec_group inside)
-
   pub filled_in_order : 0 < length (get_or (in_order (type_groups t.groups) order) k d).ids
   filled_in_order = subst (λ (g : TypeGroup). 0 < length g.ids) (sym (get_or-map (group_at (type_groups t.groups)) order k 0 d below)) (filled t known order ord k 0 below)
 
+pub places_within :
+    (ps : List PendingGroup) (n : ℕ) → All (λ g. g < n) (places_of ps) →
+    All (λ (p : PendingGroup). p.place < n) ps
+places_within ps n each k d lt = subst (λ (g : ℕ). g < n) (get_or-map (λ (p : PendingGroup). p.place) ps k d 0 lt) (each k 0 (omega (arith, lt, length-map ps (λ (p : PendingGroup). p.place))))
+
 pub as_ordered :
-    (from to : List RecGroup) (places order : List ℕ) (out ws : List TypeGroup) → from ≡ to →
-    places ≡ order → out ≡ in_order (type_groups from) places → ws ≡ out →
-    ws ≡ in_order (type_groups to) order
-as_ordered from to places order out ws e f is same = same ∙ (is ∙ (ap (λ (gs : List RecGroup). in_order (type_groups gs) places) e ∙ ap (in_order (type_groups to)) f))
+    (from to : List RecGroup) (ps qs : List PendingGroup) → from ≡ to → ps ≡ qs →
+    groups_of from ps ≡ in_order (type_groups to) (places_of qs)
+as_ordered from to ps qs e f = ap (λ (gs : List RecGroup). groups_of gs ps) e ∙ ap (groups_of to) f
 
 pub carried :
     {A B : Type 0} (P : A → B → Type 0) (a a' : A) (b b' : B) → a ≡ a' → b ≡ b' → P a b → P a' b'

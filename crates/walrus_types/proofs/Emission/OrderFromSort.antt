@@ -1,16 +1,14 @@
 -- The order in which groups are sorted is the order in which they are written.
-use Rattle.std.proofs.Common.{◌≡◌, ℕ, zero, suc, ◌+◌, ◌<◌, ◌≤◌, ◌==◌, ◌||◌, ◌&&◌, List, [], ◌∷◌, ◌++◌, map, take, length, refl, sym, ap, subst, ◌∙◌, arith, Some, None, Option, option_map, IsSome, Bool, true, false, cond, not, get_or, eqb-true, eq-eqb, inl, inr}
+use Rattle.std.proofs.Common.{◌≡◌, ℕ, zero, suc, ◌<◌, ◌≤◌, ◌==◌, ◌||◌, ◌&&◌, List, [], ◌∷◌, length, refl, sym, ap, subst, ◌∙◌, arith, Some, None, Option, IsSome, Bool, true, false, not, get_or, All, eqb-true, eq-eqb, inl, inr}
 use Rattle.std.specs.List.{slice_get, slice_index, list_all, list_any, filter, range_with_len}
 use Rattle.std.specs.List.Sorted.{IsPermutation}
 use Rattle.std.specs.Option.{is_none}
 use Rattle.std.specs.Ordering.{ordering_then}
 use Rattle.std.specs.declared.cmp.Ordering.{Ordering}
 use Rattle.std.specs.declared.cmp.Ordering.TheVariants.{Less, Equal, Greater}
-use Rattle.std.proofs.lemmas.List.{length-map, take_more, append-nil}
-use Rattle.std.proofs.lemmas.List.Elements.{filter-append}
-use Rattle.std.proofs.lemmas.Option.{slice_get-map, slice_get_within, slice_get-get_or, get_or_from_slice_get}
+use Rattle.std.proofs.lemmas.List.{length-map}
+use Rattle.std.proofs.lemmas.Option.{slice_get_within, slice_get-get_or, get_or_from_slice_get}
 use Rattle.std.proofs.lemmas.Bool.{cases_lt}
-use Rattle.std.proofs.Math.Path.{fun_ext}
 use Rattle.walrus_arena.specs.Arena.{Slots, get, IsLive}
 use Rattle.walrus_types.specs.declared.table.rec_group.RecGroup.{RecGroup}
 use Rattle.walrus_ty.specs.Definition.{Definition, Names, names_of, definition_cmp}
@@ -19,14 +17,16 @@ use Rattle.walrus_sections.specs.SlotMap.{TypeGroup}
 use Rattle.walrus_sections.specs.Emission as emission
 use Rattle.walrus_sections.specs.Emission.{IsMember, IsGrouped, IsWritten, IsFreeGroup, IsInversion}
 use Rattle.walrus_sections.specs.Emission.{IsWrittenBefore}
-use Rattle.walrus_types.specs.Steps.Neighbours.{IsTurnedRound, StandsBefore, OrdersNeighbours}
+use Rattle.walrus_types.specs.declared.emit.order.PendingGroup.{PendingGroup}
+use Rattle.walrus_types.specs.Steps.PendingGroups.{IsTurnedRound, StandsBefore, pending_groups, places_of}
 use Rattle.walrus_ty.specs.Types.{ModuleType, type_definition}
 use Rattle.walrus_types.specs.Table as table
 use Rattle.walrus_types.specs.Table.{Table, IsTable}
 use Rattle.walrus_types.specs.TableEmission.{type_groups, slot_definition, definition_at, slot_is_entry, is_entry_at}
-use Rattle.walrus_types.specs.Steps.FreeGroups.{is_own_or_dead, slot_names_none_other, is_free_of, is_free, head, is_marked, is_written_at, is_written_group}
+use Rattle.walrus_types.specs.Steps.FreeGroups.{is_own_or_dead, slot_names_none_other, is_free_of, is_free_at, head, is_written_at}
 use Rattle.walrus_types.specs.Steps.WrittenGroups.{IsWritingOrder, id_count}
 use Rattle.walrus_sections.specs.Refusal.{written_count}
+use Rattle.walrus_types.proofs.Emission.SortedGroups.{each_group, each_written, moved, onto_written}
 use Rattle.walrus_types.proofs.Emission.WrittenCount.{count_of_order}
 use Rattle.walrus_ty.proofs.Orders.Types.{type_cmp, type_is}
 use Rattle.walrus_types.proofs.Emission.PairsOfGroups.{at_member, to_member}
@@ -78,53 +78,6 @@ any_from p (y ∷ xs) (suc u) x at h = by (p y) (any_from p xs u x at h)
     by : (b : Bool) → list_any p xs ≡ true → (b || list_any p xs) ≡ true
     by true f = refl
     by false f = f
-
--- lists that are filtered
-
-filter_at :
-    (p : ℕ → Bool) (xs : List ℕ) (a x : ℕ) → slice_get (filter p xs) a ≡ Some x →
-    (p x ≡ true) × (b : ℕ) × (slice_get xs b ≡ Some x)
-filter_at p [] a x h = cc
-filter_at p (y ∷ xs) a x h = by (p y) a refl (λ c f. filter_at p xs c x f) h
-  where
-    by : (b : Bool) (a : ℕ) → p y ≡ b → ((c : ℕ) → slice_get (filter p xs) c ≡ Some x → (p x ≡ true) × (b : ℕ) × (slice_get xs b ≡ Some x)) → slice_get (cond b (y ∷ filter p xs) (filter p xs)) a ≡ Some x → (p x ≡ true) × (b : ℕ) × (slice_get (y ∷ xs) b ≡ Some x)
-    by true zero e rest f = (ap p (sym (some_inj f)) ∙ e, 0, f)
-    by true (suc a) e rest f = let r : _ = rest a f in (r.0, suc r.1, r.2)
-    by false a e rest f = let r : _ = rest a f in (r.0, suc r.1, r.2)
-
-filter_onto :
-    (p : ℕ → Bool) (xs : List ℕ) (b x : ℕ) → slice_get xs b ≡ Some x → p x ≡ true →
-    (a : ℕ) × (slice_get (filter p xs) a ≡ Some x)
-filter_onto p [] b x at h = cc
-filter_onto p (y ∷ xs) zero x at h = let f : p y ≡ true = ap p (some_inj at) ∙ h in (0, rw f at)
-filter_onto p (y ∷ xs) (suc b) x at h = by (p y) (filter_onto p xs b x at h)
-  where
-    by : (c : Bool) → ((a : ℕ) × (slice_get (filter p xs) a ≡ Some x)) → (a : ℕ) × (slice_get (cond c (y ∷ filter p xs) (filter p xs)) a ≡ Some x)
-    by true r = (suc r.0, r.1)
-    by false r = r
-
--- two that stand in this order in the filtered list do so in the whole
-record Pair (xs : List ℕ) (x y : ℕ) : Type 0 where
-  pub first : ℕ
-  pub second : ℕ
-  pub order : first < second
-  pub at_first : slice_get xs first ≡ Some x
-  pub at_second : slice_get xs second ≡ Some y
-
-pair_later : (z : ℕ) (xs : List ℕ) (x y : ℕ) → Pair xs x y → Pair (z ∷ xs) x y
-pair_later z xs x y r = record { first = suc r.first; second = suc r.second; order = omega (arith, r.order); at_first = r.at_first; at_second = r.at_second }
-
-filter_pair :
-    (p : ℕ → Bool) (xs : List ℕ) (a b x y : ℕ) → a < b → slice_get (filter p xs) a ≡ Some x →
-    slice_get (filter p xs) b ≡ Some y → Pair xs x y
-filter_pair p [] a b x y lt h k = cc
-filter_pair p (z ∷ xs) a b x y lt h k = by (p z) a b (λ c d l f g. filter_pair p xs c d x y l f g) lt h k
-  where
-    by : (c : Bool) (a b : ℕ) → ((c d : ℕ) → c < d → slice_get (filter p xs) c ≡ Some x → slice_get (filter p xs) d ≡ Some y → Pair xs x y) → a < b → slice_get (cond c (z ∷ filter p xs) (filter p xs)) a ≡ Some x → slice_get (cond c (z ∷ filter p xs) (filter p xs)) b ≡ Some y → Pair (z ∷ xs) x y
-    by true a zero rest lt f g = absurd (omega (arith, lt))
-    by true zero (suc b) rest lt f g = let r : _ = filter_at p xs b y g in record { first = 0; second = suc r.1; order = omega arith; at_first = f; at_second = r.2 }
-    by true (suc a) (suc b) rest lt f g = pair_later z xs x y (rest a b (omega (arith, lt)) f g)
-    by false a b rest lt f g = pair_later z xs x y (rest a b lt f g)
 
 -- the groups of the table, by ids
 
@@ -277,40 +230,33 @@ module _ (t : Table) (is : IsTable t) where
 
   -- the test for free groups
 
-  abbrev free : List Bool
-  free = map (is_free slots) groups
+  abbrev free : ℕ → Bool
+  free = is_free_at slots groups
 
-  test_at : (a : ℕ) → a < length groups → slice_get free a ≡ Some (is_free slots (table.rec_group_at groups a))
-  test_at a h = slice_get-map (is_free slots) groups a ∙ ap (option_map (is_free slots)) (slice_get-get_or groups a table.no_rec_group h)
-
-  free_group : (a u i : ℕ) → slice_get free a ≡ Some true → IsMember gs a u i → IsFreeGroup gs def a
+  free_group : (a u i : ℕ) → free a ≡ true → IsMember gs a u i → IsFreeGroup gs def a
   free_group a u i h m =
-      let below : a < length groups = in_groups a u i m in
-      let yes : is_free slots (table.rec_group_at groups a) ≡ true = some_inj (sym (test_at a below) ∙ h) in
-      let l : _ = free_list slots (table.rec_group_at groups a).is_explicit (table.rec_group_at groups a).types u i yes (in_table a u i m) in
+      let l : _ = free_list slots (table.rec_group_at groups a).is_explicit (table.rec_group_at groups a).types u i h (in_table a u i m) in
       record {
-        implicit = explicit_at groups a below ∙ l.implicit;
+        implicit = explicit_at groups a (in_groups a u i m) ∙ l.implicit;
         own = λ v j mem k n x.
-            (let l' : _ = free_list slots (table.rec_group_at groups a).is_explicit (table.rec_group_at groups a).types v j yes (in_table a v j mem) in
+            (let l' : _ = free_list slots (table.rec_group_at groups a).is_explicit (table.rec_group_at groups a).types v j h (in_table a v j mem) in
             no_names (get slots j) slots j k l'.own n (live_grouped k x));
       }
 
-  from_free_group : (a : ℕ) → a < length groups → ((u i : ℕ) → IsMember gs a u i → IsFreeGroup gs def a) → slice_get free a ≡ Some true
+  from_free_group : (a : ℕ) → a < length groups → ((u i : ℕ) → IsMember gs a u i → IsFreeGroup gs def a) → free a ≡ true
   from_free_group a below each =
-      test_at a below ∙ ap (λ (b : Bool). Some b) (from_free_list slots (table.rec_group_at groups a).is_explicit (table.rec_group_at groups a).types (λ u i at.
+      from_free_list slots (table.rec_group_at groups a).is_explicit (table.rec_group_at groups a).types (λ u i at.
       (let m : IsMember gs a u i = from_table a u i at in let f : IsFreeGroup gs def a = each u i m in
-      (sym (explicit_at groups a below) ∙ f.implicit, from_names (get slots i) slots i (λ k n live. f.own u i m k n (grouped_live k live))))) (is.single a))
+      (sym (explicit_at groups a below) ∙ f.implicit, from_names (get slots i) slots i (λ k n live. f.own u i m k n (grouped_live k live))))) (is.single a)
 
-  only_member : (a u i v j : ℕ) → slice_get free a ≡ Some true → IsMember gs a u i → IsMember gs a v j → j ≡ i
+  only_member : (a u i v j : ℕ) → free a ≡ true → IsMember gs a u i → IsMember gs a v j → j ≡ i
   only_member a u i v j h m m' =
-      let yes : is_free slots (table.rec_group_at groups a) ≡ true = some_inj (sym (test_at a (in_groups a u i m)) ∙ h) in
-      (free_list slots (table.rec_group_at groups a).is_explicit (table.rec_group_at groups a).types u i yes (in_table a u i m)).only v j (in_table a v j m')
+      (free_list slots (table.rec_group_at groups a).is_explicit (table.rec_group_at groups a).types u i h (in_table a u i m)).only v j (in_table a v j m')
 
   -- the type that stands for a group
 
-  heads_at : (g i : ℕ) (x : ModuleType) → IsMember gs g 0 i → get slots i ≡ Some x → slice_get (map (head slots) groups) g ≡ Some (Some x)
-  heads_at g i x m at =
-      slice_get-map (head slots) groups g ∙ (ap (option_map (head slots)) (slice_get-get_or groups g table.no_rec_group (in_groups g 0 i m)) ∙ ap (λ (o : Option ModuleType). Some o) (first (table.rec_group_at groups g).types (in_table g 0 i m)))
+  heads_at : (g i : ℕ) (x : ModuleType) → IsMember gs g 0 i → get slots i ≡ Some x → head slots (table.rec_group_at groups g) ≡ Some x
+  heads_at g i x m at = first (table.rec_group_at groups g).types (in_table g 0 i m)
     where
       first : (ids : List ℕ) → slice_get ids 0 ≡ Some i → head slots (record { types = ids; is_explicit = (table.rec_group_at groups g).is_explicit }) ≡ Some x
       first [] h = cc
@@ -340,7 +286,7 @@ module _ (t : Table) (is : IsTable t) where
       record { id = i; type = x.0; member = m0; at = x.1 }
 
   -- a free group that is written has no mark of an entry
-  unmarked : (g : ℕ) (w : IsWritten gs entry g) (h : Headed g) → slice_get free g ≡ Some true → h.type.is_for_function_entry ≡ false
+  unmarked : (g : ℕ) (w : IsWritten gs entry g) (h : Headed g) → free g ≡ true → h.type.is_for_function_entry ≡ false
   unmarked g w h f =
       let same : w.1 ≡ h.id = only_member g 0 h.id w.0 w.1 f h.member w.2 in
       ap slot_is_entry (sym h.at) ∙ (ap entry (sym same) ∙ w.3)
@@ -356,8 +302,8 @@ module _ (t : Table) (is : IsTable t) where
 
   from_turned_round : (g h : ℕ) (w : IsWritten gs entry g) (w' : IsWritten gs entry h) (a : Headed g) (b : Headed h) → g < h → IsTurnedRound type_cmp free g a.type h b.type → IsInversion gs def g h
   from_turned_round g h w w' a b lt tr =
-      let free_g : slice_get free g ≡ Some true = tr.all_free g (omega arith) (omega (arith, lt)) in
-      let free_h : slice_get free h ≡ Some true = tr.all_free h (omega (arith, lt)) (omega arith) in
+      let free_g : free g ≡ true = tr.all_free g (omega arith) (omega (arith, lt)) in
+      let free_h : free h ≡ true = tr.all_free h (omega (arith, lt)) (omega arith) in
       let ea : a.type.is_for_function_entry ≡ false = unmarked g w a free_g in
       let eb : b.type.is_for_function_entry ≡ false = unmarked h w' b free_h in
       let both : ordering_then (definition_cmp (type_definition b.type) (type_definition a.type)) Equal ≡ Less = ap (λ (p : Bool). ordering_then (definition_cmp (type_definition b.type) (type_definition a.type)) (bool_cmp false p)) (sym ea) ∙ (ap (λ (p : Bool). ordering_then (definition_cmp (type_definition b.type) (type_definition a.type)) (bool_cmp p a.type.is_for_function_entry)) (sym eb) ∙ (sym (type_is b.type a.type) ∙ tr.less)) in
@@ -391,103 +337,50 @@ module _ (t : Table) (is : IsTable t) where
   is_written_to : (g : ℕ) → IsWritten gs entry g → written g ≡ true
   is_written_to g w = any_from (λ i. not (entry i)) (table.rec_group_at groups g).types w.0 w.1 (in_table g w.0 w.1 w.2) (ap not w.3)
 
-  module _ (order : List ℕ) (sorts : OrdersNeighbours type_cmp free (map (head slots) groups) order) where
-    abbrev kept : List ℕ
-    kept = filter written order
+  written_tests : (g : ℕ) → written g ≡ list_any (λ i. not (entry i)) (emission.group_at gs g).ids
+  written_tests g = ap (list_any (λ i. not (entry i))) (sym (ids_at groups g))
 
-    heads_many : length (map (head slots) groups) ≡ length groups
-    heads_many = length-map groups (head slots)
+  -- the order, from the groups that are written when they are sorted
 
-    at_kept : (a : ℕ) → a < length kept → slice_get kept a ≡ Some (slice_index kept a)
-    at_kept a h = slice_get-get_or kept a 0 h
+  module _ (ps : List PendingGroup) (perm : IsPermutation (pending_groups slots groups (length groups)) ps) where
+    abbrev order : List ℕ
+    order = places_of ps
 
-    index_of : (xs : List ℕ) (i x : ℕ) → slice_get xs i ≡ Some x → slice_index xs i ≡ x
-    index_of xs i x h = get_or_from_slice_get xs i x 0 h
+    written_at : (a : ℕ) → a < length order → IsWritten gs entry (slice_index order a)
+    written_at a below = is_written_from (slice_index order a) (each_written free written (λ g. head slots (table.rec_group_at groups g)) (length groups) ps perm a below)
 
-    written_kept : (a : ℕ) → a < length kept → IsWritten gs entry (slice_index kept a)
-    written_kept a h = is_written_from (slice_index kept a) (filter_at written order a (slice_index kept a) (at_kept a h)).0
+    onto_at : (g : ℕ) → IsWritten gs entry g → (a : ℕ) × (a < length order) × (slice_index order a ≡ g)
+    onto_at g w = onto_written free written (λ g. head slots (table.rec_group_at groups g)) (length groups) ps perm g (in_groups g w.0 w.1 w.2) (is_written_to g w)
 
-    onto_kept : (g : ℕ) → IsWritten gs entry g → (a : ℕ) × (a < length kept) × (slice_index kept a ≡ g)
-    onto_kept g w =
-        let below : g < length (map (head slots) groups) = omega (arith, in_groups g w.0 w.1 w.2, heads_many) in
-        let r : _ = sorts.onto g below in
-        let at : slice_get order r.0 ≡ Some g = slice_get-get_or order r.0 0 r.1.0 ∙ ap (λ (n : ℕ). Some n) r.1.1 in
-        let k : _ = filter_onto written order r.0 g at (is_written_to g w) in
-        (k.0, slice_get_within kept k.0 g k.1, index_of kept k.0 g k.1)
+    pub count_from_sort : id_count gs order ≡ written_count entry gs
+    count_from_sort =
+        let all : IsPermutation (filter written (range_with_len 0 (length groups))) order = moved free written (λ g. head slots (table.rec_group_at groups g)) (length groups) ps perm in
+        count_of_order entry gs written written_tests order (subst (λ (n : ℕ). IsPermutation (filter written (range_with_len 0 n)) order) (sym many) all)
 
-    stands_kept : (a b : ℕ) → a < b → b < length kept → IsWrittenBefore gs def (slice_index kept a) (slice_index kept b)
-    stands_kept a b lt below =
-        let g : ℕ = slice_index kept a in
-        let h : ℕ = slice_index kept b in
-        let below_a : a < length kept = omega (arith, lt, below) in
-        let p : Pair order g h = filter_pair written order a b g h lt (at_kept a below_a) (at_kept b below) in
-        let w : IsWritten gs entry g = written_kept a below_a in
-        let w' : IsWritten gs entry h = written_kept b below in
-        let x : Headed g = headed g w in
-        let y : Headed h = headed h w' in
-        let is_g : slice_index order p.first ≡ g = index_of order p.first g p.at_first in
-        let is_h : slice_index order p.second ≡ h = index_of order p.second h p.at_second in
-        let s : _ = sorts.stands p.first p.second p.order (slice_get_within order p.second h p.at_second) x.type y.type (ap (slice_get (map (head slots) groups)) is_g ∙ heads_at g x.id x.type x.member x.at) (ap (slice_get (map (head slots) groups)) is_h ∙ heads_at h y.id y.type y.member y.at) in
-        stands_from g h w w' x y (rw (is_g, is_h) at s)
+    pub heads_from_sort : All (λ (p : PendingGroup). p.head ≡ head slots (table.rec_group_at groups p.place)) ps
+    heads_from_sort k d lt = ap (λ (p : PendingGroup). p.head) (each_group free written (λ g. head slots (table.rec_group_at groups g)) (length groups) ps perm k d lt)
 
-    pub writing_order : IsWritingOrder gs def entry kept
-    writing_order = record { written = written_kept; onto = onto_kept; stands = stands_kept }
+    pub order_from_sort : ((a b : ℕ) → a < b → b < length order → (x y : ModuleType) → head slots (table.rec_group_at groups (slice_index order a)) ≡ Some x → head slots (table.rec_group_at groups (slice_index order b)) ≡ Some y → StandsBefore type_cmp free (slice_index order a) x (slice_index order b) y) → IsWritingOrder gs def entry order
+    order_from_sort sorted = record {
+      written = written_at;
+      onto = onto_at;
+      stands = λ a b less below.
+          let g : ℕ = slice_index order a in
+          let h : ℕ = slice_index order b in
+          let w : IsWritten gs entry g = written_at a (omega (arith, less, below)) in
+          let w' : IsWritten gs entry h = written_at b below in
+          let x : Headed g = headed g w in
+          let y : Headed h = headed h w' in
+          stands_from g h w w' x y (sorted a b less below x.type y.type (heads_at g x.id x.type x.member x.at) (heads_at h y.id y.type y.member y.at));
+    }
 
   pub same_member : (g u h v i : ℕ) → IsMember gs g u i → IsMember gs h v i → (g ≡ h) × (u ≡ v)
   same_member g u h v i m n = is.once g u h v i (in_table g u i m) (in_table h v i n)
 
-  pub written_tests : (g : ℕ) → written g ≡ list_any (λ i. not (entry i)) (emission.group_at gs g).ids
-  written_tests g = ap (list_any (λ i. not (entry i))) (sym (ids_at groups g))
-
-  pub group_count : length gs ≡ length groups
-  group_count = many
-
--- the same of lists that are equal to those of the table
-module _ (t : Table) (known : IsTable t) (groups : List RecGroup) (same : groups ≡ t.groups) (free : List Bool) (free_is : free ≡ map (is_free t.types.slots) groups) (heads : List (Option ModuleType)) (heads_are : heads ≡ map (head t.types.slots) groups) (order : List ℕ) (sorts : OrdersNeighbours type_cmp free heads order) (kept : List ℕ) (kept_is : kept ≡ filter (is_written_at t.types.slots groups) order) where
-  sorts_table : OrdersNeighbours type_cmp (map (is_free t.types.slots) t.groups) (map (head t.types.slots) t.groups) order
-  sorts_table =
-      subst (λ (fs : List Bool). OrdersNeighbours type_cmp fs (map (head t.types.slots) t.groups) order) (free_is ∙ ap (map (is_free t.types.slots)) same)
-      (subst (λ (hs : List (Option ModuleType)). OrdersNeighbours type_cmp free hs order) (heads_are ∙ ap (map (head t.types.slots)) same) sorts)
-
-  kept_table : kept ≡ filter (is_written_at t.types.slots t.groups) order
-  kept_table = kept_is ∙ ap (λ (gs : List RecGroup). filter (is_written_at t.types.slots gs) order) same
-
-  pub order_from_sort : IsWritingOrder (type_groups t.groups) (definition_at t.types.slots) (is_entry_at t.types.slots) kept
-  order_from_sort = subst (λ (xs : List ℕ). IsWritingOrder (type_groups t.groups) (definition_at t.types.slots) (is_entry_at t.types.slots) xs) (sym kept_table) (writing_order t known order sorts_table)
-
-  pub count_from_sort : id_count (type_groups t.groups) kept ≡ written_count (is_entry_at t.types.slots) (type_groups t.groups)
-  count_from_sort =
-      let long : length (map (head t.types.slots) t.groups) ≡ length (type_groups t.groups) = length-map t.groups (head t.types.slots) ∙ sym (group_count t known) in
-      let perm : IsPermutation (range_with_len 0 (length (type_groups t.groups))) order = subst (λ (n : ℕ). IsPermutation (range_with_len 0 n) order) long sorts_table.permutation in
-      ap (id_count (type_groups t.groups)) kept_table ∙ count_of_order (is_entry_at t.types.slots) (type_groups t.groups) (is_written_at t.types.slots t.groups) (written_tests t known) order perm
-
--- the next place that is kept, or left out
-
-more_kept :
-    (p : ℕ → Bool) (xs : List ℕ) (i : ℕ) → i < length xs →
-    filter p (take (i + 1) xs) ≡ filter p (take i xs) ++ filter p (slice_index xs i ∷ [])
-more_kept p xs i below = ap (filter p) (take_more xs i 0 below) ∙ filter-append p (take i xs) (slice_index xs i ∷ [])
-
-pub kept_more :
-    (p : ℕ → Bool) (xs : List ℕ) (i : ℕ) (ys : List ℕ) → i < length xs → ys ≡ filter p (take i xs) →
-    p (slice_index xs i) ≡ true → ys ++ slice_index xs i ∷ [] ≡ filter p (take (i + 1) xs)
-kept_more p xs i ys below is test = sym (more_kept p xs i below ∙ (ap (λ (b : Bool). filter p (take i xs) ++ cond b (slice_index xs i ∷ []) []) test ∙ ap (λ (zs : List ℕ). zs ++ slice_index xs i ∷ []) (sym is)))
-
-pub left_out :
-    (p : ℕ → Bool) (xs : List ℕ) (i : ℕ) (ys : List ℕ) → i < length xs → ys ≡ filter p (take i xs) →
-    p (slice_index xs i) ≡ false → ys ≡ filter p (take (i + 1) xs)
-left_out p xs i ys below is test = is ∙ sym (more_kept p xs i below ∙ (ap (λ (b : Bool). filter p (take i xs) ++ cond b (slice_index xs i ∷ []) []) test ∙ append-nil (filter p (take i xs))))
-
--- the marks of the groups that are written
-pub marks_are :
-    (slots : Slots ModuleType) (groups : List RecGroup) (n : ℕ) →
-    is_marked (map (is_written_group slots) groups) n ≡ is_written_at slots groups n
-marks_are s [] n = refl
-marks_are s (g ∷ rest) zero = refl
-marks_are s (g ∷ rest) (suc n) = marks_are s rest n
-
-pub marked_are_written :
-    (slots : Slots ModuleType) (groups : List RecGroup) (marks : List Bool) (order : List ℕ) →
-    marks ≡ map (is_written_group slots) groups →
-    filter (is_marked marks) order ≡ filter (is_written_at slots groups) order
-marked_are_written slots groups marks order is = ap (λ (ms : List Bool). filter (is_marked ms) order) is ∙ ap (λ (p : ℕ → Bool). filter p order) (fun_ext (marks_are slots groups))
+pub sorted_from :
+    (t : Table) (groups : List RecGroup) → groups ≡ t.groups → (ps qs : List PendingGroup) →
+    ps ≡ pending_groups t.types.slots groups (length groups) → IsPermutation ps qs →
+    IsPermutation (pending_groups t.types.slots t.groups (length t.groups)) qs
+sorted_from t groups same ps qs is perm =
+    let all : ps ≡ pending_groups t.types.slots t.groups (length t.groups) = is ∙ ap (λ (gs : List RecGroup). pending_groups t.types.slots gs (length gs)) same in
+    subst (λ (rs : List PendingGroup). IsPermutation rs qs) all perm

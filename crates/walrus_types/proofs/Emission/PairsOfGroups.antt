@@ -5,7 +5,7 @@ use Rattle.std.proofs.lemmas.List.{length-map, get_or-map}
 use Rattle.std.proofs.lemmas.List.Elements.{Contains-append_left, Contains-append_right, Contains-append_cases}
 use Rattle.std.proofs.lemmas.Option.{slice_get_within, slice_get-get_or, get_or_from_slice_get}
 use Rattle.std.proofs.lemmas.Bool.{cases_lt, cases_eq}
-use Rattle.walrus_ty.specs.Definition.{Definition, renamed}
+use Rattle.walrus_ty.specs.Definition.{Definition, rename}
 use Rattle.walrus_ty.specs.Groups.{Section}
 use Rattle.walrus_sections.specs.Section.{places_from, index_space, IsFilled}
 use Rattle.walrus_sections.specs.SlotMap.{TypeGroup}
@@ -277,7 +277,7 @@ module _ (gs : List TypeGroup) (definition : ℕ → Definition) (is_entry : ℕ
       below_at : m y.id < (index_space n).count
       below_at = let s : _ = stands_at group_place y.place y.id member_there in omega (arith, at, s.within)
 
-      same_at : (index_space n).definition (m y.id) ≡ renamed m (definition y.id)
+      same_at : (index_space n).definition (m y.id) ≡ rename m (definition y.id)
       same_at = ap (index_space n).definition at ∙ (stands_at group_place y.place y.id member_there).definition
 
       rec_position_at : (e : Bool) → explicit_as e → (index_space n).rec_position (m y.id) ≡ rec_position_of e (0 + recs (take group_place ws)) y.place

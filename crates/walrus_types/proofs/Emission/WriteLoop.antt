@@ -1,9 +1,9 @@
 -- Groups are written one after the other, each by the indices given out so far.
-use Rattle.std.proofs.Common.{◌≡◌, ℕ, zero, suc, ◌+◌, ◌<◌, ◌≤◌, ◌^◌, List, [], ◌∷◌, ◌++◌, map, take, drop, length, refl, sym, ap, subst, ◌∙◌, arith, Some, None, Option, Bool, true, false, cond, get_or, Contains, All, nat_eq, eqb-true, unwrap_or, length-append, take-append-drop, ◌⊎◌, inl, inr}
+use Rattle.std.proofs.Common.{◌≡◌, ℕ, zero, suc, ◌+◌, ◌<◌, ◌≤◌, ◌^◌, List, [], ◌∷◌, ◌++◌, map, take, drop, length, refl, sym, ap, subst, ◌∙◌, arith, Some, None, Option, Bool, true, false, cond, get_or, Contains, All, nat_eq, eqb-true, unwrap_or, IfSome, IsSomeAnd, length-append, take-append-drop, ◌⊎◌, inl, inr}
 use Rattle.std.specs.List.{slice_get, slice_index, find, IsDistinct}
 use Rattle.std.specs.Option.{is_none}
 use Rattle.std.proofs.lemmas.Grind.{flat_map-append}
-use Rattle.std.proofs.lemmas.List.{take_more, map-append, append-nil, get_or-map, get_or_default}
+use Rattle.std.proofs.lemmas.List.{take_more, map-append, append-nil, get_or-map, get_or_default, length-map}
 use Rattle.std.proofs.lemmas.Option.{slice_get_within, slice_get-get_or, get_or_from_slice_get}
 use Rattle.std.proofs.lemmas.Bool.{cases_lt}
 use Rattle.std.proofs.lemmas.Map.Keys.{IsDistinct-from_apart}
@@ -16,10 +16,19 @@ use Rattle.walrus_sections.specs.SlotMap.{TypeGroup}
 use Rattle.walrus_sections.specs.Emission.{no_group, group_at}
 use Rattle.walrus_ty.specs.Indices.{IndexMap, Indexes, IsEmpty, IsSame}
 use Rattle.walrus_types.specs.declared.table.rec_group.RecGroup.{RecGroup}
+use Rattle.walrus_types.specs.declared.emit.order.PendingGroup.{PendingGroup}
+use Rattle.walrus_ty.specs.Types.{ModuleType}
+use Rattle.walrus_types.specs.TypesById.{TypeSlots}
+use Rattle.walrus_types.specs.Table.{no_rec_group, rec_group_at}
 use Rattle.walrus_types.specs.TableEmission.{contents, type_groups}
+use Rattle.walrus_types.specs.Steps.FreeGroups.{head}
+use Rattle.walrus_types.specs.Steps.LosslessKeys.{IsLosslessKey}
+use Rattle.walrus_types.specs.Steps.PendingGroups.{groups_of, places_of}
+use Rattle.walrus_types.specs.Steps.SortKeys.{SortKey}
+use Rattle.walrus_types.proofs.Emission.DecodedTypes.{head_key}
 use Rattle.walrus_ty.specs.Records.{group_of, section_of}
-use Rattle.walrus_types.specs.Steps.WrittenGroups.{AllIndexed, AreWritten, FailsBy, IsApart, IsFirstMissingIn, IsFirstUnindexed, IsMissingIn, ids_in, with_indices, written_group}
-use Rattle.walrus_ty.proofs.Names.Definitions.{renamed_agree}
+use Rattle.walrus_types.specs.Steps.WrittenGroups.{AllIndexed, AreWritten, FailsBy, IsApart, IsFirstMissingIn, IsFirstUnindexed, IsMissingIn, DecodesToType, ids_in, with_indices, written_group}
+use Rattle.walrus_ty.proofs.Names.Definitions.{rename_agree}
 use Rattle.walrus_types.proofs.Emission.IndexOfId.{member_at}
 use Rattle.walrus_ty.proofs.Basics.{some_inj, slice_get-left}
 
@@ -248,7 +257,7 @@ module _ (def : ℕ → Definition) (ws : List TypeGroup) (filled : (a : ℕ) �
           }))
 
       kept : map (written_group (with_indices old.index def)) (take j ws) ≡ map (written_group (with_indices new.index def)) (take j ws)
-      kept = groups_same (with_indices old.index def) (with_indices new.index def) (take j ws) (filled_take ws j filled) (λ a u i h. (let r : _ = at_take ws j a u i h in renamed_agree (λ k. unwrap_or (old.index k) 0) (λ k. unwrap_or (new.index k) 0) (def i) (λ k n. value_kept a u i k r.0 r.1 n)))
+      kept = groups_same (with_indices old.index def) (with_indices new.index def) (take j ws) (filled_take ws j filled) (λ a u i h. (let r : _ = at_take ws j a u i h in rename_agree (λ k. unwrap_or (old.index k) 0) (λ k. unwrap_or (new.index k) 0) (def i) (λ k n. value_kept a u i k r.0 r.1 n)))
 
       none_missing : AllIndexed new.index def w.ids → (u t i k : ℕ) → ¬ (IsMissingIn def ws j u t i k)
       none_missing each u t i k m =
@@ -303,23 +312,33 @@ pub filled_at :
     0 < length (group_at ws a).ids
 filled_at ws filled a lt = filled a no_group lt
 
-pub group_here :
-    (ws : List TypeGroup) (j : ℕ) (g : TypeGroup) → j < length ws → g ≡ get_or ws j g →
-    group_at ws j ≡ g
-group_here ws j g lt is = get_or_default ws j no_group g lt ∙ sym is
-
 -- groups of a table that are picked, one after the other
 
-module _ (groups : List RecGroup) (order : List ℕ) (j : ℕ) where
-  abbrev gs : List TypeGroup
-  gs = type_groups groups
+pub groups_count :
+    (groups : List RecGroup) (ps : List PendingGroup) → length (groups_of groups ps) ≡ length ps
+groups_count groups ps = length-map (places_of ps) (group_at (type_groups groups)) ∙ length-map ps (λ (p : PendingGroup). p.place)
 
-  pub table_group : (g : RecGroup) → All (λ k. k < length groups) order → j < length order → g ≡ get_or groups (get_or order j 0) g → group_at gs (slice_index order j) ≡ record { ids = g.types; is_explicit = g.is_explicit }
-  table_group g within below is = get_or-map contents groups (get_or order j 0) g no_group (within j 0 below) ∙ ap contents (sym is)
+module _ (groups : List RecGroup) (ps : List PendingGroup) (j : ℕ) (p : PendingGroup) (g : RecGroup) (lt : j < length ps) (p_is : p ≡ get_or ps j p) (g_is : g ≡ get_or groups p.place g) (within : All (λ (q : PendingGroup). q.place < length groups) ps) where
+  in_groups : p.place < length groups
+  in_groups = subst (λ (q : PendingGroup). q.place < length groups) (sym p_is) (within j p lt)
 
-  pub one_more : (out : List TypeGroup) (w : TypeGroup) → j < length order → group_at gs (slice_index order j) ≡ w → out ≡ map (group_at gs) (take j order) → out ++ w ∷ [] ≡ map (group_at gs) (take (j + 1) order)
-  one_more out w below is so_far =
-      ap (λ (ws : List TypeGroup). ws ++ w ∷ []) so_far ∙ (ap (λ (v : TypeGroup). map (group_at gs) (take j order) ++ v ∷ []) (sym is) ∙ (sym (map-append (group_at gs) (take j order) (slice_index order j ∷ [])) ∙ ap (map (group_at gs)) (sym (take_more order j 0 below))))
+  pub picked : group_at (groups_of groups ps) j ≡ contents g
+  picked =
+      let in_places : j < length (places_of ps) = omega (arith, lt, length-map ps (λ (q : PendingGroup). q.place)) in
+      let place : slice_index (places_of ps) j ≡ p.place = get_or-map (λ (q : PendingGroup). q.place) ps j p 0 lt ∙ ap (λ (q : PendingGroup). q.place) (sym p_is) in
+      get_or-map (group_at (type_groups groups)) (places_of ps) j 0 no_group in_places ∙ (ap (group_at (type_groups groups)) place ∙ (get_or-map contents groups p.place g no_group in_groups ∙ ap contents (sym g_is)))
+
+  pub all_of : (P : RecGroup → Type 0) → All P groups → P g
+  all_of P each = subst P (sym g_is) (each p.place g in_groups)
+
+  pub filled_of : All (λ (w : TypeGroup). 0 < length w.ids) (groups_of groups ps) → 0 < length g.types
+  filled_of each = subst (λ (w : TypeGroup). 0 < length w.ids) picked (each j no_group (omega (arith, lt, groups_count groups ps)))
+
+  pub key_of : (slots : TypeSlots) (o : Option SortKey) → All (λ (q : PendingGroup). q.head ≡ head slots (rec_group_at groups q.place)) ps → IfSome o (λ w. IsSomeAnd p.head (IsLosslessKey w)) → DecodesToType slots (slice_index g.types 0) o
+  key_of slots o heads key =
+      let there : p.head ≡ head slots (rec_group_at groups p.place) = subst (λ (q : PendingGroup). q.head ≡ head slots (rec_group_at groups q.place)) (sym p_is) (heads j p lt) in
+      let here : p.head ≡ head slots g = there ∙ ap (head slots) (get_or_default groups p.place no_rec_group g in_groups ∙ sym g_is) in
+      head_key slots g.types o (subst (λ (t : Option ModuleType). IfSome o (λ w. IsSomeAnd t (IsLosslessKey w))) here key)
 
 pub empty_same : (old new : IndexMap) → IsEmpty old → IsSame old new → IsEmpty new
 empty_same old new e s = record { count = s.count ∙ e.count; index = λ id. s.index id ∙ e.index id }

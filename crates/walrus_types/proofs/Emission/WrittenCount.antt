@@ -68,5 +68,12 @@ module _ (is_entry : ℕ → Bool) where
             let here : size (group_at gs g).ids ≡ 0 = ap (λ (b : Bool). cond b (length (group_at gs g).ids) 0) (sym (e ∙ tests g)) in
             omega (arith, rest, here, sum_by-cons (λ h. size (group_at gs h).ids) g xs)
 
-    pub count_of_order : (order : List ℕ) → IsPermutation (range_with_len 0 (length gs)) order → id_count gs (filter w order) ≡ written_count is_entry gs
-    count_of_order order perm = in_filter order ∙ (sum_by-IsPermutation (λ g. size (group_at gs g).ids) (range_with_len 0 (length gs)) order perm ∙ sum_places (λ (g : TypeGroup). size g.ids) gs no_group 0 gs (λ i h. (let e : 0 + i ≡ i = omega arith in ap (λ (n : ℕ). get_or gs n no_group) e)))
+    in_places : (xs : List ℕ) → id_count gs xs ≡ sum_by (λ g. length (group_at gs g).ids) xs
+    in_places [] = refl
+    in_places (g ∷ xs) = omega (arith, length-append (group_at gs g).ids (ids_in (in_order gs xs)), in_places xs, sum_by-cons (λ h. length (group_at gs h).ids) g xs)
+
+    pub count_of_order : (order : List ℕ) → IsPermutation (filter w (range_with_len 0 (length gs))) order → id_count gs order ≡ written_count is_entry gs
+    count_of_order order perm =
+        let kept : List ℕ = filter w (range_with_len 0 (length gs)) in
+        let all : sum_by (λ g. size (group_at gs g).ids) (range_with_len 0 (length gs)) ≡ written_count is_entry gs = sum_places (λ (g : TypeGroup). size g.ids) gs no_group 0 gs (λ i h. (let e : 0 + i ≡ i = omega arith in ap (λ (n : ℕ). get_or gs n no_group) e)) in
+        in_places order ∙ (sum_by-IsPermutation (λ g. length (group_at gs g).ids) kept order perm ∙ (sym (in_places kept) ∙ (in_filter (range_with_len 0 (length gs)) ∙ all)))

@@ -6,7 +6,7 @@ use Rattle.std.specs.Option.{is_none}
 use Rattle.std.proofs.lemmas.List.{get_or_append_left, get_or_at, append-nil}
 use Rattle.std.proofs.lemmas.Bool.{cases_lt, eq-eqb, ne_eqb}
 use Rattle.walrus_arena.specs.Arena.{Slots}
-use Rattle.walrus_ty.specs.Definition.{Definition, Names, renamed}
+use Rattle.walrus_ty.specs.Definition.{Definition, Names, rename}
 use Rattle.walrus_ty.specs.Groups.{Section, Group, Single, Rec}
 use Rattle.walrus_sections.specs.Section.{IndexSpace, index_space, IsSingle, IsWellNamed}
 use Rattle.walrus_sections.specs.NormalForm.{image}
@@ -15,7 +15,7 @@ use Rattle.walrus_ty.specs.Types.{ModuleType}
 use Rattle.walrus_sections.specs.FirstError.{group_error, definitions_of}
 use Rattle.walrus_types.specs.ReadResult.{IsReadResult, IsCandidateFor, type_of_definition}
 use Rattle.walrus_types.specs.Steps.ReadSlots.{types_of_definitions, live_slots}
-use Rattle.walrus_ty.proofs.Names.Definitions.{renamed_agree, Names-renamed}
+use Rattle.walrus_ty.proofs.Names.Definitions.{rename_agree, Names-rename}
 use Rattle.walrus_sections.proofs.FirstError.Search.{sound_from_no_error}
 use Rattle.walrus_sections.proofs.Reading.NextGroup.{Follows, follows, single_rec_position, member_position}
 use Rattle.walrus_sections.proofs.Reading.Groups.{groups_next}
@@ -27,13 +27,13 @@ use Rattle.walrus_ty.proofs.Basics.{add_rest}
 stored_each :
     (f : ℕ → ℕ) (b : ℕ) (ds : List Definition) (q : ℕ → ModuleType) →
     ((u : ℕ) (d : Definition) → u < length ds →
-    q (b + u) ≡ type_of_definition (renamed f (get_or ds u d)) (b + u)) →
+    q (b + u) ≡ type_of_definition (rename f (get_or ds u d)) (b + u)) →
     live_slots (types_of_definitions f b ds) ≡ members_slots q b (length ds)
 stored_each f b [] q h = refl
 stored_each f b (d ∷ ds) q h =
     let here : b + 0 ≡ b = omega arith in
-    let first : q b ≡ type_of_definition (renamed f d) b = ap q (sym here) ∙ (h 0 d (omega arith) ∙ ap (type_of_definition (renamed f d)) here) in
-    let rest : live_slots (types_of_definitions f (b + 1) ds) ≡ members_slots q (b + 1) (length ds) = stored_each f (b + 1) ds q (λ u e w. ap q (shift b u) ∙ (h (suc u) e (omega arith) ∙ ap (type_of_definition (renamed f (get_or ds u e))) (sym (shift b u)))) in
+    let first : q b ≡ type_of_definition (rename f d) b = ap q (sym here) ∙ (h 0 d (omega arith) ∙ ap (type_of_definition (rename f d)) here) in
+    let rest : live_slots (types_of_definitions f (b + 1) ds) ≡ members_slots q (b + 1) (length ds) = stored_each f (b + 1) ds q (λ u e w. ap q (shift b u) ∙ (h (suc u) e (omega arith) ∙ ap (type_of_definition (rename f (get_or ds u e))) (sym (shift b u)))) in
     ap (λ (x : ModuleType). Some x ∷ live_slots (types_of_definitions f (b + 1) ds)) (sym first) ∙ ap (λ (xs : Slots ModuleType). Some (q b) ∷ xs) rest
   where
     shift : (b u : ℕ) → b + 1 + u ≡ b + suc u
@@ -85,7 +85,7 @@ module _ (eq : ModuleType → ModuleType → Bool) (tells : TellsTypes eq) (s : 
       agree k h = get_or_append_left r x 0 k (omega (arith, h, is.one_each))
 
       type_same : (i : ℕ) → i < n.count → read_type n r i ≡ read_type now r' i
-      type_same i h = ap (λ (d : Definition). type_of_definition d i) (renamed_agree (image r) (image r') (n.definition i) (λ k named. sym (agree k (below_count eq tells s r slots map groups is i h k named))) ∙ ap (renamed (image r')) (sym (next.definition i h)))
+      type_same i h = ap (λ (d : Definition). type_of_definition d i) (rename_agree (image r) (image r') (n.definition i) (λ k named. sym (agree k (below_count eq tells s r slots map groups is i h k named))) ∙ ap (rename (image r')) (sym (next.definition i h)))
 
       kept : Holds eq n.count (is_single now) (read_type now r') r slots map
       kept = holds_same eq n.count (is_single n) (is_single now) (read_type n r) (read_type now r') r slots map (λ i h. ap is_none (sym (next.rec_position i h))) type_same (held eq tells s r slots map groups is).holds
@@ -102,7 +102,7 @@ module _ (eq : ModuleType → ModuleType → Bool) (tells : TellsTypes eq) (s : 
     one = s ++ Single d ∷ []
 
     abbrev ty : ModuleType
-    ty = type_of_definition (renamed (image (r ++ n.count ∷ [])) d) n.count
+    ty = type_of_definition (rename (image (r ++ n.count ∷ [])) d) n.count
 
     here : (index_space one).definition n.count ≡ d
     here = new_definition (Single d) fine n.count d (omega arith) (let c = (next (Single d) fine).count in omega arith) ∙ first (n.count - n.count) (omega arith)
@@ -137,14 +137,14 @@ module _ (eq : ModuleType → ModuleType → Bool) (tells : TellsTypes eq) (s : 
         where
           self : ¬ (Names d n.count)
           self named =
-              let a = subst (λ (i : ℕ). Names (renamed (image (r ++ n.count ∷ [])) d) i) (last n.count) (Names-renamed (image (r ++ n.count ∷ [])) d n.count named) in
-              let e : renamed (image (r ++ n.count ∷ [])) d ≡ read_definition n (image r) j = sym (stored_definition _ n.count) ∙ candidate.same in
+              let a = subst (λ (i : ℕ). Names (rename (image (r ++ n.count ∷ [])) d) i) (last n.count) (Names-rename (image (r ++ n.count ∷ [])) d n.count named) in
+              let e : rename (image (r ++ n.count ∷ [])) d ≡ read_definition n (image r) j = sym (stored_definition _ n.count) ∙ candidate.same in
               let le = single_names eq tells s r slots map groups is j n.count candidate.below candidate.single (subst (λ (e : Definition). Names e n.count) e a) in
               let b = candidate.below in
               omega arith
 
       same_type : ty ≡ read_type (index_space one) (r ++ j ∷ []) n.count
-      same_type = ap (λ (e : Definition). type_of_definition e n.count) (renamed_agree (image (r ++ n.count ∷ [])) (image (r ++ j ∷ [])) d (λ k named. (let w = names_old k named in agree (Single d) fine (n.count ∷ []) k w ∙ sym (agree (Single d) fine (j ∷ []) k w))) ∙ ap (renamed (image (r ++ j ∷ []))) (sym here))
+      same_type = ap (λ (e : Definition). type_of_definition e n.count) (rename_agree (image (r ++ n.count ∷ [])) (image (r ++ j ∷ [])) d (λ k named. (let w = names_old k named in agree (Single d) fine (n.count ∷ []) k w ∙ sym (agree (Single d) fine (j ∷ []) k w))) ∙ ap (rename (image (r ++ j ∷ []))) (sym here))
 
       held_found : Holds eq (n.count + 1) (is_single (index_space one)) (read_type (index_space one) (r ++ j ∷ [])) (r ++ j ∷ []) (slots ++ None ∷ []) map
       held_found = read_found eq tells.laws n.count (is_single (index_space one)) (read_type (index_space one) (r ++ j ∷ [])) r slots map (found_alike eq tells s r slots map groups is) (kept (Single d) fine (j ∷ [])) alone j (subst (λ (q : ModuleType). map q ≡ Some j) same_type found)
@@ -168,7 +168,7 @@ module _ (eq : ModuleType → ModuleType → Bool) (tells : TellsTypes eq) (s : 
     -- nothing is found for it: its index stands for itself, and it is found from now on
     module _ (absent : map ty ≡ None) (map' : ModuleType → Option ℕ) (maps : (q : ModuleType) → map' q ≡ cond (eq ty q) (Some n.count) (map q)) where
       own_type : ty ≡ read_type (index_space one) (r ++ n.count ∷ []) n.count
-      own_type = ap (λ (e : Definition). type_of_definition (renamed (image (r ++ n.count ∷ [])) e) n.count) (sym here)
+      own_type = ap (λ (e : Definition). type_of_definition (rename (image (r ++ n.count ∷ [])) e) n.count) (sym here)
 
       held_new : Holds eq (n.count + 1) (is_single (index_space one)) (read_type (index_space one) (r ++ n.count ∷ [])) (r ++ n.count ∷ []) (slots ++ Some ty ∷ []) map'
       held_new =
@@ -209,8 +209,8 @@ module _ (eq : ModuleType → ModuleType → Bool) (tells : TellsTypes eq) (s : 
     abbrev members : Slots ModuleType
     members = live_slots (types_of_definitions (image ids) n.count ds)
 
-    member_type : (u : ℕ) (d : Definition) → u < length ds → read_type (index_space more) ids (n.count + u) ≡ type_of_definition (renamed (image ids) (get_or ds u d)) (n.count + u)
-    member_type u d h = ap (λ (e : Definition). type_of_definition (renamed (image ids) e) (n.count + u)) ((next (Rec ds) fine).new_definition u d h)
+    member_type : (u : ℕ) (d : Definition) → u < length ds → read_type (index_space more) ids (n.count + u) ≡ type_of_definition (rename (image ids) (get_or ds u d)) (n.count + u)
+    member_type u d h = ap (λ (e : Definition). type_of_definition (rename (image ids) e) (n.count + u)) ((next (Rec ds) fine).new_definition u d h)
 
     in_rec : (u : ℕ) → u < length ds → is_single (index_space more) (n.count + u) ≡ false
     in_rec u h = let x = member_position s ds u h in some_single ((index_space more).rec_position (n.count + u)) x.0 x.1

@@ -6,7 +6,7 @@ use Rattle.std.proofs.lemmas.List.{map-append, length-map}
 use Rattle.walrus_arena.specs.Arena.{Slots, get}
 use Rattle.walrus_ty.specs.declared.ty.composite.CompositeType.{CompositeType}
 use Rattle.walrus_ty.specs.declared.ty.composite.CompositeType.TheVariants as kind
-use Rattle.walrus_ty.specs.Definition.{Definition, renamed}
+use Rattle.walrus_ty.specs.Definition.{Definition, rename}
 use Rattle.walrus_ty.specs.Groups.{Section, Single, Rec}
 use Rattle.walrus_sections.specs.Section.{index_space}
 use Rattle.walrus_sections.specs.NormalForm.{image}
@@ -101,7 +101,7 @@ module _ (s : Section) (old : Table) (r : List ℕ) (is : IsReadInto s old r) wh
     b = (index_space s).count
 
     abbrev ty : ModuleType
-    ty = type_of_definition (renamed (image (r ++ b ∷ [])) d) b
+    ty = type_of_definition (rename (image (r ++ b ∷ [])) d) b
 
     single_by : (o : Option ℕ) → found_id old.types ty ≡ o → MatchOption o (AddsType old new ty id) (λ found. (id ≡ found) × UsesUpId old new) → IsReadInto (s ++ Single d ∷ []) new (r ++ id ∷ [])
     single_by None h adds =
@@ -131,24 +131,24 @@ member_stored m d id h = ap (λ (k : CompositeType). unnamed_type k m.1 m.2 fals
 
 placed_is :
     (f : ℕ → ℕ) (id : ℕ) (members : List Member) (ds : List Definition) →
-    map member_definition members ≡ map (renamed f) ds →
+    map member_definition members ≡ map (rename f) ds →
     member_types id members ≡ types_of_definitions f id ds
 placed_is f id [] [] h = refl
 placed_is f id [] (d ∷ ds) h = absurd cc
 placed_is f id (m ∷ members) [] h = absurd cc
 placed_is f id (m ∷ members) (d ∷ ds) h =
-    let first = member_stored m (renamed f d) id (head_same (member_definition m) (renamed f d) (map member_definition members) (map (renamed f) ds) h) in
-    let rest = placed_is f (id + 1) members ds (tail_same (member_definition m) (renamed f d) (map member_definition members) (map (renamed f) ds) h) in
-    ap (λ (x : ModuleType). x ∷ member_types (id + 1) members) first ∙ ap (λ (xs : List ModuleType). type_of_definition (renamed f d) id ∷ xs) rest
+    let first = member_stored m (rename f d) id (head_same (member_definition m) (rename f d) (map member_definition members) (map (rename f) ds) h) in
+    let rest = placed_is f (id + 1) members ds (tail_same (member_definition m) (rename f d) (map member_definition members) (map (rename f) ds) h) in
+    ap (λ (x : ModuleType). x ∷ member_types (id + 1) members) first ∙ ap (λ (xs : List ModuleType). type_of_definition (rename f d) id ∷ xs) rest
 
 module _ (s : Section) (old : Table) (r : List ℕ) (is : IsReadInto s old r) (ds : List Definition) (fine : group_error (index_space s).count ds ≡ None) (new : Table) (members : List Member) where
   abbrev own : List ℕ
   own = range_with_len (index_space s).count (length ds)
 
-  pub rec_read : map member_definition members ≡ map (renamed (image (r ++ own))) ds → AddsGroup old new members → IsReadInto (s ++ Rec ds ∷ []) new (r ++ own)
+  pub rec_read : map member_definition members ≡ map (rename (image (r ++ own))) ds → AddsGroup old new members → IsReadInto (s ++ Rec ds ∷ []) new (r ++ own)
   rec_read same adds =
       let first : next_id old ≡ (index_space s).count = is.slot_each in
-      let many : length members ≡ length ds = sym (length-map members member_definition) ∙ (ap length same ∙ length-map ds (renamed (image (r ++ own)))) in
+      let many : length members ≡ length ds = sym (length-map members member_definition) ∙ (ap length same ∙ length-map ds (rename (image (r ++ own)))) in
       let tys : member_types (next_id old) members ≡ types_of_definitions (image (r ++ own)) (index_space s).count ds = placed_is (image (r ++ own)) (next_id old) members ds same ∙ ap (λ (i : ℕ). types_of_definitions (image (r ++ own)) i ds) first in
       let ids : range_with_len (next_id old) (length members) ≡ own = ap (λ (i : ℕ). range_with_len i (length members)) first ∙ ap (range_with_len (index_space s).count) many in
       reads_at (s ++ Rec ds ∷ []) (r ++ own) (r ++ own) (old.types.slots ++ live_slots (types_of_definitions (image (r ++ own)) (index_space s).count ds)) new.types.slots (known_id old.types) (known_id new.types) (map contents old.groups ++ record { ids = own; is_explicit = true } ∷ []) (map contents new.groups)

@@ -9,7 +9,7 @@ use Rattle.walrus_sections.specs.declared.error.ReadError.{ReadError}
 use Rattle.walrus_sections.specs.declared.error.ReadError.TheVariants.{Memory}
 use Rattle.walrus_ty.specs.declared.records.EntryAt.{EntryAt}
 use Rattle.walrus_ty.specs.declared.records.GroupAt.{GroupAt}
-use Rattle.walrus_ty.specs.Definition.{Definition, renamed}
+use Rattle.walrus_ty.specs.Definition.{Definition, rename}
 use Rattle.walrus_sections.specs.FirstError.{group_error, definitions_of, IsFirstError}
 use Rattle.walrus_ty.specs.Lookups.{value_or_zero}
 use Rattle.walrus_sections.specs.NormalForm.{image}
@@ -22,21 +22,21 @@ use Rattle.walrus_ty.specs.SubTypes.{sub_type_definition}
 use Rattle.walrus_types.specs.Table.{Table, Member}
 use Rattle.walrus_types.specs.Steps.TableReads.{ReadsSingle, ReadsRec, member_definition}
 use Rattle.walrus_ty.specs.Types.{ModuleType, unnamed_type}
-use Rattle.walrus_ty.proofs.Names.Definitions.{renamed_agree}
+use Rattle.walrus_ty.proofs.Names.Definitions.{rename_agree}
 use Rattle.walrus_types.proofs.Reading.Reader.{read_still, single_read, rec_read, member_stored}
 
 -- the look-up of the ids is their image
 pub looked_up :
     (ids : List ℕ) (d : Definition) →
-    renamed (value_or_zero (slice_get ids)) d ≡ renamed (image ids) d
-looked_up ids d = renamed_agree (value_or_zero (slice_get ids)) (image ids) d (λ k named. unwrap_or-slice_get ids k 0)
+    rename (value_or_zero (slice_get ids)) d ≡ rename (image ids) d
+looked_up ids d = rename_agree (value_or_zero (slice_get ids)) (image ids) d (λ k named. unwrap_or-slice_get ids k 0)
 
 pub sub_type_stored :
     (sub : SubType) (ids : List ℕ) (d : Definition) (id : ℕ) →
-    sub_type_definition sub ≡ renamed (value_or_zero (slice_get ids)) d →
+    sub_type_definition sub ≡ rename (value_or_zero (slice_get ids)) d →
     unnamed_type sub.kind sub.is_final sub.supertype false id ≡
-    type_of_definition (renamed (image ids) d) id
-sub_type_stored sub ids d id h = member_stored (sub.kind, sub.is_final, sub.supertype) (renamed (image ids) d) id (h ∙ looked_up ids d)
+    type_of_definition (rename (image ids) d) id
+sub_type_stored sub ids d id h = member_stored (sub.kind, sub.is_final, sub.supertype) (rename (image ids) d) id (h ∙ looked_up ids d)
 
 entries_more :
     (es : List EntryAt) (i : ℕ) (e : EntryAt) → i < length es → e ≡ get_or es i e →
@@ -47,12 +47,12 @@ entries_more es i e h at = take_more es i e h ∙ ap (λ (x : EntryAt). take i e
 pub members_more :
     (ids : List ℕ) (ms : List Member) (sub : SubType) (es : List EntryAt) (i : ℕ) (e : EntryAt) →
     i < length es → e ≡ get_or es i e →
-    map member_definition ms ≡ map (renamed (image ids)) (map entry_definition (take i es)) →
-    sub_type_definition sub ≡ renamed (value_or_zero (slice_get ids)) (entry_definition e) →
+    map member_definition ms ≡ map (rename (image ids)) (map entry_definition (take i es)) →
+    sub_type_definition sub ≡ rename (value_or_zero (slice_get ids)) (entry_definition e) →
     map member_definition (ms ++ (sub.kind, sub.is_final, sub.supertype) ∷ []) ≡
-    map (renamed (image ids)) (map entry_definition (take (i + 1) es))
+    map (rename (image ids)) (map entry_definition (take (i + 1) es))
 members_more ids ms sub es i e h at so_far one =
-    let f : Definition → Definition = renamed (image ids) in
+    let f : Definition → Definition = rename (image ids) in
     let m : Member = (sub.kind, sub.is_final, sub.supertype) in
     map-append member_definition ms (m ∷ [])
     ∙ (ap (λ (ds : List Definition). ds ++ member_definition m ∷ []) so_far
@@ -64,13 +64,13 @@ pub single_pushed :
     (s : Section) (old new : Table) (r ids ids' : List ℕ) (index id : ℕ) (d : Definition) →
     IsReadInto s old r → index ≡ length r → ids ≡ r ++ index ∷ [] → ids' ≡ set ids index id →
     group_error index (d ∷ []) ≡ None →
-    ReadsSingle old new (type_of_definition (renamed (image ids) d) (length old.types.slots)) id →
+    ReadsSingle old new (type_of_definition (rename (image ids) d) (length old.types.slots)) id →
     IsReadInto (s ++ Single d ∷ []) new ids'
 single_pushed s old new r ids ids' index id d is at pushed sent fine reads =
     let count : index ≡ (index_space s).count = at ∙ is.one_each in
     let slots : length old.types.slots ≡ (index_space s).count = is.slot_each in
     let where_sent : r ++ id ∷ [] ≡ ids' = sym (sent ∙ (ap (λ (xs : List ℕ). set xs index id) pushed ∙ (ap (λ (i : ℕ). set (r ++ index ∷ []) i id) at ∙ set-append_seam r index [] id))) in
-    let own : type_of_definition (renamed (image ids) d) (length old.types.slots) ≡ type_of_definition (renamed (image (r ++ (index_space s).count ∷ [])) d) (index_space s).count = ap (λ (xs : List ℕ). type_of_definition (renamed (image xs) d) (length old.types.slots)) (pushed ∙ ap (λ (i : ℕ). r ++ i ∷ []) count) ∙ ap (type_of_definition (renamed (image (r ++ (index_space s).count ∷ [])) d)) slots in
+    let own : type_of_definition (rename (image ids) d) (length old.types.slots) ≡ type_of_definition (rename (image (r ++ (index_space s).count ∷ [])) d) (index_space s).count = ap (λ (xs : List ℕ). type_of_definition (rename (image xs) d) (length old.types.slots)) (pushed ∙ ap (λ (i : ℕ). r ++ i ∷ []) count) ∙ ap (type_of_definition (rename (image (r ++ (index_space s).count ∷ [])) d)) slots in
     subst (λ (xs : List ℕ). IsReadInto (s ++ Single d ∷ []) new xs) where_sent
     (single_read s old r is d (subst (λ (i : ℕ). group_error i (d ∷ []) ≡ None) count fine) new id (subst (λ (ty : ModuleType). ReadsSingle old new ty id) own reads))
 
@@ -78,13 +78,13 @@ single_pushed s old new r ids ids' index id d is at pushed sent fine reads =
 pub rec_pushed :
     (s : Section) (old new : Table) (r ids : List ℕ) (index : ℕ) (ds : List Definition) →
     IsReadInto s old r → index ≡ length r → ids ≡ r ++ range_with_len index (length ds) →
-    group_error index ds ≡ None → ReadsRec old new (map (renamed (image ids)) ds) →
+    group_error index ds ≡ None → ReadsRec old new (map (rename (image ids)) ds) →
     IsReadInto (s ++ Rec ds ∷ []) new ids
 rec_pushed s old new r ids index ds is at pushed fine reads =
     let count : index ≡ (index_space s).count = at ∙ is.one_each in
     let same : ids ≡ r ++ range_with_len (index_space s).count (length ds) = pushed ∙ ap (λ (i : ℕ). r ++ range_with_len i (length ds)) count in
     subst (λ (xs : List ℕ). IsReadInto (s ++ Rec ds ∷ []) new xs) (sym same)
-    (rec_read s old r is ds (subst (λ (i : ℕ). group_error i ds ≡ None) count fine) new reads.0 (reads.2 ∙ ap (λ (xs : List ℕ). map (renamed (image xs)) ds) same) reads.1)
+    (rec_read s old r is ds (subst (λ (i : ℕ). group_error i ds ≡ None) count fine) new reads.0 (reads.2 ∙ ap (λ (xs : List ℕ). map (rename (image xs)) ds) same) reads.1)
 
 groups_more :
     (gs : List GroupAt) (i : ℕ) (g : GroupAt) → i < length gs → g ≡ get_or gs i g →

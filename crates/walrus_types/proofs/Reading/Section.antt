@@ -11,7 +11,7 @@ use Rattle.walrus_sections.specs.NormalForm.{image}
 use Rattle.walrus_sections.specs.SlotMap.{IsSlotMap, IsCandidate, TypeGroup, read_definition, read_groups}
 use Rattle.walrus_ty.specs.Types.{ModuleType, kind_composite, type_definition}
 use Rattle.walrus_types.specs.ReadResult.{IsReadResult, composite_kind, type_of_definition}
-use Rattle.walrus_ty.proofs.Names.Definitions.{Names-renamed, named_before}
+use Rattle.walrus_ty.proofs.Names.Definitions.{Names-rename, named_before}
 use Rattle.walrus_sections.proofs.Sections.Lying.{in_or_out}
 use Rattle.walrus_sections.proofs.Sections.Rows.{laid_out}
 use Rattle.walrus_types.proofs.Reading.NextIndex.{Holds, IsEarlier}
@@ -117,7 +117,7 @@ module _ (eq : ModuleType → ModuleType → Bool) (tells : TellsTypes eq) (s : 
 
     no_self : (i j : ℕ) → i < n.count → image r i ≡ i → IsCandidate n (image r) i j → ¬ (Names (n.definition i) i)
     no_self i j h own c named =
-        let a = Names-renamed (image r) (n.definition i) i named in
+        let a = Names-rename (image r) (n.definition i) i named in
         let b : Names (read_definition n (image r) j) (image r i) = subst (λ (d : Definition). Names d (image r i)) (sym c.same) a in
         let e = c.earlier in
         let le = single_names j (image r i) (omega arith) c.single b in

@@ -1,7 +1,7 @@
 -- Which groups of a table are free, and which are written, as tests.
 -- Of this crate's own working; it serves the writing of a table as a type section. WebAssembly core
 -- specification, "Modules", types.
-use Rattle.std.specs.Prelude.{slice_index_or, ℕ, ◌==◌, ◌||◌, ◌&&◌, List, [], ◌∷◌, Bool, true, false, not, is_none, Option, Some, None, option_and_then}
+use Rattle.std.specs.Prelude.{ℕ, ◌==◌, ◌||◌, ◌&&◌, List, [], ◌∷◌, Bool, true, false, not, is_none, Option, Some, None, option_and_then}
 use Rattle.std.specs.List.{list_all, list_any}
 use Rattle.walrus_ty.specs.Types.{ModuleType, type_definition}
 use Rattle.walrus_ty.specs.Definition.{names_of}
@@ -43,10 +43,10 @@ head slots g = option_and_then (live_type slots) (first_of g.types)
 abbrev pub is_written_group : TypeSlots → RecGroup → Bool
 is_written_group slots g = list_any (λ i. not (is_entry_at slots i)) g.types
 
+-- whether the group at this place is free
+abbrev pub is_free_at : TypeSlots → List RecGroup → ℕ → Bool
+is_free_at slots groups g = is_free slots (rec_group_at groups g)
+
 -- whether the group at this place is written
 abbrev pub is_written_at : TypeSlots → List RecGroup → ℕ → Bool
 is_written_at slots groups g = is_written_group slots (rec_group_at groups g)
-
--- whether there is a mark at this place, and it is set
-abbrev pub is_marked : List Bool → ℕ → Bool
-is_marked marks g = slice_index_or marks g false

@@ -2,7 +2,7 @@
 -- Of this crate's own working; it serves the reading of a type section. WebAssembly core
 -- specification, "Modules", types.
 use Rattle.std.specs.Prelude.{ℕ, ◌+◌, List, [], ◌∷◌, map, Some}
-use Rattle.walrus_ty.specs.Definition.{Definition, renamed}
+use Rattle.walrus_ty.specs.Definition.{Definition, rename}
 use Rattle.walrus_ty.specs.Types.{ModuleType}
 use Rattle.walrus_types.specs.TypesById.{TypeSlots}
 use Rattle.walrus_types.specs.ReadResult.{type_of_definition}
@@ -11,7 +11,7 @@ use Rattle.walrus_types.specs.ReadResult.{type_of_definition}
 abbrev pub types_of_definitions : (ℕ → ℕ) → ℕ → List Definition → List ModuleType
 types_of_definitions m b [] = []
 types_of_definitions m b (d ∷ ds) =
-    type_of_definition (renamed m d) b ∷ types_of_definitions m (b + 1) ds
+    type_of_definition (rename m d) b ∷ types_of_definitions m (b + 1) ds
 
 -- a live slot for each of these types
 abbrev pub live_slots : List ModuleType → TypeSlots

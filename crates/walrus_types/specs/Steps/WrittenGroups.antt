@@ -3,7 +3,7 @@
 -- specification, "Modules", types.
 use Rattle.std.specs.Prelude.{◌≡◌, ℕ, IsSomeAnd, Bool, true, false, [], ◌∷◌, ◌+◌, ◌<◌, ◌⊎◌, cond, List, length, map, take, slice_get, slice_index, Contains, Option, Some, None, unwrap_or}
 use Rattle.std.specs.List.{flat_map}
-use Rattle.walrus_ty.specs.Definition.{Definition, names_of, renamed}
+use Rattle.walrus_ty.specs.Definition.{Definition, names_of, rename}
 use Rattle.walrus_ty.specs.Groups.{Group, Single, Rec}
 use Rattle.walrus_sections.specs.SlotMap.{TypeGroup}
 use Rattle.walrus_ty.specs.Records.{section_of}
@@ -19,7 +19,6 @@ use Rattle.walrus_ty.specs.Lookups.{first_missing}
 use Rattle.walrus_sections.specs.Emission.{group_at, IsWritten}
 use Rattle.walrus_sections.specs.Emission.{IsWrittenBefore}
 use Rattle.walrus_types.specs.TypesById.{TypeSlots, live_type}
-use Rattle.walrus_types.specs.Table.{rec_group_at}
 use Rattle.walrus_types.specs.Steps.LosslessKeys.{IsLosslessKey}
 use Rattle.walrus_types.specs.Steps.SortKeys.{SortKey}
 
@@ -27,31 +26,10 @@ use Rattle.walrus_types.specs.Steps.SortKeys.{SortKey}
 abbrev pub ids_in : List TypeGroup → List ℕ
 ids_in ws = flat_map (λ w. w.ids) ws
 
--- a group that is to be written, with the key of its first type, where that is lossless
-pub record KeyedGroup : Type 0 where
-  pub group : TypeGroup
-  pub lossless_key : Option SortKey
-
--- their groups
-abbrev pub groups_of : List KeyedGroup → List TypeGroup
-groups_of ps = map (λ p. p.group) ps
-
 -- where there is a key, it is a lossless one of the type of this id
 abbrev pub DecodesToType : TypeSlots → ℕ → Option SortKey → Type 0
 DecodesToType slots id lossless_key =
     (w : SortKey) → lossless_key ≡ Some w → IsSomeAnd (live_type slots id) (IsLosslessKey w)
-
--- where there is a key, it is a lossless one of the group's first type
-abbrev pub DecodesToFirst : TypeSlots → KeyedGroup → Type 0
-DecodesToFirst slots p = DecodesToType slots (slice_index p.group.ids 0) p.lossless_key
-
--- for each group a lossless key of its first type, or none
-pub record AreLosslessKeys (slots : TypeSlots) (groups : List RecGroup)
-    (keys : List (Option SortKey)) : Type 0 where
-  pub as_many : length keys ≡ length groups
-  pub each :
-      (g : ℕ) (o : Option SortKey) → slice_get keys g ≡ Some o →
-      DecodesToType slots (slice_index (rec_group_at groups g).types 0) o
 
 -- the groups at these places
 abbrev pub in_order : List TypeGroup → List ℕ → List TypeGroup
@@ -68,7 +46,7 @@ written_group d w = cond w.is_explicit (Rec (map d w.ids)) (Single (d (slice_ind
 
 -- the definition of the id, with each name replaced by its index
 abbrev pub with_indices : (ℕ → Option ℕ) → (ℕ → Definition) → ℕ → Definition
-with_indices index definition i = renamed (λ k. unwrap_or (index k) 0) (definition i)
+with_indices index definition i = rename (λ k. unwrap_or (index k) 0) (definition i)
 
 -- the id has this place in this group of the list; of its names the one at this position, `named`, is
 -- none of the ids up to the end of the group

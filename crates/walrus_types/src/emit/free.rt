@@ -1,65 +1,18 @@
 //! Which groups are free, and which are written.
-ghost use Rattle.std.specs.Prelude.{◌≡◌, IfOk, IfSome, IsSomeAnd, map, All};
+ghost use Rattle.std.specs.Prelude.{◌≡◌, All};
 ghost use Rattle.std.specs.List.{list_all};
 ghost use Rattle.walrus_types.specs.TypesById.{IsLive};
 ghost use Rattle.walrus_types.specs.declared.table.rec_group.RecGroup.{RecGroup};
 ghost use Rattle.walrus_ty.specs.Definition.{composite_names, supertype_names, names_of};
 ghost use Rattle.walrus_types.specs.Steps.FreeGroups.{is_own_or_dead, names_none_other, is_free, head, is_written_group};
-ghost use Rattle.walrus_types.specs.Steps.LosslessKeys.{IsLosslessKey};
-ghost use Rattle.walrus_types.specs.Steps.WrittenGroups.{AreLosslessKeys};
 ghost use Rattle.walrus_ty.specs.Types.{kind_composite, type_definition};
 ghost use Rattle.walrus_ty.specs.Value.{heap_names, val_names, storage_names, field_names};
 
-use super::sort_key::{KeyedType, SortKey};
+use super::sort_key::KeyedType;
 use crate::{
     CompositeType, FieldType, Heap, HeapType, ModuleTypes, RecGroup, Storage, StorageType, Type,
     TypeId, Val, ValType,
 };
-use std::alloc::{AllocError, Global};
-
-// What decides the place of each group: whether it is free, its first type, and whether it is
-// written; and the key of its first type, where that is lossless.
-#[derive(Drop)]
-pub(super) struct GroupInfo<'a> {
-    pub(super) free: Vec<bool>,
-    pub(super) heads: Vec<Option<KeyedType<'a>>>,
-    pub(super) written: Vec<bool>,
-    pub(super) lossless_keys: Vec<Option<SortKey>>,
-}
-
-// One pass finds all of it, since it is reaching a type that costs.
-pub(super) fn classify_groups<'a>(
-    alloc: Global,
-    table: &'a ModuleTypes,
-    groups: &[RecGroup],
-) -> Result<GroupInfo<'a>, AllocError>
-    requires { All (λ (g : RecGroup). All (IsLive table.now.types.slots) g.types) groups.now }
-    ensures free { IfOk result
-        (λ s. s.free.items ≡ map (is_free table.now.types.slots) groups.now) }
-    ensures heads { IfOk result (λ s. s.heads.items ≡ map (head table.now.types.slots) groups.now) }
-    ensures written { IfOk result
-        (λ s. s.written.items ≡ map (is_written_group table.now.types.slots) groups.now) }
-    ensures lossless_keys { IfOk result
-        (λ s. AreLosslessKeys table.now.types.slots groups.now s.lossless_keys.items) }
-{
-    let mut free = Vec::with_capacity(alloc, groups.len())?;
-    let mut heads = Vec::with_capacity(alloc, groups.len())?;
-    let mut written = Vec::with_capacity(alloc, groups.len())?;
-    let mut lossless_keys = Vec::with_capacity(alloc, groups.len())?;
-    for group in groups {
-        free.push(is_free_group(table, group))?;
-        let head = head_of(table, group);
-        lossless_keys.push(lossless_key_of(&head))?;
-        heads.push(head)?;
-        written.push(is_written_group(table, group))?;
-    }
-    Ok(GroupInfo {
-        free,
-        heads,
-        written,
-        lossless_keys,
-    })
-}
 
 // Whether some type of the group stands for more than the entry of a function.
 pub(super) fn is_written_group(table: &ModuleTypes, group: &RecGroup) -> bool
@@ -74,7 +27,8 @@ pub(super) fn is_written_group(table: &ModuleTypes, group: &RecGroup) -> bool
     false
 }
 
-fn head_of<'a>(table: &'a ModuleTypes, group: &RecGroup) -> Option<KeyedType<'a>>
+// Its first type.
+pub(super) fn head_of<'a>(table: &'a ModuleTypes, group: &RecGroup) -> Option<KeyedType<'a>>
     requires { All (IsLive table.now.types.slots) group.now.types }
     ensures { result ≡ head table.now.types.slots group.now }
 {
@@ -84,19 +38,9 @@ fn head_of<'a>(table: &'a ModuleTypes, group: &RecGroup) -> Option<KeyedType<'a>
     }
 }
 
-// The key of the head, where that is lossless.
-fn lossless_key_of(head: &Option<KeyedType<'_>>) -> Option<SortKey>
-    ensures { IfSome result (λ w. IsSomeAnd head.now (IsLosslessKey w)) }
-{
-    match head {
-        Some(ty) => ty.lossless_key(),
-        None => None,
-    }
-}
-
 // Whether the group is free: it has no types, or it isn't explicit and its one type names no live
 // type but itself.
-fn is_free_group(table: &ModuleTypes, group: &RecGroup) -> bool
+pub(super) fn is_free_group(table: &ModuleTypes, group: &RecGroup) -> bool
     requires { All (IsLive table.now.types.slots) group.now.types }
     ensures { result ≡ is_free table.now.types.slots group.now }
 {

@@ -1,74 +1,90 @@
-//! The order in which groups are written.
-ghost use Rattle.std.specs.Prelude.{◌≡◌, IfOk, map, length};
-ghost use Rattle.walrus_types.specs.Steps.PlacesInOrder.{IsOrder, with_places};
-ghost use Rattle.walrus_types.specs.Steps.Neighbours.{AreStarts, AreKeys, OrdersNeighbours};
+//! The groups that are written, and their order.
+ghost use Rattle.std.specs.Prelude.{◌≡◌, cond, length, All, IfOk, IfSome, IsSomeAnd};
+ghost use Rattle.walrus_sections.specs.Refusal.{written_count};
+ghost use Rattle.walrus_types.specs.TypesById.{IsLive};
+ghost use Rattle.walrus_types.specs.Table.{rec_group_at};
+ghost use Rattle.walrus_types.specs.TableEmission.{type_groups, definition_at, is_entry_at};
+ghost use Rattle.walrus_types.specs.declared.table.rec_group.RecGroup.{RecGroup};
+ghost use Rattle.walrus_types.specs.declared.emit.order.PendingGroup.{PendingGroup};
+ghost use Rattle.walrus_types.specs.Steps.FreeGroups.{head};
+ghost use Rattle.walrus_types.specs.Steps.LosslessKeys.{IsLosslessKey};
+ghost use Rattle.walrus_types.specs.Steps.PendingGroups.{pending_groups, places_of};
+ghost use Rattle.walrus_types.specs.Steps.WrittenGroups.{IsWritingOrder, id_count};
 
+use super::free::{head_of, is_free_group, is_written_group};
+use super::sort_key::{KeyedType, SortKey};
+use crate::{ModuleTypes, RecGroup};
 use std::alloc::{AllocError, Global};
 
-// The groups with each run of free ones sorted by their heads. Groups with equal heads keep their
-// order.
-pub(super) fn group_order<K: Ord + Drop>(
-    alloc: Global,
-    free: &[bool],
-    heads: Vec<Option<K>>,
-) -> Result<Vec<usize>, AllocError>
-    requires { length free.now ≡ length heads.items }
-    ensures { IfOk result (λ v. OrdersNeighbours K.cmp free.now heads.items v.items) }
-{
-    let starts = run_starts(alloc, free)?;
-    let keys = keyed(alloc, starts.as_slice(), heads)?;
-    places_in_order(alloc, keys)
+// A group that is to be written: where its run begins, its first type, and its place. They are
+// sorted by these in turn: each run of free groups by their first types, and all else stays.
+#[derive(PartialEq, Eq, PartialOrd, Ord, Drop)]
+pub(super) struct PendingGroup<'a> {
+    start: usize,
+    head: Option<KeyedType<'a>>,
+    pub(super) place: usize,
 }
 
-// For each group where its run begins: at itself where it is not free, else one past the last group
-// before it that is not.
-fn run_starts(alloc: Global, free: &[bool]) -> Result<Vec<usize>, AllocError>
-    ensures { IfOk result (λ v. AreStarts free.now v.items) }
-{
-    let mut starts = Vec::new(alloc);
-    let mut start = 0;
-    for (group, is_free) in free.iter().enumerate() {
-        if *is_free {
-            starts.push(start)?;
-        } else {
-            starts.push(group)?;
-            start = group + 1;
+impl<'a> PendingGroup<'a> {
+    // The key of its first type, where that is lossless.
+    pub(super) fn lossless_key(&self) -> Option<SortKey>
+        ensures { IfSome result (λ w. IsSomeAnd self.now.head (IsLosslessKey w)) }
+    {
+        match &self.head {
+            Some(ty) => ty.lossless_key(),
+            None => None,
         }
     }
-    Ok(starts)
 }
 
-fn keyed<K: Drop>(
+// The groups that are written, in the order in which they are.
+pub(super) fn writing_order<'a>(
     alloc: Global,
-    starts: &[usize],
-    heads: Vec<Option<K>>,
-) -> Result<Vec<(usize, Option<K>)>, AllocError>
-    requires { length starts.now ≡ length heads.items }
-    ensures { IfOk result (λ v. AreKeys starts.now heads.items v.items) }
+    table: &'a ModuleTypes,
+) -> Result<Vec<PendingGroup<'a>>, AllocError>
+    ensures order { IfOk result
+        (λ v. IsWritingOrder (type_groups table.now.groups) (definition_at table.now.types.slots)
+        (is_entry_at table.now.types.slots) (places_of v.items)) }
+    ensures count { IfOk result
+        (λ v. id_count (type_groups table.now.groups) (places_of v.items) ≡
+        written_count (is_entry_at table.now.types.slots) (type_groups table.now.groups)) }
+    ensures heads { IfOk result
+        (λ v. All (λ (p : PendingGroup).
+        p.head ≡ head table.now.types.slots (rec_group_at table.now.groups p.place)) v.items) }
 {
-    starts.iter().copied().zip(heads).collect(alloc)
+    let mut pending = pending_groups(alloc, table, table.rec_groups())?;
+    pending.sort()?;
+    Ok(pending)
 }
 
-fn places_in_order<T: Ord + Drop>(alloc: Global, items: Vec<T>) -> Result<Vec<usize>, AllocError>
-    ensures { IfOk result (λ v. IsOrder T.cmp items.items v.items) }
+// The groups that are written, in their own order. `run` is where the free groups begin that stand
+// just before the next one.
+fn pending_groups<'a>(
+    alloc: Global,
+    table: &'a ModuleTypes,
+    groups: &[RecGroup],
+) -> Result<Vec<PendingGroup<'a>>, AllocError>
+    requires { All (λ (g : RecGroup). All (IsLive table.now.types.slots) g.types) groups.now }
+    ensures { IfOk result
+        (λ v. v.items ≡ pending_groups table.now.types.slots groups.now (length groups.now)) }
 {
-    let mut pairs = paired(alloc, items)?;
-    pairs.sort()?;
-    second_of(alloc, pairs.as_slice())
+    let mut pending = Vec::with_capacity(alloc, groups.len())?;
+    let mut run = 0;
+    for (place, group) in groups.iter().enumerate() {
+        let is_free = is_free_group(table, group);
+        if is_written_group(table, group) {
+            let start = run_or(is_free, run, place);
+            let head = head_of(table, group);
+            pending.push(PendingGroup { start, head, place })?;
+        }
+        run = run_or(is_free, run, place + 1);
+    }
+    Ok(pending)
 }
 
-fn paired<T: Drop>(alloc: Global, items: Vec<T>) -> Result<Vec<(T, usize)>, AllocError>
-    ensures { IfOk result (λ v. v.items ≡ with_places 0 items.items) }
+// Where the run begins, if the group is free and so part of it, else this place.
+fn run_or(is_free: bool, run: usize, place: usize) -> usize
+    ensures { result ≡ cond is_free run place }
 {
-    items
-        .into_iter()
-        .enumerate()
-        .map(|(place, item)| (item, place))
-        .collect(alloc)
-}
-
-fn second_of<T>(alloc: Global, pairs: &[(T, usize)]) -> Result<Vec<usize>, AllocError>
-    ensures { IfOk result (λ v. v.items ≡ map (λ p. p.1) pairs.now) }
-{
-    pairs.iter().map(|pair| pair.1).collect(alloc)
+    if is_free { run } else { place }
 }

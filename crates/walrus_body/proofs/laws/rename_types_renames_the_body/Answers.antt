@@ -1,4 +1,4 @@
-use Rattle.walrus_body.proofs.RenamedBodies.{names_kept, body_renamed, renamed_once, others_not_renamed}
+use Rattle.walrus_body.proofs.RenamedBodies.{names_kept, body_renamed, rename_once, others_not_renamed}
 use Rattle.walrus_body.proofs.laws.rename_types_renames_the_body.Goals as goal
 
 pub returns-clause-names : goal.returns-clause-names
@@ -8,7 +8,7 @@ pub returns-clause-body : goal.returns-clause-body
 returns-clause-body c = body_renamed
 
 pub returns-clause-once : goal.returns-clause-once
-returns-clause-once c = renamed_once
+returns-clause-once c = rename_once
 
 pub returns-clause-others : goal.returns-clause-others
 returns-clause-others c = others_not_renamed

@@ -1,5 +1,5 @@
 use Rattle.std.proofs.Common.{◌≡◌, ℕ, length, ap, subst, ◌∙◌, false}
-use Rattle.walrus_ty.specs.Definition.{renamed}
+use Rattle.walrus_ty.specs.Definition.{rename}
 use Rattle.walrus_sections.specs.NormalForm.{image}
 use Rattle.walrus_types.specs.ReadResult.{type_of_definition}
 use Rattle.walrus_ty.specs.Records.{entry_definition}
@@ -10,7 +10,7 @@ use Rattle.walrus_types.proofs.section_reader.read_single.Goals as goal
 
 pub returns-clause-ok : goal.returns-clause-ok
 returns-clause-ok c =
-    let own : c.new-ty.result ≡ type_of_definition (renamed (image c.args.ids.now.types) (entry_definition c.args.entry.now)) (length c.args.types.now.types.slots) =
+    let own : c.new-ty.result ≡ type_of_definition (rename (image c.args.ids.now.types) (entry_definition c.args.entry.now)) (length c.args.types.now.types.slots) =
     c.new-ty.ensures
     ∙ (ap (λ (i : ℕ). unnamed_type c.in_ok-sub.sub.kind c.in_ok-sub.sub.is_final c.in_ok-sub.sub.supertype false i) c.next_id-id.ensures
     ∙ sub_type_stored c.in_ok-sub.sub c.args.ids.now.types (entry_definition c.args.entry.now) (length c.args.types.now.types.slots) c.in_ok-sub.ensures.renamed) in

@@ -1,5 +1,5 @@
 use Rattle.walrus_ty.proofs.Names.Renaming.{heap_twice, reference_twice, val_twice, storage_twice, field_twice, composite_twice, definition_twice}
-use Rattle.walrus_ty.proofs.record_laws.renamed_by_both.Goals as goal
+use Rattle.walrus_ty.proofs.record_laws.rename_by_both.Goals as goal
 
 pub returns : goal.returns
 returns c = record {
