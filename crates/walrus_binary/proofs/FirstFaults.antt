@@ -18,7 +18,7 @@ use Rattle.walrus_binary.specs.declared.error.Reason.TheVariants as reason
 use Rattle.walrus_binary.specs.declared.error.Fault.{Fault}
 use Rattle.walrus_binary.specs.Leb128.{IsU32}
 use Rattle.walrus_binary.specs.Grammar.{IsVec, IsStorageType, IsFieldType, IsValType, IsSubType, IsRecType, IsTypes, reference}
-use Rattle.walrus_binary.specs.Steps.Reading.{◌>>=◌, wanted, u32_at, s33_at, vec_at, heap_type_of, index_at, abstract_or, heap_at, abbreviated_or, reference_at, val_at, storage_at, mutability_at, field_at, function_at, comp_at, supertype_at, declared_at, entry_at, group_at, types_at, IsSeenAtOnce}
+use Rattle.walrus_binary.specs.Steps.Reading.{◌>>=◌, expected_error, u32_at, s33_at, vec_at, heap_type_of, index_at, abstract_or, heap_at, abbreviated_or, reference_at, val_at, storage_at, mutability_at, field_at, function_at, comp_at, supertype_at, declared_at, entry_at, group_at, types_at, IsSeenAtOnce}
 use Rattle.walrus_binary.proofs.Basics.{Reading, which}
 use Rattle.walrus_binary.proofs.Integers.{u32_sound, u32_complete}
 use Rattle.walrus_binary.proofs.Lists.{vec_sound, vec_complete}
@@ -244,13 +244,13 @@ types_stop bytes f e =
           let n = s.stuck seen b rest other q in
           not_both (types_at (s.front ++ b ∷ other)) n.0 gs (types_fail (s.front ++ b ∷ other) n.0 n.1) (types_again (s.front ++ b ∷ other) gs t);
     })
-    (λ gs rest h q. which (nat_eq (length rest) 0) (Ok gs) (wanted rest expected.End) (Err f) q (λ h1 q1. absurd cc) (λ h1 q1.
+    (λ gs rest h q. which (nat_eq (length rest) 0) (Ok gs) (expected_error rest expected.End) (Err f) q (λ h1 q1. absurd cc) (λ h1 q1.
     let t = vec_sound IsRecType group_at group_sound bytes gs rest h in
     record {
       front = t.text;
       left = rest;
       parts = t.parts;
-      place = err_left rest (reason.Expected expected.End) f (wanted rest expected.End) refl q1;
+      place = err_left rest (reason.Expected expected.End) f (expected_error rest expected.End) refl q1;
       stuck = λ seen b after other others k u.
           not_both (types_at (t.text ++ b ∷ other)) (stop (b ∷ other) (reason.Expected expected.End)) others (trailing t.text gs b other t.is_text) (types_again (t.text ++ b ∷ other) others u);
     }))

@@ -11,7 +11,7 @@ use Rattle.walrus_binary.specs.Leb128.{IsU32}
 use Rattle.walrus_binary.specs.Grammar.{AreItems, none, next, IsVec, counted, IsCompType, sub_code, IsSubType, declared, plain, IsRecType, rec, single, IsTypes}
 use Rattle.walrus_binary.specs.declared.error.Expected.TheVariants as expected
 use Rattle.walrus_binary.specs.declared.error.NotHeld.TheVariants as held
-use Rattle.walrus_binary.specs.Steps.Reading.{◌>>=◌, wanted, unheld, u32_at, vec_at, comp_at, supertype_at, declared_at, entry_at, group_at, types_at}
+use Rattle.walrus_binary.specs.Steps.Reading.{◌>>=◌, expected_error, not_held_error, u32_at, vec_at, comp_at, supertype_at, declared_at, entry_at, group_at, types_at}
 use Rattle.walrus_binary.proofs.Basics.{Reading, Takes, IsSound, IsComplete, bind_ok, guard_ok, value_is, rest_is, branch, map_takes, pair_takes, pair_again}
 use Rattle.walrus_binary.proofs.Integers.{u32_sound, u32_complete}
 use Rattle.walrus_binary.proofs.Lists.{vec_sound, vec_complete}
@@ -27,7 +27,7 @@ IsSupertype text s = IsVec IsU32 text (supertype_names s)
 abbrev counted_at : List ℕ → ℕ → List ℕ → Reading (Option ℕ)
 counted_at bytes n rest =
     cond (nat_eq n 0) (Ok (None, rest))
-    (cond (nat_eq n 1) (u32_at rest >>= (λ k. Ok (Some k.0, k.1))) (unheld bytes held.Supertypes))
+    (cond (nat_eq n 1) (u32_at rest >>= (λ k. Ok (Some k.0, k.1))) (not_held_error bytes held.Supertypes))
 
 -- the names behind a count
 abbrev IsCounted : ℕ → List ℕ → Option ℕ → Type 0
@@ -178,7 +178,7 @@ group_complete _ _ rest (single text e h) = single_again text e rest h
 pub types_take : (bytes : List ℕ) (groups : List GroupAt) → types_at bytes ≡ Ok groups → IsTypes bytes groups
 unfolding types_at
 types_take bytes groups e =
-    let a = bind_ok (vec_at group_at bytes) (λ gs. cond (nat_eq (length gs.1) 0) (Ok gs.0) (wanted gs.1 expected.End)) groups e in
+    let a = bind_ok (vec_at group_at bytes) (λ gs. cond (nat_eq (length gs.1) 0) (Ok gs.0) (expected_error gs.1 expected.End)) groups e in
     let g = guard_ok (nat_eq (length a.0.1) 0) (Ok a.0.0) _ groups a.2 in
     let t = vec_sound IsRecType group_at group_sound bytes a.0.0 a.0.1 a.1 in
     let nothing : a.0.1 ≡ [] = nil_from_length a.0.1 (eqb-true _ _ g.0) in

@@ -8,7 +8,7 @@ use Rattle.walrus_binary.specs.declared.error.ReadError.TheVariants as errors
 use Rattle.walrus_binary.specs.Leb128.{IsU32}
 use Rattle.walrus_binary.specs.Grammar.{IsRecType, IsTypes}
 use Rattle.walrus_binary.specs.SectionProgress.{BeginsWithGroups}
-use Rattle.walrus_binary.specs.Steps.Reading.{◌>>=◌, Fails, wanted, u32_at, items_at, vec_at, group_at, types_at}
+use Rattle.walrus_binary.specs.Steps.Reading.{◌>>=◌, Fails, expected_error, u32_at, items_at, vec_at, group_at, types_at}
 use Rattle.walrus_binary.specs.Steps.Progress.{front_at, groups_before, progress, IsReadTo}
 use Rattle.walrus_binary.proofs.Basics.{Reading, bind_ok, value_is, rest_is}
 use Rattle.walrus_binary.proofs.Integers.{u32_sound}
@@ -206,7 +206,7 @@ fails bytes remaining left after (errors.Reason k) r some h =
 
 -- so are bytes behind the last group
 pub trails : (bytes : List ℕ) (remaining : ℕ) (left : List ℕ) → IsReadTo bytes remaining left
-    → remaining ≡ 0 → (left ≡ [] → ⊥) → types_at bytes ≡ wanted left expected.End
+    → remaining ≡ 0 → (left ≡ [] → ⊥) → types_at bytes ≡ expected_error left expected.End
 unfolding types_at
 trails bytes remaining [] r none some = absurd (some refl)
 trails bytes remaining (b ∷ left) r none some =

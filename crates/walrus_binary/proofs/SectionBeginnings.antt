@@ -20,7 +20,7 @@ use Rattle.walrus_binary.specs.declared.error.Reason.TheVariants as reason
 use Rattle.walrus_binary.specs.declared.error.Fault.{Fault}
 use Rattle.walrus_binary.specs.Leb128.{last, IsU32, IsS33}
 use Rattle.walrus_binary.specs.Grammar.{none, next, IsVec, counted, IsHeapType, abstract_type, index, exact_index, reference, IsRefType, written_out, abbreviated, IsValType, i32, ref, IsStorageType, i8, value, mutability_code, IsFieldType, field, IsCompType, array, struct, function, sub_code, IsSubType, declared, plain, IsRecType, rec, single, IsTypes}
-use Rattle.walrus_binary.specs.Steps.Reading.{◌>>=◌, wanted, u32_at, s33_at, vec_at, heap_type_of, index_at, abstract_or, heap_at, abbreviated_or, reference_at, val_at, storage_at, mutability_at, field_at, function_at, comp_at, supertype_at, declared_at, entry_at, group_at, types_at}
+use Rattle.walrus_binary.specs.Steps.Reading.{◌>>=◌, expected_error, u32_at, s33_at, vec_at, heap_type_of, index_at, abstract_or, heap_at, abbreviated_or, reference_at, val_at, storage_at, mutability_at, field_at, function_at, comp_at, supertype_at, declared_at, entry_at, group_at, types_at}
 use Rattle.walrus_binary.proofs.Basics.{done, which}
 use Rattle.walrus_binary.proofs.Integers.{u32_sound}
 use Rattle.walrus_binary.proofs.Lists.{vec_sound}
@@ -354,10 +354,10 @@ unfolding types_at
 types_begun bytes f e =
     whole_err (vec_at group_at bytes) _ f e
     (λ h. groups_begun bytes f h)
-    (λ gs rest h q. which (nat_eq (length rest) 0) (Ok gs) (wanted rest expected.End) (Err f) q
+    (λ gs rest h q. which (nat_eq (length rest) 0) (Ok gs) (expected_error rest expected.End) (Err f) q
     (λ h1 q1. absurd cc)
     (λ h1 q1.
     let t = vec_sound IsRecType group_at group_sound bytes gs rest h in
     ends_with IsTypes bytes f t.text rest [] gs t.parts
-    (err_left rest (reason.Expected expected.End) f (wanted rest expected.End) refl q1)
+    (err_left rest (reason.Expected expected.End) f (expected_error rest expected.End) refl q1)
     (subst (λ (u : List ℕ). IsTypes u gs) (sym (append-nil t.text)) t.is_text)))

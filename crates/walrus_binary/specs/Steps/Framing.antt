@@ -5,7 +5,7 @@ use Rattle.walrus_binary.specs.declared.error.Expected.{Expected}
 use Rattle.walrus_binary.specs.declared.error.Expected.TheVariants as expected
 use Rattle.walrus_binary.specs.declared.error.Fault.{Fault}
 use Rattle.walrus_binary.specs.Modules.{Section, section, magic, version, IsTypeSectionAt}
-use Rattle.walrus_binary.specs.Steps.Reading.{◌>>=◌, wanted, u32_at}
+use Rattle.walrus_binary.specs.Steps.Reading.{◌>>=◌, expected_error, u32_at}
 
 -- The type section whose id stands at `opening`, and whose content begins at `start` and ends
 -- before `stop`.
@@ -21,9 +21,9 @@ Reads view (Err f) read = read ≡ Err f
 -- these bytes
 unfoldable pub literal_at : Expected → List ℕ → List ℕ → Result (Unit {0} × List ℕ) Fault
 literal_at e [] bytes = Ok (tt, bytes)
-literal_at e (k ∷ text) [] = wanted [] e
+literal_at e (k ∷ text) [] = expected_error [] e
 literal_at e (k ∷ text) (b ∷ bytes) =
-    cond (nat_eq b k) (literal_at e text bytes) (wanted (b ∷ bytes) e)
+    cond (nat_eq b k) (literal_at e text bytes) (expected_error (b ∷ bytes) e)
 
 unfoldable pub header_at : List ℕ → Result (Unit {0} × List ℕ) Fault
 header_at bytes =
@@ -53,17 +53,17 @@ place_after last id = cond (nat_eq id 0) last (place_of id)
 
 -- the id of a section behind the place `last`
 unfoldable pub id_at : ℕ → List ℕ → Result (ℕ × List ℕ) Fault
-id_at last [] = wanted [] expected.SectionId
+id_at last [] = expected_error [] expected.SectionId
 id_at last (b ∷ bytes) =
     cond (nat_eq b 0) (Ok (b, bytes))
-    (cond (nat_eq (place_of b) 0) (wanted (b ∷ bytes) expected.SectionId)
-    (cond (nat_lt last (place_of b)) (Ok (b, bytes)) (wanted (b ∷ bytes) expected.LaterSection)))
+    (cond (nat_eq (place_of b) 0) (expected_error (b ∷ bytes) expected.SectionId)
+    (cond (nat_lt last (place_of b)) (Ok (b, bytes)) (expected_error (b ∷ bytes) expected.LaterSection)))
 
 -- a size, and so many bytes
 unfoldable pub content_at : List ℕ → Result (List ℕ × List ℕ) Fault
 content_at bytes =
     u32_at bytes >>= (λ n.
-    cond (nat_le n.0 (length n.1)) (Ok (take n.0 n.1, drop n.0 n.1)) (wanted [] expected.Content))
+    cond (nat_le n.0 (length n.1)) (Ok (take n.0 n.1, drop n.0 n.1)) (expected_error [] expected.Content))
 
 unfoldable pub section_at : ℕ → List ℕ → Result (Section × List ℕ) Fault
 section_at last bytes =

@@ -24,6 +24,9 @@ use Rattle.walrus_binary.specs.declared.error.Reason.TheVariants as reason
 use Rattle.walrus_binary.specs.declared.error.Fault.{Fault}
 use Rattle.walrus_binary.specs.declared.error.ReadError.{ReadError}
 use Rattle.walrus_binary.specs.declared.error.ReadError.TheVariants as errors
+use Rattle.walrus_binary.specs.declared.decode.composite.Form.{Form}
+use Rattle.walrus_binary.specs.declared.decode.composite.Form.TheVariants as form
+use Rattle.walrus_binary.specs.declared.decode.group.Head.{Head}
 use Rattle.walrus_binary.specs.Grammar.{reference}
 
 infixl 10 ◌>>=◌
@@ -31,8 +34,8 @@ abbrev pub ◌>>=◌ : {A B : Type 0} → Result A Fault → (A → Result B Fau
 (Ok x) >>= f = f x
 (Err e) >>= f = Err e
 
-abbrev pub wanted : {A : Type 0} → List ℕ → Expected → Result A Fault
-wanted bytes e = Err (record { left = length bytes; reason = reason.Expected e })
+abbrev pub expected_error : {A : Type 0} → List ℕ → Expected → Result A Fault
+expected_error bytes e = Err (record { left = length bytes; reason = reason.Expected e })
 
 -- The error, where so much is left of the input, is the fault that reading ends with, unless memory
 -- was refused.
@@ -46,7 +49,12 @@ abbrev pub Gives : {X Y : Type 0} → (X → Y) → Result X ReadError → List 
 Gives view (Ok x) left read = read ≡ Ok (view x, left)
 Gives view (Err e) left read = Fails left e read
 
--- the same where reading says nothing of what is left
+-- What a function answered says how reading goes on with what it left of the input.
+abbrev pub Leads : {X Y : Type 0} → (X → List ℕ → Result (Y × List ℕ) Fault) → Result X ReadError → List ℕ → Result (Y × List ℕ) Fault → Type 0
+Leads on (Ok x) left read = read ≡ on x left
+Leads on (Err e) left read = Fails left e read
+
+-- `Gives` where reading says nothing of what is left
 abbrev pub GivesAll : {X Y : Type 0} → (X → Y) → Result X ReadError → List ℕ → Result Y Fault → Type 0
 GivesAll view (Ok x) left read = read ≡ Ok (view x)
 GivesAll view (Err e) left read = Fails left e read
@@ -54,10 +62,10 @@ GivesAll view (Err e) left read = Fails left e read
 -- the same of an integer, which has one fault
 abbrev pub Finds : Option ℕ → List ℕ → Result (ℕ × List ℕ) Fault → Type 0
 Finds (Some n) left read = read ≡ Ok (n, left)
-Finds None left read = read ≡ wanted left expected.Integer
+Finds None left read = read ≡ expected_error left expected.Integer
 
-abbrev pub unheld : {A : Type 0} → List ℕ → NotHeld → Result A Fault
-unheld bytes e = Err (record { left = length bytes; reason = reason.NotHeld e })
+abbrev pub not_held_error : {A : Type 0} → List ℕ → NotHeld → Result A Fault
+not_held_error bytes e = Err (record { left = length bytes; reason = reason.NotHeld e })
 
 -- What is wrong is seen by the first byte that can't stand there. Only how many supertypes there
 -- are is known behind it.
@@ -71,13 +79,13 @@ IsSeenAtOnce (reason.NotHeld held.Descriptor) = Unit {0}
 -- ---- integers
 
 unfoldable pub integer_at : ℕ → ℕ → List ℕ → Result (ℕ × List ℕ) Fault
-integer_at end limit [] = wanted [] expected.Integer
+integer_at end limit [] = expected_error [] expected.Integer
 integer_at end limit (b ∷ bytes) =
     cond (nat_lt b 0x80)
-    (cond (nat_lt b end && nat_lt b limit) (Ok (b, bytes)) (wanted (b ∷ bytes) expected.Integer))
+    (cond (nat_lt b end && nat_lt b limit) (Ok (b, bytes)) (expected_error (b ∷ bytes) expected.Integer))
     (cond (nat_lt b 0x100 && nat_lt 0x80 limit)
     (integer_at end (limit / 0x80) bytes >>= (λ high. Ok (high.0 * 0x80 + (b - 0x80), high.1)))
-    (wanted (b ∷ bytes) expected.Integer))
+    (expected_error (b ∷ bytes) expected.Integer))
 
 abbrev pub u32_at : List ℕ → Result (ℕ × List ℕ) Fault
 u32_at = integer_at 0x80 (2 ^ 32)
@@ -116,16 +124,16 @@ unfoldable pub index_at : ℕ → List ℕ → Result (Heap ℕ × List ℕ) Fau
 index_at b bytes =
     cond (nat_lt b 0x40 || nat_le 0x80 b)
     (s33_at bytes >>= (λ k. Ok (heap.Concrete k.0, k.1)))
-    (cond (nat_eq b 0x65) (unheld bytes held.Shared)
-    (cond (nat_eq b 0x68 || nat_eq b 0x75) (unheld bytes held.Continuation)
-    (wanted bytes expected.HeapType)))
+    (cond (nat_eq b 0x65) (not_held_error bytes held.Shared)
+    (cond (nat_eq b 0x68 || nat_eq b 0x75) (not_held_error bytes held.Continuation)
+    (expected_error bytes expected.HeapType)))
 
 abbrev pub abstract_or : ℕ → List ℕ → Option AbstractHeapType → Result (Heap ℕ × List ℕ) Fault
 abstract_or b bytes (Some a) = Ok (heap.Abstract a, bytes)
 abstract_or b bytes None = index_at b (b ∷ bytes)
 
 unfoldable pub heap_at : List ℕ → Result (Heap ℕ × List ℕ) Fault
-heap_at [] = wanted [] expected.HeapType
+heap_at [] = expected_error [] expected.HeapType
 heap_at (b ∷ bytes) =
     cond (nat_eq b 0x62)
     (u32_at bytes >>= (λ k. Ok (heap.Exact k.0, k.1)))
@@ -135,18 +143,18 @@ heap_at (b ∷ bytes) =
 abbrev pub abbreviated_or : ℕ → List ℕ → Option AbstractHeapType → Result (Reference ℕ × List ℕ) Fault
 abbreviated_or b bytes (Some a) = Ok (reference true (heap.Abstract a), bytes)
 abbreviated_or b bytes None =
-    cond (nat_eq b 0x68 || nat_eq b 0x75) (unheld (b ∷ bytes) held.Continuation)
-    (wanted (b ∷ bytes) expected.ValType)
+    cond (nat_eq b 0x68 || nat_eq b 0x75) (not_held_error (b ∷ bytes) held.Continuation)
+    (expected_error (b ∷ bytes) expected.ValType)
 
 unfoldable pub reference_at : List ℕ → Result (Reference ℕ × List ℕ) Fault
-reference_at [] = wanted [] expected.ValType
+reference_at [] = expected_error [] expected.ValType
 reference_at (b ∷ bytes) =
     cond (nat_eq b 0x63) (heap_at bytes >>= (λ h. Ok (reference true h.0, h.1)))
     (cond (nat_eq b 0x64) (heap_at bytes >>= (λ h. Ok (reference false h.0, h.1)))
     (abbreviated_or b bytes (heap_type_of b)))
 
 unfoldable pub val_at : List ℕ → Result (Val ℕ × List ℕ) Fault
-val_at [] = wanted [] expected.ValType
+val_at [] = expected_error [] expected.ValType
 val_at (b ∷ bytes) =
     cond (nat_eq b 0x7F) (Ok (val.I32, bytes))
     (cond (nat_eq b 0x7E) (Ok (val.I64, bytes))
@@ -158,17 +166,17 @@ val_at (b ∷ bytes) =
 -- ---- fields and composite types
 
 unfoldable pub storage_at : List ℕ → Result (Storage ℕ × List ℕ) Fault
-storage_at [] = wanted [] expected.StorageType
+storage_at [] = expected_error [] expected.StorageType
 storage_at (b ∷ bytes) =
     cond (nat_eq b 0x78) (Ok (storage.I8, bytes))
     (cond (nat_eq b 0x77) (Ok (storage.I16, bytes))
     (val_at (b ∷ bytes) >>= (λ v. Ok (storage.Val v.0, v.1))))
 
 unfoldable pub mutability_at : List ℕ → Result (Bool × List ℕ) Fault
-mutability_at [] = wanted [] expected.Mutability
+mutability_at [] = expected_error [] expected.Mutability
 mutability_at (b ∷ bytes) =
     cond (nat_eq b 0x00) (Ok (false, bytes))
-    (cond (nat_eq b 0x01) (Ok (true, bytes)) (wanted (b ∷ bytes) expected.Mutability))
+    (cond (nat_eq b 0x01) (Ok (true, bytes)) (expected_error (b ∷ bytes) expected.Mutability))
 
 unfoldable pub field_at : List ℕ → Result (Field ℕ × List ℕ) Fault
 field_at bytes =
@@ -186,16 +194,22 @@ struct_at bytes = vec_at field_at bytes >>= (λ fs. Ok (comp.Struct fs.0, fs.1))
 abbrev pub array_at : List ℕ → Result (CompAt × List ℕ) Fault
 array_at bytes = field_at bytes >>= (λ f. Ok (comp.Array f.0, f.1))
 
+-- what stands behind the first byte
+abbrev pub comp_behind : Form → List ℕ → Result (CompAt × List ℕ) Fault
+comp_behind form.Function bytes = function_at bytes
+comp_behind form.Struct bytes = struct_at bytes
+comp_behind form.Array bytes = array_at bytes
+
 unfoldable pub comp_at : List ℕ → Result (CompAt × List ℕ) Fault
-comp_at [] = wanted [] expected.CompType
+comp_at [] = expected_error [] expected.CompType
 comp_at (b ∷ bytes) =
     cond (nat_eq b 0x60) (function_at bytes)
     (cond (nat_eq b 0x5F) (struct_at bytes)
     (cond (nat_eq b 0x5E) (array_at bytes)
-    (cond (nat_eq b 0x5D) (unheld (b ∷ bytes) held.Continuation)
-    (cond (nat_eq b 0x65) (unheld (b ∷ bytes) held.Shared)
-    (cond (nat_eq b 0x4C || nat_eq b 0x4D) (unheld (b ∷ bytes) held.Descriptor)
-    (wanted (b ∷ bytes) expected.CompType))))))
+    (cond (nat_eq b 0x5D) (not_held_error (b ∷ bytes) held.Continuation)
+    (cond (nat_eq b 0x65) (not_held_error (b ∷ bytes) held.Shared)
+    (cond (nat_eq b 0x4C || nat_eq b 0x4D) (not_held_error (b ∷ bytes) held.Descriptor)
+    (expected_error (b ∷ bytes) expected.CompType))))))
 
 -- ---- definitions and groups
 
@@ -205,19 +219,27 @@ supertype_at bytes =
     u32_at bytes >>= (λ n.
     cond (nat_eq n.0 0) (Ok (None, n.1))
     (cond (nat_eq n.0 1) (u32_at n.1 >>= (λ k. Ok (Some k.0, k.1)))
-    (unheld bytes held.Supertypes)))
+    (not_held_error bytes held.Supertypes)))
 
 -- what reading a composite type gives, as a definition of it
 abbrev pub as_entry : Bool → Option ℕ → Result (CompAt × List ℕ) Fault → Result (EntryAt × List ℕ) Fault
 as_entry is_final supertype read =
     read >>= (λ c. Ok (record { comp = c.0; is_final = is_final; supertype = supertype }, c.1))
 
+-- a definition by its head and its type
+abbrev pub entry_of : Head → CompAt → EntryAt
+entry_of head c = record { comp = c; is_final = head.is_final; supertype = head.supertype }
+
+-- what stands behind the head
+abbrev pub entry_behind : Head → List ℕ → Result (EntryAt × List ℕ) Fault
+entry_behind head bytes = as_entry head.is_final head.supertype (comp_behind head.form bytes)
+
 unfoldable pub declared_at : Bool → List ℕ → Result (EntryAt × List ℕ) Fault
 declared_at is_final bytes =
     supertype_at bytes >>= (λ s. as_entry is_final s.0 (comp_at s.1))
 
 unfoldable pub entry_at : List ℕ → Result (EntryAt × List ℕ) Fault
-entry_at [] = wanted [] expected.RecType
+entry_at [] = expected_error [] expected.RecType
 entry_at (b ∷ bytes) =
     cond (nat_eq b 0x50) (declared_at false bytes)
     (cond (nat_eq b 0x4F) (declared_at true bytes)
@@ -230,7 +252,7 @@ abbrev pub single_at : List ℕ → Result (GroupAt × List ℕ) Fault
 single_at bytes = entry_at bytes >>= (λ e. Ok (group.Single e.0, e.1))
 
 unfoldable pub group_at : List ℕ → Result (GroupAt × List ℕ) Fault
-group_at [] = wanted [] expected.RecType
+group_at [] = expected_error [] expected.RecType
 group_at (b ∷ bytes) =
     cond (nat_eq b 0x4E) (rec_at bytes) (single_at (b ∷ bytes))
 
@@ -238,4 +260,4 @@ group_at (b ∷ bytes) =
 unfoldable pub types_at : List ℕ → Result (List GroupAt) Fault
 types_at bytes =
     vec_at group_at bytes >>= (λ gs.
-    cond (nat_eq (length gs.1) 0) (Ok gs.0) (wanted gs.1 expected.End))
+    cond (nat_eq (length gs.1) 0) (Ok gs.0) (expected_error gs.1 expected.End))

@@ -1,42 +1,44 @@
 //! Fields and composite types.
 //! WebAssembly core specification, "Binary Format", types.
 ghost use Rattle.std.specs.Prelude.{◌≡◌};
-ghost use Rattle.walrus_binary.specs.Steps.Reading.{Gives, as_entry};
+ghost use Rattle.walrus_binary.specs.Steps.Reading.{Gives, Leads};
 ghost use Rattle.walrus_binary.specs.Steps.Reading.{val_at, storage_at, mutability_at, field_at};
-ghost use Rattle.walrus_binary.specs.Steps.Reading.{function_at, struct_at, array_at, comp_at};
+ghost use Rattle.walrus_binary.specs.Steps.Reading.{function_at, struct_at, array_at};
+ghost use Rattle.walrus_binary.specs.Steps.Reading.{comp_behind, comp_at};
 
 use crate::decode::list::{Decode, read_vec};
 use crate::decode::value::read_val;
 use crate::error::{Expected, NotHeld, ReadError};
 use std::alloc::Global;
-use walrus_ty::{CompAt, EntryAt, FieldAt, Listed, StorageAt, ValAt};
+use walrus_ty::{CompAt, FieldAt, Listed, StorageAt, ValAt};
 
-/// Takes a composite type from the front: that of a definition of which the rest is known. So each
-/// form makes its record where it is answered, since a record is large, and to move it from one
-/// answer to the next costs more than to read it.
+/// What a composite type is by its first byte.
+#[derive(Clone, Copy)]
+pub enum Form {
+    Function,
+    Struct,
+    Array,
+}
+
+/// Takes the first byte of a composite type from the front.
+#[inline(always)]
 #[tactic(auto, unfolding(crate::specs::Steps::Reading::comp_at))]
-pub fn read_comp(
-    alloc: Global,
-    is_final: bool,
-    supertype: Option<u32>,
-    input: &mut &[u8],
-) -> Result<EntryAt, ReadError>
-    ensures { Gives (λ e. e) result input.new.now
-        (as_entry is_final supertype (comp_at input.old.now)) }
+pub fn read_form(input: &mut &[u8]) -> Result<Form, ReadError>
+    ensures { Leads comp_behind result input.new.now (comp_at input.old.now) }
 {
     match *input {
         [] => Err(ReadError::expected(Expected::CompType)),
         [0x60, rest @ ..] => {
             *input = rest;
-            read_function(alloc, is_final, supertype, input)
+            Ok(Form::Function)
         }
         [0x5F, rest @ ..] => {
             *input = rest;
-            read_struct(alloc, is_final, supertype, input)
+            Ok(Form::Struct)
         }
         [0x5E, rest @ ..] => {
             *input = rest;
-            read_array(is_final, supertype, input)
+            Ok(Form::Array)
         }
         [0x5D, ..] => Err(ReadError::not_held(NotHeld::Continuation)),
         [0x65, ..] => Err(ReadError::not_held(NotHeld::Shared)),
@@ -46,59 +48,44 @@ pub fn read_comp(
     }
 }
 
+/// Takes what a composite type has behind its first byte.
+pub fn read_comp(alloc: Global, form: Form, input: &mut &[u8]) -> Result<CompAt, ReadError>
+    ensures { Gives (λ c. c) result input.new.now (comp_behind form input.old.now) }
+{
+    match form {
+        Form::Function => read_function(alloc, input),
+        Form::Struct => read_struct(alloc, input),
+        Form::Array => read_array(input),
+    }
+}
+
+/// Takes what a function type has behind its first byte.
+#[inline(always)]
 #[tactic(auto, unfolding(crate::specs::Steps::Reading::function_at))]
-fn read_function(
-    alloc: Global,
-    is_final: bool,
-    supertype: Option<u32>,
-    input: &mut &[u8],
-) -> Result<EntryAt, ReadError>
-    ensures { Gives (λ e. e) result input.new.now
-        (as_entry is_final supertype (function_at input.old.now)) }
+pub fn read_function(alloc: Global, input: &mut &[u8]) -> Result<CompAt, ReadError>
+    ensures { Gives (λ c. c) result input.new.now (function_at input.old.now) }
 {
     let params = Listed::from_vec(read_vec(alloc, input)?);
     let results = Listed::from_vec(read_vec(alloc, input)?);
-    let comp = CompAt::Function { params, results };
-    Ok(EntryAt {
-        comp,
-        is_final,
-        supertype,
-    })
+    Ok(CompAt::Function { params, results })
 }
 
-fn read_struct(
-    alloc: Global,
-    is_final: bool,
-    supertype: Option<u32>,
-    input: &mut &[u8],
-) -> Result<EntryAt, ReadError>
-    ensures { Gives (λ e. e) result input.new.now
-        (as_entry is_final supertype (struct_at input.old.now)) }
+/// Takes what a struct type has behind its first byte.
+#[inline(always)]
+pub fn read_struct(alloc: Global, input: &mut &[u8]) -> Result<CompAt, ReadError>
+    ensures { Gives (λ c. c) result input.new.now (struct_at input.old.now) }
 {
     let fields = Listed::from_vec(read_vec(alloc, input)?);
-    let comp = CompAt::Struct { fields };
-    Ok(EntryAt {
-        comp,
-        is_final,
-        supertype,
-    })
+    Ok(CompAt::Struct { fields })
 }
 
-fn read_array(
-    is_final: bool,
-    supertype: Option<u32>,
-    input: &mut &[u8],
-) -> Result<EntryAt, ReadError>
-    ensures { Gives (λ e. e) result input.new.now
-        (as_entry is_final supertype (array_at input.old.now)) }
+/// Takes what an array type has behind its first byte.
+#[inline(always)]
+pub fn read_array(input: &mut &[u8]) -> Result<CompAt, ReadError>
+    ensures { Gives (λ c. c) result input.new.now (array_at input.old.now) }
 {
     let field = read_field(input)?;
-    let comp = CompAt::Array { field };
-    Ok(EntryAt {
-        comp,
-        is_final,
-        supertype,
-    })
+    Ok(CompAt::Array { field })
 }
 
 #[inline(always)]

@@ -1,17 +1,24 @@
 //! Definitions and recursion groups.
 //! WebAssembly core specification, "Binary Format", types.
 ghost use Rattle.std.specs.Prelude.{◌≡◌};
-ghost use Rattle.walrus_binary.specs.Steps.Reading.{Gives, supertype_at, declared_at, entry_at};
+ghost use Rattle.walrus_binary.specs.Steps.Reading.{Gives, Leads, entry_of, entry_behind};
+ghost use Rattle.walrus_binary.specs.Steps.Reading.{supertype_at, declared_at, entry_at};
 ghost use Rattle.walrus_binary.specs.Steps.Reading.{rec_at, single_at, group_at};
 
-use crate::decode::composite::read_comp;
+use crate::decode::composite::{
+    Form, read_array, read_comp, read_form, read_function, read_struct,
+};
 use crate::decode::list::{Decode, read_vec};
 use crate::error::{Expected, NotHeld, ReadError};
 use crate::leb128::read_u32;
 use std::alloc::Global;
-use walrus_ty::{EntryAt, GroupAt, Listed};
+use walrus_ty::{CompAt, EntryAt, GroupAt, Listed};
 
 /// Takes a recursion group from the front: several definitions behind `rec`, or one alone.
+///
+/// A group is large, and to move it costs more than to read it. So it is put together in this
+/// function alone, from parts that are small, and what would answer it a whole group is inlined.
+#[inline(never)]
 #[tactic(auto, unfolding(crate::specs::Steps::Reading::group_at))]
 pub fn read_group(alloc: Global, input: &mut &[u8]) -> Result<GroupAt, ReadError>
     ensures { Gives (λ g. g) result input.new.now (group_at input.old.now) }
@@ -26,6 +33,7 @@ pub fn read_group(alloc: Global, input: &mut &[u8]) -> Result<GroupAt, ReadError
     }
 }
 
+#[inline(always)]
 fn read_rec(alloc: Global, input: &mut &[u8]) -> Result<GroupAt, ReadError>
     ensures { Gives (λ g. g) result input.new.now (rec_at input.old.now) }
 {
@@ -33,42 +41,98 @@ fn read_rec(alloc: Global, input: &mut &[u8]) -> Result<GroupAt, ReadError>
     Ok(GroupAt::Rec(entries))
 }
 
+#[inline(always)]
 fn read_single(alloc: Global, input: &mut &[u8]) -> Result<GroupAt, ReadError>
     ensures { Gives (λ g. g) result input.new.now (single_at input.old.now) }
 {
-    match read_entry(alloc, input) {
-        Ok(entry) => Ok(GroupAt::Single(entry)),
-        Err(error) => Err(error),
+    let head = read_head(input)?;
+    match head.form {
+        Form::Function => {
+            let comp = read_function(alloc, input)?;
+            Ok(GroupAt::Single(head.entry(comp)))
+        }
+        Form::Struct => {
+            let comp = read_struct(alloc, input)?;
+            Ok(GroupAt::Single(head.entry(comp)))
+        }
+        Form::Array => {
+            let comp = read_array(input)?;
+            Ok(GroupAt::Single(head.entry(comp)))
+        }
     }
 }
 
 /// Takes a definition from the front.
-#[inline(always)]
-#[tactic(auto, unfolding(crate::specs::Steps::Reading::entry_at))]
 fn read_entry(alloc: Global, input: &mut &[u8]) -> Result<EntryAt, ReadError>
     ensures { Gives (λ e. e) result input.new.now (entry_at input.old.now) }
+{
+    let head = read_head(input)?;
+    let comp = read_comp(alloc, head.form, input)?;
+    Ok(head.entry(comp))
+}
+
+/// What a definition says before the parts of its type.
+#[derive(Clone, Copy)]
+struct Head {
+    form: Form,
+    is_final: bool,
+    supertype: Option<u32>,
+}
+
+impl Head {
+    /// The definition that has this head.
+    #[inline(always)]
+    fn entry(self, comp: CompAt) -> EntryAt
+        ensures { result ≡ entry_of self comp }
+    {
+        EntryAt {
+            comp,
+            is_final: self.is_final,
+            supertype: self.supertype,
+        }
+    }
+}
+
+/// Takes the head of a definition from the front.
+#[inline(always)]
+#[tactic(auto, unfolding(crate::specs::Steps::Reading::entry_at))]
+fn read_head(input: &mut &[u8]) -> Result<Head, ReadError>
+    ensures { Leads entry_behind result input.new.now (entry_at input.old.now) }
 {
     match *input {
         [] => Err(ReadError::expected(Expected::RecType)),
         [0x50, rest @ ..] => {
             *input = rest;
-            read_declared(alloc, false, input)
+            read_declared(false, input)
         }
         [0x4F, rest @ ..] => {
             *input = rest;
-            read_declared(alloc, true, input)
+            read_declared(true, input)
         }
-        [_, ..] => read_comp(alloc, true, None, input),
+        [_, ..] => {
+            let form = read_form(input)?;
+            Ok(Head {
+                form,
+                is_final: true,
+                supertype: None,
+            })
+        }
     }
 }
 
-/// What stands behind `sub` or `sub final`.
+/// The head behind `sub` or `sub final`, which fewer definitions have.
+#[inline(never)]
 #[tactic(auto, unfolding(crate::specs::Steps::Reading::declared_at))]
-fn read_declared(alloc: Global, is_final: bool, input: &mut &[u8]) -> Result<EntryAt, ReadError>
-    ensures { Gives (λ e. e) result input.new.now (declared_at is_final input.old.now) }
+fn read_declared(is_final: bool, input: &mut &[u8]) -> Result<Head, ReadError>
+    ensures { Leads entry_behind result input.new.now (declared_at is_final input.old.now) }
 {
     let supertype = read_supertype(input)?;
-    read_comp(alloc, is_final, supertype, input)
+    let form = read_form(input)?;
+    Ok(Head {
+        form,
+        is_final,
+        supertype,
+    })
 }
 
 /// The one supertype, if there is one. Several are told where their count begins.

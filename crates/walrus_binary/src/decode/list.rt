@@ -35,6 +35,8 @@ pub fn read_vec<T: Decode + Drop>(alloc: Global, input: &mut &[u8]) -> Result<Ve
     read_items(alloc, count, input)
 }
 
+/// So many items. This is a call, so that what reads several lists stays small.
+#[inline(never)]
 fn read_items<T: Decode + Drop>(
     alloc: Global,
     count: u32,
