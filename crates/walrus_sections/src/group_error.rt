@@ -1,14 +1,14 @@
 //! What is wrong with a recursion group, before anything of it is read.
 ghost use Rattle.std.specs.Prelude.{◌≡◌, ◌+◌, ◌++◌, ◌^◌, ◌<◌, ◌≤◌, nat_le, find, map, length, [], ◌∷◌, Some, if◌then◌else◌, None, option_map};
 ghost use Rattle.std.specs.List.{flat_map};
-ghost use Rattle.walrus_ty.specs.Value.{heap_names, val_names, field_names};
+ghost use Rattle.walrus_ty.specs.Value.{val_names, field_names};
 ghost use Rattle.walrus_ty.specs.Definition.{composite_names, supertype_names, names_of};
 ghost use Rattle.walrus_ty.specs.Records.{comp_composite, entry_definition};
 ghost use Rattle.walrus_sections.specs.FirstError.{group_error, entry_limit, first_out_of_range, index_uses_from};
 ghost use Rattle.walrus_sections.specs.declared.error.ReadError.TheVariants as error;
 
 use crate::ReadError;
-use walrus_ty::{CompAt, EntryAt, FieldAt, Heap, HeapAt, Storage, Val, ValAt};
+use walrus_ty::{CompAt, EntryAt, FieldAt, ValAt};
 
 /// What is wrong with a group of these entries, where so many entries stand before it.
 pub fn first_error(entries: &[EntryAt], start: usize) -> Option<ReadError>
@@ -53,16 +53,11 @@ fn bad_in_entry(entry: &EntryAt, end: u32) -> Option<u32>
 {
     match bad_in_comp(&entry.comp, end) {
         Some(index) => Some(index),
-        None => bad_in_supertype(entry.supertype, end),
+        None => bad_name(entry.supertype, end),
     }
 }
 
-fn bad_in_supertype(supertype: Option<u32>, end: u32) -> Option<u32>
-    ensures { result ≡ find (nat_le end) (supertype_names supertype) }
-{
-    bad(supertype?, end)
-}
-
+#[tactic(auto, using(walrus_ty::proofs::Names::InLists::field_named))]
 fn bad_in_comp(comp: &CompAt, end: u32) -> Option<u32>
     ensures { result ≡ find (nat_le end) (composite_names (comp_composite comp.now)) }
 {
@@ -71,7 +66,7 @@ fn bad_in_comp(comp: &CompAt, end: u32) -> Option<u32>
             bad_in_function(params.as_slice(), results.as_slice(), end)
         }
         CompAt::Struct { fields } => bad_in_fields(fields.as_slice(), end),
-        CompAt::Array { field } => bad_in_field(field, end),
+        CompAt::Array { field } => bad_name(field.name(), end),
     }
 }
 
@@ -86,58 +81,34 @@ fn bad_in_function(params: &[ValAt], results: &[ValAt], end: u32) -> Option<u32>
     }
 }
 
+#[tactic(auto, using(walrus_ty::proofs::Names::InLists::val_named))]
 fn bad_in_vals(vals: &[ValAt], end: u32) -> Option<u32>
     ensures { result ≡ find (nat_le end) (flat_map val_names vals.now) }
 {
     for val in vals {
-        if let Some(index) = bad_in_val(val, end) {
+        if let Some(index) = bad_name(val.name(), end) {
             return Some(index);
         }
     }
     None
 }
 
+#[tactic(auto, using(walrus_ty::proofs::Names::InLists::field_named))]
 fn bad_in_fields(fields: &[FieldAt], end: u32) -> Option<u32>
     ensures { result ≡ find (nat_le end) (flat_map field_names fields.now) }
 {
     for field in fields {
-        if let Some(index) = bad_in_field(field, end) {
+        if let Some(index) = bad_name(field.name(), end) {
             return Some(index);
         }
     }
     None
 }
 
-fn bad_in_field(field: &FieldAt, end: u32) -> Option<u32>
-    ensures { result ≡ find (nat_le end) (field_names field.now) }
+// The name, if it is an index at or past the end.
+fn bad_name(name: Option<u32>, end: u32) -> Option<u32>
+    ensures { result ≡ find (nat_le end) (supertype_names name) }
 {
-    match &field.element_type {
-        Storage::Val(val) => bad_in_val(val, end),
-        Storage::I8 | Storage::I16 => None,
-    }
-}
-
-fn bad_in_val(val: &ValAt, end: u32) -> Option<u32>
-    ensures { result ≡ find (nat_le end) (val_names val.now) }
-{
-    match val {
-        Val::Ref(reference) => bad_in_heap(&reference.heap_type, end),
-        Val::I32 | Val::I64 | Val::F32 | Val::F64 | Val::V128 => None,
-    }
-}
-
-fn bad_in_heap(heap: &HeapAt, end: u32) -> Option<u32>
-    ensures { result ≡ find (nat_le end) (heap_names heap.now) }
-{
-    match heap {
-        Heap::Abstract(_) => None,
-        Heap::Concrete(index) | Heap::Exact(index) => bad(*index, end),
-    }
-}
-
-// The index, if it is at or past the end.
-fn bad(index: u32, end: u32) -> Option<u32>
-    ensures { result ≡ find (nat_le end) (index ∷ []) }
-{
+    let index = name?;
     if index < end { None } else { Some(index) }
 }
