@@ -3,3 +3,6 @@ use Rattle.walrus_functions.proofs.local_function.LocalFunction.entry_block.Goal
 
 pub returns-clause-value : goal.returns-clause-value
 returns-clause-value c = search rules
+
+pub returns-clause-known : goal.returns-clause-known
+returns-clause-known c = search rules
