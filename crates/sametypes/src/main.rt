@@ -10,8 +10,6 @@ ghost use Rattle.sametypes.specs.Steps.Answers.{IsAnswer, answer_line};
 
 mod failure;
 mod normal_form;
-#[cfg(test)]
-mod tests;
 
 use failure::{Failure, Trouble, report};
 use normal_form::{index_of_difference, read_normal_form};

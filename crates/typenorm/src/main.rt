@@ -9,8 +9,6 @@ ghost use Rattle.typenorm.specs.Runs.{IsIllNamedText, IsNormalised};
 ghost use Rattle.typenorm.specs.Steps.Failures.{Explains, status_of};
 
 mod failure;
-#[cfg(test)]
-mod tests;
 
 use failure::{Failure, report};
 use std::alloc::Global;

@@ -10,8 +10,6 @@ ghost use Rattle.wasmtypes.specs.Runs.{IsPrinted};
 ghost use Rattle.wasmtypes.specs.Steps.Failures.{Explains, status_of};
 
 mod failure;
-#[cfg(test)]
-mod tests;
 
 use failure::{Failure, report};
 use std::alloc::Global;

@@ -1,0 +1,63 @@
+/* Put in front of the C library by LD_PRELOAD, it makes streams fail: the read with the number STREAMS_READ, the write
+   to the standard output with the number STREAMS_OUT, and the one to the standard error with the number STREAMS_ERR;
+   and with STREAMS_READ_FROM, STREAMS_OUT_FROM and STREAMS_ERR_FROM all from that number on. They count from 1, and
+   each fails with EIO. With STREAMS_LITTLE a read or a write moves one byte at most. With STREAMS_DRY there are no
+   random bytes. */
+#define _GNU_SOURCE
+#include <errno.h>
+#include <stddef.h>
+#include <stdlib.h>
+#include <sys/syscall.h>
+#include <sys/types.h>
+#include <unistd.h>
+
+static long reads = 0;
+static long outs = 0;
+static long errs = 0;
+
+static long number(const char *name)
+{
+    const char *text = getenv(name);
+    return text ? atol(text) : 0;
+}
+
+/* Counts one more, and says whether it is to fail. */
+static int is_failed(long *count, const char *one, const char *from)
+{
+    long first = number(from);
+    ++*count;
+    if (*count != number(one) && (first == 0 || *count < first))
+        return 0;
+    errno = EIO;
+    return 1;
+}
+
+static size_t share(size_t count)
+{
+    return count > 1 && number("STREAMS_LITTLE") ? 1 : count;
+}
+
+ssize_t read(int file, void *bytes, size_t count)
+{
+    if (is_failed(&reads, "STREAMS_READ", "STREAMS_READ_FROM"))
+        return -1;
+    return syscall(SYS_read, file, bytes, share(count));
+}
+
+ssize_t write(int file, const void *bytes, size_t count)
+{
+    if (file == STDOUT_FILENO && is_failed(&outs, "STREAMS_OUT", "STREAMS_OUT_FROM"))
+        return -1;
+    if (file == STDERR_FILENO && is_failed(&errs, "STREAMS_ERR", "STREAMS_ERR_FROM"))
+        return -1;
+    return syscall(SYS_write, file, bytes, share(count));
+}
+
+int getentropy(void *bytes, size_t count)
+{
+    if (number("STREAMS_DRY")) {
+        errno = EIO;
+        return -1;
+    }
+    return syscall(SYS_getrandom, bytes, count, 0) == (long)count ? 0 : -1;
+}
