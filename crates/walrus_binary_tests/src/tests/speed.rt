@@ -70,121 +70,105 @@ fn is_written(alloc: Global, bytes: &[u8]) -> bool {
 }
 
 #[test]
-fn small_section_of_short_types_is_built(rt: HostRuntime) -> Result<(), Fail> {
-    let bytes = section(rt.alloc(), &SMALL, &SHORT, 25_000)?;
+fn small_section_of_short_types_is_built(rt: HostRuntime) {
+    let bytes = section(rt.alloc(), &SMALL, &SHORT, 25_000).expect(&rt, "memory");
     assert_equal(&rt, bytes.len(), 725_003);
-    Ok(())
 }
 
 #[test]
-fn large_section_of_short_types_is_built(rt: HostRuntime) -> Result<(), Fail> {
-    let bytes = section(rt.alloc(), &LARGE, &SHORT, 250_000)?;
+fn large_section_of_short_types_is_built(rt: HostRuntime) {
+    let bytes = section(rt.alloc(), &LARGE, &SHORT, 250_000).expect(&rt, "memory");
     assert_equal(&rt, bytes.len(), 7_250_003);
-    Ok(())
 }
 
 #[test]
-fn small_section_of_short_types_is_read_in_turn(rt: HostRuntime) -> Result<(), Fail> {
-    let bytes = section(rt.alloc(), &SMALL, &SHORT, 25_000)?;
+fn small_section_of_short_types_is_read_in_turn(rt: HostRuntime) {
+    let bytes = section(rt.alloc(), &SMALL, &SHORT, 25_000).expect(&rt, "memory");
     assert_equal(&rt, group_count_in_turn(rt.alloc(), &bytes), Some(100_000));
-    Ok(())
 }
 
 #[test]
-fn small_section_of_short_types_is_read(rt: HostRuntime) -> Result<(), Fail> {
-    let bytes = section(rt.alloc(), &SMALL, &SHORT, 25_000)?;
+fn small_section_of_short_types_is_read(rt: HostRuntime) {
+    let bytes = section(rt.alloc(), &SMALL, &SHORT, 25_000).expect(&rt, "memory");
     assert_equal(&rt, group_count(rt.alloc(), &bytes), Some(100_000));
-    Ok(())
 }
 
 #[test]
-fn large_section_of_short_types_is_read_in_turn(rt: HostRuntime) -> Result<(), Fail> {
-    let bytes = section(rt.alloc(), &LARGE, &SHORT, 250_000)?;
+fn large_section_of_short_types_is_read_in_turn(rt: HostRuntime) {
+    let bytes = section(rt.alloc(), &LARGE, &SHORT, 250_000).expect(&rt, "memory");
     assert_equal(
         &rt,
         group_count_in_turn(rt.alloc(), &bytes),
         Some(1_000_000),
     );
-    Ok(())
 }
 
 #[test]
-fn large_section_of_short_types_is_read(rt: HostRuntime) -> Result<(), Fail> {
-    let bytes = section(rt.alloc(), &LARGE, &SHORT, 250_000)?;
+fn large_section_of_short_types_is_read(rt: HostRuntime) {
+    let bytes = section(rt.alloc(), &LARGE, &SHORT, 250_000).expect(&rt, "memory");
     assert_equal(&rt, group_count(rt.alloc(), &bytes), Some(1_000_000));
-    Ok(())
 }
 
 #[test]
-fn small_section_of_short_types_is_written(rt: HostRuntime) -> Result<(), Fail> {
-    let bytes = section(rt.alloc(), &SMALL, &SHORT, 25_000)?;
+fn small_section_of_short_types_is_written(rt: HostRuntime) {
+    let bytes = section(rt.alloc(), &SMALL, &SHORT, 25_000).expect(&rt, "memory");
     assert!(rt; is_written(rt.alloc(), &bytes));
-    Ok(())
 }
 
 #[test]
-fn large_section_of_short_types_is_written(rt: HostRuntime) -> Result<(), Fail> {
-    let bytes = section(rt.alloc(), &LARGE, &SHORT, 250_000)?;
+fn large_section_of_short_types_is_written(rt: HostRuntime) {
+    let bytes = section(rt.alloc(), &LARGE, &SHORT, 250_000).expect(&rt, "memory");
     assert!(rt; is_written(rt.alloc(), &bytes));
-    Ok(())
 }
 
 #[test]
-fn small_section_of_long_types_is_built(rt: HostRuntime) -> Result<(), Fail> {
-    let bytes = section(rt.alloc(), &SMALL, &LONG, 50_000)?;
+fn small_section_of_long_types_is_built(rt: HostRuntime) {
+    let bytes = section(rt.alloc(), &SMALL, &LONG, 50_000).expect(&rt, "memory");
     assert_equal(&rt, bytes.len(), 3_000_003);
-    Ok(())
 }
 
 #[test]
-fn large_section_of_long_types_is_built(rt: HostRuntime) -> Result<(), Fail> {
-    let bytes = section(rt.alloc(), &LARGE, &LONG, 500_000)?;
+fn large_section_of_long_types_is_built(rt: HostRuntime) {
+    let bytes = section(rt.alloc(), &LARGE, &LONG, 500_000).expect(&rt, "memory");
     assert_equal(&rt, bytes.len(), 30_000_003);
-    Ok(())
 }
 
 #[test]
-fn small_section_of_long_types_is_read_in_turn(rt: HostRuntime) -> Result<(), Fail> {
-    let bytes = section(rt.alloc(), &SMALL, &LONG, 50_000)?;
+fn small_section_of_long_types_is_read_in_turn(rt: HostRuntime) {
+    let bytes = section(rt.alloc(), &SMALL, &LONG, 50_000).expect(&rt, "memory");
     assert_equal(&rt, group_count_in_turn(rt.alloc(), &bytes), Some(100_000));
-    Ok(())
 }
 
 #[test]
-fn small_section_of_long_types_is_read(rt: HostRuntime) -> Result<(), Fail> {
-    let bytes = section(rt.alloc(), &SMALL, &LONG, 50_000)?;
+fn small_section_of_long_types_is_read(rt: HostRuntime) {
+    let bytes = section(rt.alloc(), &SMALL, &LONG, 50_000).expect(&rt, "memory");
     assert_equal(&rt, group_count(rt.alloc(), &bytes), Some(100_000));
-    Ok(())
 }
 
 #[test]
-fn large_section_of_long_types_is_read_in_turn(rt: HostRuntime) -> Result<(), Fail> {
-    let bytes = section(rt.alloc(), &LARGE, &LONG, 500_000)?;
+fn large_section_of_long_types_is_read_in_turn(rt: HostRuntime) {
+    let bytes = section(rt.alloc(), &LARGE, &LONG, 500_000).expect(&rt, "memory");
     assert_equal(
         &rt,
         group_count_in_turn(rt.alloc(), &bytes),
         Some(1_000_000),
     );
-    Ok(())
 }
 
 #[test]
-fn large_section_of_long_types_is_read(rt: HostRuntime) -> Result<(), Fail> {
-    let bytes = section(rt.alloc(), &LARGE, &LONG, 500_000)?;
+fn large_section_of_long_types_is_read(rt: HostRuntime) {
+    let bytes = section(rt.alloc(), &LARGE, &LONG, 500_000).expect(&rt, "memory");
     assert_equal(&rt, group_count(rt.alloc(), &bytes), Some(1_000_000));
-    Ok(())
 }
 
 #[test]
-fn small_section_of_long_types_is_written(rt: HostRuntime) -> Result<(), Fail> {
-    let bytes = section(rt.alloc(), &SMALL, &LONG, 50_000)?;
+fn small_section_of_long_types_is_written(rt: HostRuntime) {
+    let bytes = section(rt.alloc(), &SMALL, &LONG, 50_000).expect(&rt, "memory");
     assert!(rt; is_written(rt.alloc(), &bytes));
-    Ok(())
 }
 
 #[test]
-fn large_section_of_long_types_is_written(rt: HostRuntime) -> Result<(), Fail> {
-    let bytes = section(rt.alloc(), &LARGE, &LONG, 500_000)?;
+fn large_section_of_long_types_is_written(rt: HostRuntime) {
+    let bytes = section(rt.alloc(), &LARGE, &LONG, 500_000).expect(&rt, "memory");
     assert!(rt; is_written(rt.alloc(), &bytes));
-    Ok(())
 }
