@@ -2,9 +2,9 @@
 use Rattle.std.proofs.Common.{ℕ, suc, inl, inr, List, [], ◌∷◌, Some, None, refl, ap}
 use Rattle.walrus_ty.specs.declared.ty.value.Val.TheVariants as val
 use Rattle.walrus_ir.specs.declared.instr_seq_type.InstrSeqType.TheVariants.{Simple, MultiValue}
-use Rattle.walrus_ir.specs.declared.ir.exceptions.LegacyCatch.TheVariants as legacy
-use Rattle.walrus_ir.specs.declared.ir.exceptions.TryTableCatch.TheVariants as clause
-use Rattle.walrus_ir.specs.declared.ir.instr.Instr.{Instr}
+use Rattle.instr.specs.declared.exceptions.LegacyCatch.TheVariants as legacy
+use Rattle.instr.specs.declared.exceptions.TryTableCatch.TheVariants as clause
+use Rattle.instr.specs.declared.instr.Instr.{Instr}
 use Rattle.walrus_functions.specs.Body.{Body, sequence}
 use Rattle.walrus_body.specs.Counting.{with_budget, CutWalk}
 use Rattle.walrus_body.specs.Extents.{Extent, Full, Partial, Visit, Call, Then, Each, Both}

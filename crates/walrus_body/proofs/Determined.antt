@@ -2,9 +2,9 @@
 use Rattle.std.proofs.Common.{◌≡◌, ℕ, List, [], ◌∷◌, Some, None, refl, sym, ap, ◌∙◌, subst}
 use Rattle.walrus_ty.specs.declared.ty.value.Val.TheVariants as val
 use Rattle.walrus_ir.specs.declared.instr_seq_type.InstrSeqType.TheVariants.{Simple, MultiValue}
-use Rattle.walrus_ir.specs.declared.ir.exceptions.LegacyCatch.TheVariants as legacy
-use Rattle.walrus_ir.specs.declared.ir.exceptions.TryTableCatch.TheVariants as clause
-use Rattle.walrus_ir.specs.declared.ir.instr.Instr.{Instr}
+use Rattle.instr.specs.declared.exceptions.LegacyCatch.TheVariants as legacy
+use Rattle.instr.specs.declared.exceptions.TryTableCatch.TheVariants as clause
+use Rattle.instr.specs.declared.instr.Instr.{Instr}
 use Rattle.walrus_functions.specs.Body.{Body, sequence, with_sequence}
 use Rattle.walrus_body.specs.Counting.{IsFunction}
 use Rattle.walrus_body.specs.Extents.{Full, Visit, Call, Then, Each, Both}

@@ -6,12 +6,12 @@ use Rattle.walrus_ty.specs.declared.ty.value.Val.TheVariants as val
 use Rattle.walrus_ir.specs.Sequence.{Sequence}
 use Rattle.walrus_ir.specs.declared.instr_seq_type.InstrSeqType.{InstrSeqType}
 use Rattle.walrus_ir.specs.declared.instr_seq_type.InstrSeqType.TheVariants.{Simple, MultiValue}
-use Rattle.walrus_ir.specs.declared.ir.exceptions.LegacyCatch.{LegacyCatch}
-use Rattle.walrus_ir.specs.declared.ir.exceptions.LegacyCatch.TheVariants as legacy
-use Rattle.walrus_ir.specs.declared.ir.exceptions.TryTableCatch.{TryTableCatch}
-use Rattle.walrus_ir.specs.declared.ir.exceptions.TryTableCatch.TheVariants as clause
-use Rattle.walrus_ir.specs.declared.ir.instr.Instr.{Instr}
-use Rattle.walrus_ir.specs.declared.ir.instr.Instr.TheVariants as instr
+use Rattle.instr.specs.declared.exceptions.LegacyCatch.{LegacyCatch}
+use Rattle.instr.specs.declared.exceptions.LegacyCatch.TheVariants as legacy
+use Rattle.instr.specs.declared.exceptions.TryTableCatch.{TryTableCatch}
+use Rattle.instr.specs.declared.exceptions.TryTableCatch.TheVariants as clause
+use Rattle.instr.specs.declared.instr.Instr.{Instr}
+use Rattle.instr.specs.declared.instr.Instr.TheVariants as instr
 use Rattle.walrus_functions.specs.Body.{Body, sequence, with_sequence}
 use Rattle.walrus_functions.specs.Nesting.{children, handlers, IsNested}
 use Rattle.walrus_body.specs.Extents.{Full, Visit, Call, Then, Each, Both}

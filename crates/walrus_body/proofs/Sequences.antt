@@ -2,7 +2,7 @@
 use Rattle.std.proofs.Common.{◌≡◌, ℕ, List, inl, inr, refl}
 use Rattle.walrus_ir.specs.Sequence.{Sequence}
 use Rattle.walrus_ir.specs.declared.instr_seq_type.InstrSeqType.{InstrSeqType}
-use Rattle.walrus_ir.specs.declared.ir.instr.Instr.{Instr}
+use Rattle.instr.specs.declared.instr.Instr.{Instr}
 use Rattle.walrus_body.specs.Extents.{Full, Partial, Each}
 use Rattle.walrus_body.specs.Hooks.{Steps, start_instr_seq, end_instr_seq}
 use Rattle.walrus_body.specs.Fields.{VisitsType}

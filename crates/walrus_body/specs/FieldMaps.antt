@@ -6,11 +6,11 @@ use Rattle.walrus_ty.specs.declared.ty.value.Val.TheVariants.{Ref}
 use Rattle.walrus_ir.specs.Sequence.{Sequence}
 use Rattle.walrus_ir.specs.declared.instr_seq_type.InstrSeqType.{InstrSeqType}
 use Rattle.walrus_ir.specs.declared.instr_seq_type.InstrSeqType.TheVariants.{Simple, MultiValue}
-use Rattle.walrus_ir.specs.declared.ir.exceptions.LegacyCatch.{LegacyCatch}
-use Rattle.walrus_ir.specs.declared.ir.exceptions.LegacyCatch.TheVariants as legacy
-use Rattle.walrus_ir.specs.declared.ir.exceptions.TryTableCatch.{TryTableCatch}
-use Rattle.walrus_ir.specs.declared.ir.exceptions.TryTableCatch.TheVariants as clause
-use Rattle.walrus_ir.specs.declared.ir.instr.Instr.{Instr}
+use Rattle.instr.specs.declared.exceptions.LegacyCatch.{LegacyCatch}
+use Rattle.instr.specs.declared.exceptions.LegacyCatch.TheVariants as legacy
+use Rattle.instr.specs.declared.exceptions.TryTableCatch.{TryTableCatch}
+use Rattle.instr.specs.declared.exceptions.TryTableCatch.TheVariants as clause
+use Rattle.instr.specs.declared.instr.Instr.{Instr}
 use Rattle.walrus_functions.specs.Body.{Body, sequence}
 use Rattle.walrus_body.specs.Fields.{Row, no_field, one, two, three, with_catches, with_legacy_catches, row}
 use Rattle.walrus_body.specs.Hooks.{Hook, Given, Steps, start_instr_seq, end_instr_seq, visit_instr, visit_instr_seq_id, visit_heap_type, visit_type_id, visit_tag_id}

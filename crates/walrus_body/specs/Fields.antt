@@ -6,12 +6,12 @@ use Rattle.walrus_ty.specs.declared.ty.value.Val.TheVariants.{Ref}
 use Rattle.walrus_ty.specs.declared.ty.value.Heap.{Heap}
 use Rattle.walrus_ir.specs.declared.instr_seq_type.InstrSeqType.{InstrSeqType}
 use Rattle.walrus_ir.specs.declared.instr_seq_type.InstrSeqType.TheVariants.{Simple, MultiValue}
-use Rattle.walrus_ir.specs.declared.ir.exceptions.LegacyCatch.{LegacyCatch}
-use Rattle.walrus_ir.specs.declared.ir.exceptions.LegacyCatch.TheVariants as legacy
-use Rattle.walrus_ir.specs.declared.ir.exceptions.TryTableCatch.{TryTableCatch}
-use Rattle.walrus_ir.specs.declared.ir.exceptions.TryTableCatch.TheVariants as clause
-use Rattle.walrus_ir.specs.declared.ir.instr.Instr.{Instr}
-use Rattle.walrus_ir.specs.declared.ir.instr.Instr.TheVariants as instr
+use Rattle.instr.specs.declared.exceptions.LegacyCatch.{LegacyCatch}
+use Rattle.instr.specs.declared.exceptions.LegacyCatch.TheVariants as legacy
+use Rattle.instr.specs.declared.exceptions.TryTableCatch.{TryTableCatch}
+use Rattle.instr.specs.declared.exceptions.TryTableCatch.TheVariants as clause
+use Rattle.instr.specs.declared.instr.Instr.{Instr}
+use Rattle.instr.specs.declared.instr.Instr.TheVariants as instr
 use Rattle.walrus_body.specs.Extents.{Extent, Visit, Call, Both, Each}
 use Rattle.walrus_body.specs.Hooks.{Hook, Given, Steps, visit_instr_seq_id, visit_heap_type, visit_function_id, visit_type_id, visit_table_id, visit_local_id, visit_global_id, visit_value, visit_memory_id, visit_data_id, visit_element_id, visit_tag_id}
 

@@ -1,8 +1,8 @@
 -- The hooks of a visitor that changes what it visits.
 use Rattle.std.specs.Prelude.{ℕ}
 use Rattle.walrus_ir.specs.Sequence.{Sequence}
-use Rattle.walrus_ir.specs.declared.ir.instr.Instr.{Instr}
-use Rattle.walrus_ir.specs.declared.value.Value.{Value}
+use Rattle.instr.specs.declared.instr.Instr.{Instr}
+use Rattle.instr.specs.declared.value.Value.{Value}
 use Rattle.walrus_ty.specs.declared.ty.value.Heap.{Heap}
 
 pub data Hook : Type 0 where

@@ -2,7 +2,7 @@
 use Rattle.std.specs.Prelude.{◌≡◌, ℕ, List}
 use Rattle.walrus_ir.specs.Sequence.{Sequence}
 use Rattle.walrus_ir.specs.declared.instr_seq_type.InstrSeqType.{InstrSeqType}
-use Rattle.walrus_ir.specs.declared.ir.instr.Instr.{Instr}
+use Rattle.instr.specs.declared.instr.Instr.{Instr}
 use Rattle.walrus_body.specs.Extents.{Visit, Call, Then, Each}
 use Rattle.walrus_body.specs.Fields.{VisitsType, VisitsFields}
 use Rattle.walrus_body.specs.Hooks.{Steps, start_instr_seq, end_instr_seq, visit_instr}

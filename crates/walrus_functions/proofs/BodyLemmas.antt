@@ -2,7 +2,7 @@
 use Rattle.std.proofs.Common.{◌≡◌, ℕ, List, ap}
 use Rattle.std.proofs.lemmas.List.{set-get_or}
 use Rattle.walrus_ir.specs.Sequence.{Sequence}
-use Rattle.walrus_ir.specs.declared.ir.instr.Instr.{Instr}
+use Rattle.instr.specs.declared.instr.Instr.{Instr}
 use Rattle.walrus_functions.specs.Body.{Body, instrs_of, with_instrs}
 
 -- the instructions that a sequence has, written again, change nothing

@@ -2,7 +2,7 @@
 -- function.
 use Rattle.std.specs.Prelude.{◌≡◌, ◌≤◌, ℕ}
 use Rattle.std.specs.Borrow.{GName}
-use Rattle.walrus_ir.specs.declared.ir.instr.Instr.{Instr}
+use Rattle.instr.specs.declared.instr.Instr.{Instr}
 use Rattle.walrus_functions.specs.declared.function_builder.instr_seq_builder.InstrSeqBuilder.{InstrSeqBuilder}
 use Rattle.walrus_functions.specs.declared.error.BuildError.{BuildError}
 use Rattle.walrus_functions.specs.declared.error.BuildError.TheVariants.{Memory}

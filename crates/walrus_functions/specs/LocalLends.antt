@@ -1,7 +1,7 @@
 -- What functions end as, where a `&mut` into them is returned.
 use Rattle.std.specs.Prelude.{ℕ, List, slice_set}
 use Rattle.std.specs.Borrow.{Lends, Fml, MutBor}
-use Rattle.walrus_ir.specs.contracts.ir.instr_seq.InstrSeq.{the_row as seq_row}
+use Rattle.walrus_ir.specs.contracts.instr_seq.InstrSeq.{the_row as seq_row}
 use Rattle.walrus_ir.specs.Sequence.{Sequence}
 use Rattle.walrus_functions.specs.contracts.local_function.LocalFunction.{the_row as function_row}
 use Rattle.walrus_functions.specs.contracts.local_functions.LocalFunctions.{the_row as functions_row}

@@ -4,10 +4,10 @@
 -- unfolding it ends.
 use Rattle.std.specs.Prelude.{ℕ, ◌<◌, List, [], ◌∷◌, Contains}
 use Rattle.std.specs.List.{flat_map}
-use Rattle.walrus_ir.specs.declared.ir.instr.Instr.{Instr}
-use Rattle.walrus_ir.specs.declared.ir.instr.Instr.TheVariants as instr
-use Rattle.walrus_ir.specs.declared.ir.exceptions.LegacyCatch.{LegacyCatch}
-use Rattle.walrus_ir.specs.declared.ir.exceptions.LegacyCatch.TheVariants.{Catch, CatchAll, Delegate}
+use Rattle.instr.specs.declared.instr.Instr.{Instr}
+use Rattle.instr.specs.declared.instr.Instr.TheVariants as instr
+use Rattle.instr.specs.declared.exceptions.LegacyCatch.{LegacyCatch}
+use Rattle.instr.specs.declared.exceptions.LegacyCatch.TheVariants.{Catch, CatchAll, Delegate}
 use Rattle.walrus_functions.specs.Body.{Body, Knows, sequence}
 
 -- the sequence that a clause of `try` runs

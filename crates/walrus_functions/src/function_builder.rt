@@ -302,7 +302,7 @@ impl FunctionBuilder {
     }
 }
 
-ghost use Rattle.walrus_ir.specs.contracts.ir.instr_seq.InstrSeq.{the_row as seq_row};
+ghost use Rattle.walrus_ir.specs.contracts.instr_seq.InstrSeq.{the_row as seq_row};
 ghost use Rattle.walrus_functions.specs.Rows.{instrs_row};
 
 // The instructions of a sequence, for writing.

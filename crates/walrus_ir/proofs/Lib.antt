@@ -1,5 +1,3 @@
-mod HexText
 mod ConstExprLemmas
-pub mod LocalHashes
 
 -- lemmas

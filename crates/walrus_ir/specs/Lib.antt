@@ -1,11 +1,3 @@
-pub mod Values
-pub mod Locals
-pub mod LocalParts
 pub mod BlockTypes
 pub mod ConstExpr
-pub mod LocalLends
-pub mod Atomics
-pub mod Loads
-pub mod Reachability
 pub mod Sequence
-pub mod Stores

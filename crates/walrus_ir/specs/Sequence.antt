@@ -1,11 +1,8 @@
 -- What contracts see of a sequence of instructions.
 use Rattle.std.specs.Prelude.{ℕ, List, []}
 use Rattle.walrus_ir.specs.declared.instr_seq_type.InstrSeqType.{InstrSeqType}
-use Rattle.walrus_ir.specs.declared.ir.instr.Instr.{Instr}
-
--- the number of the default location, which no instruction of a binary has
-abbrev pub no_location : ℕ
-no_location = 0xffff_ffff
+use Rattle.instr.specs.declared.instr.Instr.{Instr}
+use Rattle.instr.specs.Locations.{no_location}
 
 pub record Sequence : Type 0 where
   pub id : ℕ

@@ -1,17 +1,13 @@
-//! Laws of constant expressions, of block types and of locals. Each function does nothing; its
-//! clauses are theorems, which a caller gets by calling it.
-ghost use Rattle.std.specs.Prelude.{◌≡◌, ◌<◌, ◌^◌, ◌↔◌, IsTrue, List, map};
-ghost use Rattle.walrus_ir.specs.LocalParts.{local_parts};
-ghost use Rattle.walrus_ir.specs.Locals.{LocalVariable};
-ghost use Rattle.walrus_ty.specs.HashInput.{Fits, HashesBy};
-ghost use Rattle.walrus_ty.specs.Value.{val_name};
+//! Laws of constant expressions and of block types, and those of locals. Each function does nothing;
+//! its clauses are theorems, which a caller gets by calling it.
+ghost use Rattle.std.specs.Prelude.{◌≡◌, ◌↔◌, IsTrue, List, map};
 ghost use Rattle.walrus_ir.specs.declared.instr_seq_type.InstrSeqType.{InstrSeqType as BlockType};
 ghost use Rattle.walrus_ir.specs.declared.const_expr.ConstOp.{ConstOp};
 ghost use Rattle.walrus_ir.specs.declared.const_expr.ConstOpAt.{ConstOpAt};
 ghost use Rattle.walrus_ir.specs.ConstExpr.{Renaming, after, expr_of, ops_of, op_read, op_written, rename_op};
 
-use crate::{InstrSeqType, Local};
-use std::hash::Hash;
+use crate::InstrSeqType;
+pub use instr::laws::{equal_locals_are_the_same, local_hashes_agree};
 
 /// The operations of a constant expression are those that it was made of. So what `to_ops` writes
 /// of what `eval` read is the list that was read, with each index sent through both maps.
@@ -26,17 +22,4 @@ pub fn operations_come_back()
 pub fn equal_block_types_are_the_same()
     ensures { (s t : BlockType) →
         (IsTrue (⟦<InstrSeqType as PartialEq>⟧.eq s t) ↔ (s ≡ t)) }
-{}
-
-/// Locals are equal exactly where their ids, their types and their names are.
-pub fn equal_locals_are_the_same()
-    ensures { (l m : LocalVariable) → (IsTrue (⟦<Local as PartialEq>⟧.eq l m) ↔
-        ((l.id ≡ m.id) × (l.ty ≡ m.ty)
-        × IsTrue (⟦<Option<String> as PartialEq>⟧.eq l.name m.name))) }
-{}
-
-/// `Hash` looks at all three parts of a local: at its id, at its type and at the bytes of its name.
-pub fn local_hashes_agree()
-    ensures { HashesBy local_parts (λ l. (l.id < 2 ^ 64) × Fits 64 (val_name l.ty))
-        ⟦<Local as Hash>⟧.hash_input }
 {}

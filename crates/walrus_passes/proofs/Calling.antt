@@ -5,11 +5,12 @@ use Rattle.std.specs.Option.{IsSomeAnd}
 use Rattle.std.proofs.lemmas.List.{set-set, take_all, map_more}
 use Rattle.walrus_ty.specs.declared.ty.value.Val.{Val}
 use Rattle.walrus_ty.specs.Signature.{Signature}
-use Rattle.walrus_ir.specs.Locals.{unnamed_locals}
-use Rattle.walrus_ir.specs.Sequence.{Sequence, empty_sequence, no_location}
+use Rattle.instr.specs.Locals.{unnamed_locals}
+use Rattle.instr.specs.Locations.{no_location}
+use Rattle.walrus_ir.specs.Sequence.{Sequence, empty_sequence}
 use Rattle.walrus_ir.specs.declared.instr_seq_type.InstrSeqType.TheVariants.{Simple}
-use Rattle.walrus_ir.specs.declared.ir.instr.Instr.{Instr}
-use Rattle.walrus_ir.specs.declared.ir.instr.Instr.TheVariants.{Call}
+use Rattle.instr.specs.declared.instr.Instr.{Instr}
+use Rattle.instr.specs.declared.instr.Instr.TheVariants.{Call}
 use Rattle.walrus_functions.specs.Body.{Body, Knows, sequence, with_sequence, with_instrs, with_instr}
 use Rattle.walrus_passes.specs.Adapters.{get_of, call_with}
 

@@ -2,10 +2,10 @@
 -- WebAssembly core specification, "Functions"; "Control Instructions", `unreachable`. That a body
 -- is replaced is of this crate's own.
 use Rattle.std.specs.Prelude.{◌≡◌, ℕ, List, [], ◌∷◌, Option, Some, None, slice_get, slice_set, IsSomeAnd}
-use Rattle.walrus_ir.specs.Sequence.{no_location}
+use Rattle.instr.specs.Locations.{no_location}
 use Rattle.walrus_ir.specs.declared.instr_seq_type.InstrSeqType.{InstrSeqType}
 use Rattle.walrus_ir.specs.declared.instr_seq_type.InstrSeqType.TheVariants.{Simple}
-use Rattle.walrus_ir.specs.declared.ir.instr.Instr.TheVariants.{Unreachable}
+use Rattle.instr.specs.declared.instr.Instr.TheVariants.{Unreachable}
 use Rattle.walrus_functions.specs.Body.{Body, sequence}
 use Rattle.walrus_functions.specs.Locals.{FunctionWithArgs}
 

@@ -5,9 +5,9 @@ use Rattle.std.specs.Prelude.{◌≡◌, ℕ, List, [], ◌∷◌, ◌++◌, Opt
 use Rattle.walrus_ty.specs.declared.ty.value.Val.{Val}
 use Rattle.walrus_ty.specs.Value.{heap_names, reference_names, val_names}
 use Rattle.walrus_ir.specs.BlockTypes.{block_type_name}
-use Rattle.walrus_ir.specs.Locals.{LocalVariable}
-use Rattle.walrus_ir.specs.declared.ir.instr.Instr.{Instr}
-use Rattle.walrus_ir.specs.declared.ir.instr.Instr.TheVariants as instr
+use Rattle.instr.specs.Locals.{LocalVariable}
+use Rattle.instr.specs.declared.instr.Instr.{Instr}
+use Rattle.instr.specs.declared.instr.Instr.TheVariants as instr
 use Rattle.walrus_functions.specs.Body.{Body, sequence, instrs_of}
 use Rattle.walrus_functions.specs.Locals.{FunctionWithArgs}
 use Rattle.walrus_functions.specs.Nesting.{IsNested, IsReachable}

@@ -50,18 +50,13 @@ pub(crate) fn field(of: ValType) -> FieldType {
     }
 }
 
-/// Whether these are the ids of the first of these indices.
-pub(crate) fn begin<T>(ids: &[Id<T>], indices: &[usize]) -> bool {
-    ids.len() <= indices.len()
+/// Whether these are the ids of these indices.
+pub(crate) fn are<T>(ids: &[Id<T>], indices: &[usize]) -> bool {
+    ids.len() == indices.len()
         && ids
             .iter()
             .zip(indices)
             .all(|(id, index)| id.index() == *index)
-}
-
-/// Whether these are the ids of these indices.
-pub(crate) fn are<T>(ids: &[Id<T>], indices: &[usize]) -> bool {
-    ids.len() == indices.len() && begin(ids, indices)
 }
 
 /// A list of these items. It is made again after a refusal.

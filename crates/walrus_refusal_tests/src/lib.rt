@@ -3,13 +3,11 @@
 //!
 //! Each request for memory of these tests may be refused, one in a run, and they still pass. They
 //! stand in a crate of their own, since tests inside a crate have the gate prove that crate a
-//! second time.
+//! second time; those of the nesting check and of walks are in `walrus_body_refusal_tests`.
 #![tactic(auto)]
 
 #[cfg(test)]
 mod assertions;
-#[cfg(test)]
-mod bodies;
 #[cfg(test)]
 mod clones;
 #[cfg(test)]
@@ -25,10 +23,6 @@ mod index_maps;
 #[cfg(test)]
 mod ir;
 #[cfg(test)]
-mod nesting;
-#[cfg(test)]
 mod sections;
 #[cfg(test)]
 mod table;
-#[cfg(test)]
-mod walks;

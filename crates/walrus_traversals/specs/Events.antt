@@ -6,13 +6,13 @@ use Rattle.walrus_ty.specs.declared.ty.value.Val.TheVariants.{Ref}
 use Rattle.walrus_ir.specs.Sequence.{Sequence}
 use Rattle.walrus_ir.specs.declared.instr_seq_type.InstrSeqType.{InstrSeqType}
 use Rattle.walrus_ir.specs.declared.instr_seq_type.InstrSeqType.TheVariants.{Simple, MultiValue}
-use Rattle.walrus_ir.specs.declared.ir.exceptions.LegacyCatch.{LegacyCatch}
-use Rattle.walrus_ir.specs.declared.ir.exceptions.LegacyCatch.TheVariants as legacy
-use Rattle.walrus_ir.specs.declared.ir.exceptions.TryTableCatch.{TryTableCatch}
-use Rattle.walrus_ir.specs.declared.ir.exceptions.TryTableCatch.TheVariants as clause
-use Rattle.walrus_ir.specs.declared.ir.instr.Instr.{Instr}
-use Rattle.walrus_ir.specs.declared.ir.instr.Instr.TheVariants as instr
-use Rattle.walrus_ir.specs.declared.value.Value.{Value}
+use Rattle.instr.specs.declared.exceptions.LegacyCatch.{LegacyCatch}
+use Rattle.instr.specs.declared.exceptions.LegacyCatch.TheVariants as legacy
+use Rattle.instr.specs.declared.exceptions.TryTableCatch.{TryTableCatch}
+use Rattle.instr.specs.declared.exceptions.TryTableCatch.TheVariants as clause
+use Rattle.instr.specs.declared.instr.Instr.{Instr}
+use Rattle.instr.specs.declared.instr.Instr.TheVariants as instr
+use Rattle.instr.specs.declared.value.Value.{Value}
 use Rattle.walrus_functions.specs.Body.{Body, sequence}
 use Rattle.walrus_functions.specs.Nesting.{children}
 

@@ -1,7 +1,7 @@
 //! Adding instructions to a sequence.
 ghost use Rattle.std.specs.Prelude.{◌≡◌, ◌≤◌, length, OnOk, IfErr};
 ghost use Rattle.std.specs.Borrow.{sem, Lends};
-ghost use Rattle.walrus_ir.specs.declared.ir.instr.Instr.{Instr};
+ghost use Rattle.instr.specs.declared.instr.Instr.{Instr};
 ghost use Rattle.walrus_functions.specs.Body.{instrs_of, with_instrs};
 
 use super::FunctionBuilder;

@@ -1,7 +1,7 @@
 //! Instructions that have sequences inside.
 //! WebAssembly core specification, "Control Instructions" and "Structured Control Flow".
 ghost use Rattle.std.specs.Prelude.{◌≡◌, ◌⊎◌, OnOk, IfOk, IfErr, Ok, Err};
-ghost use Rattle.walrus_ir.specs.declared.ir.instr.Instr.TheVariants as instr;
+ghost use Rattle.instr.specs.declared.instr.Instr.TheVariants as instr;
 
 use super::InstrSeqBuilder;
 use crate::BuildError;

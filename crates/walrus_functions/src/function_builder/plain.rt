@@ -2,8 +2,8 @@
 //! the fields of its struct in their order.
 //! WebAssembly core specification, "Instructions".
 ghost use Rattle.std.specs.Prelude.{OnOk, IfErr};
-ghost use Rattle.walrus_ir.specs.declared.ir.instr.Instr.TheVariants as instr;
-ghost use Rattle.walrus_ir.specs.declared.value.Value.TheVariants as constant;
+ghost use Rattle.instr.specs.declared.instr.Instr.TheVariants as instr;
+ghost use Rattle.instr.specs.declared.value.Value.TheVariants as constant;
 
 use super::InstrSeqBuilder;
 use crate::BuildError;

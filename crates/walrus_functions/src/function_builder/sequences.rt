@@ -5,27 +5,22 @@ ghost use Rattle.walrus_ir.specs.Sequence.{empty_sequence};
 
 use std::alloc::{AllocError, Global};
 use std::marker::Model;
-use walrus_arena::TombstoneArena;
-use walrus_ir::{InstrSeq, InstrSeqId, InstrSeqType};
+use walrus_ir::{Id, InstrSeq, InstrSeqId, InstrSeqType};
 
 // Sequences by id. None of them is ever deleted, so contracts see the list of them, and an id is a
 // place in it.
 #[derive(Drop)]
 pub(super) struct Sequences {
-    alloc: Global,
-    arena: TombstoneArena<InstrSeq>,
+    items: Vec<InstrSeq>,
 }
 
 impl Model for Sequences {
     ghost use Rattle.std.specs.Prelude.{List};
     ghost use Rattle.walrus_ir.specs.Sequence.{Sequence};
-    ghost use Rattle.walrus_functions.specs.Steps.SequenceSlots.{values, IsFull};
 
     ghost Value = { List Sequence };
 
-    ghost view = { λ s. values s.arena };
-
-    ghost invariant = { λ s. IsFull s.arena };
+    ghost view = { λ s. s.items.items };
 }
 
 impl Sequences {
@@ -35,28 +30,27 @@ impl Sequences {
         ensures { result ≡ [] }
     {
         Sequences {
-            alloc,
-            arena: TombstoneArena::new(alloc),
+            items: Vec::new(alloc),
         }
     }
 
     pub(super) fn len(&self) -> usize
         ensures { result ≡ length self.now }
     {
-        self.arena.next_id().index()
+        self.items.len()
     }
 
     pub(super) fn contains(&self, id: InstrSeqId) -> bool
         ensures { IsTrue result ↔ (id < length self.now) }
     {
-        self.arena.contains(id)
+        id.index() < self.items.len()
     }
 
     pub(super) fn get(&self, id: InstrSeqId) -> &InstrSeq
         requires { id < length self.now }
         ensures { slice_get self.now id ≡ Some result.now }
     {
-        &self.arena[id]
+        &self.items[id.index()]
     }
 
     pub(super) fn get_mut(&mut self, id: InstrSeqId) -> &mut InstrSeq
@@ -64,7 +58,7 @@ impl Sequences {
         ensures* writes_back { sem 𝓛 (LendsAt self.entry id result) }
         ensures value { slice_get self.old id ≡ Some result.now }
     {
-        &mut self.arena[id]
+        &mut self.items[id.index()]
     }
 
     // Adds a sequence without instructions.
@@ -74,8 +68,9 @@ impl Sequences {
             (self.new ≡ self.old ++ empty_sequence (length self.old) ty ∷ []) }
         ensures err { OnErr result (self.new ≡ self.old) }
     {
-        let alloc = self.alloc;
-        let id = self.arena.alloc_with_id(|id| InstrSeq::new(alloc, id, ty))?;
+        let alloc = *self.items.allocator();
+        let id = Id::from_index(self.items.len());
+        self.items.push(InstrSeq::new(alloc, id, ty))?;
         Ok(id)
     }
 }

@@ -5,7 +5,7 @@ use Rattle.std.proofs.lemmas.List.{reverse-append, reverse-reverse}
 use Rattle.std.proofs.lemmas.List.Concat.{flat_map-append}
 use Rattle.std.proofs.lemmas.List.Folds.{flat_map-map}
 use Rattle.walrus_ir.specs.Sequence.{Sequence}
-use Rattle.walrus_ir.specs.declared.ir.instr.Instr.{Instr}
+use Rattle.instr.specs.declared.instr.Instr.{Instr}
 use Rattle.walrus_functions.specs.Body.{Body, sequence, Knows}
 use Rattle.walrus_traversals.specs.Events.{Event, AfterFirst, StartInstrSeq, EndInstrSeq, own_events, type_of, events_of_instrs, events_to, events}
 use Rattle.walrus_functions.specs.Nesting.{children}

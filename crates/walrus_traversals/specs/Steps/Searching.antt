@@ -1,7 +1,7 @@
 -- How far a nesting check has come.
 use Rattle.std.specs.Prelude.{◌≡◌, ℕ, suc, ◌+◌, ◌<◌, ◌⊎◌, List, [], ◌∷◌, ◌++◌, All, Contains, Some, slice_get, slice_set, map, take, length, ◌-◌}
 use Rattle.std.specs.List.{flat_map}
-use Rattle.walrus_ir.specs.declared.ir.instr.Instr.{Instr}
+use Rattle.instr.specs.declared.instr.Instr.{Instr}
 use Rattle.walrus_functions.specs.Body.{Body, Knows}
 use Rattle.walrus_functions.specs.Nesting.{children, children_of, IsChild, IsReachable}
 use Rattle.walrus_traversals.specs.Certificates.{IsPath, ShowsCycle, ShowsUnknown}

@@ -1,7 +1,7 @@
 -- What the in-order walk keeps on its stack.
 use Rattle.std.specs.Prelude.{ℕ, ◌+◌, List, [], ◌∷◌, map, reverse, slice_get, Option, Some, None}
 use Rattle.walrus_ir.specs.Sequence.{Sequence}
-use Rattle.walrus_ir.specs.declared.ir.instr.Instr.{Instr}
+use Rattle.instr.specs.declared.instr.Instr.{Instr}
 use Rattle.walrus_functions.specs.Body.{Body, sequence}
 use Rattle.walrus_traversals.specs.Events.{Event, StartInstrSeq, EndInstrSeq, own_events, type_of}
 use Rattle.walrus_functions.specs.Nesting.{children}

@@ -1,7 +1,7 @@
 use Rattle.std.proofs.Common.{◌<◌, ℕ, length, arith, refl, sym}
 use Rattle.std.proofs.lemmas.Option.{get_or_from_slice_get}
 use Rattle.std.proofs.lemmas.Result.{err_from_is_err_and}
-use Rattle.walrus_ir.specs.declared.ir.exceptions.TryTableCatch.{TryTableCatch}
+use Rattle.instr.specs.declared.exceptions.TryTableCatch.{TryTableCatch}
 use Rattle.walrus_body.specs.Fields.{VisitsCatch}
 use Rattle.walrus_body.proofs.Eaches.{done_more, done_begun}
 use Rattle.walrus_body.proofs.fields_mut.visit_catches.Goals as goal

@@ -1,5 +1,5 @@
 use Rattle.std.proofs.Common.{ℕ}
-use Rattle.walrus_ir.specs.declared.ir.exceptions.TryTableCatch.{TryTableCatch}
+use Rattle.instr.specs.declared.exceptions.TryTableCatch.{TryTableCatch}
 use Rattle.walrus_body.specs.Fields.{VisitsCatch}
 use Rattle.walrus_body.proofs.Eaches.{Done}
 use Rattle.walrus_body.proofs.fields_mut.visit_catches.Given as goal

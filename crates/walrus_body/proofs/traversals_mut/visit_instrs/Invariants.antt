@@ -1,5 +1,5 @@
 use Rattle.std.proofs.Common.{ℕ}
-use Rattle.walrus_ir.specs.declared.ir.instr.Instr.{Instr}
+use Rattle.instr.specs.declared.instr.Instr.{Instr}
 use Rattle.walrus_functions.specs.Nesting.{children}
 use Rattle.walrus_body.specs.Sequences.{VisitsInstr}
 use Rattle.walrus_body.proofs.Eaches.{Done}

@@ -1,0 +1,4 @@
+mod HexText
+pub mod LocalHashes
+
+-- lemmas

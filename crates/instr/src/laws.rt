@@ -1,0 +1,23 @@
+//! Laws of locals. Each function does nothing; its clauses are theorems, which a caller gets by
+//! calling it.
+ghost use Rattle.std.specs.Prelude.{◌≡◌, ◌<◌, ◌^◌, ◌↔◌, IsTrue};
+ghost use Rattle.instr.specs.LocalParts.{local_parts};
+ghost use Rattle.instr.specs.Locals.{LocalVariable};
+ghost use Rattle.walrus_ty.specs.HashInput.{Fits, HashesBy};
+ghost use Rattle.walrus_ty.specs.Value.{val_name};
+
+use crate::Local;
+use std::hash::Hash;
+
+/// Locals are equal exactly where their ids, their types and their names are.
+pub fn equal_locals_are_the_same()
+    ensures { (l m : LocalVariable) → (IsTrue (⟦<Local as PartialEq>⟧.eq l m) ↔
+        ((l.id ≡ m.id) × (l.ty ≡ m.ty)
+        × IsTrue (⟦<Option<String> as PartialEq>⟧.eq l.name m.name))) }
+{}
+
+/// `Hash` looks at all three parts of a local: at its id, at its type and at the bytes of its name.
+pub fn local_hashes_agree()
+    ensures { HashesBy local_parts (λ l. (l.id < 2 ^ 64) × Fits 64 (val_name l.ty))
+        ⟦<Local as Hash>⟧.hash_input }
+{}
