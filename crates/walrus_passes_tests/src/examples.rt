@@ -1,15 +1,14 @@
 //! What stands on the first page of the repository, and the examples in the documentation of
-//! `walrus_passes`: their lines are those of the tests here.
+//! `walrus_passes` that are about types: their lines are those of the tests here.
 use crate::assertions::assert_equal;
-use crate::bodies::{SNIPPED, function, text_of};
 use crate::index_maps::section;
 use crate::unused_types::{are, table};
-use crate::used_types::{hold_just, maker};
+use std::alloc::Global;
 use std::test::Fail;
 use walrus_binary::encode_types;
-use walrus_functions::{FunctionBuilder, LocalFunctions};
-use walrus_ir::{ConstExpr, Id, InstrSeqType, ModuleLocals};
-use walrus_passes::{adapter, delete_unused_types, new_indices, replace_with, snip, used_types};
+use walrus_functions::{BuildError, FunctionBuilder, LocalFunction};
+use walrus_ir::{ConstExpr, InstrSeqType, ModuleLocals};
+use walrus_passes::{delete_unused_types, new_indices, used_types};
 use walrus_types::{
     HashKeys, Heap, ModuleTypes, Reference, TypeId, ValType, normalise, parse_types,
 };
@@ -38,6 +37,22 @@ fn a_struct_that_nothing_names_is_deleted(rt: HostRuntime) -> Result<(), Fail> {
     Ok(())
 }
 
+// A function of the type 2 of the table, which makes a struct of type 0.
+fn maker(alloc: Global) -> Result<LocalFunction, BuildError> {
+    let mut f = FunctionBuilder::without_entry(alloc, TypeId::from_index(2));
+    let mut body = f.dangling_instr_seq(InstrSeqType::MultiValue(TypeId::from_index(5)))?;
+    body.struct_new(TypeId::from_index(0))?;
+    let entry = body.id();
+    f.set_entry(entry);
+    Ok(f.local_func(Vec::new(alloc)))
+}
+
+// Whether these are the types of these indices, in some order and each as often as it may be.
+fn hold_just(ids: &[TypeId], indices: &[usize]) -> bool {
+    let has = |index: usize| ids.iter().any(|id| id.index() == index);
+    ids.iter().all(|id| indices.contains(&id.index())) && indices.iter().all(|index| has(*index))
+}
+
 #[test]
 fn what_a_function_and_a_global_use_is_kept(rt: HostRuntime) -> Result<(), Fail> {
     let alloc = rt.alloc();
@@ -57,65 +72,6 @@ fn what_a_function_and_a_global_use_is_kept(rt: HostRuntime) -> Result<(), Fail>
     assert!(rt; hold_just(roots.as_slice(), &[2, 5, 0, 3]));
     assert!(rt; are(deleted.as_slice(), &[1]));
     assert!(rt; are(types.live_ids()?.as_slice(), &[0, 2, 3, 4, 5]));
-    Ok(())
-}
-
-#[test]
-fn a_function_that_must_not_be_run_is_snipped(rt: HostRuntime) -> Result<(), Fail> {
-    let alloc = rt.alloc();
-    let mut types = ModuleTypes::new(alloc);
-    let mut funcs = LocalFunctions::new(alloc);
-    let args = Vec::new(alloc);
-    let mut builder = FunctionBuilder::new(alloc, &mut types, &[], &[])?;
-    builder.func_body().return_()?;
-    let Ok(id) = builder.finish(args, &mut funcs) else {
-        return Err(Fail::new("out of memory"));
-    };
-    snip(alloc, &mut funcs, id)?;
-    assert!(rt; funcs.contains(id));
-    assert_equal(&rt, text_of(alloc, funcs.get(id), 0)?.as_str(), SNIPPED);
-    Ok(())
-}
-
-#[test]
-fn a_function_gets_a_body_of_its_own_type(rt: HostRuntime) -> Result<(), Fail> {
-    let alloc = rt.alloc();
-    let mut funcs = LocalFunctions::new(alloc);
-    let Ok(id) = funcs.add(function(alloc)?) else {
-        return Err(Fail::new("out of memory"));
-    };
-    let mut builder = FunctionBuilder::without_entry(alloc, funcs.get(id).ty());
-    let mut body = builder.dangling_instr_seq(InstrSeqType::Simple(Some(ValType::I32)))?;
-    body.i32_const(8)?;
-    let entry = body.id();
-    builder.set_entry(entry);
-    replace_with(alloc, &mut funcs, id, builder)?;
-    assert!(rt; funcs.contains(id));
-    assert_equal(
-        &rt,
-        text_of(alloc, funcs.get(id), 0)?.as_str(),
-        "Const(Const { value: I32(8) });",
-    );
-    Ok(())
-}
-
-#[test]
-fn a_wrapper_of_an_import_calls_it(rt: HostRuntime) -> Result<(), Fail> {
-    let alloc = rt.alloc();
-    let mut types = ModuleTypes::new(alloc);
-    let mut locals = ModuleLocals::new(alloc);
-    let mut funcs = LocalFunctions::new(alloc);
-    let import = Id::from_index(9);
-    let ty = types.add(&[], &[])?;
-    let func = adapter(alloc, &mut types, &mut locals, import, ty)?;
-    let Ok(wrapper) = funcs.add(func) else {
-        return Err(Fail::new("out of memory"));
-    };
-    assert_equal(
-        &rt,
-        text_of(alloc, funcs.get(wrapper), 0)?.as_str(),
-        "Call(Call { func: Id(9) });",
-    );
     Ok(())
 }
 

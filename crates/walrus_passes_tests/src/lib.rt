@@ -1,15 +1,12 @@
-//! Tests of `walrus_passes` through its public calls.
+//! Tests of the passes of `walrus_passes` over types through its public calls; those of the passes
+//! over functions are in `walrus_function_passes_tests`.
 //!
-//! They stand in a crate of their own, since tests inside a crate have the gate prove that crate a
-//! second time.
+//! They stand in crates of their own, since tests inside a crate have the gate prove that crate a
+//! second time, and in two, which it proves side by side.
 #![tactic(auto)]
 
 #[cfg(test)]
-mod adapters;
-#[cfg(test)]
 mod assertions;
-#[cfg(test)]
-mod bodies;
 #[cfg(test)]
 mod examples;
 #[cfg(test)]
@@ -20,5 +17,3 @@ mod refusals;
 mod speed;
 #[cfg(test)]
 mod unused_types;
-#[cfg(test)]
-mod used_types;

@@ -205,12 +205,3 @@ fn a_body_that_is_not_nested_has_no_list(rt: HostRuntime) {
     block_has_no_list(&rt, rt.alloc(), 0);
     block_has_no_list(&rt, rt.alloc(), 1);
 }
-
-// A function of the type 2 of the table of `unused_types`, which makes a struct of type 0.
-pub(crate) fn maker(alloc: Global) -> Result<LocalFunction, BuildError> {
-    let mut f = FunctionBuilder::without_entry(alloc, ty(2));
-    let mut body = f.dangling_instr_seq(InstrSeqType::MultiValue(ty(5)))?;
-    body.struct_new(ty(0))?;
-    enter(&mut f, 0);
-    Ok(f.local_func(Vec::new(alloc)))
-}

@@ -1,0 +1,16 @@
+//! Tests of the passes of `walrus_passes` over functions through its public calls; those of the
+//! passes over types are in `walrus_passes_tests`.
+#![tactic(auto)]
+
+#[cfg(test)]
+mod adapters;
+#[cfg(test)]
+mod assertions;
+#[cfg(test)]
+mod bodies;
+#[cfg(test)]
+mod examples;
+#[cfg(test)]
+mod refusals;
+#[cfg(test)]
+mod used_types;

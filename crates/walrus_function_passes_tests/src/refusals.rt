@@ -1,0 +1,187 @@
+//! Refused memory: what a refused call leaves, and that it goes through when it is made again.
+//! Each request for memory of these tests may be refused, one in a run, and they still pass.
+use crate::adapters::adapt;
+use crate::assertions::assert_equal;
+use crate::bodies::{BUILT, SNIPPED, are as are_locals, function, is, snip_first, text_of};
+use crate::used_types::{hold_just, locals, nested_function};
+use std::alloc::{AllocError, Global};
+use std::process::Abort;
+use std::test::Fail;
+use walrus_functions::{BuildError, FunctionBuilder, LocalFunction, LocalFunctions};
+use walrus_ir::{InstrSeqType, LocalId, ModuleLocals};
+use walrus_passes::{replace_with, used_types};
+use walrus_types::{FunctionId, Id, ModuleTypes, ValType};
+
+// The functions that are the one alone. They are made again after a refusal.
+fn one_again(alloc: Global) -> Result<LocalFunctions, BuildError> {
+    match one(alloc) {
+        Ok(funcs) => Ok(funcs),
+        Err(_) => one(alloc),
+    }
+}
+
+fn one(alloc: Global) -> Result<LocalFunctions, BuildError> {
+    let mut funcs = LocalFunctions::new(alloc);
+    match funcs.add(function(alloc)?) {
+        Ok(_) => Ok(funcs),
+        Err(_) => Err(BuildError::Memory),
+    }
+}
+
+// The function is as it is made, or else has this text. It is looked at again after a refusal.
+fn is_again(
+    rt: &impl Abort,
+    alloc: Global,
+    funcs: &LocalFunctions,
+    text: &str,
+) -> Result<(), AllocError> {
+    match is(rt, alloc, funcs, 0, text) {
+        Ok(()) => Ok(()),
+        Err(_) => is(rt, alloc, funcs, 0, text),
+    }
+}
+
+#[test]
+fn a_refused_snip_leaves_the_function(rt: HostRuntime) -> Result<(), Fail> {
+    let mut funcs = one_again(rt.alloc())?;
+    if snip_first(&rt, rt.alloc(), &mut funcs).is_err() {
+        is(&rt, rt.alloc(), &funcs, 0, BUILT)?;
+        snip_first(&rt, rt.alloc(), &mut funcs)?;
+    }
+    is_again(&rt, rt.alloc(), &funcs, SNIPPED)?;
+    Ok(())
+}
+
+// A builder of a body that leaves 8. It is made again after a refusal.
+fn eight_again(alloc: Global) -> Result<FunctionBuilder, BuildError> {
+    match eight(alloc) {
+        Ok(f) => Ok(f),
+        Err(_) => eight(alloc),
+    }
+}
+
+fn eight(alloc: Global) -> Result<FunctionBuilder, BuildError> {
+    let mut f = FunctionBuilder::without_entry(alloc, Id::from_index(0));
+    let mut body = f.dangling_instr_seq(InstrSeqType::Simple(Some(ValType::I32)))?;
+    body.i32_const(8)?;
+    Ok(f)
+}
+
+fn replace_first(
+    rt: &impl Abort,
+    alloc: Global,
+    funcs: &mut LocalFunctions,
+    body: FunctionBuilder,
+) -> Result<(), AllocError> {
+    let id: FunctionId = Id::from_index(0);
+    assert!(rt; funcs.contains(id));
+    replace_with(alloc, funcs, id, body)
+}
+
+#[test]
+fn a_refused_replacement_leaves_the_function(rt: HostRuntime) -> Result<(), Fail> {
+    let mut funcs = one_again(rt.alloc())?;
+    let body = eight_again(rt.alloc())?;
+    if replace_first(&rt, rt.alloc(), &mut funcs, body).is_err() {
+        is(&rt, rt.alloc(), &funcs, 0, BUILT)?;
+        let again = eight(rt.alloc())?;
+        replace_first(&rt, rt.alloc(), &mut funcs, again)?;
+    }
+    is_again(&rt, rt.alloc(), &funcs, "Const(Const { value: I32(8) });")?;
+    Ok(())
+}
+
+// A table with the type of a function that takes an `i32` and an `i64`. It is made again after a
+// refusal.
+fn types_again(alloc: Global) -> Result<ModuleTypes, AllocError> {
+    match one_type(alloc) {
+        Ok(types) => Ok(types),
+        Err(_) => one_type(alloc),
+    }
+}
+
+fn one_type(alloc: Global) -> Result<ModuleTypes, AllocError> {
+    let mut types = ModuleTypes::new(alloc);
+    types.add(&[ValType::I32, ValType::I64], &[])?;
+    Ok(types)
+}
+
+// The adapter. After a refusal the table has the type and up to one more, there are both locals or
+// none, and the call is made again.
+fn adapt_again(
+    rt: &impl Abort,
+    alloc: Global,
+    types: &mut ModuleTypes,
+    locals: &mut ModuleLocals,
+) -> Result<LocalFunction, AllocError> {
+    if let Ok(func) = adapt(rt, alloc, types, locals, 0) {
+        return Ok(func);
+    }
+    let first: LocalId = Id::from_index(0);
+    let second: LocalId = Id::from_index(1);
+    let third: LocalId = Id::from_index(2);
+    assert_equal(rt, locals.contains(first), locals.contains(second));
+    assert!(rt; !locals.contains(third));
+    assert!(rt; types.contains(Id::from_index(0)));
+    assert!(rt; !types.contains(Id::from_index(2)));
+    adapt(rt, alloc, types, locals, 0)
+}
+
+fn text_again(alloc: Global, func: &LocalFunction) -> Result<String, AllocError> {
+    match text_of(alloc, func, 0) {
+        Ok(text) => Ok(text),
+        Err(_) => text_of(alloc, func, 0),
+    }
+}
+
+// What the adapter does with the first two locals, or with the two after them.
+const WITH_FIRST: &str = "LocalGet(LocalGet { local: Id(0) });\
+    LocalGet(LocalGet { local: Id(1) });Call(Call { func: Id(9) });";
+
+const WITH_NEXT: &str = "LocalGet(LocalGet { local: Id(2) });\
+    LocalGet(LocalGet { local: Id(3) });Call(Call { func: Id(9) });";
+
+#[test]
+fn a_refused_adapter_is_made_again(rt: HostRuntime) -> Result<(), Fail> {
+    let mut types = types_again(rt.alloc())?;
+    let mut locals = ModuleLocals::new(rt.alloc());
+    let func = adapt_again(&rt, rt.alloc(), &mut types, &mut locals)?;
+    assert_equal(&rt, func.ty().index(), 0);
+    let text = text_again(rt.alloc(), &func)?;
+    let args = func.args.as_slice();
+    let has_first = are_locals(args, &[0, 1]);
+    assert!(rt; has_first || are_locals(args, &[2, 3]));
+    assert_equal(
+        &rt,
+        text.as_str(),
+        if has_first { WITH_FIRST } else { WITH_NEXT },
+    );
+    Ok(())
+}
+
+// The function of nested blocks. It is made again after a refusal.
+fn nested_again(alloc: Global) -> Result<LocalFunction, BuildError> {
+    match nested_function(alloc) {
+        Ok(func) => Ok(func),
+        Err(_) => nested_function(alloc),
+    }
+}
+
+fn locals_again(alloc: Global) -> Result<ModuleLocals, AllocError> {
+    match locals(alloc) {
+        Ok(locals) => Ok(locals),
+        Err(_) => locals(alloc),
+    }
+}
+
+#[test]
+fn a_refused_list_of_used_types_is_made_again(rt: HostRuntime) -> Result<(), Fail> {
+    let func = nested_again(rt.alloc())?;
+    let locals = locals_again(rt.alloc())?;
+    let used = match used_types(rt.alloc(), &func, &locals) {
+        Ok(used) => used,
+        Err(_) => used_types(rt.alloc(), &func, &locals)?,
+    };
+    assert!(rt; used.is_some_and(|ids| hold_just(ids.as_slice(), &[7, 2, 3, 6])));
+    Ok(())
+}
