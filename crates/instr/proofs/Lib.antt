@@ -1,4 +1,0 @@
-mod HexText
-pub mod LocalHashes
-
--- lemmas

@@ -1,9 +1,5 @@
-pub mod Values
 pub mod Locals
 pub mod LocalParts
 pub mod LocalLends
-pub mod Atomics
-pub mod Loads
 pub mod Locations
 pub mod Reachability
-pub mod Stores

@@ -2,48 +2,10 @@
 //! Names and meaning are those of the threads proposal.
 ghost use Rattle.std.specs.Prelude.{◌≡◌};
 ghost use Rattle.instr.specs.declared.instr.Instr.TheVariants as instr;
-ghost use Rattle.instr.specs.Atomics.{atomic_width};
 
 use crate::{Instr, MemArg};
+use operators::{AtomicOp, AtomicWidth};
 use walrus_ty::MemoryId;
-
-/// What an atomic instruction does with the value in memory and the one that it takes.
-#[derive(Clone, Copy, Debug)]
-pub enum AtomicOp {
-    Add,
-    Sub,
-    And,
-    Or,
-    Xor,
-    Xchg,
-}
-
-/// The type of an atomic instruction's values, and how many bits of memory it touches if that is
-/// less.
-#[derive(Clone, Copy, Debug)]
-pub enum AtomicWidth {
-    I32,
-    I32_8,
-    I32_16,
-    I64,
-    I64_8,
-    I64_16,
-    I64_32,
-}
-
-impl AtomicWidth {
-    /// How many bytes of memory the instruction touches.
-    pub fn bytes(&self) -> u32
-        ensures { result ≡ atomic_width self.now }
-    {
-        match self {
-            AtomicWidth::I32_8 | AtomicWidth::I64_8 => 1,
-            AtomicWidth::I32_16 | AtomicWidth::I64_16 => 2,
-            AtomicWidth::I32 | AtomicWidth::I64_32 => 4,
-            AtomicWidth::I64 => 8,
-        }
-    }
-}
 
 /// `i32.atomic.rmw.add` and its kin: changes a value in memory and gives the one that stood there.
 #[derive(Clone, Copy, Debug)]

@@ -3,7 +3,8 @@
 ghost use Rattle.std.specs.Prelude.{◌≡◌};
 ghost use Rattle.instr.specs.declared.instr.Instr.TheVariants as instr;
 
-use crate::{Instr, LoadKind, LoadSimdKind, StoreKind};
+use crate::Instr;
+use operators::{LoadKind, LoadSimdKind, StoreKind};
 use walrus_ty::{DataId, MemoryId};
 
 /// Where an instruction reaches into a memory, beside the address that it takes.

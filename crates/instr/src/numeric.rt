@@ -4,7 +4,8 @@
 ghost use Rattle.std.specs.Prelude.{◌≡◌};
 ghost use Rattle.instr.specs.declared.instr.Instr.TheVariants as instr;
 
-use crate::{BinaryOp, Instr, TernaryOp, UnaryOp, Value};
+use crate::Instr;
+use operators::{BinaryOp, TernaryOp, UnaryOp, Value};
 use walrus_ty::ValType;
 
 /// `i32.const`, `i64.const`, `f32.const`, `f64.const` or `v128.const`: gives a value.

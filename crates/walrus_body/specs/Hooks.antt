@@ -2,7 +2,7 @@
 use Rattle.std.specs.Prelude.{ℕ}
 use Rattle.walrus_ir.specs.Sequence.{Sequence}
 use Rattle.instr.specs.declared.instr.Instr.{Instr}
-use Rattle.instr.specs.declared.value.Value.{Value}
+use Rattle.operators.specs.declared.value.Value.{Value}
 use Rattle.walrus_ty.specs.declared.ty.value.Heap.{Heap}
 
 pub data Hook : Type 0 where

@@ -12,8 +12,8 @@ use Rattle.walrus_ty.specs.IdLists.{IdLists}
 use Rattle.walrus_ty.specs.Indices.{type_indices, func_indices, global_indices}
 use Rattle.walrus_ty.specs.Lookups.{value_or_zero}
 use Rattle.walrus_ty.specs.Value.{heap_names, rename_heap}
-use Rattle.instr.specs.declared.value.Value.{Value}
-use Rattle.instr.specs.declared.value.Value.TheVariants as value
+use Rattle.operators.specs.declared.value.Value.{Value}
+use Rattle.operators.specs.declared.value.Value.TheVariants as value
 use Rattle.walrus_ir.specs.declared.const_expr.ConstExpr.{ConstExpr}
 use Rattle.walrus_ir.specs.declared.const_expr.ConstExpr.TheVariants as expr
 use Rattle.walrus_ir.specs.declared.const_expr.ConstOp.{ConstOp}

@@ -12,7 +12,7 @@ use Rattle.instr.specs.declared.exceptions.TryTableCatch.{TryTableCatch}
 use Rattle.instr.specs.declared.exceptions.TryTableCatch.TheVariants as clause
 use Rattle.instr.specs.declared.instr.Instr.{Instr}
 use Rattle.instr.specs.declared.instr.Instr.TheVariants as instr
-use Rattle.instr.specs.declared.value.Value.{Value}
+use Rattle.operators.specs.declared.value.Value.{Value}
 use Rattle.walrus_functions.specs.Body.{Body, sequence}
 use Rattle.walrus_functions.specs.Nesting.{children}
 

@@ -3,7 +3,7 @@
 //! WebAssembly core specification, "Instructions".
 ghost use Rattle.std.specs.Prelude.{OnOk, IfErr};
 ghost use Rattle.instr.specs.declared.instr.Instr.TheVariants as instr;
-ghost use Rattle.instr.specs.declared.value.Value.TheVariants as constant;
+ghost use Rattle.operators.specs.declared.value.Value.TheVariants as constant;
 
 use super::InstrSeqBuilder;
 use crate::BuildError;

@@ -1,0 +1,4 @@
+pub mod Values
+pub mod Atomics
+pub mod Loads
+pub mod Stores
