@@ -22,7 +22,7 @@
 //! ```
 //!
 //! What goes into such a walk stands here too, from the crates below: functions and their builders,
-//! the nesting check, the in-order walk, and the names that hooks are given.
+//! the nesting check, and the names that hooks are given.
 #![tactic(auto)]
 
 mod fields_mut;
@@ -41,6 +41,4 @@ pub use walrus_ir::{
     DataId, ElementId, FunctionId, GlobalId, HeapType, Id, Instr, InstrLocId, InstrSeq, InstrSeqId,
     InstrSeqType, LocalId, MemoryId, TableId, TagId, TypeId, Value,
 };
-pub use walrus_traversals::{
-    Nesting, UsedIds, Visitor, WalkError, check_nesting, dfs_in_order, used_ids,
-};
+pub use walrus_nesting::{Nesting, WalkError, check_nesting};

@@ -14,7 +14,7 @@ use crate::fields_mut::{visit_fields, visit_type};
 use std::alloc::{AllocError, Global};
 use walrus_functions::LocalFunction;
 use walrus_ir::{Instr, InstrLocId, InstrSeq, InstrSeqId, LegacyCatch};
-use walrus_traversals::WalkError;
+use walrus_nesting::WalkError;
 
 /// Walks over the sequence `start` and all sequences below it, and changes them as the visitor
 /// does.

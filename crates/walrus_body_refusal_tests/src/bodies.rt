@@ -1,7 +1,7 @@
 //! Function bodies of blocks.
 ghost use Rattle.std.specs.Prelude.{◌↔◌, IfOk};
 ghost use Rattle.walrus_functions.specs.Nesting.{IsNested};
-ghost use Rattle.walrus_traversals.specs.Certificates.{AnswersNested};
+ghost use Rattle.walrus_nesting.specs.Certificates.{AnswersNested};
 
 use std::alloc::{AllocError, Global};
 use walrus_functions::{BuildError, FunctionBuilder, LocalFunction};

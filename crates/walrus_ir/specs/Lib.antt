@@ -1,3 +1,2 @@
 pub mod BlockTypes
-pub mod ConstExpr
 pub mod Sequence

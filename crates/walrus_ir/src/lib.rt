@@ -1,4 +1,4 @@
-//! Function bodies of WebAssembly modules as data: instructions, locals and constant expressions.
+//! Function bodies of WebAssembly modules as data: sequences of instructions and their types.
 //!
 //! - [`Instr`] is an instruction, with a struct for each of its 95 kinds, which becomes an `Instr`
 //!   by `From`. [`BinaryOp`], [`UnaryOp`] and [`TernaryOp`] are the operators, [`LoadKind`] and its
@@ -25,7 +25,6 @@
 //! ```
 #![tactic(auto)]
 
-mod const_expr;
 mod instr_seq;
 mod instr_seq_type;
 pub mod laws;

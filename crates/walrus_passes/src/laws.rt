@@ -4,9 +4,9 @@ ghost use Rattle.std.specs.Prelude.{◌≡◌, ℕ, List, Option, Contains, map}
 ghost use Rattle.walrus_types.specs.Table.{Table};
 ghost use Rattle.walrus_types.specs.TypesById.{live_type};
 ghost use Rattle.walrus_functions.specs.Locals.{FunctionWithArgs};
-ghost use Rattle.walrus_ir.specs.ConstExpr.{referenced_ids};
+ghost use Rattle.const_expr.specs.ConstExpr.{referenced_ids};
 ghost use Rattle.instr.specs.Locals.{LocalVariable};
-ghost use Rattle.walrus_ir.specs.declared.const_expr.ConstExpr.{ConstExpr};
+ghost use Rattle.const_expr.specs.declared.const_expr.ConstExpr.{ConstExpr};
 ghost use Rattle.walrus_passes.specs.IndexMaps.{new_index, index_through};
 ghost use Rattle.walrus_passes.specs.NeededTypes.{IsNeeded, Keeps};
 ghost use Rattle.walrus_passes.specs.UsedTypes.{UsesType};

@@ -9,7 +9,7 @@ ghost use Rattle.walrus_passes.specs.Steps.UsedTypes.{seq_types};
 use std::alloc::{AllocError, Global};
 use walrus_functions::LocalFunction;
 use walrus_ir::{Instr, InstrSeq, InstrSeqId, LocalId, ModuleLocals};
-use walrus_traversals::{Nesting, check_nesting};
+use walrus_nesting::{Nesting, check_nesting};
 use walrus_types::{TypeId, ValType};
 
 /// The types that a function uses, or `None` where its body is not nested from its entry: the roots

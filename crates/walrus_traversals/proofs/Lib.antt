@@ -1,4 +1,2 @@
-pub mod Lists
-pub mod Nested
 pub mod Walks
 pub mod Collecting

@@ -1,30 +1,13 @@
-//! Laws of the nesting check and of walks. Each function does nothing; its clauses are theorems,
-//! which a caller gets by calling it.
-ghost use Rattle.std.specs.Prelude.{◌≡◌, ◌↔◌, ℕ};
-ghost use Rattle.walrus_functions.specs.Body.{Body, Knows, sequence};
-ghost use Rattle.walrus_functions.specs.Nesting.{IsNested, IsChild, IsReachable};
-ghost use Rattle.walrus_traversals.specs.Certificates.{Shows, AnswersNested};
+//! Laws of walks, and those of the nesting check. Each function does nothing; its clauses are
+//! theorems, which a caller gets by calling it.
+ghost use Rattle.std.specs.Prelude.{◌≡◌};
+ghost use Rattle.walrus_functions.specs.Body.{sequence};
+ghost use Rattle.walrus_functions.specs.Nesting.{IsNested};
 ghost use Rattle.walrus_traversals.specs.Events.{events, events_of};
 
-use crate::Nesting;
 use walrus_functions::LocalFunction;
 use walrus_ir::InstrSeqId;
-
-/// An answer that shows what it says is `Nested` exactly where the body is nested: places in the
-/// list are a rank, and a body with a cycle or an unknown id has none.
-pub fn nested_exactly(func: &LocalFunction, start: InstrSeqId, answer: &Nesting)
-    requires { Shows func.now.body start answer.now }
-    ensures { AnswersNested answer.now ↔ IsNested func.now.body start }
-{}
-
-/// A body that is nested from a sequence knows each that is reached from there, and is nested from
-/// it.
-pub fn nested_throughout()
-    ensures known { (f : Body) (start id : ℕ) →
-        IsNested f start → IsReachable f start id → Knows f id }
-    ensures nested { (f : Body) (start id : ℕ) →
-        IsNested f start → IsReachable f start id → IsNested f id }
-{}
+pub use walrus_nesting::laws::{children_are_nested, nested_exactly, nested_throughout};
 
 /// The events of a nested sequence are its own, with those of the sequences inside it at their
 /// places: the bound on the levels that stands in the definition is never met.
@@ -32,11 +15,4 @@ pub fn events_unfold(func: &LocalFunction, start: InstrSeqId)
     requires { IsNested func.now.body start }
     ensures { events func.now.body start ≡
         events_of (events func.now.body) (sequence func.now.body start) }
-{}
-
-/// A child of a nested sequence is nested.
-pub fn children_are_nested(func: &LocalFunction, start: InstrSeqId, child: InstrSeqId)
-    requires nested { IsNested func.now.body start }
-    requires child { IsChild func.now.body start child }
-    ensures { IsNested func.now.body child }
 {}

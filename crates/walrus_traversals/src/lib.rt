@@ -1,7 +1,7 @@
-//! Walks over function bodies of WebAssembly modules, and the check that walks ask for.
+//! Walks over function bodies of WebAssembly modules that change nothing.
 //!
-//! - [`check_nesting`] tells whether a body is nested, and shows why.
 //! - [`dfs_in_order`] calls the hooks of a [`Visitor`] over a nested body, in order.
+//! - [`check_nesting`], of `walrus_nesting`, tells whether a body is nested, and shows why.
 //! - [`UsedIds`] is a visitor that collects the ids that a body names, and [`used_ids`] checks and
 //!   walks in one.
 //! - [`laws`] has the theorems.
@@ -26,13 +26,10 @@
 mod fields;
 mod ids;
 pub mod laws;
-mod nesting;
 mod traversals;
 mod visitor;
-mod walk_error;
 
 pub use ids::{UsedIds, used_ids};
-pub use nesting::{Nesting, check_nesting};
 pub use traversals::dfs_in_order;
 pub use visitor::Visitor;
-pub use walk_error::WalkError;
+pub use walrus_nesting::{Nesting, WalkError, check_nesting};

@@ -4,9 +4,9 @@ use super::*;
 use crate::assertions::assert_equal;
 use walrus_body::{
     HeapType, InstrSeqType, Nesting, RenameTypes, TypeId, check_nesting, dfs_pre_order_mut,
-    used_ids,
 };
 use walrus_ir::{CallIndirect, CallRef, RefTest};
+use walrus_traversals::used_ids;
 
 // The block of sequence 0 has the type 0. The types 1, 0 and 2 are named before it, 0 and 1 in it.
 fn body(rt: &impl Abort, alloc: Global) -> LocalFunction {

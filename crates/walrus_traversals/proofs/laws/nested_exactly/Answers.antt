@@ -1,5 +1,0 @@
-use Rattle.walrus_traversals.proofs.Nested.Exact.{nested_exactly}
-use Rattle.walrus_traversals.proofs.laws.nested_exactly.Goals as goal
-
-pub returns : goal.returns
-returns c = nested_exactly c.args.func.now.body c.args.start c.args.answer.now c.requires
