@@ -7,20 +7,18 @@
 //!
 //! Nothing here says what is valid. `walrus_ir` exports all of this.
 //!
-//! # Both ways
-//!
-//! An expression is read through a map from indices to ids, and written again through one from ids
-//! to indices:
+//! # A constant, if it is one
 //!
 //! ```
-//! fn both_ways(
+//! fn constant(
 //!     alloc: Global,
 //!     ops: &[ConstOpAt],
 //!     ids: &IndicesToIds,
-//!     indices: &IdsToIndices,
-//! ) -> Result<Vec<ConstOpAt>, Fail> {
-//!     let read = ConstExpr::eval(alloc, ops, ids)?;
-//!     Ok(read.to_ops(alloc, indices)?)
+//! ) -> Result<Option<Value>, FromRecordError> {
+//!     match ConstExpr::eval(alloc, ops, ids)? {
+//!         ConstExpr::Value(value) => Ok(Some(value)),
+//!         _ => Ok(None),
+//!     }
 //! }
 //! ```
 #![tactic(auto)]
