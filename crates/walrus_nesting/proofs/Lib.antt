@@ -1,2 +1,3 @@
 pub mod Lists
 pub mod Nested
+pub mod Ranks
