@@ -1,3 +1,4 @@
+use Rattle.std.proofs.Common.{rules}
 use Rattle.walrus_traversals.proofs.Walks.Folds.{after_all}
 use Rattle.walrus_traversals.proofs.traversals.report_and_leave.Goals as goal
 
@@ -6,3 +7,6 @@ returns-in-Err-push-clause-err g c = after_all _ _ _ _ c.in_default.ensures.ok
 
 pub returns-in-Err-push_children-clause-err : goal.returns-in-Err-push_children-clause-err
 returns-in-Err-push_children-clause-err g c = after_all _ _ _ _ c.in_default.ensures.ok
+
+pub returns-in-Err-clause-err : goal.returns-in-Err-clause-err
+returns-in-Err-clause-err g c = search rules

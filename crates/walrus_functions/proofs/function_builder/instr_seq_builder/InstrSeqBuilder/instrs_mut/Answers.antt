@@ -1,0 +1,5 @@
+use Rattle.std.proofs.Common.{rules}
+use Rattle.walrus_functions.proofs.function_builder.instr_seq_builder.InstrSeqBuilder.instrs_mut.Goals as goal
+
+pub returns : goal.returns
+returns c = search rules
