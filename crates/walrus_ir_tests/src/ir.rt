@@ -8,7 +8,7 @@ use std::process::Abort;
 
 mod binary_ops;
 mod clones;
-mod const_expr;
+mod const_exprs;
 mod conversions;
 mod examples;
 mod instr_seq_type;
