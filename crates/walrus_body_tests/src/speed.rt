@@ -2,7 +2,6 @@
 //! the sequence of the one before. `scripts/measure_bodies` tells how the time of these tests grows.
 use crate::assertions::assert_equal;
 use std::alloc::{AllocError, Global};
-use std::test::Fail;
 use walrus_body::{RenameTypes, dfs_pre_order_mut};
 use walrus_functions::{BuildError, FunctionBuilder, LocalFunction};
 use walrus_ir::{BinaryOp, Block, Id, InstrSeqId, InstrSeqType, LocalId};
@@ -67,55 +66,71 @@ fn reached(alloc: Global, func: &LocalFunction) -> Result<Option<usize>, AllocEr
 }
 
 #[test]
-fn small_body_is_built(rt: HostRuntime) -> Result<(), Fail> {
-    assert_equal(&rt, deep(rt.alloc(), SMALL)?.block_count(), SMALL + 1);
-    Ok(())
+fn small_body_is_built(rt: HostRuntime) {
+    assert_equal(
+        &rt,
+        deep(rt.alloc(), SMALL).expect(&rt, "memory").block_count(),
+        SMALL + 1,
+    );
 }
 
 #[test]
-fn large_body_is_built(rt: HostRuntime) -> Result<(), Fail> {
-    assert_equal(&rt, deep(rt.alloc(), LARGE)?.block_count(), LARGE + 1);
-    Ok(())
+fn large_body_is_built(rt: HostRuntime) {
+    assert_equal(
+        &rt,
+        deep(rt.alloc(), LARGE).expect(&rt, "memory").block_count(),
+        LARGE + 1,
+    );
 }
 
 #[test]
-fn small_body_is_checked(rt: HostRuntime) -> Result<(), Fail> {
-    let func = deep(rt.alloc(), SMALL)?;
-    assert_equal(&rt, reached(rt.alloc(), &func)?, Some(SMALL + 1));
-    Ok(())
+fn small_body_is_checked(rt: HostRuntime) {
+    let func = deep(rt.alloc(), SMALL).expect(&rt, "memory");
+    assert_equal(
+        &rt,
+        reached(rt.alloc(), &func).expect(&rt, "memory"),
+        Some(SMALL + 1),
+    );
 }
 
 #[test]
-fn large_body_is_checked(rt: HostRuntime) -> Result<(), Fail> {
-    let func = deep(rt.alloc(), LARGE)?;
-    assert_equal(&rt, reached(rt.alloc(), &func)?, Some(LARGE + 1));
-    Ok(())
+fn large_body_is_checked(rt: HostRuntime) {
+    let func = deep(rt.alloc(), LARGE).expect(&rt, "memory");
+    assert_equal(
+        &rt,
+        reached(rt.alloc(), &func).expect(&rt, "memory"),
+        Some(LARGE + 1),
+    );
 }
 
 #[test]
-fn small_body_is_walked(rt: HostRuntime) -> Result<(), Fail> {
-    let func = deep(rt.alloc(), SMALL)?;
-    assert_equal(&rt, named_locals(rt.alloc(), &func)?, Some(4 * SMALL));
-    Ok(())
+fn small_body_is_walked(rt: HostRuntime) {
+    let func = deep(rt.alloc(), SMALL).expect(&rt, "memory");
+    assert_equal(
+        &rt,
+        named_locals(rt.alloc(), &func).expect(&rt, "memory"),
+        Some(4 * SMALL),
+    );
 }
 
 #[test]
-fn large_body_is_walked(rt: HostRuntime) -> Result<(), Fail> {
-    let func = deep(rt.alloc(), LARGE)?;
-    assert_equal(&rt, named_locals(rt.alloc(), &func)?, Some(4 * LARGE));
-    Ok(())
+fn large_body_is_walked(rt: HostRuntime) {
+    let func = deep(rt.alloc(), LARGE).expect(&rt, "memory");
+    assert_equal(
+        &rt,
+        named_locals(rt.alloc(), &func).expect(&rt, "memory"),
+        Some(4 * LARGE),
+    );
 }
 
 #[test]
-fn small_body_is_changed(rt: HostRuntime) -> Result<(), Fail> {
-    let mut func = deep(rt.alloc(), SMALL)?;
-    assert!(rt; is_changed(rt.alloc(), &mut func)?);
-    Ok(())
+fn small_body_is_changed(rt: HostRuntime) {
+    let mut func = deep(rt.alloc(), SMALL).expect(&rt, "memory");
+    assert!(rt; is_changed(rt.alloc(), &mut func).expect(&rt, "memory"));
 }
 
 #[test]
-fn large_body_is_changed(rt: HostRuntime) -> Result<(), Fail> {
-    let mut func = deep(rt.alloc(), LARGE)?;
-    assert!(rt; is_changed(rt.alloc(), &mut func)?);
-    Ok(())
+fn large_body_is_changed(rt: HostRuntime) {
+    let mut func = deep(rt.alloc(), LARGE).expect(&rt, "memory");
+    assert!(rt; is_changed(rt.alloc(), &mut func).expect(&rt, "memory"));
 }

@@ -6,7 +6,6 @@ use crate::bodies::{BUILT, SNIPPED, are as are_locals, function, is, snip_first,
 use crate::used_types::{hold_just, locals, nested_function};
 use std::alloc::{AllocError, Global};
 use std::process::Abort;
-use std::test::Fail;
 use walrus_functions::{BuildError, FunctionBuilder, LocalFunction, LocalFunctions};
 use walrus_ir::{InstrSeqType, LocalId, ModuleLocals};
 use walrus_passes::{replace_with, used_types};
@@ -42,14 +41,13 @@ fn is_again(
 }
 
 #[test]
-fn a_refused_snip_leaves_the_function(rt: HostRuntime) -> Result<(), Fail> {
-    let mut funcs = one_again(rt.alloc())?;
+fn a_refused_snip_leaves_the_function(rt: HostRuntime) {
+    let mut funcs = one_again(rt.alloc()).expect(&rt, "memory");
     if snip_first(&rt, rt.alloc(), &mut funcs).is_err() {
-        is(&rt, rt.alloc(), &funcs, 0, BUILT)?;
-        snip_first(&rt, rt.alloc(), &mut funcs)?;
+        is(&rt, rt.alloc(), &funcs, 0, BUILT).expect(&rt, "memory");
+        snip_first(&rt, rt.alloc(), &mut funcs).expect(&rt, "memory");
     }
-    is_again(&rt, rt.alloc(), &funcs, SNIPPED)?;
-    Ok(())
+    is_again(&rt, rt.alloc(), &funcs, SNIPPED).expect(&rt, "memory");
 }
 
 // A builder of a body that leaves 8. It is made again after a refusal.
@@ -79,16 +77,15 @@ fn replace_first(
 }
 
 #[test]
-fn a_refused_replacement_leaves_the_function(rt: HostRuntime) -> Result<(), Fail> {
-    let mut funcs = one_again(rt.alloc())?;
-    let body = eight_again(rt.alloc())?;
+fn a_refused_replacement_leaves_the_function(rt: HostRuntime) {
+    let mut funcs = one_again(rt.alloc()).expect(&rt, "memory");
+    let body = eight_again(rt.alloc()).expect(&rt, "memory");
     if replace_first(&rt, rt.alloc(), &mut funcs, body).is_err() {
-        is(&rt, rt.alloc(), &funcs, 0, BUILT)?;
-        let again = eight(rt.alloc())?;
-        replace_first(&rt, rt.alloc(), &mut funcs, again)?;
+        is(&rt, rt.alloc(), &funcs, 0, BUILT).expect(&rt, "memory");
+        let again = eight(rt.alloc()).expect(&rt, "memory");
+        replace_first(&rt, rt.alloc(), &mut funcs, again).expect(&rt, "memory");
     }
-    is_again(&rt, rt.alloc(), &funcs, "Const(Const { value: I32(8) });")?;
-    Ok(())
+    is_again(&rt, rt.alloc(), &funcs, "Const(Const { value: I32(8) });").expect(&rt, "memory");
 }
 
 // A table with the type of a function that takes an `i32` and an `i64`. It is made again after a
@@ -142,12 +139,12 @@ const WITH_NEXT: &str = "LocalGet(LocalGet { local: Id(2) });\
     LocalGet(LocalGet { local: Id(3) });Call(Call { func: Id(9) });";
 
 #[test]
-fn a_refused_adapter_is_made_again(rt: HostRuntime) -> Result<(), Fail> {
-    let mut types = types_again(rt.alloc())?;
+fn a_refused_adapter_is_made_again(rt: HostRuntime) {
+    let mut types = types_again(rt.alloc()).expect(&rt, "memory");
     let mut locals = ModuleLocals::new(rt.alloc());
-    let func = adapt_again(&rt, rt.alloc(), &mut types, &mut locals)?;
+    let func = adapt_again(&rt, rt.alloc(), &mut types, &mut locals).expect(&rt, "memory");
     assert_equal(&rt, func.ty().index(), 0);
-    let text = text_again(rt.alloc(), &func)?;
+    let text = text_again(rt.alloc(), &func).expect(&rt, "memory");
     let args = func.args.as_slice();
     let has_first = are_locals(args, &[0, 1]);
     assert!(rt; has_first || are_locals(args, &[2, 3]));
@@ -156,7 +153,6 @@ fn a_refused_adapter_is_made_again(rt: HostRuntime) -> Result<(), Fail> {
         text.as_str(),
         if has_first { WITH_FIRST } else { WITH_NEXT },
     );
-    Ok(())
 }
 
 // The function of nested blocks. It is made again after a refusal.
@@ -175,13 +171,12 @@ fn locals_again(alloc: Global) -> Result<ModuleLocals, AllocError> {
 }
 
 #[test]
-fn a_refused_list_of_used_types_is_made_again(rt: HostRuntime) -> Result<(), Fail> {
-    let func = nested_again(rt.alloc())?;
-    let locals = locals_again(rt.alloc())?;
+fn a_refused_list_of_used_types_is_made_again(rt: HostRuntime) {
+    let func = nested_again(rt.alloc()).expect(&rt, "memory");
+    let locals = locals_again(rt.alloc()).expect(&rt, "memory");
     let used = match used_types(rt.alloc(), &func, &locals) {
         Ok(used) => used,
-        Err(_) => used_types(rt.alloc(), &func, &locals)?,
+        Err(_) => used_types(rt.alloc(), &func, &locals).expect(&rt, "memory"),
     };
     assert!(rt; used.is_some_and(|ids| hold_just(ids.as_slice(), &[7, 2, 3, 6])));
-    Ok(())
 }

@@ -16,7 +16,6 @@ mod refusals;
 use crate::assertions::assert_equal;
 use std::alloc::{AllocError, Global};
 use std::process::Abort;
-use std::test::Fail;
 use walrus_functions::{
     BuildError, FunctionBuilder, InstrSeqBuilder, LocalFunction, LocalFunctions,
 };

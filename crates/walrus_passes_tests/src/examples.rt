@@ -1,5 +1,6 @@
 //! What stands on the first page of the repository, and the examples in the documentation of
-//! `walrus_passes` that are about types: their lines are those of the tests here.
+//! `walrus_passes` that are about types: their lines are those of the tests here, with `?` in place
+//! of `.expect(&rt, "memory")`, which is proved sooner.
 use crate::assertions::assert_equal;
 use crate::index_maps::section;
 use crate::unused_types::{are, table};
@@ -26,15 +27,14 @@ fn only_used_types_are_written(rt: HostRuntime) -> Result<(), Fail> {
 }
 
 #[test]
-fn a_struct_that_nothing_names_is_deleted(rt: HostRuntime) -> Result<(), Fail> {
+fn a_struct_that_nothing_names_is_deleted(rt: HostRuntime) {
     let alloc = rt.alloc();
     let mut types = ModuleTypes::new(alloc);
     let fields = Vec::new(alloc);
-    let pair = types.add_struct(fields)?;
-    let used = types.add(&[ValType::I32], &[])?;
-    let deleted = delete_unused_types(alloc, &mut types, &[used])?;
+    let pair = types.add_struct(fields).expect(&rt, "memory");
+    let used = types.add(&[ValType::I32], &[]).expect(&rt, "memory");
+    let deleted = delete_unused_types(alloc, &mut types, &[used]).expect(&rt, "memory");
     assert_equal(&rt, deleted.as_slice(), [pair].as_slice());
-    Ok(())
 }
 
 // A function of the type 2 of the table, which makes a struct of type 0.
@@ -54,37 +54,41 @@ fn hold_just(ids: &[TypeId], indices: &[usize]) -> bool {
 }
 
 #[test]
-fn what_a_function_and_a_global_use_is_kept(rt: HostRuntime) -> Result<(), Fail> {
+fn what_a_function_and_a_global_use_is_kept(rt: HostRuntime) {
     let alloc = rt.alloc();
-    let mut types = table(alloc)?;
+    let mut types = table(alloc).expect(&rt, "memory");
     let locals = ModuleLocals::new(alloc);
-    let func = maker(alloc)?;
+    let func = maker(alloc).expect(&rt, "memory");
     let init = ConstExpr::RefNull(Reference {
         nullable: true,
         heap_type: Heap::Exact(TypeId::from_index(3)),
     });
-    let Some(mut roots) = used_types(alloc, &func, &locals)? else {
-        return Err(Fail::new("not nested"));
+    let Some(mut roots) = used_types(alloc, &func, &locals).expect(&rt, "memory") else {
+        panic!(rt; "not nested");
     };
-    init.referenced_types(&mut roots)?;
+    init.referenced_types(&mut roots).expect(&rt, "memory");
     assert!(rt; roots.iter().all(|id| types.contains(*id)));
-    let deleted = delete_unused_types(alloc, &mut types, roots.as_slice())?;
+    let deleted = delete_unused_types(alloc, &mut types, roots.as_slice()).expect(&rt, "memory");
     assert!(rt; hold_just(roots.as_slice(), &[2, 5, 0, 3]));
     assert!(rt; are(deleted.as_slice(), &[1]));
-    assert!(rt; are(types.live_ids()?.as_slice(), &[0, 2, 3, 4, 5]));
-    Ok(())
+    assert!(rt;
+        are(
+            types.live_ids().expect(&rt, "memory").as_slice(),
+            &[0, 2, 3, 4, 5]
+        )
+    );
 }
 
 #[test]
-fn new_indices_are_those_of_the_normal_form(rt: HostRuntime) -> Result<(), Fail> {
+fn new_indices_are_those_of_the_normal_form(rt: HostRuntime) {
     let alloc = rt.alloc();
     let keys = HashKeys::fixed();
-    let section = section(alloc)?;
+    let section = section(alloc).expect(&rt, "memory");
     let groups = section.as_slice();
-    let (types, ids) = parse_types(alloc, keys, groups)?;
-    let (written, indices) = types.emit()?;
-    let new = new_indices(alloc, ids.as_slice(), &indices)?;
-    let (normal, places) = normalise(alloc, keys, groups)?;
+    let (types, ids) = parse_types(alloc, keys, groups).expect(&rt, "memory");
+    let (written, indices) = types.emit().expect(&rt, "memory");
+    let new = new_indices(alloc, ids.as_slice(), &indices).expect(&rt, "memory");
+    let (normal, places) = normalise(alloc, keys, groups).expect(&rt, "memory");
     assert!(rt; written == normal);
     assert_equal(&rt, new.len(), places.len());
     assert!(rt;
@@ -92,5 +96,4 @@ fn new_indices_are_those_of_the_normal_form(rt: HostRuntime) -> Result<(), Fail>
             .zip(&places)
             .all(|(index, place)| *index == Some(*place))
     );
-    Ok(())
 }

@@ -4,7 +4,6 @@ use crate::assertions::assert_equal;
 use crate::index_maps::{are as are_indices, read};
 use crate::unused_types::{are, delete_all_but, table};
 use std::alloc::Global;
-use std::test::Fail;
 use walrus_passes::new_indices;
 use walrus_types::{
     AddRecGroupError, EmitError, GroupAt, IdsToIndices, ModuleTypes, ReadError, TypeId, ValType,
@@ -47,8 +46,8 @@ fn finds(types: &ModuleTypes, has_body: bool) -> bool {
 }
 
 #[test]
-fn a_refused_deletion_leaves_the_table(rt: HostRuntime) -> Result<(), Fail> {
-    let mut types = table_again(rt.alloc())?;
+fn a_refused_deletion_leaves_the_table(rt: HostRuntime) {
+    let mut types = table_again(rt.alloc()).expect(&rt, "memory");
     let deleted = match delete_all_but(&rt, rt.alloc(), &mut types, 4) {
         Ok(deleted) => deleted,
         Err(_) => {
@@ -58,7 +57,7 @@ fn a_refused_deletion_leaves_the_table(rt: HostRuntime) -> Result<(), Fail> {
                 [true, true, true, true, true, true, false],
             );
             assert!(rt; has_groups(&types, [1, 1, 1, 2, 1]) && finds(&types, true));
-            delete_all_but(&rt, rt.alloc(), &mut types, 4)?
+            delete_all_but(&rt, rt.alloc(), &mut types, 4).expect(&rt, "memory")
         }
     };
     assert!(rt; are(deleted.as_slice(), &[0, 1, 5]));
@@ -68,7 +67,6 @@ fn a_refused_deletion_leaves_the_table(rt: HostRuntime) -> Result<(), Fail> {
         [false, false, true, true, true, false, false],
     );
     assert!(rt; has_groups(&types, [0, 0, 1, 2, 0]) && finds(&types, false));
-    Ok(())
 }
 
 // The table of a section with its ids. It is read again after a refusal.
@@ -87,13 +85,12 @@ fn emit_again(types: &ModuleTypes) -> Result<(Vec<GroupAt>, IdsToIndices), EmitE
 }
 
 #[test]
-fn a_refused_map_of_indices_is_made_again(rt: HostRuntime) -> Result<(), Fail> {
-    let (types, ids) = read_again(rt.alloc())?;
-    let (_, indices) = emit_again(&types)?;
+fn a_refused_map_of_indices_is_made_again(rt: HostRuntime) {
+    let (types, ids) = read_again(rt.alloc()).expect(&rt, "memory");
+    let (_, indices) = emit_again(&types).expect(&rt, "memory");
     let new = match new_indices(rt.alloc(), ids.as_slice(), &indices) {
         Ok(new) => new,
-        Err(_) => new_indices(rt.alloc(), ids.as_slice(), &indices)?,
+        Err(_) => new_indices(rt.alloc(), ids.as_slice(), &indices).expect(&rt, "memory"),
     };
     assert!(rt; are_indices(new.as_slice(), &[Some(1), Some(0), Some(1)]));
-    Ok(())
 }

@@ -3,7 +3,6 @@
 use crate::assertions::assert_equal;
 use crate::unused_types::{delete_all_but, reference_field, structures};
 use std::alloc::Global;
-use std::test::Fail;
 use walrus_types::{AddRecGroupError, ModuleTypes, TypeId, ValType};
 
 const SMALL: usize = 100_000;
@@ -23,29 +22,39 @@ fn table(alloc: Global, count: usize) -> Result<ModuleTypes, AddRecGroupError> {
 }
 
 #[test]
-fn small_table_is_built(rt: HostRuntime) -> Result<(), Fail> {
-    assert_equal(&rt, table(rt.alloc(), SMALL)?.rec_groups().len(), SMALL + 2);
-    Ok(())
+fn small_table_is_built(rt: HostRuntime) {
+    assert_equal(
+        &rt,
+        table(rt.alloc(), SMALL)
+            .expect(&rt, "memory")
+            .rec_groups()
+            .len(),
+        SMALL + 2,
+    );
 }
 
 #[test]
-fn large_table_is_built(rt: HostRuntime) -> Result<(), Fail> {
-    assert_equal(&rt, table(rt.alloc(), LARGE)?.rec_groups().len(), LARGE + 2);
-    Ok(())
+fn large_table_is_built(rt: HostRuntime) {
+    assert_equal(
+        &rt,
+        table(rt.alloc(), LARGE)
+            .expect(&rt, "memory")
+            .rec_groups()
+            .len(),
+        LARGE + 2,
+    );
 }
 
 #[test]
-fn small_table_dies(rt: HostRuntime) -> Result<(), Fail> {
-    let mut types = table(rt.alloc(), SMALL)?;
-    let deleted = delete_all_but(&rt, rt.alloc(), &mut types, 2 * SMALL)?;
+fn small_table_dies(rt: HostRuntime) {
+    let mut types = table(rt.alloc(), SMALL).expect(&rt, "memory");
+    let deleted = delete_all_but(&rt, rt.alloc(), &mut types, 2 * SMALL).expect(&rt, "memory");
     assert_equal(&rt, deleted.len(), 2 * SMALL);
-    Ok(())
 }
 
 #[test]
-fn large_table_dies(rt: HostRuntime) -> Result<(), Fail> {
-    let mut types = table(rt.alloc(), LARGE)?;
-    let deleted = delete_all_but(&rt, rt.alloc(), &mut types, 2 * LARGE)?;
+fn large_table_dies(rt: HostRuntime) {
+    let mut types = table(rt.alloc(), LARGE).expect(&rt, "memory");
+    let deleted = delete_all_but(&rt, rt.alloc(), &mut types, 2 * LARGE).expect(&rt, "memory");
     assert_equal(&rt, deleted.len(), 2 * LARGE);
-    Ok(())
 }

@@ -3,7 +3,6 @@ mod refusals;
 mod streams;
 
 use std::alloc::{AllocError, Global};
-use std::test::Fail;
 use walrus_text::{TextError, read_section, write_output, write_section};
 
 /// The lines, with a line feed after each.
@@ -23,7 +22,7 @@ fn error_of(alloc: Global, text: &[u8]) -> Option<TextError> {
 }
 
 #[test]
-fn writes_what_it_read(rt: HostRuntime) -> Result<(), Fail> {
+fn writes_what_it_read(rt: HostRuntime) {
     let alloc = rt.alloc();
     let texts = [
         "",
@@ -39,31 +38,29 @@ fn writes_what_it_read(rt: HostRuntime) -> Result<(), Fail> {
     ];
     for text in texts {
         let mut reader = text.as_bytes();
-        let groups = read_section(alloc, &mut reader)?;
+        let groups = read_section(alloc, &mut reader).expect(&rt, "memory");
         let mut out: Vec<u8> = Vec::new(alloc);
-        write_section(&mut out, groups.as_slice())?;
+        write_section(&mut out, groups.as_slice()).expect(&rt, "memory");
         assert_eq!(rt; out.as_slice(), text.as_bytes(), "at {text}");
     }
-    Ok(())
 }
 
 #[test]
-fn writes_the_line_of_the_map(rt: HostRuntime) -> Result<(), Fail> {
+fn writes_the_line_of_the_map(rt: HostRuntime) {
     let alloc = rt.alloc();
     let mut reader = b"rec\nend\n \n  open   struct\n\nfunc -> i32".as_slice();
-    let groups = read_section(alloc, &mut reader)?;
+    let groups = read_section(alloc, &mut reader).expect(&rt, "memory");
     let mut out: Vec<u8> = Vec::new(alloc);
-    write_output(&mut out, groups.as_slice(), &[1, 0, 4294967295])?;
+    write_output(&mut out, groups.as_slice(), &[1, 0, 4294967295]).expect(&rt, "memory");
     let wanted = b"rec\nend\nopen struct\nfunc -> i32\nmap 1 0 4294967295\n".as_slice();
     assert_eq!(rt; out.as_slice(), wanted);
     let mut none: Vec<u8> = Vec::new(alloc);
-    write_output(&mut none, &[], &[])?;
+    write_output(&mut none, &[], &[]).expect(&rt, "memory");
     assert_eq!(rt; none.as_slice(), b"map\n".as_slice());
-    Ok(())
 }
 
 #[test]
-fn second_line_is_bad(rt: HostRuntime) -> Result<(), Fail> {
+fn second_line_is_bad(rt: HostRuntime) {
     let alloc = rt.alloc();
     let lines: [&[u8]; 19] = [
         b"struct i33",
@@ -87,17 +84,16 @@ fn second_line_is_bad(rt: HostRuntime) -> Result<(), Fail> {
         b"func\t->",
     ];
     for line in lines {
-        let mut text: Vec<u8> = Vec::from_slice(alloc, b"func ->\n")?;
-        text.extend_from_slice(line)?;
-        text.push(b'\n')?;
+        let mut text: Vec<u8> = Vec::from_slice(alloc, b"func ->\n").expect(&rt, "memory");
+        text.extend_from_slice(line).expect(&rt, "memory");
+        text.push(b'\n').expect(&rt, "memory");
         let error = error_of(alloc, text.as_slice());
         assert_eq!(rt; error, Some(TextError::BadText { line: 2 }));
     }
-    Ok(())
 }
 
 #[test]
-fn groups_pair_up(rt: HostRuntime) -> Result<(), Fail> {
+fn groups_pair_up(rt: HostRuntime) {
     let alloc = rt.alloc();
     let texts: [(&[&str], u64); 4] = [
         (&["rec", "func ->"], 3),
@@ -106,11 +102,10 @@ fn groups_pair_up(rt: HostRuntime) -> Result<(), Fail> {
         (&["rec", ""], 3),
     ];
     for (lines, line) in texts {
-        let text = text_of(alloc, lines)?;
+        let text = text_of(alloc, lines).expect(&rt, "memory");
         let error = error_of(alloc, text.as_slice());
         assert_eq!(rt; error, Some(TextError::BadText { line }));
     }
-    Ok(())
 }
 
 #[test]
@@ -120,7 +115,7 @@ fn the_first_bad_line_is_named(rt: HostRuntime) {
 }
 
 #[test]
-fn texts_of_errors(rt: HostRuntime) -> Result<(), Fail> {
+fn texts_of_errors(rt: HostRuntime) {
     let alloc = rt.alloc();
     let rows = [
         (TextError::BadText { line: 3 }, "line 3: bad text"),
@@ -128,7 +123,9 @@ fn texts_of_errors(rt: HostRuntime) -> Result<(), Fail> {
         (TextError::Stream, "input failed"),
     ];
     for (error, wanted) in rows {
-        assert_eq!(rt; format!(in alloc; "{error}")?.as_str(), wanted);
+        assert_eq!(rt;
+            format!(in alloc; "{error}").expect(&rt, "memory").as_str(),
+            wanted
+        );
     }
-    Ok(())
 }

@@ -24,32 +24,38 @@ fn note_of(arena: &TombstoneArena<Tagged>, at: usize) -> Option<u32> {
 }
 
 #[test]
-fn a_deleted_id_is_not_given_out_again(rt: HostRuntime) -> Result<(), Fail> {
+fn a_deleted_id_is_not_given_out_again(rt: HostRuntime) {
     let mut arena = TombstoneArena::new(rt.alloc());
-    assert_equal(&rt, arena.alloc(make_tagged(1, 1))?.index(), 0);
-    assert!(rt; delete_if_live(&mut arena, 0)?);
+    assert_equal(
+        &rt,
+        arena.alloc(make_tagged(1, 1)).expect(&rt, "memory").index(),
+        0,
+    );
+    assert!(rt; delete_if_live(&mut arena, 0).expect(&rt, "memory"));
     assert!(rt; !arena.contains(Id::from_index(0)));
     assert!(rt; note_of(&arena, 0).is_none());
     assert_equal(&rt, arena.len(), 0);
-    assert_equal(&rt, arena.alloc(make_tagged(2, 2))?.index(), 1);
-    Ok(())
+    assert_equal(
+        &rt,
+        arena.alloc(make_tagged(2, 2)).expect(&rt, "memory").index(),
+        1,
+    );
 }
 
 #[test]
-fn items_are_read_by_id(rt: HostRuntime) -> Result<(), Fail> {
-    let arena = three_items(rt.alloc())?;
+fn items_are_read_by_id(rt: HostRuntime) {
+    let arena = three_items(rt.alloc()).expect(&rt, "memory");
     assert_equal(&rt, arena.len(), 3);
     assert!(rt; !arena.is_empty());
     assert_equal(&rt, arena.next_id().index(), 3);
     assert_equal(&rt, note_of(&arena, 2), Some(2));
     assert!(rt; arena.contains(Id::from_index(1)));
     assert_equal(&rt, arena[Id::from_index(1)].note, 1);
-    Ok(())
 }
 
 #[test]
-fn items_are_written_by_id(rt: HostRuntime) -> Result<(), Fail> {
-    let mut arena = three_items(rt.alloc())?;
+fn items_are_written_by_id(rt: HostRuntime) {
+    let mut arena = three_items(rt.alloc()).expect(&rt, "memory");
     match arena.get_mut(Id::from_index(0)) {
         Some(item) => item.note = 10,
         None => assert!(rt; false),
@@ -59,30 +65,26 @@ fn items_are_written_by_id(rt: HostRuntime) -> Result<(), Fail> {
     arena[Id::from_index(1)].note = 11;
     assert_equal(&rt, note_of(&arena, 1), Some(11));
     assert!(rt; arena.get_mut(Id::from_index(3)).is_none());
-    Ok(())
 }
 
 #[test]
-fn an_item_may_hold_its_id(rt: HostRuntime) -> Result<(), Fail> {
-    let mut arena = three_items(rt.alloc())?;
-    let id = arena.alloc_with_id(|id: Id<Tagged>| make_tagged(
-        if id.index() == 3 { 3 } else { 0 },
-        0,
-    ))?;
+fn an_item_may_hold_its_id(rt: HostRuntime) {
+    let mut arena = three_items(rt.alloc()).expect(&rt, "memory");
+    let id = arena
+        .alloc_with_id(|id: Id<Tagged>| make_tagged(if id.index() == 3 { 3 } else { 0 }, 0))
+        .expect(&rt, "memory");
     assert_equal(&rt, id.index(), 3);
     assert_equal(&rt, arena.get(id).map(|item| item.key), Some(3));
-    Ok(())
 }
 
 #[test]
-fn many_items_at_once(rt: HostRuntime) -> Result<(), Fail> {
-    let mut arena = three_items(rt.alloc())?;
-    let values = vec![in rt.alloc(); make_tagged(8, 3), make_tagged(9, 4)]?;
-    let ids = arena.alloc_all(values)?;
+fn many_items_at_once(rt: HostRuntime) {
+    let mut arena = three_items(rt.alloc()).expect(&rt, "memory");
+    let values = vec![in rt.alloc(); make_tagged(8, 3), make_tagged(9, 4)].expect(&rt, "memory");
+    let ids = arena.alloc_all(values).expect(&rt, "memory");
     assert_equal(&rt, ids.len(), 2);
     assert_equal(&rt, ids[1].index(), 4);
     assert_equal(&rt, note_of(&arena, 4), Some(4));
-    Ok(())
 }
 
 // The sum of the live notes, each times ten for each item before it.
@@ -95,23 +97,25 @@ fn notes_in_order(arena: &TombstoneArena<Tagged>) -> u64 {
 }
 
 #[test]
-fn iter_goes_over_the_live_items(rt: HostRuntime) -> Result<(), Fail> {
-    let mut arena = three_items(rt.alloc())?;
+fn iter_goes_over_the_live_items(rt: HostRuntime) {
+    let mut arena = three_items(rt.alloc()).expect(&rt, "memory");
     assert_equal(&rt, notes_in_order(&arena), 12);
-    assert!(rt; delete_if_live(&mut arena, 1)?);
+    assert!(rt; delete_if_live(&mut arena, 1).expect(&rt, "memory"));
     assert_equal(&rt, notes_in_order(&arena), 2);
-    let live = arena.live_ids()?;
+    let live = arena.live_ids().expect(&rt, "memory");
     assert_equal(&rt, live.len(), 2);
     assert_equal(&rt, live[1].index(), 2);
-    Ok(())
 }
 
 // An arena whose allocator is another handle than `Global`.
 #[test]
-fn an_arena_by_a_lent_allocator(rt: HostRuntime) -> Result<(), Fail> {
+fn an_arena_by_a_lent_allocator(rt: HostRuntime) {
     let alloc = rt.alloc();
     let mut arena = TombstoneArena::new(&alloc);
-    assert_equal(&rt, arena.alloc(make_tagged(1, 1))?.index(), 0);
-    assert_equal(&rt, arena.live_ids()?.len(), 1);
-    Ok(())
+    assert_equal(
+        &rt,
+        arena.alloc(make_tagged(1, 1)).expect(&rt, "memory").index(),
+        0,
+    );
+    assert_equal(&rt, arena.live_ids().expect(&rt, "memory").len(), 1);
 }

@@ -31,16 +31,15 @@ fn two_items(alloc: Global, count: &Rc<Cell<u32>>) -> Result<TombstoneArena<Told
 }
 
 #[test]
-fn delete_tells_its_item_once(rt: HostRuntime) -> Result<(), Fail> {
-    let count = Rc::new(rt.alloc(), Cell::new(0))?;
-    let mut arena = two_items(rt.alloc(), &count)?;
+fn delete_tells_its_item_once(rt: HostRuntime) {
+    let count = Rc::new(rt.alloc(), Cell::new(0)).expect(&rt, "memory");
+    let mut arena = two_items(rt.alloc(), &count).expect(&rt, "memory");
     assert_equal(&rt, count.get(), 0);
     assert!(rt; arena.contains(Id::from_index(1)));
-    arena.delete(Id::from_index(1))?;
+    arena.delete(Id::from_index(1)).expect(&rt, "memory");
     assert_equal(&rt, count.get(), 1);
     drop(arena);
     assert_equal(&rt, count.get(), 1);
-    Ok(())
 }
 
 #[test]
@@ -111,16 +110,15 @@ fn two_values(alloc: Global, count: &Rc<Cell<u32>>) -> Result<ArenaSet<ToldKey>,
 }
 
 #[test]
-fn remove_tells_its_item_once(rt: HostRuntime) -> Result<(), Fail> {
-    let count = Rc::new(rt.alloc(), Cell::new(0))?;
-    let mut set = two_values(rt.alloc(), &count)?;
+fn remove_tells_its_item_once(rt: HostRuntime) {
+    let count = Rc::new(rt.alloc(), Cell::new(0)).expect(&rt, "memory");
+    let mut set = two_values(rt.alloc(), &count).expect(&rt, "memory");
     assert!(rt; set.contains(Id::from_index(1)));
     assert_equal(&rt, count.get(), 0);
-    set.remove(Id::from_index(1))?;
+    set.remove(Id::from_index(1)).expect(&rt, "memory");
     assert_equal(&rt, count.get(), 1);
     drop(set);
     assert_equal(&rt, count.get(), 1);
-    Ok(())
 }
 
 #[test]
@@ -139,11 +137,12 @@ fn remove_all_tells_each_item_once(rt: HostRuntime) -> Result<(), Fail> {
 }
 
 #[test]
-fn a_value_of_a_dead_slot_is_told_once(rt: HostRuntime) -> Result<(), Fail> {
-    let count = Rc::new(rt.alloc(), Cell::new(0))?;
-    let mut set = two_values(rt.alloc(), &count)?;
-    let dead = set.alloc_dead(make_told(3, &count)?)?;
+fn a_value_of_a_dead_slot_is_told_once(rt: HostRuntime) {
+    let count = Rc::new(rt.alloc(), Cell::new(0)).expect(&rt, "memory");
+    let mut set = two_values(rt.alloc(), &count).expect(&rt, "memory");
+    let dead = set
+        .alloc_dead(make_told(3, &count).expect(&rt, "memory"))
+        .expect(&rt, "memory");
     assert_equal(&rt, dead.index(), 2);
     assert_equal(&rt, count.get(), 1);
-    Ok(())
 }

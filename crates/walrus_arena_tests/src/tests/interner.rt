@@ -31,13 +31,18 @@ impl Names {
 }
 
 #[test]
-fn a_name_has_one_id(rt: HostRuntime) -> Result<(), Fail> {
+fn a_name_has_one_id(rt: HostRuntime) {
     let mut names = Names::new(rt.alloc());
-    let memory = names.id_of(String::from_str(rt.alloc(), "memory")?)?;
+    let memory = names
+        .id_of(String::from_str(rt.alloc(), "memory").expect(&rt, "memory"))
+        .expect(&rt, "memory");
     assert_equal(&rt, names.name(memory), "memory");
-    let again = names.id_of(String::from_str(rt.alloc(), "memory")?)?;
+    let again = names
+        .id_of(String::from_str(rt.alloc(), "memory").expect(&rt, "memory"))
+        .expect(&rt, "memory");
     assert!(rt; again == memory);
-    let table = names.id_of(String::from_str(rt.alloc(), "table")?)?;
+    let table = names
+        .id_of(String::from_str(rt.alloc(), "table").expect(&rt, "memory"))
+        .expect(&rt, "memory");
     assert!(rt; table != memory);
-    Ok(())
 }

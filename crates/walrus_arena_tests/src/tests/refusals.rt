@@ -44,28 +44,36 @@ fn has(set: &ArenaSet<Costly>, key: u32, refuse: &Rc<Cell<bool>>) -> Result<bool
 }
 
 #[test]
-fn an_insert_with_a_refused_clone(rt: HostRuntime) -> Result<(), Fail> {
+fn an_insert_with_a_refused_clone(rt: HostRuntime) {
     let mut set = ArenaSet::new(rt.alloc());
-    let refuse = Rc::new(rt.alloc(), Cell::new(true))?;
-    assert!(rt; set.insert(make_costly(1, &refuse)?).is_err());
+    let refuse = Rc::new(rt.alloc(), Cell::new(true)).expect(&rt, "memory");
+    assert!(rt;
+        set.insert(make_costly(1, &refuse).expect(&rt, "memory"))
+            .is_err()
+    );
     assert_equal(&rt, set.next_id().index(), 0);
-    assert!(rt; !has(&set, 1, &refuse)?);
-    assert_equal(&rt, set.insert(make_costly(1, &refuse)?)?.index(), 0);
-    Ok(())
+    assert!(rt; !has(&set, 1, &refuse).expect(&rt, "memory"));
+    assert_equal(
+        &rt,
+        set.insert(make_costly(1, &refuse).expect(&rt, "memory"))
+            .expect(&rt, "memory")
+            .index(),
+        0,
+    );
 }
 
 #[test]
-fn a_replacement_with_a_refused_clone(rt: HostRuntime) -> Result<(), Fail> {
+fn a_replacement_with_a_refused_clone(rt: HostRuntime) {
     let mut set = ArenaSet::new(rt.alloc());
-    let refuse = Rc::new(rt.alloc(), Cell::new(false))?;
-    set.insert(make_costly(1, &refuse)?)?;
+    let refuse = Rc::new(rt.alloc(), Cell::new(false)).expect(&rt, "memory");
+    set.insert(make_costly(1, &refuse).expect(&rt, "memory"))
+        .expect(&rt, "memory");
     assert!(rt; set.contains(Id::from_index(0)));
     refuse.set(true);
-    let value = make_costly(2, &refuse)?;
+    let value = make_costly(2, &refuse).expect(&rt, "memory");
     assert!(rt; set.replace_and_register(Id::from_index(0), value).is_err());
-    assert!(rt; has(&set, 1, &refuse)?);
-    assert!(rt; !has(&set, 2, &refuse)?);
-    Ok(())
+    assert!(rt; has(&set, 1, &refuse).expect(&rt, "memory"));
+    assert!(rt; !has(&set, 2, &refuse).expect(&rt, "memory"));
 }
 
 // What a set shows: its next id, the notes of the items that are live, and which id each key is
@@ -182,12 +190,12 @@ fn makes_eight(
     answers: [usize; 8],
     note: Option<u32>,
     is_found: bool,
-) -> Result<(), Fail> {
-    let mut set = three_values_again(alloc)?;
+) {
+    let mut set = three_values_again(alloc).expect(rt, "memory");
     for round in 0..8u32 {
         let key = round + 3;
         let wanted = answers[round as usize];
-        let at = call_set_again(rt, alloc, &mut set, call, key)?;
+        let at = call_set_again(rt, alloc, &mut set, call, key).expect(rt, "memory");
         assert_equal(rt, at, wanted);
         assert_equal(rt, note_in_set(&set, at), note);
         assert_equal(
@@ -197,19 +205,18 @@ fn makes_eight(
         );
     }
     assert_equal(rt, index_of(&set, 0), Some(0));
-    Ok(())
 }
 
 #[test]
-fn a_refused_call_of_a_set_changes_nothing(rt: HostRuntime) -> Result<(), Fail> {
+fn a_refused_call_of_a_set_changes_nothing(rt: HostRuntime) {
     let next = [3, 4, 5, 6, 7, 8, 9, 10];
     let second = [4, 6, 8, 10, 12, 14, 16, 18];
     let alloc = rt.alloc();
-    makes_eight(&rt, alloc, SetCall::Insert, next, Some(3), true)?;
-    makes_eight(&rt, alloc, SetCall::AllocAndRegister, next, Some(3), true)?;
-    makes_eight(&rt, alloc, SetCall::AllocUnique, next, Some(3), false)?;
-    makes_eight(&rt, alloc, SetCall::AllocDead, next, None, false)?;
-    makes_eight(&rt, alloc, SetCall::AllocAll, second, Some(2), false)?;
+    makes_eight(&rt, alloc, SetCall::Insert, next, Some(3), true);
+    makes_eight(&rt, alloc, SetCall::AllocAndRegister, next, Some(3), true);
+    makes_eight(&rt, alloc, SetCall::AllocUnique, next, Some(3), false);
+    makes_eight(&rt, alloc, SetCall::AllocDead, next, None, false);
+    makes_eight(&rt, alloc, SetCall::AllocAll, second, Some(2), false);
     makes_eight(
         &rt,
         alloc,
@@ -217,7 +224,7 @@ fn a_refused_call_of_a_set_changes_nothing(rt: HostRuntime) -> Result<(), Fail> 
         [1; 8],
         Some(3),
         true,
-    )
+    );
 }
 
 // What an arena shows: how many items are live, its next id, and the notes of these items.
@@ -303,28 +310,26 @@ fn adds_eight(
 }
 
 #[test]
-fn a_refused_call_of_an_arena_adds_nothing(rt: HostRuntime) -> Result<(), Fail> {
+fn a_refused_call_of_an_arena_adds_nothing(rt: HostRuntime) {
     let next = [0, 1, 2, 3, 4, 5, 6, 7];
     let second = [1, 3, 5, 7, 9, 11, 13, 15];
-    adds_eight(&rt, rt.alloc(), ArenaCall::Alloc, next, 0)?;
-    adds_eight(&rt, rt.alloc(), ArenaCall::AllocWithId, next, 8)?;
-    adds_eight(&rt, rt.alloc(), ArenaCall::AllocAll, second, 0)?;
-    Ok(())
+    adds_eight(&rt, rt.alloc(), ArenaCall::Alloc, next, 0).expect(&rt, "memory");
+    adds_eight(&rt, rt.alloc(), ArenaCall::AllocWithId, next, 8).expect(&rt, "memory");
+    adds_eight(&rt, rt.alloc(), ArenaCall::AllocAll, second, 0).expect(&rt, "memory");
 }
 
 #[test]
-fn refused_live_ids_are_listed_when_asked_again(rt: HostRuntime) -> Result<(), Fail> {
+fn refused_live_ids_are_listed_when_asked_again(rt: HostRuntime) {
     let next = [0, 1, 2, 3, 4, 5, 6, 7];
-    let arena = adds_eight(&rt, rt.alloc(), ArenaCall::Alloc, next, 0)?;
+    let arena = adds_eight(&rt, rt.alloc(), ArenaCall::Alloc, next, 0).expect(&rt, "memory");
     let before = shown_of_arena(&arena);
     let ids = match arena.live_ids() {
         Ok(ids) => ids,
-        Err(_) => arena.live_ids()?,
+        Err(_) => arena.live_ids().expect(&rt, "memory"),
     };
     assert_equal(&rt, ids.len(), 8);
     assert!(rt; ids.iter().zip(next).all(|(id, at)| id.index() == at));
     assert!(rt; shown_of_arena(&arena) == before);
-    Ok(())
 }
 
 // An arena of the notes 0 to 3, and a set of the keys 0 to 3, each found by its id.
@@ -360,10 +365,10 @@ fn remove_three(rt: &impl Abort, set: &mut ArenaSet<Tagged>) -> Result<(), Alloc
 
 // Every request may be refused once arena and set are there.
 #[test]
-fn deletions_take_no_memory(rt: HostRuntime) -> Result<(), Fail> {
+fn deletions_take_no_memory(rt: HostRuntime) {
     let (mut arena, mut set) = match four_each(rt.alloc()) {
         Ok(both) => both,
-        Err(_) => return Ok(()),
+        Err(_) => return,
     };
     assert_equal(&rt, delete_three(&rt, &mut arena), Ok(()));
     assert_equal(&rt, arena.len(), 1);
@@ -379,5 +384,4 @@ fn deletions_take_no_memory(rt: HostRuntime) -> Result<(), Fail> {
     assert_equal(&rt, index_of(&set, 2), None);
     assert_equal(&rt, index_of(&set, 3), None);
     assert_equal(&rt, set.next_id().index(), 4);
-    Ok(())
 }

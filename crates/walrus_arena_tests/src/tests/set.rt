@@ -36,80 +36,118 @@ fn changed(rt: &impl Abort, alloc: Global) -> Result<ArenaSet<Tagged>, AllocErro
 }
 
 #[test]
-fn an_equal_value_is_found(rt: HostRuntime) -> Result<(), Fail> {
+fn an_equal_value_is_found(rt: HostRuntime) {
     let mut set = ArenaSet::new(rt.alloc());
-    assert_equal(&rt, set.insert(make_tagged(1, 10))?.index(), 0);
-    assert_equal(&rt, set.insert(make_tagged(1, 20))?.index(), 0);
+    assert_equal(
+        &rt,
+        set.insert(make_tagged(1, 10)).expect(&rt, "memory").index(),
+        0,
+    );
+    assert_equal(
+        &rt,
+        set.insert(make_tagged(1, 20)).expect(&rt, "memory").index(),
+        0,
+    );
     assert_equal(&rt, note_of(&rt, &set, 0), 10);
-    assert_equal(&rt, set.alloc_unique(make_tagged(1, 30))?.index(), 1);
+    assert_equal(
+        &rt,
+        set.alloc_unique(make_tagged(1, 30))
+            .expect(&rt, "memory")
+            .index(),
+        1,
+    );
     assert_equal(&rt, index_of(&set, 1), Some(0));
-    Ok(())
 }
 
 #[test]
-fn a_changed_value_is_not_found(rt: HostRuntime) -> Result<(), Fail> {
-    let mut set = two_equal(rt.alloc())?;
+fn a_changed_value_is_not_found(rt: HostRuntime) {
+    let mut set = two_equal(rt.alloc()).expect(&rt, "memory");
     write_key(&rt, &mut set, 0, 2);
     assert_equal(&rt, index_of(&set, 1), None);
     assert_equal(&rt, index_of(&set, 2), None);
-    assert_equal(&rt, set.insert(make_tagged(2, 0))?.index(), 2);
-    assert_equal(&rt, set.insert(make_tagged(1, 0))?.index(), 3);
-    Ok(())
+    assert_equal(
+        &rt,
+        set.insert(make_tagged(2, 0)).expect(&rt, "memory").index(),
+        2,
+    );
+    assert_equal(
+        &rt,
+        set.insert(make_tagged(1, 0)).expect(&rt, "memory").index(),
+        3,
+    );
 }
 
 #[test]
-fn a_removal_leaves_the_entry_of_another(rt: HostRuntime) -> Result<(), Fail> {
-    let mut set = changed(&rt, rt.alloc())?;
-    remove(&rt, &mut set, 0)?;
+fn a_removal_leaves_the_entry_of_another(rt: HostRuntime) {
+    let mut set = changed(&rt, rt.alloc()).expect(&rt, "memory");
+    remove(&rt, &mut set, 0).expect(&rt, "memory");
     assert_equal(&rt, index_of(&set, 2), Some(2));
-    Ok(())
 }
 
 #[test]
-fn a_replaced_value_takes_the_entry(rt: HostRuntime) -> Result<(), Fail> {
-    let mut set = changed(&rt, rt.alloc())?;
-    remove(&rt, &mut set, 0)?;
+fn a_replaced_value_takes_the_entry(rt: HostRuntime) {
+    let mut set = changed(&rt, rt.alloc()).expect(&rt, "memory");
+    remove(&rt, &mut set, 0).expect(&rt, "memory");
     assert!(rt; set.contains(Id::from_index(1)));
-    set.replace_and_register(Id::from_index(1), make_tagged(2, 5))?;
+    set.replace_and_register(Id::from_index(1), make_tagged(2, 5))
+        .expect(&rt, "memory");
     assert_equal(&rt, index_of(&set, 2), Some(1));
-    remove(&rt, &mut set, 1)?;
+    remove(&rt, &mut set, 1).expect(&rt, "memory");
     assert_equal(&rt, index_of(&set, 2), None);
     assert!(rt; set.contains(Id::from_index(2)));
-    Ok(())
 }
 
 #[test]
-fn many_new_values_leave_the_map(rt: HostRuntime) -> Result<(), Fail> {
-    let mut set = two_equal(rt.alloc())?;
-    let values = vec![in rt.alloc(); make_tagged(1, 1), make_tagged(2, 2)]?;
-    let ids = set.alloc_all(values)?;
+fn many_new_values_leave_the_map(rt: HostRuntime) {
+    let mut set = two_equal(rt.alloc()).expect(&rt, "memory");
+    let values = vec![in rt.alloc(); make_tagged(1, 1), make_tagged(2, 2)].expect(&rt, "memory");
+    let ids = set.alloc_all(values).expect(&rt, "memory");
     assert_equal(&rt, ids.len(), 2);
     assert_equal(&rt, set.next_id().index(), 4);
     assert_equal(&rt, index_of(&set, 1), Some(0));
     assert_equal(&rt, index_of(&set, 2), None);
-    Ok(())
 }
 
 #[test]
-fn a_registered_value_takes_the_entry_of_an_equal_one(rt: HostRuntime) -> Result<(), Fail> {
-    let mut set = two_equal(rt.alloc())?;
-    assert_equal(&rt, set.alloc_and_register(make_tagged(1, 40))?.index(), 2);
+fn a_registered_value_takes_the_entry_of_an_equal_one(rt: HostRuntime) {
+    let mut set = two_equal(rt.alloc()).expect(&rt, "memory");
+    assert_equal(
+        &rt,
+        set.alloc_and_register(make_tagged(1, 40))
+            .expect(&rt, "memory")
+            .index(),
+        2,
+    );
     assert_equal(&rt, index_of(&set, 1), Some(2));
     assert_equal(&rt, note_of(&rt, &set, 0), 10);
-    assert_equal(&rt, set.alloc_and_register(make_tagged(2, 50))?.index(), 3);
+    assert_equal(
+        &rt,
+        set.alloc_and_register(make_tagged(2, 50))
+            .expect(&rt, "memory")
+            .index(),
+        3,
+    );
     assert_equal(&rt, index_of(&set, 2), Some(3));
-    Ok(())
 }
 
 #[test]
-fn a_slot_can_be_dead_from_the_start(rt: HostRuntime) -> Result<(), Fail> {
-    let mut set = two_equal(rt.alloc())?;
-    assert_equal(&rt, set.alloc_dead(make_tagged(2, 0))?.index(), 2);
+fn a_slot_can_be_dead_from_the_start(rt: HostRuntime) {
+    let mut set = two_equal(rt.alloc()).expect(&rt, "memory");
+    assert_equal(
+        &rt,
+        set.alloc_dead(make_tagged(2, 0))
+            .expect(&rt, "memory")
+            .index(),
+        2,
+    );
     assert!(rt; !set.contains(Id::from_index(2)));
     assert_equal(&rt, index_of(&set, 2), None);
     assert_equal(&rt, index_of(&set, 1), Some(0));
-    assert_equal(&rt, set.insert(make_tagged(2, 0))?.index(), 3);
-    Ok(())
+    assert_equal(
+        &rt,
+        set.insert(make_tagged(2, 0)).expect(&rt, "memory").index(),
+        3,
+    );
 }
 
 #[test]

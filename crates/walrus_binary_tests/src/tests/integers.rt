@@ -111,9 +111,11 @@ fn an_exact_index_is_unsigned(rt: HostRuntime) {
 }
 
 #[test]
-fn each_count_may_be_padded(rt: HostRuntime) -> Result<(), Fail> {
+fn each_count_may_be_padded(rt: HostRuntime) {
     let params = [1, 0x60, 0x81, 0x80, 0x80, 0x80, 0x00, 0x7F, 0x80, 0x00];
-    let group = GroupAt::Single(plain(function(rt.alloc(), &[ValAt::I32], &[])?));
+    let group = GroupAt::Single(plain(function(rt.alloc(), &[ValAt::I32], &[]).expect(
+        &rt, "memory",
+    )));
     assert!(rt; reads_group(rt.alloc(), &params, group));
     let fields = [1, 0x5F, 0x80, 0x80, 0x00];
     let group = GroupAt::Single(plain(CompAt::Struct {
@@ -125,7 +127,6 @@ fn each_count_may_be_padded(rt: HostRuntime) -> Result<(), Fail> {
     assert!(rt; reads_group(rt.alloc(), &entries, group));
     let supertypes = [1, 0x4F, 0x80, 0x80, 0x80, 0x80, 0x00, 0x5E, 0x78, 0];
     assert!(rt; reads_group(rt.alloc(), &supertypes, array(StorageAt::I8)));
-    Ok(())
 }
 
 #[test]

@@ -45,11 +45,13 @@ fn references_to_types(rt: HostRuntime) {
 }
 
 #[test]
-fn function_types(rt: HostRuntime) -> Result<(), Fail> {
+fn function_types(rt: HostRuntime) {
     let params = [ValAt::I32, ValAt::I64, ValAt::F32, ValAt::F64, ValAt::V128];
     let results = [ValAt::F64];
     let bytes = [1, 0x60, 5, 0x7F, 0x7E, 0x7D, 0x7C, 0x7B, 1, 0x7C];
-    let group = GroupAt::Single(plain(function(rt.alloc(), &params, &results)?));
+    let group = GroupAt::Single(plain(function(rt.alloc(), &params, &results).expect(
+        &rt, "memory",
+    )));
     assert!(rt; reads_group(rt.alloc(), &bytes, group));
     let packed = [1, 0x60, 1, 0x78, 0];
     assert_equal(
@@ -57,11 +59,10 @@ fn function_types(rt: HostRuntime) -> Result<(), Fail> {
         error_of(rt.alloc(), &packed),
         malformed(3, Expected::ValType),
     );
-    Ok(())
 }
 
 #[test]
-fn struct_types(rt: HostRuntime) -> Result<(), Fail> {
+fn struct_types(rt: HostRuntime) {
     let fields = vec![in rt.alloc();
         constant(StorageAt::I8),
         FieldAt {
@@ -69,7 +70,8 @@ fn struct_types(rt: HostRuntime) -> Result<(), Fail> {
             mutable: true,
         },
         constant(StorageAt::Val(ValAt::I32)),
-    ]?;
+    ]
+    .expect(&rt, "memory");
     let group = GroupAt::Single(plain(CompAt::Struct {
         fields: Listed::from_vec(fields),
     }));
@@ -93,7 +95,6 @@ fn struct_types(rt: HostRuntime) -> Result<(), Fail> {
         error_of(rt.alloc(), &no_comp),
         malformed(1, Expected::CompType),
     );
-    Ok(())
 }
 
 #[test]
@@ -161,10 +162,10 @@ fn a_declared_type_has_no_second_head(rt: HostRuntime) {
 }
 
 #[test]
-fn recursion_groups(rt: HostRuntime) -> Result<(), Fail> {
+fn recursion_groups(rt: HostRuntime) {
     let field = constant(StorageAt::I8);
     let entry = plain(CompAt::Array { field });
-    let one = GroupAt::Rec(Listed::from_vec(vec![in rt.alloc(); entry]?));
+    let one = GroupAt::Rec(Listed::from_vec(vec![in rt.alloc(); entry].expect(&rt, "memory")));
     assert!(rt; reads_group(rt.alloc(), &[1, 0x4E, 1, 0x5E, 0x78, 0], one));
     let none = GroupAt::Rec(Listed::from_vec(Vec::new(rt.alloc())));
     assert!(rt; reads_group(rt.alloc(), &[1, 0x4E, 0], none));
@@ -174,7 +175,6 @@ fn recursion_groups(rt: HostRuntime) -> Result<(), Fail> {
         error_of(rt.alloc(), &nested),
         malformed(3, Expected::CompType),
     );
-    Ok(())
 }
 
 #[test]

@@ -32,18 +32,18 @@ fn size(entry: &EntryAt) -> [usize; 3] {
 }
 
 #[test]
-fn a_refused_decode_reads_again(rt: HostRuntime) -> Result<(), Fail> {
+fn a_refused_decode_reads_again(rt: HostRuntime) {
     let bytes = [
         3, 0x60, 2, 0x7F, 0x7E, 1, 0x6F, 0x4E, 2, 0x5F, 1, 0x78, 1, 0x5E, 0x77, 0, 0x5F, 1, 0x7F, 0,
     ];
     let groups = decode_again(rt.alloc(), &bytes)
         .ok()
-        .ok_or("the second call reads")?;
+        .ok_or("the second call reads")
+        .expect(&rt, "memory");
     assert_equal(&rt, groups.len(), 3);
     assert_equal(&rt, sizes(&groups[0]), [1, 2, 1]);
     assert_equal(&rt, sizes(&groups[1]), [2, 0, 0]);
     assert_equal(&rt, sizes(&groups[2]), [1, 1, 0]);
-    Ok(())
 }
 
 // The sizes of the next group; none at the end. After a refusal the call is made again.
@@ -56,17 +56,17 @@ fn next_sizes(reader: &mut TypeSectionReader<'_>) -> Result<Option<[usize; 3]>, 
 }
 
 #[test]
-fn a_refused_group_comes_when_it_is_read_again(rt: HostRuntime) -> Result<(), Fail> {
+fn a_refused_group_comes_when_it_is_read_again(rt: HostRuntime) {
     let bytes = [
         2, 0x60, 2, 0x7F, 0x7E, 1, 0x6F, 0x4E, 2, 0x5F, 1, 0x78, 1, 0x5E, 0x77, 0,
     ];
     let mut reader = TypeSectionReader::new(rt.alloc(), &bytes)
         .ok()
-        .ok_or("a count")?;
+        .ok_or("a count")
+        .expect(&rt, "memory");
     assert_equal(&rt, next_sizes(&mut reader).ok(), Some(Some([1, 2, 1])));
     assert_equal(&rt, next_sizes(&mut reader).ok(), Some(Some([2, 0, 0])));
     assert_equal(&rt, next_sizes(&mut reader).ok(), Some(None));
-    Ok(())
 }
 
 // The groups of the module. After a refusal the call is made again.
@@ -78,18 +78,18 @@ fn module_types_again(alloc: Global, bytes: &[u8]) -> Result<Vec<GroupAt>, Decod
 }
 
 #[test]
-fn a_refused_module_is_read_again(rt: HostRuntime) -> Result<(), Fail> {
+fn a_refused_module_is_read_again(rt: HostRuntime) {
     let bytes = [
         0, 0x61, 0x73, 0x6D, 1, 0, 0, 0, 1, 11, 2, 0x60, 2, 0x7F, 0x7E, 1, 0x6F, 0x5F, 1, 0x78, 1,
         3, 1, 0,
     ];
     let groups = module_types_again(rt.alloc(), &bytes)
         .ok()
-        .ok_or("the second call reads")?;
+        .ok_or("the second call reads")
+        .expect(&rt, "memory");
     assert_equal(&rt, groups.len(), 2);
     assert_equal(&rt, sizes(&groups[0]), [1, 2, 1]);
     assert_equal(&rt, sizes(&groups[1]), [1, 1, 0]);
-    Ok(())
 }
 
 // The text of the groups. After a refusal the call is made again.
@@ -101,21 +101,22 @@ fn encode_again(alloc: Global, groups: &[GroupAt]) -> Result<Vec<u8>, EncodeErro
 }
 
 #[test]
-fn a_refused_encode_writes_again(rt: HostRuntime) -> Result<(), Fail> {
+fn a_refused_encode_writes_again(rt: HostRuntime) {
     let bytes = [
         2, 0x60, 9, 0x7F, 0x7F, 0x7F, 0x7F, 0x7F, 0x7F, 0x7F, 0x7F, 0x7F, 0, 0x5F, 1, 0x78, 1,
     ];
     let groups = decode_again(rt.alloc(), &bytes)
         .ok()
-        .ok_or("the second call reads")?;
+        .ok_or("the second call reads")
+        .expect(&rt, "memory");
     let written = encode_again(rt.alloc(), &groups)
         .ok()
-        .ok_or("the second call writes")?;
+        .ok_or("the second call writes")
+        .expect(&rt, "memory");
     assert_equal(&rt, written.as_slice(), bytes.as_slice());
     assert_equal(&rt, groups.len(), 2);
     assert_equal(&rt, sizes(&groups[0]), [1, 9, 0]);
     assert_equal(&rt, sizes(&groups[1]), [1, 1, 0]);
-    Ok(())
 }
 
 // The module with other types. After a refusal the call is made again.
@@ -127,14 +128,14 @@ fn replace_again(alloc: Global, bytes: &[u8], content: &[u8]) -> Result<Vec<u8>,
 }
 
 #[test]
-fn a_refused_replacement_is_made_again(rt: HostRuntime) -> Result<(), Fail> {
+fn a_refused_replacement_is_made_again(rt: HostRuntime) {
     let bytes = [0, 0x61, 0x73, 0x6D, 1, 0, 0, 0, 1, 1, 0, 3, 1, 0];
     let new = replace_again(rt.alloc(), &bytes, &[1, 0x60, 0, 0])
         .ok()
-        .ok_or("the second call replaces")?;
+        .ok_or("the second call replaces")
+        .expect(&rt, "memory");
     let wanted = [
         0, 0x61, 0x73, 0x6D, 1, 0, 0, 0, 1, 4, 1, 0x60, 0, 0, 3, 1, 0,
     ];
     assert_equal(&rt, new.as_slice(), wanted.as_slice());
-    Ok(())
 }

@@ -91,13 +91,12 @@ fn what_is_no_module_is_refused(rt: HostRuntime) {
 }
 
 #[test]
-fn replacement_errors_say_what(rt: HostRuntime) -> Result<(), Fail> {
+fn replacement_errors_say_what(rt: HostRuntime) {
     let error = DecodeError::Malformed {
         offset: 11,
         expected: Expected::LaterSection,
     };
     let error = ReplaceError::NoModule(error);
-    let text = format!(in rt.alloc(); "{error}")?;
+    let text = format!(in rt.alloc(); "{error}").expect(&rt, "memory");
     assert_equal(&rt, text.as_str(), "byte 11: expected a later section");
-    Ok(())
 }

@@ -30,7 +30,7 @@ fn has_rec(alloc: Global, bytes: &[u8]) -> Result<bool, DecodeError> {
 }
 
 #[test]
-fn a_rec_is_found_among_the_groups(rt: HostRuntime) -> Result<(), Fail> {
+fn a_rec_is_found_among_the_groups(rt: HostRuntime) {
     let alloc = rt.alloc();
     let with_rec = [2, 0x5E, 0x78, 0, 0x4E, 1, 0x5F, 0];
     assert_equal(&rt, has_rec(alloc, &with_rec), Ok(true));
@@ -40,18 +40,21 @@ fn a_rec_is_found_among_the_groups(rt: HostRuntime) -> Result<(), Fail> {
         expected: Expected::End,
     };
     assert_equal(&rt, has_rec(alloc, &[1, 0x5E, 0x78, 0, 0x5E]), Err(end));
-    Ok(())
 }
 
 #[test]
-fn groups_of_a_section_come_in_turn(rt: HostRuntime) -> Result<(), Fail> {
+fn groups_of_a_section_come_in_turn(rt: HostRuntime) {
     let bytes = [
         3, 0x5E, 0x78, 0, 0x4E, 2, 0x5F, 1, 0x77, 1, 0x5F, 0, 0x60, 1, 0x7F, 0,
     ];
-    let groups = decode_types(rt.alloc(), &bytes).ok().ok_or("three groups")?;
+    let groups = decode_types(rt.alloc(), &bytes)
+        .ok()
+        .ok_or("three groups")
+        .expect(&rt, "memory");
     let mut reader = TypeSectionReader::new(rt.alloc(), &bytes)
         .ok()
-        .ok_or("a count")?;
+        .ok_or("a count")
+        .expect(&rt, "memory");
     assert_equal(&rt, reader.remaining_count(), 3);
     for group in groups.as_slice() {
         assert!(rt; comes_next(&mut reader, group));
@@ -59,39 +62,37 @@ fn groups_of_a_section_come_in_turn(rt: HostRuntime) -> Result<(), Fail> {
     assert_equal(&rt, reader.remaining_count(), 0);
     assert!(rt; is_at_end(&mut reader));
     assert!(rt; is_at_end(&mut reader));
-    Ok(())
 }
 
 #[test]
-fn an_error_comes_after_the_groups_before_it_and_again(rt: HostRuntime) -> Result<(), Fail> {
+fn an_error_comes_after_the_groups_before_it_and_again(rt: HostRuntime) {
     let mut reader = TypeSectionReader::new(rt.alloc(), &[2, 0x5E, 0x78, 0, 0x5F, 1, 0x7F, 2])
         .ok()
-        .ok_or("a count")?;
+        .ok_or("a count")
+        .expect(&rt, "memory");
     let group = array(StorageAt::I8);
     assert!(rt; comes_next(&mut reader, &group));
     let error = malformed(7, Expected::Mutability);
     assert_equal(&rt, reader.next_group().err(), error);
     assert_equal(&rt, reader.next_group().err(), error);
     assert_equal(&rt, reader.remaining_count(), 1);
-    Ok(())
 }
 
 #[test]
-fn bytes_after_the_last_group_are_an_error(rt: HostRuntime) -> Result<(), Fail> {
+fn bytes_after_the_last_group_are_an_error(rt: HostRuntime) {
     let mut reader = TypeSectionReader::new(rt.alloc(), &[1, 0x5E, 0x78, 0, 0x5E])
         .ok()
-        .ok_or("a count")?;
+        .ok_or("a count")
+        .expect(&rt, "memory");
     let group = array(StorageAt::I8);
     assert!(rt; comes_next(&mut reader, &group));
     let error = malformed(4, Expected::End);
     assert_equal(&rt, reader.next_group().err(), error);
     assert_equal(&rt, reader.next_group().err(), error);
-    Ok(())
 }
 
 #[test]
-fn no_bytes_have_no_reader(rt: HostRuntime) -> Result<(), Fail> {
+fn no_bytes_have_no_reader(rt: HostRuntime) {
     let error = TypeSectionReader::new(rt.alloc(), &[]).err();
     assert_equal(&rt, error, malformed(0, Expected::Integer));
-    Ok(())
 }

@@ -73,22 +73,21 @@ fn descriptors(rt: HostRuntime) {
 }
 
 #[test]
-fn errors_say_where(rt: HostRuntime) -> Result<(), Fail> {
+fn errors_say_where(rt: HostRuntime) {
     let malformed = DecodeError::Malformed {
         offset: 3,
         expected: Expected::HeapType,
     };
-    let text = format!(in rt.alloc(); "{malformed}")?;
+    let text = format!(in rt.alloc(); "{malformed}").expect(&rt, "memory");
     assert_equal(&rt, text.as_str(), "byte 3: expected a heap type");
     let unheld = DecodeError::NotHeld {
         offset: 2,
         what: NotHeld::Supertypes,
     };
-    let text = format!(in rt.alloc(); "{unheld}")?;
+    let text = format!(in rt.alloc(); "{unheld}").expect(&rt, "memory");
     assert_equal(
         &rt,
         text.as_str(),
         "byte 2: no record for several supertypes",
     );
-    Ok(())
 }

@@ -3,48 +3,45 @@ use crate::assertions::assert_equal;
 use crate::bodies::{body_again, check_again};
 use crate::lists::are;
 use std::alloc::{AllocError, Global};
-use std::test::Fail;
+use std::process::Abort;
 use walrus_traversals::Nesting;
 
 // The answer for a function with these sequences.
-fn answer(alloc: Global, sequences: &[&[usize]]) -> Result<Nesting, Fail> {
-    let func = body_again(alloc, sequences)?;
-    Ok(check_again(alloc, &func)?)
+fn answer(rt: &impl Abort, alloc: Global, sequences: &[&[usize]]) -> Nesting {
+    let func = body_again(alloc, sequences).expect(rt, "memory");
+    check_again(alloc, &func).expect(rt, "memory")
 }
 
 #[test]
-fn a_refused_check_of_a_nested_body_is_made_again(rt: HostRuntime) -> Result<(), Fail> {
+fn a_refused_check_of_a_nested_body_is_made_again(rt: HostRuntime) {
     let sequences: [&[usize]; 6] = [&[1], &[2, 2], &[3], &[4, 5], &[5], &[]];
-    match answer(rt.alloc(), &sequences)? {
+    match answer(&rt, rt.alloc(), &sequences) {
         Nesting::Nested(order) => {
             assert!(rt; are(order.as_slice(), &[5, 4, 3, 2, 1, 0]));
         }
-        _ => return Err(Fail::new("not nested")),
+        _ => panic!(rt; "not nested"),
     }
-    Ok(())
 }
 
 #[test]
-fn a_refused_check_of_a_cycle_is_made_again(rt: HostRuntime) -> Result<(), Fail> {
+fn a_refused_check_of_a_cycle_is_made_again(rt: HostRuntime) {
     let sequences: [&[usize]; 4] = [&[1], &[3, 2], &[3, 1], &[]];
-    match answer(rt.alloc(), &sequences)? {
+    match answer(&rt, rt.alloc(), &sequences) {
         Nesting::Cycle { path, back_to } => {
             assert!(rt; are(path.as_slice(), &[0, 1, 2]));
             assert_equal(&rt, back_to, 1);
         }
-        _ => return Err(Fail::new("no cycle")),
+        _ => panic!(rt; "no cycle"),
     }
-    Ok(())
 }
 
 #[test]
-fn a_refused_check_of_an_unknown_sequence_is_made_again(rt: HostRuntime) -> Result<(), Fail> {
+fn a_refused_check_of_an_unknown_sequence_is_made_again(rt: HostRuntime) {
     let sequences: [&[usize]; 4] = [&[3, 1], &[2], &[3, 9], &[]];
-    match answer(rt.alloc(), &sequences)? {
+    match answer(&rt, rt.alloc(), &sequences) {
         Nesting::Unknown(path) => assert!(rt; are(path.as_slice(), &[0, 1, 2, 9])),
-        _ => return Err(Fail::new("no unknown sequence")),
+        _ => panic!(rt; "no unknown sequence"),
     }
-    Ok(())
 }
 
 // A clone of the answer. It is cloned again after a refusal.
@@ -56,17 +53,14 @@ fn clone_again(source: &Nesting) -> Result<Nesting, AllocError> {
 }
 
 #[test]
-fn a_refused_clone_of_an_answer_comes_when_it_is_asked_for_again(
-    rt: HostRuntime,
-) -> Result<(), Fail> {
+fn a_refused_clone_of_an_answer_comes_when_it_is_asked_for_again(rt: HostRuntime) {
     let sequences: [&[usize]; 3] = [&[1], &[2], &[1]];
-    let source = answer(rt.alloc(), &sequences)?;
-    match clone_again(&source)? {
+    let source = answer(&rt, rt.alloc(), &sequences);
+    match clone_again(&source).expect(&rt, "memory") {
         Nesting::Cycle { path, back_to } => {
             assert!(rt; are(path.as_slice(), &[0, 1, 2]));
             assert_equal(&rt, back_to, 1);
         }
-        _ => return Err(Fail::new("no cycle")),
+        _ => panic!(rt; "no cycle"),
     }
-    Ok(())
 }

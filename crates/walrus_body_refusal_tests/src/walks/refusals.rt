@@ -6,7 +6,6 @@ use crate::bodies::{body_again, check_again};
 use crate::lists::{begin, list};
 use std::alloc::{AllocError, Global};
 use std::process::Abort;
-use std::test::Fail;
 use walrus_body::{RenameTypes, dfs_pre_order_mut};
 use walrus_functions::{BuildError, LocalFunction};
 use walrus_ir::InstrSeqType;
@@ -59,16 +58,15 @@ fn collect_again(
 }
 
 #[test]
-fn a_refused_walk_leaves_what_came_before(rt: HostRuntime) -> Result<(), Fail> {
-    let func = shared(rt.alloc())?;
-    match check_again(rt.alloc(), &func)? {
+fn a_refused_walk_leaves_what_came_before(rt: HostRuntime) {
+    let func = shared(rt.alloc()).expect(&rt, "memory");
+    match check_again(rt.alloc(), &func).expect(&rt, "memory") {
         Nesting::Nested(_) => {
-            let ids = collect_again(&rt, rt.alloc(), &func)?;
+            let ids = collect_again(&rt, rt.alloc(), &func).expect(&rt, "memory");
             assert!(rt; are_all(&ids));
         }
-        _ => return Err(Fail::new("not nested")),
+        _ => panic!(rt; "not nested"),
     }
-    Ok(())
 }
 
 // The ids that the body names. They are asked for again after a refusal.
@@ -80,15 +78,18 @@ fn used_again(alloc: Global, func: &LocalFunction) -> Result<Option<UsedIds>, Al
 }
 
 #[test]
-fn a_refused_list_of_names_comes_when_it_is_asked_for_again(rt: HostRuntime) -> Result<(), Fail> {
-    match used_again(rt.alloc(), &shared(rt.alloc())?)? {
+fn a_refused_list_of_names_comes_when_it_is_asked_for_again(rt: HostRuntime) {
+    match used_again(rt.alloc(), &shared(rt.alloc()).expect(&rt, "memory")).expect(&rt, "memory") {
         Some(ids) => assert!(rt; are_all(&ids)),
-        None => return Err(Fail::new("not nested")),
+        None => panic!(rt; "not nested"),
     }
     let unknown: [&[usize]; 3] = [&[1, 2], &[2], &[3]];
-    let func = body_again(rt.alloc(), &unknown)?;
-    assert!(rt; used_again(rt.alloc(), &func)?.is_none());
-    Ok(())
+    let func = body_again(rt.alloc(), &unknown).expect(&rt, "memory");
+    assert!(rt;
+        used_again(rt.alloc(), &func)
+            .expect(&rt, "memory")
+            .is_none()
+    );
 }
 
 // The ids of a body that is nested. They are asked for again after a refusal.
@@ -102,16 +103,15 @@ fn ids_again(alloc: Global, func: &LocalFunction) -> Result<UsedIds, AllocError>
 }
 
 #[test]
-fn a_refused_collection_comes_when_it_is_asked_for_again(rt: HostRuntime) -> Result<(), Fail> {
-    let func = shared(rt.alloc())?;
-    match check_again(rt.alloc(), &func)? {
+fn a_refused_collection_comes_when_it_is_asked_for_again(rt: HostRuntime) {
+    let func = shared(rt.alloc()).expect(&rt, "memory");
+    match check_again(rt.alloc(), &func).expect(&rt, "memory") {
         Nesting::Nested(_) => {
-            let ids = ids_again(rt.alloc(), &func)?;
+            let ids = ids_again(rt.alloc(), &func).expect(&rt, "memory");
             assert!(rt; are_all(&ids));
         }
-        _ => return Err(Fail::new("not nested")),
+        _ => panic!(rt; "not nested"),
     }
-    Ok(())
 }
 
 // The function type of the sequence, where there is one.
@@ -157,70 +157,56 @@ fn are_begun(func: &LocalFunction, rename: [usize; 4]) -> bool {
 
 // Renames the types of a tree. It fails on a body that is not nested.
 fn rename(
+    rt: &impl Abort,
     alloc: Global,
     visitor: &mut RenameTypes,
     func: &mut LocalFunction,
-) -> Result<bool, Fail> {
-    match check_again(alloc, func)? {
-        Nesting::Nested(_) => Ok(dfs_pre_order_mut(
-            alloc,
-            visitor,
-            func,
-            Id::from_index(0),
-        ).is_ok()),
-        _ => Err(Fail::new("not nested")),
+) -> bool {
+    match check_again(alloc, func).expect(rt, "memory") {
+        Nesting::Nested(_) => { dfs_pre_order_mut(alloc, visitor, func, Id::from_index(0)).is_ok() }
+        _ => panic!(rt; "not nested"),
     }
 }
 
 // A tree whose types are renamed. After a refusal those of the first sequences of the walk must be
 // renamed, and another tree is walked.
-fn rename_another(
-    rt: &impl Abort,
-    alloc: Global,
-    visitor: &mut RenameTypes,
-) -> Result<LocalFunction, Fail> {
-    let mut func = tree(alloc)?;
-    if rename(alloc, visitor, &mut func)? {
-        return Ok(func);
+fn rename_another(rt: &impl Abort, alloc: Global, visitor: &mut RenameTypes) -> LocalFunction {
+    let mut func = tree(alloc).expect(rt, "memory");
+    if rename(rt, alloc, visitor, &mut func) {
+        return func;
     }
     assert!(rt; are_begun(&func, [3, 1, 2, 0]));
-    let mut func = tree(alloc)?;
-    assert!(rt; rename(alloc, visitor, &mut func)?);
-    Ok(func)
+    let mut func = tree(alloc).expect(rt, "memory");
+    assert!(rt; rename(rt, alloc, visitor, &mut func));
+    func
 }
 
 #[test]
-fn a_refused_changing_walk_leaves_what_came_before(rt: HostRuntime) -> Result<(), Fail> {
-    let mut visitor = renaming(rt.alloc(), [3, 2, 1, 0])?;
-    let func = rename_another(&rt, rt.alloc(), &mut visitor)?;
+fn a_refused_changing_walk_leaves_what_came_before(rt: HostRuntime) {
+    let mut visitor = renaming(rt.alloc(), [3, 2, 1, 0]).expect(&rt, "memory");
+    let func = rename_another(&rt, rt.alloc(), &mut visitor);
     assert_equal(
         &rt,
         walked_types(&func),
         [Some(3), Some(1), Some(2), Some(0)],
     );
-    Ok(())
 }
 
 // A tree whose types are all made 7. After a refusal those of the first sequences of the walk must
 // be 7, and the tree is walked again.
-fn join_again(
-    rt: &impl Abort,
-    alloc: Global,
-    visitor: &mut RenameTypes,
-) -> Result<LocalFunction, Fail> {
-    let mut func = tree(alloc)?;
-    if rename(alloc, visitor, &mut func)? {
-        return Ok(func);
+fn join_again(rt: &impl Abort, alloc: Global, visitor: &mut RenameTypes) -> LocalFunction {
+    let mut func = tree(alloc).expect(rt, "memory");
+    if rename(rt, alloc, visitor, &mut func) {
+        return func;
     }
     assert!(rt; are_begun(&func, [7; 4]));
-    assert!(rt; rename(alloc, visitor, &mut func)?);
-    Ok(func)
+    assert!(rt; rename(rt, alloc, visitor, &mut func));
+    func
 }
 
 #[test]
-fn a_refused_changing_walk_goes_through_when_it_is_made_again(rt: HostRuntime) -> Result<(), Fail> {
-    let mut visitor = renaming(rt.alloc(), [7; 4])?;
-    let func = join_again(&rt, rt.alloc(), &mut visitor)?;
+fn a_refused_changing_walk_goes_through_when_it_is_made_again(rt: HostRuntime) {
+    let mut visitor = renaming(rt.alloc(), [7; 4]).expect(&rt, "memory");
+    let func = join_again(&rt, rt.alloc(), &mut visitor);
     assert_equal(&rt, walked_types(&func), [Some(7); 4]);
-    Ok(())
 }

@@ -84,15 +84,14 @@ fn new_again(
 }
 
 #[test]
-fn a_refused_new_leaves_up_to_two_types(rt: HostRuntime) -> Result<(), Fail> {
-    let mut types = table_again(rt.alloc())?;
-    let f = new_again(&rt, rt.alloc(), &mut types)?;
+fn a_refused_new_leaves_up_to_two_types(rt: HostRuntime) {
+    let mut types = table_again(rt.alloc()).expect(&rt, "memory");
+    let f = new_again(&rt, rt.alloc(), &mut types).expect(&rt, "memory");
     assert!(rt; has_types(&types, 3));
     assert_equal(&rt, f.entry(), Some(Id::from_index(0)));
     let func = f.local_func(Vec::new(rt.alloc()));
     assert_equal(&rt, func.ty().index(), 1);
     assert_equal(&rt, func.block_count(), 1);
-    Ok(())
 }
 
 // The id of a new sequence. After a refusal there must be no new sequence, and the call is made
@@ -111,15 +110,18 @@ fn dangling_again(
 }
 
 #[test]
-fn a_refused_dangling_sequence_is_not_there(rt: HostRuntime) -> Result<(), Fail> {
+fn a_refused_dangling_sequence_is_not_there(rt: HostRuntime) {
     let mut f = FunctionBuilder::without_entry(rt.alloc(), Id::from_index(0));
     for next in 0..20usize {
         assert!(rt; !f.contains_seq(Id::from_index(next)));
-        assert_equal(&rt, dangling_again(&rt, &mut f, next)?, next);
+        assert_equal(
+            &rt,
+            dangling_again(&rt, &mut f, next).expect(&rt, "memory"),
+            next,
+        );
         assert!(rt; f.contains_seq(Id::from_index(next)));
     }
     assert_equal(&rt, f.local_func(Vec::new(rt.alloc())).block_count(), 20);
-    Ok(())
 }
 
 // Calls that add an instruction with sequences inside.
@@ -266,45 +268,44 @@ fn nest_again(
 }
 
 // Makes the call nine times.
-fn nests_nine(rt: &impl Abort, alloc: Global, call: NestedCall) -> Result<(), Fail> {
-    let mut f = begin_again(alloc)?;
+fn nests_nine(rt: &impl Abort, alloc: Global, call: NestedCall) {
+    let mut f = begin_again(alloc).expect(rt, "memory");
     for _ in 0..9 {
-        nest_again(rt, &mut f, call)?;
+        nest_again(rt, &mut f, call).expect(rt, "memory");
     }
     let func = f.local_func(Vec::new(alloc));
     assert!(rt; func.contains_block(Id::from_index(0)));
     assert_equal(rt, func.block(Id::from_index(0)).instrs.len(), 9);
-    Ok(())
 }
 
 #[test]
-fn a_refused_block_keeps_its_sequence(rt: HostRuntime) -> Result<(), Fail> {
-    nests_nine(&rt, rt.alloc(), NestedCall::Block)
+fn a_refused_block_keeps_its_sequence(rt: HostRuntime) {
+    nests_nine(&rt, rt.alloc(), NestedCall::Block);
 }
 
 #[test]
-fn a_refused_loop_keeps_its_sequence(rt: HostRuntime) -> Result<(), Fail> {
-    nests_nine(&rt, rt.alloc(), NestedCall::Loop)
+fn a_refused_loop_keeps_its_sequence(rt: HostRuntime) {
+    nests_nine(&rt, rt.alloc(), NestedCall::Loop);
 }
 
 #[test]
-fn a_refused_if_keeps_its_sequences(rt: HostRuntime) -> Result<(), Fail> {
-    nests_nine(&rt, rt.alloc(), NestedCall::IfElse)
+fn a_refused_if_keeps_its_sequences(rt: HostRuntime) {
+    nests_nine(&rt, rt.alloc(), NestedCall::IfElse);
 }
 
 #[test]
-fn a_refused_block_before_others_keeps_its_sequence(rt: HostRuntime) -> Result<(), Fail> {
-    nests_nine(&rt, rt.alloc(), NestedCall::BlockAt)
+fn a_refused_block_before_others_keeps_its_sequence(rt: HostRuntime) {
+    nests_nine(&rt, rt.alloc(), NestedCall::BlockAt);
 }
 
 #[test]
-fn a_refused_loop_before_others_keeps_its_sequence(rt: HostRuntime) -> Result<(), Fail> {
-    nests_nine(&rt, rt.alloc(), NestedCall::LoopAt)
+fn a_refused_loop_before_others_keeps_its_sequence(rt: HostRuntime) {
+    nests_nine(&rt, rt.alloc(), NestedCall::LoopAt);
 }
 
 #[test]
-fn a_refused_if_before_others_keeps_its_sequences(rt: HostRuntime) -> Result<(), Fail> {
-    nests_nine(&rt, rt.alloc(), NestedCall::IfElseAt)
+fn a_refused_if_before_others_keeps_its_sequences(rt: HostRuntime) {
+    nests_nine(&rt, rt.alloc(), NestedCall::IfElseAt);
 }
 
 // The name `f`. It is made again after a refusal.
@@ -326,7 +327,7 @@ fn args_again(alloc: Global) -> Result<Vec<LocalId>, AllocError> {
 }
 
 // A function with a name and one instruction.
-fn named_again(alloc: Global) -> Result<FunctionBuilder, Fail> {
+fn named_again(alloc: Global) -> Result<FunctionBuilder, BuildError> {
     let mut f = begin_again(alloc)?;
     let mut body = f.func_body();
     if body.drop().is_err() {
@@ -337,16 +338,15 @@ fn named_again(alloc: Global) -> Result<FunctionBuilder, Fail> {
 }
 
 // The function of `named_again` and `args_again` must be whole.
-fn is_whole(rt: &impl Abort, alloc: Global, func: &LocalFunction) -> Result<(), Fail> {
+fn is_whole(rt: &impl Abort, alloc: Global, func: &LocalFunction) {
     assert_equal(rt, func.name(), Some("f"));
     assert_equal(rt, func.entry(), Some(Id::from_index(0)));
     assert_equal(rt, func.args.as_slice(), [Id::from_index(7)].as_slice());
     assert_equal(
         rt,
-        text_again(alloc, func)?.as_str(),
+        text_again(alloc, func).expect(rt, "memory").as_str(),
         "0: Drop(DropInstr)\n",
     );
-    Ok(())
 }
 
 // Adds a function that was handed back. It must be whole, and `funcs` must have none of this id.
@@ -356,45 +356,45 @@ fn add_back(
     funcs: &mut LocalFunctions,
     func: LocalFunction,
     next: usize,
-) -> Result<FunctionId, Fail> {
+) -> FunctionId {
     assert!(rt; !funcs.contains(Id::from_index(next)));
-    is_whole(rt, alloc, &func)?;
+    is_whole(rt, alloc, &func);
     match funcs.add(func) {
-        Ok(id) => Ok(id),
-        Err(_) => Err(Fail::new("refused again")),
+        Ok(id) => id,
+        Err(_) => panic!(rt; "refused again"),
     }
 }
 
 #[test]
-fn a_refused_finish_hands_the_function_back(rt: HostRuntime) -> Result<(), Fail> {
+fn a_refused_finish_hands_the_function_back(rt: HostRuntime) {
     let alloc = rt.alloc();
     let mut funcs = LocalFunctions::new(alloc);
     for next in 0..5usize {
-        let f = named_again(alloc)?;
-        let id = match f.finish(args_again(alloc)?, &mut funcs) {
+        let f = named_again(alloc).expect(&rt, "memory");
+        let id = match f.finish(args_again(alloc).expect(&rt, "memory"), &mut funcs) {
             Ok(id) => id,
-            Err(func) => add_back(&rt, alloc, &mut funcs, func, next)?,
+            Err(func) => add_back(&rt, alloc, &mut funcs, func, next),
         };
         assert_equal(&rt, id.index(), next);
         assert!(rt; funcs.contains(id));
-        is_whole(&rt, alloc, funcs.get(id))?;
+        is_whole(&rt, alloc, funcs.get(id));
     }
-    Ok(())
 }
 
 #[test]
-fn a_refused_add_hands_the_function_back(rt: HostRuntime) -> Result<(), Fail> {
+fn a_refused_add_hands_the_function_back(rt: HostRuntime) {
     let alloc = rt.alloc();
     let mut funcs = LocalFunctions::new(alloc);
     for next in 0..5usize {
-        let func = named_again(alloc)?.local_func(args_again(alloc)?);
+        let func = named_again(alloc)
+            .expect(&rt, "memory")
+            .local_func(args_again(alloc).expect(&rt, "memory"));
         let id = match funcs.add(func) {
             Ok(id) => id,
-            Err(func) => add_back(&rt, alloc, &mut funcs, func, next)?,
+            Err(func) => add_back(&rt, alloc, &mut funcs, func, next),
         };
         assert_equal(&rt, id.index(), next);
         assert!(rt; funcs.contains(id));
-        is_whole(&rt, alloc, funcs.get(id))?;
+        is_whole(&rt, alloc, funcs.get(id));
     }
-    Ok(())
 }

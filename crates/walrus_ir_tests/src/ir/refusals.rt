@@ -3,7 +3,6 @@
 use crate::assertions::assert_equal;
 use std::alloc::AllocError;
 use std::process::Abort;
-use std::test::Fail;
 use walrus_ir::{ConstExpr, Heap, Id, LocalId, ModuleLocals, Reference, TypeId, Val, ValType};
 
 const TWO: [ValType; 2] = [Val::I64, Val::F32];
@@ -23,14 +22,13 @@ fn add_all_again(
 }
 
 #[test]
-fn a_refused_row_of_locals_adds_none(rt: HostRuntime) -> Result<(), Fail> {
+fn a_refused_row_of_locals_adds_none(rt: HostRuntime) {
     let mut locals = ModuleLocals::new(rt.alloc());
-    let first = add_all_again(&rt, &mut locals, Id::from_index(0))?;
-    let ids = add_all_again(&rt, &mut locals, Id::from_index(2))?;
+    let first = add_all_again(&rt, &mut locals, Id::from_index(0)).expect(&rt, "memory");
+    let ids = add_all_again(&rt, &mut locals, Id::from_index(2)).expect(&rt, "memory");
     assert!(rt; first.as_slice() == [Id::from_index(0), Id::from_index(1)].as_slice());
     assert!(rt; ids.as_slice() == [Id::from_index(2), Id::from_index(3)].as_slice());
     assert!(rt; !locals.contains(Id::from_index(4)));
-    Ok(())
 }
 
 // Puts the type 3 at the end of the list. After a refusal the list must be as it was, and the call
@@ -52,10 +50,9 @@ fn reference_again(
 }
 
 #[test]
-fn a_refused_reference_leaves_the_list(rt: HostRuntime) -> Result<(), Fail> {
+fn a_refused_reference_leaves_the_list(rt: HostRuntime) {
     let mut list = Vec::new(rt.alloc());
-    reference_again(&rt, &mut list, 0)?;
-    reference_again(&rt, &mut list, 1)?;
+    reference_again(&rt, &mut list, 0).expect(&rt, "memory");
+    reference_again(&rt, &mut list, 1).expect(&rt, "memory");
     assert!(rt; list.as_slice() == [Id::from_index(3), Id::from_index(3)].as_slice());
-    Ok(())
 }

@@ -2,7 +2,6 @@
 use crate::assertions::assert_equal;
 use std::alloc::{AllocError, Global};
 use std::process::Abort;
-use std::test::Fail;
 use walrus_ty::{
     ArrayType, CompositeType, Field, FieldType, FunctionType, Heap, HeapType, Id, Listed,
     Reference, Storage, StructType, Type, TypeId, Val, ValType,
@@ -103,14 +102,13 @@ fn put_again(rt: &impl Abort, ty: &Type, list: &mut Vec<TypeId>) -> Result<(), A
 
 // `scripts/refuse` refuses each request for memory in turn.
 #[test]
-fn refused_ids_come_when_they_are_asked_for_again(rt: HostRuntime) -> Result<(), Fail> {
-    let made = namer(rt.alloc())?;
+fn refused_ids_come_when_they_are_asked_for_again(rt: HostRuntime) {
+    let made = namer(rt.alloc()).expect(&rt, "memory");
     let mut list = Vec::new(rt.alloc());
     for round in 0..5usize {
         assert_equal(&rt, list.len(), 3 * round);
-        put_again(&rt, &made, &mut list)?;
+        put_again(&rt, &made, &mut list).expect(&rt, "memory");
     }
     assert_equal(&rt, list.len(), 15);
     assert!(rt; list.last().is_some_and(|id| id.index() == 0));
-    Ok(())
 }

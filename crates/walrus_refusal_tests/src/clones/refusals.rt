@@ -5,10 +5,9 @@ use Piece::{One, Two};
 use Shape::{Func, Struct};
 use std::alloc::{AllocError, Global};
 use std::process::Abort;
-use std::test::Fail;
 use walrus_types::{
-    CompositeType, FunctionType, Listed, ModuleTypes, RecGroup, StructType, Type, TypeId, Val,
-    ValAt, ValType,
+    AddRecGroupError, CompositeType, FunctionType, Listed, ModuleTypes, RecGroup, StructType, Type,
+    TypeId, Val, ValAt, ValType,
 };
 
 // A clone of the value. It is cloned again after a refusal.
@@ -48,57 +47,61 @@ fn named(alloc: Global, kind: CompositeType) -> Result<Type, AllocError> {
 }
 
 #[test]
-fn a_refused_clone_of_a_list_comes_when_it_is_asked_for_again(rt: HostRuntime) -> Result<(), Fail> {
+fn a_refused_clone_of_a_list_comes_when_it_is_asked_for_again(rt: HostRuntime) {
     let vals = [reference(3), Val::I32];
-    let source = Listed::from_vec(list(rt.alloc(), &vals)?);
-    let copy = clone_again(&source)?;
+    let source = Listed::from_vec(list(rt.alloc(), &vals).expect(&rt, "memory"));
+    let copy = clone_again(&source).expect(&rt, "memory");
     assert!(rt; copy.as_slice() == vals.as_slice());
     assert!(rt; source.as_slice() == vals.as_slice());
-    Ok(())
 }
 
 #[test]
-fn a_refused_clone_of_a_kind_comes_when_it_is_asked_for_again(rt: HostRuntime) -> Result<(), Fail> {
+fn a_refused_clone_of_a_kind_comes_when_it_is_asked_for_again(rt: HostRuntime) {
     let alloc = rt.alloc();
-    let source = function(alloc)?;
-    let copy = clone_again(&source)?;
+    let source = function(alloc).expect(&rt, "memory");
+    let copy = clone_again(&source).expect(&rt, "memory");
     assert!(rt; copy == source);
-    assert!(rt; clone_again(&CompositeType::Function(source))? == CompositeType::Function(copy));
-    let source = structure(alloc)?;
-    let copy = clone_again(&source)?;
+    assert!(rt;
+        clone_again(&CompositeType::Function(source)).expect(&rt, "memory")
+            == CompositeType::Function(copy)
+    );
+    let source = structure(alloc).expect(&rt, "memory");
+    let copy = clone_again(&source).expect(&rt, "memory");
     assert!(rt; copy == source);
-    assert!(rt; clone_again(&CompositeType::Struct(source))? == CompositeType::Struct(copy));
-    Ok(())
+    assert!(rt;
+        clone_again(&CompositeType::Struct(source)).expect(&rt, "memory")
+            == CompositeType::Struct(copy)
+    );
 }
 
 #[test]
-fn a_refused_clone_of_a_type_comes_when_it_is_asked_for_again(rt: HostRuntime) -> Result<(), Fail> {
+fn a_refused_clone_of_a_type_comes_when_it_is_asked_for_again(rt: HostRuntime) {
     let alloc = rt.alloc();
-    let source = named(alloc, CompositeType::Function(function(alloc)?))?;
-    let copy = clone_again(&source)?;
+    let source = named(
+        alloc,
+        CompositeType::Function(function(alloc).expect(&rt, "memory")),
+    )
+    .expect(&rt, "memory");
+    let copy = clone_again(&source).expect(&rt, "memory");
     assert!(rt; copy == source);
     assert_equal(&rt, copy.id().index(), 9);
     assert!(rt; copy.name.is_some_and(|name| name.as_str() == "t"));
-    Ok(())
 }
 
 #[test]
-fn a_refused_clone_of_a_section_comes_when_it_is_asked_for_again(
-    rt: HostRuntime,
-) -> Result<(), Fail> {
+fn a_refused_clone_of_a_section_comes_when_it_is_asked_for_again(rt: HostRuntime) {
     let pieces = [
         One(Func(Some(ValAt::I32))),
         Two(Struct(Some(to(2))), Func(Some(to(1)))),
     ];
-    let source = section_again(rt.alloc(), &pieces)?;
-    let copy = clone_again(&source)?;
+    let source = section_again(rt.alloc(), &pieces).expect(&rt, "memory");
+    let copy = clone_again(&source).expect(&rt, "memory");
     assert!(rt; copy == source);
     assert_equal(&rt, copy.len(), 2);
-    Ok(())
 }
 
 // A table with a group of two types. It is made again after a refusal.
-fn pair_again(alloc: Global) -> Result<ModuleTypes, Fail> {
+fn pair_again(alloc: Global) -> Result<ModuleTypes, AddRecGroupError> {
     let mut types = ModuleTypes::new(alloc);
     if add_pair(alloc, &mut types, 2).is_err() {
         add_pair(alloc, &mut types, 2)?;
@@ -107,19 +110,16 @@ fn pair_again(alloc: Global) -> Result<ModuleTypes, Fail> {
 }
 
 #[test]
-fn a_refused_clone_of_a_group_comes_when_it_is_asked_for_again(
-    rt: HostRuntime,
-) -> Result<(), Fail> {
-    let types = pair_again(rt.alloc())?;
+fn a_refused_clone_of_a_group_comes_when_it_is_asked_for_again(rt: HostRuntime) {
+    let types = pair_again(rt.alloc()).expect(&rt, "memory");
     match types.rec_groups() {
         [group] => {
-            let copy: RecGroup = clone_again(group)?;
+            let copy: RecGroup = clone_again(group).expect(&rt, "memory");
             assert!(rt; copy.is_explicit);
             assert!(rt; are(copy.types.as_slice(), &[0, 1]));
         }
-        _ => return Err(Fail::new("other groups")),
+        _ => panic!(rt; "other groups"),
     }
-    Ok(())
 }
 
 // Puts a reference to the type of the next number at the end. After a refusal the list must be as
@@ -143,13 +143,12 @@ fn holds_numbered(list: &Listed<ValType>, count: usize) -> bool {
 }
 
 #[test]
-fn a_refused_item_is_not_in_its_list(rt: HostRuntime) -> Result<(), Fail> {
+fn a_refused_item_is_not_in_its_list(rt: HostRuntime) {
     let mut list = Listed::from_vec(Vec::new(rt.alloc()));
     for index in 0..10usize {
-        push_again(&rt, &mut list, index)?;
+        push_again(&rt, &mut list, index).expect(&rt, "memory");
         assert!(rt; holds_numbered(&list, index + 1));
     }
-    Ok(())
 }
 
 // Puts the types that the type names at the end. After a refusal the list must be as it was, and
@@ -168,14 +167,17 @@ fn name_types_again(
 }
 
 #[test]
-fn refused_names_of_a_type_are_not_in_the_list(rt: HostRuntime) -> Result<(), Fail> {
+fn refused_names_of_a_type_are_not_in_the_list(rt: HostRuntime) {
     let alloc = rt.alloc();
-    let made = named(alloc, CompositeType::Function(function(alloc)?))?;
+    let made = named(
+        alloc,
+        CompositeType::Function(function(alloc).expect(&rt, "memory")),
+    )
+    .expect(&rt, "memory");
     let named = [2, 3, 5, 2, 3, 5, 2, 3, 5, 2, 3, 5];
     let mut list = Vec::new(alloc);
     for round in 0..4usize {
-        name_types_again(&rt, &made, &mut list, &named[..3 * round])?;
+        name_types_again(&rt, &made, &mut list, &named[..3 * round]).expect(&rt, "memory");
     }
     assert!(rt; are(list.as_slice(), &named));
-    Ok(())
 }

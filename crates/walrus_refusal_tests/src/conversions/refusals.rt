@@ -2,7 +2,6 @@
 use crate::assertions::assert_equal;
 use crate::fixtures::{field, list, reference, to};
 use std::alloc::{AllocError, Global};
-use std::test::Fail;
 use walrus_ty::SubType;
 use walrus_types::{
     CompAt, CompositeType, EntryAt, FieldAt, FromRecordError, IdsToIndices, IndicesToIds, Listed,
@@ -83,42 +82,50 @@ fn write_again(
 }
 
 #[test]
-fn a_refused_function_type_is_converted_when_it_is_given_again(
-    rt: HostRuntime,
-) -> Result<(), Fail> {
+fn a_refused_function_type_is_converted_when_it_is_given_again(rt: HostRuntime) {
     let alloc = rt.alloc();
-    let at = function_at(alloc)?;
-    let kind = read_again(alloc, &at, &two_ids_again(alloc)?)?;
+    let at = function_at(alloc).expect(&rt, "memory");
+    let kind = read_again(alloc, &at, &two_ids_again(alloc).expect(&rt, "memory")).expect(
+        &rt, "memory",
+    );
     assert!(rt; kind.is_function_of(&[reference(3)], &[reference(5), Val::I32]));
-    let record = write_again(alloc, &kind, &two_indices_again(alloc)?)?;
+    let record = write_again(
+        alloc,
+        &kind,
+        &two_indices_again(alloc).expect(&rt, "memory"),
+    )
+    .expect(&rt, "memory");
     assert!(rt; record == at);
     let refused = write_again(alloc, &kind, &IdsToIndices::new(alloc)).err();
     let missing = NoIndex::OfType(TypeId::from_index(3));
     assert_equal(&rt, refused, Some(ToRecordError::NoIndex(missing)));
-    Ok(())
 }
 
 #[test]
-fn a_refused_struct_type_is_converted_when_it_is_given_again(rt: HostRuntime) -> Result<(), Fail> {
+fn a_refused_struct_type_is_converted_when_it_is_given_again(rt: HostRuntime) {
     let alloc = rt.alloc();
-    let at = struct_at(alloc, 1)?;
-    let ids = two_ids_again(alloc)?;
-    let kind = read_again(alloc, &at, &ids)?;
+    let at = struct_at(alloc, 1).expect(&rt, "memory");
+    let ids = two_ids_again(alloc).expect(&rt, "memory");
+    let kind = read_again(alloc, &at, &ids).expect(&rt, "memory");
     match &kind {
         CompositeType::Struct(of) => {
             assert!(rt; of.fields.as_slice() == [field(reference(3))].as_slice());
         }
-        _ => return Err(Fail::new("no struct type")),
+        _ => panic!(rt; "no struct type"),
     }
-    let record = write_again(alloc, &kind, &two_indices_again(alloc)?)?;
+    let record = write_again(
+        alloc,
+        &kind,
+        &two_indices_again(alloc).expect(&rt, "memory"),
+    )
+    .expect(&rt, "memory");
     assert!(rt; record == at);
-    let ill = struct_at(alloc, 2)?;
+    let ill = struct_at(alloc, 2).expect(&rt, "memory");
     assert_equal(
         &rt,
         read_again(alloc, &ill, &ids).err(),
         Some(FromRecordError::UnknownIndex(2)),
     );
-    Ok(())
 }
 
 // A record with a supertype, whose function type has one parameter.
@@ -155,10 +162,12 @@ fn record_again(
 }
 
 #[test]
-fn a_refused_type_is_converted_when_it_is_given_again(rt: HostRuntime) -> Result<(), Fail> {
+fn a_refused_type_is_converted_when_it_is_given_again(rt: HostRuntime) {
     let alloc = rt.alloc();
-    let at = entry_at(alloc)?;
-    let said = sub_type_again(alloc, &at, &two_ids_again(alloc)?)?;
+    let at = entry_at(alloc).expect(&rt, "memory");
+    let said = sub_type_again(alloc, &at, &two_ids_again(alloc).expect(&rt, "memory")).expect(
+        &rt, "memory",
+    );
     assert!(rt;
         said.kind
             .is_function_of(&[reference(3)], &[reference(5), Val::I32])
@@ -172,7 +181,8 @@ fn a_refused_type_is_converted_when_it_is_given_again(rt: HostRuntime) -> Result
         false,
         said.supertype,
     );
-    let record = record_again(alloc, &ty, &two_indices_again(alloc)?)?;
+    let record = record_again(alloc, &ty, &two_indices_again(alloc).expect(&rt, "memory")).expect(
+        &rt, "memory",
+    );
     assert!(rt; record == at);
-    Ok(())
 }

@@ -5,7 +5,6 @@ use crate::assertions::assert_equal;
 use crate::fixtures::{add_pair, are, reference};
 use std::alloc::Global;
 use std::process::Abort;
-use std::test::Fail;
 use walrus_types::{AddRecGroupError, ModuleTypes, TypeId};
 
 // Whether the table has this type, it names this other one, and it is found.
@@ -66,20 +65,19 @@ fn add_again(
 }
 
 #[test]
-fn a_refused_group_is_not_added(rt: HostRuntime) -> Result<(), Fail> {
+fn a_refused_group_is_not_added(rt: HostRuntime) {
     let mut types = ModuleTypes::new(rt.alloc());
     for at in 0..5usize {
-        let ids = add_again(&rt, rt.alloc(), &mut types, at, 2)?;
+        let ids = add_again(&rt, rt.alloc(), &mut types, at, 2).expect(&rt, "memory");
         assert!(rt; are(ids.as_slice(), &[2 * at, 2 * at + 1]));
         assert!(rt; has_pairs(&types, at + 1));
     }
-    Ok(())
 }
 
 #[test]
-fn a_refused_group_of_another_number_is_not_added(rt: HostRuntime) -> Result<(), Fail> {
+fn a_refused_group_of_another_number_is_not_added(rt: HostRuntime) {
     let mut types = ModuleTypes::new(rt.alloc());
-    add_again(&rt, rt.alloc(), &mut types, 0, 2)?;
+    add_again(&rt, rt.alloc(), &mut types, 0, 2).expect(&rt, "memory");
     let answer = add_again(&rt, rt.alloc(), &mut types, 1, 3);
     assert_equal(
         &rt,
@@ -87,5 +85,4 @@ fn a_refused_group_of_another_number_is_not_added(rt: HostRuntime) -> Result<(),
         Err(AddRecGroupError::Count { wanted: 3, got: 2 }),
     );
     assert!(rt; has_pairs(&types, 1));
-    Ok(())
 }

@@ -73,15 +73,14 @@ fn pushes(rt: &impl Abort, ids: &mut IndicesToIds, kind: Kind) -> Result<(), All
 }
 
 #[test]
-fn a_refused_index_stands_for_nothing(rt: HostRuntime) -> Result<(), Fail> {
+fn a_refused_index_stands_for_nothing(rt: HostRuntime) {
     let mut ids = IndicesToIds::new(rt.alloc());
-    pushes(&rt, &mut ids, Kind::Ty)?;
-    pushes(&rt, &mut ids, Kind::Func)?;
-    pushes(&rt, &mut ids, Kind::Global)?;
+    pushes(&rt, &mut ids, Kind::Ty).expect(&rt, "memory");
+    pushes(&rt, &mut ids, Kind::Func).expect(&rt, "memory");
+    pushes(&rt, &mut ids, Kind::Global).expect(&rt, "memory");
     assert!(rt; stand(&ids, Kind::Ty, 20));
     assert!(rt; stand(&ids, Kind::Func, 20));
     assert_equal(&rt, ids.type_count(), 20);
-    Ok(())
 }
 
 // Whether so many type indices stand for the ids of their own number, and no others for any.
@@ -112,13 +111,12 @@ fn push_row_again(rt: &impl Abort, ids: &mut IndicesToIds, first: usize) -> Resu
 }
 
 #[test]
-fn a_refused_row_of_indices_stands_for_nothing(rt: HostRuntime) -> Result<(), Fail> {
+fn a_refused_row_of_indices_stands_for_nothing(rt: HostRuntime) {
     let mut ids = IndicesToIds::new(rt.alloc());
     for row in 0..9usize {
-        push_row_again(&rt, &mut ids, 5 * row)?;
+        push_row_again(&rt, &mut ids, 5 * row).expect(&rt, "memory");
         assert!(rt; are_numbered(&ids, 5 * row + 5));
     }
-    Ok(())
 }
 
 // Gives the next index to this type. After a refusal it must have none, and the call is made again.
@@ -150,17 +148,16 @@ fn have_indices(indices: &IdsToIndices, count: usize) -> bool {
 }
 
 #[test]
-fn a_refused_index_is_given_when_it_is_asked_for_again(rt: HostRuntime) -> Result<(), Fail> {
+fn a_refused_index_is_given_when_it_is_asked_for_again(rt: HostRuntime) {
     let mut indices = IdsToIndices::new(rt.alloc());
-    give_again(&rt, &mut indices, TypeId::from_index(5))?;
-    give_again(&rt, &mut indices, TypeId::from_index(4))?;
-    give_again(&rt, &mut indices, TypeId::from_index(3))?;
+    give_again(&rt, &mut indices, TypeId::from_index(5)).expect(&rt, "memory");
+    give_again(&rt, &mut indices, TypeId::from_index(4)).expect(&rt, "memory");
+    give_again(&rt, &mut indices, TypeId::from_index(3)).expect(&rt, "memory");
     assert!(rt; have_indices(&indices, 3));
-    give_again(&rt, &mut indices, TypeId::from_index(2))?;
+    give_again(&rt, &mut indices, TypeId::from_index(2)).expect(&rt, "memory");
     assert!(rt; have_indices(&indices, 4));
-    give_again(&rt, &mut indices, TypeId::from_index(1))?;
+    give_again(&rt, &mut indices, TypeId::from_index(1)).expect(&rt, "memory");
     assert!(rt; have_indices(&indices, 5));
-    Ok(())
 }
 
 // Gives the first index to this function. After a refusal it must have none, and the call is made
@@ -189,19 +186,16 @@ fn give_global(rt: &impl Abort, indices: &mut IdsToIndices, id: GlobalId) -> Res
 }
 
 #[test]
-fn a_refused_index_of_another_kind_is_given_when_it_is_asked_for_again(
-    rt: HostRuntime,
-) -> Result<(), Fail> {
+fn a_refused_index_of_another_kind_is_given_when_it_is_asked_for_again(rt: HostRuntime) {
     let (func, global) = (FunctionId::from_index(5), GlobalId::from_index(4));
     let mut indices = IdsToIndices::new(rt.alloc());
-    give_func(&rt, &mut indices, FunctionId::from_index(5))?;
+    give_func(&rt, &mut indices, FunctionId::from_index(5)).expect(&rt, "memory");
     assert!(rt; have_indices(&indices, 0));
     assert_equal(&rt, indices.get_func_index(func), Ok(0));
     let mut indices = IdsToIndices::new(rt.alloc());
-    give_global(&rt, &mut indices, GlobalId::from_index(4))?;
+    give_global(&rt, &mut indices, GlobalId::from_index(4)).expect(&rt, "memory");
     assert!(rt; have_indices(&indices, 0));
     assert_equal(&rt, indices.get_global_index(global), Ok(0));
-    Ok(())
 }
 
 #[test]

@@ -3,7 +3,6 @@ use crate::assertions::assert_equal;
 use crate::fixtures::{are, list, reference};
 use std::alloc::{AllocError, Global};
 use std::process::Abort;
-use std::test::Fail;
 use walrus_ir::{
     BrTable, ConstExpr, ConstOp, ConstOpAt, Instr, InstrLocId, InstrSeq, InstrSeqId, InstrSeqType,
     LegacyCatch, Local, LocalId, ModuleLocals, Try, TryTable, TryTableCatch, Value,
@@ -56,49 +55,46 @@ fn to_ops_again(
 }
 
 #[test]
-fn a_refused_constant_expression_is_read_when_it_is_given_again(
-    rt: HostRuntime,
-) -> Result<(), Fail> {
+fn a_refused_constant_expression_is_read_when_it_is_given_again(rt: HostRuntime) {
     let alloc = rt.alloc();
-    let ids = one_global(alloc)?;
+    let ids = one_global(alloc).expect(&rt, "memory");
     let sum = [
         ConstOpAt::GlobalGet(0),
         ConstOpAt::I32Const(4),
         ConstOpAt::I32Add,
     ];
-    let expr = eval_again(alloc, &sum, &ids)?;
+    let expr = eval_again(alloc, &sum, &ids).expect(&rt, "memory");
     let read = [
         ConstOp::GlobalGet(Id::from_index(5)),
         ConstOp::I32Const(4),
         ConstOp::I32Add,
     ];
     assert!(rt; matches!(&expr, ConstExpr::Extended(ops) if ops.as_slice() == read.as_slice()));
-    let ops = to_ops_again(alloc, &expr, &one_index(alloc)?)?;
+    let ops = to_ops_again(alloc, &expr, &one_index(alloc).expect(&rt, "memory")).expect(
+        &rt, "memory",
+    );
     assert!(rt; ops.as_slice() == sum.as_slice());
-    Ok(())
 }
 
 #[test]
-fn a_refused_constant_expression_that_is_ill_has_its_error(rt: HostRuntime) -> Result<(), Fail> {
+fn a_refused_constant_expression_that_is_ill_has_its_error(rt: HostRuntime) {
     let alloc = rt.alloc();
-    let ids = one_global(alloc)?;
+    let ids = one_global(alloc).expect(&rt, "memory");
     let unknown = [ConstOpAt::I32Const(4), ConstOpAt::GlobalGet(1)];
     let refused = eval_again(alloc, &unknown, &ids).err();
     assert_equal(&rt, refused, Some(FromRecordError::UnknownIndex(1)));
     let expr = ConstExpr::Global(Id::from_index(6));
-    let refused = to_ops_again(alloc, &expr, &one_index(alloc)?).err();
+    let refused = to_ops_again(alloc, &expr, &one_index(alloc).expect(&rt, "memory")).err();
     let missing = NoIndex::OfGlobal(Id::from_index(6));
     assert_equal(&rt, refused, Some(ToRecordError::NoIndex(missing)));
-    Ok(())
 }
 
 #[test]
-fn a_refused_value_is_written_when_it_is_given_again(rt: HostRuntime) -> Result<(), Fail> {
+fn a_refused_value_is_written_when_it_is_given_again(rt: HostRuntime) {
     let indices = IdsToIndices::new(rt.alloc());
     let expr = ConstExpr::Value(Value::I64(7));
-    let ops = to_ops_again(rt.alloc(), &expr, &indices)?;
+    let ops = to_ops_again(rt.alloc(), &expr, &indices).expect(&rt, "memory");
     assert!(rt; ops.as_slice() == [ConstOpAt::I64Const(7)].as_slice());
-    Ok(())
 }
 
 // Whether there are so many locals of type `i64`, and no others.
@@ -113,20 +109,19 @@ fn has_locals(locals: &ModuleLocals, count: usize) -> bool {
 }
 
 #[test]
-fn a_refused_local_is_not_added(rt: HostRuntime) -> Result<(), Fail> {
+fn a_refused_local_is_not_added(rt: HostRuntime) {
     let mut locals = ModuleLocals::new(rt.alloc());
     for count in 0..20usize {
         let id = match locals.add(Val::I64) {
             Ok(id) => id,
             Err(_) => {
                 assert!(rt; has_locals(&locals, count));
-                locals.add(Val::I64)?
+                locals.add(Val::I64).expect(&rt, "memory")
             }
         };
         assert_equal(&rt, id.index(), count);
         assert!(rt; has_locals(&locals, count + 1));
     }
-    Ok(())
 }
 
 // The type of sequences that take this and leave nothing. After a refusal the table must have so
@@ -147,10 +142,10 @@ fn seq_type_again(
 }
 
 #[test]
-fn a_refused_sequence_type_adds_no_type(rt: HostRuntime) -> Result<(), Fail> {
+fn a_refused_sequence_type_adds_no_type(rt: HostRuntime) {
     let mut types = ModuleTypes::new(rt.alloc());
     for count in 0..5usize {
-        let ty = seq_type_again(&rt, &mut types, &[reference(count)], count)?;
+        let ty = seq_type_again(&rt, &mut types, &[reference(count)], count).expect(&rt, "memory");
         assert_eq!(rt; ty, InstrSeqType::MultiValue(Id::from_index(count)));
         assert_eq!(rt; types.rec_groups().len(), count + 1);
         assert_eq!(rt;
@@ -158,7 +153,6 @@ fn a_refused_sequence_type_adds_no_type(rt: HostRuntime) -> Result<(), Fail> {
             Some(ty)
         );
     }
-    Ok(())
 }
 
 fn branches(alloc: Global) -> Result<Instr, AllocError> {
@@ -195,55 +189,46 @@ fn clone_again(instr: &Instr) -> Result<Instr, AllocError> {
 }
 
 #[test]
-fn a_refused_clone_of_branches_comes_when_it_is_asked_for_again(
-    rt: HostRuntime,
-) -> Result<(), Fail> {
-    let table = branches(rt.alloc())?;
+fn a_refused_clone_of_branches_comes_when_it_is_asked_for_again(rt: HostRuntime) {
+    let table = branches(rt.alloc()).expect(&rt, "memory");
     let targets: [InstrSeqId; 2] = [Id::from_index(4), Id::from_index(5)];
-    match clone_again(&table)? {
+    match clone_again(&table).expect(&rt, "memory") {
         Instr::BrTable(copy) => {
             assert!(rt; copy.blocks.as_slice() == targets.as_slice());
             assert_equal(&rt, copy.default.index(), 6);
         }
-        _ => return Err(Fail::new("another instruction")),
+        _ => panic!(rt; "another instruction"),
     }
-    Ok(())
 }
 
 #[test]
-fn a_refused_clone_of_catches_comes_when_it_is_asked_for_again(
-    rt: HostRuntime,
-) -> Result<(), Fail> {
-    let table = catches(rt.alloc())?;
-    match clone_again(&table)? {
+fn a_refused_clone_of_catches_comes_when_it_is_asked_for_again(rt: HostRuntime) {
+    let table = catches(rt.alloc()).expect(&rt, "memory");
+    match clone_again(&table).expect(&rt, "memory") {
         Instr::TryTable(copy) => {
             assert_equal(&rt, copy.seq.index(), 4);
             match copy.catches.as_slice() {
                 [TryTableCatch::CatchAll { label }] => assert_equal(&rt, label.index(), 7),
-                _ => return Err(Fail::new("other clauses")),
+                _ => panic!(rt; "other clauses"),
             }
         }
-        _ => return Err(Fail::new("another instruction")),
+        _ => panic!(rt; "another instruction"),
     }
-    Ok(())
 }
 
 #[test]
-fn a_refused_clone_of_older_catches_comes_when_it_is_asked_for_again(
-    rt: HostRuntime,
-) -> Result<(), Fail> {
-    let attempt = older_catches(rt.alloc())?;
-    match clone_again(&attempt)? {
+fn a_refused_clone_of_older_catches_comes_when_it_is_asked_for_again(rt: HostRuntime) {
+    let attempt = older_catches(rt.alloc()).expect(&rt, "memory");
+    match clone_again(&attempt).expect(&rt, "memory") {
         Instr::Try(copy) => {
             assert_equal(&rt, copy.seq.index(), 4);
             match copy.catches.as_slice() {
                 [LegacyCatch::Delegate { relative_depth }] => assert_equal(&rt, *relative_depth, 7),
-                _ => return Err(Fail::new("other clauses")),
+                _ => panic!(rt; "other clauses"),
             }
         }
-        _ => return Err(Fail::new("another instruction")),
+        _ => panic!(rt; "another instruction"),
     }
-    Ok(())
 }
 
 // Adds three locals. After a refusal there must be those before and no others, and the call is made
@@ -262,15 +247,14 @@ fn add_three_again(
 }
 
 #[test]
-fn refused_locals_are_not_added(rt: HostRuntime) -> Result<(), Fail> {
+fn refused_locals_are_not_added(rt: HostRuntime) {
     let mut locals = ModuleLocals::new(rt.alloc());
     for round in 0..5usize {
         let first = 3 * round;
-        let ids = add_three_again(&rt, &mut locals, first)?;
+        let ids = add_three_again(&rt, &mut locals, first).expect(&rt, "memory");
         assert!(rt; are(ids.as_slice(), &[first, first + 1, first + 2]));
         assert!(rt; has_locals(&locals, first + 3));
     }
-    Ok(())
 }
 
 // The name `x`. It is made again after a refusal.
@@ -282,34 +266,30 @@ fn name_again(alloc: Global) -> Result<String, AllocError> {
 }
 
 #[test]
-fn a_refused_clone_of_a_local_comes_when_it_is_asked_for_again(
-    rt: HostRuntime,
-) -> Result<(), Fail> {
+fn a_refused_clone_of_a_local_comes_when_it_is_asked_for_again(rt: HostRuntime) {
     let mut source = Local::new(Id::from_index(4), Val::I64);
-    source.name = Some(name_again(rt.alloc())?);
+    source.name = Some(name_again(rt.alloc()).expect(&rt, "memory"));
     let copy = match source.clone() {
         Ok(copy) => copy,
-        Err(_) => source.clone()?,
+        Err(_) => source.clone().expect(&rt, "memory"),
     };
     assert!(rt; copy == source);
     assert_equal(&rt, copy.id().index(), 4);
     assert!(rt; copy.name.is_some_and(|name| name.as_str() == "x"));
-    Ok(())
 }
 
 #[test]
-fn a_refused_clone_of_an_expression_comes_when_it_is_asked_for_again(
-    rt: HostRuntime,
-) -> Result<(), Fail> {
+fn a_refused_clone_of_an_expression_comes_when_it_is_asked_for_again(rt: HostRuntime) {
     let ops = [ConstOp::GlobalGet(Id::from_index(5)), ConstOp::I32Add];
-    let source = ConstExpr::Extended(Listed::from_vec(list(rt.alloc(), &ops)?));
+    let source = ConstExpr::Extended(Listed::from_vec(list(rt.alloc(), &ops).expect(
+        &rt, "memory",
+    )));
     let copy = match source.clone() {
         Ok(copy) => copy,
-        Err(_) => source.clone()?,
+        Err(_) => source.clone().expect(&rt, "memory"),
     };
     assert!(rt; matches!(&copy, ConstExpr::Extended(of) if of.as_slice() == ops.as_slice()));
     assert!(rt; copy == source);
-    Ok(())
 }
 
 // Puts the types that the expression names at the end. After a refusal the list must be as it was,
@@ -328,20 +308,19 @@ fn name_types_again(
 }
 
 #[test]
-fn refused_names_of_an_expression_are_not_in_the_list(rt: HostRuntime) -> Result<(), Fail> {
+fn refused_names_of_an_expression_are_not_in_the_list(rt: HostRuntime) {
     let alloc = rt.alloc();
     let ops = [
         ConstOp::StructNew(Id::from_index(3)),
         ConstOp::ArrayNew(Id::from_index(5)),
     ];
-    let init = ConstExpr::Extended(Listed::from_vec(list(alloc, &ops)?));
+    let init = ConstExpr::Extended(Listed::from_vec(list(alloc, &ops).expect(&rt, "memory")));
     let named = [3, 5, 3, 5, 3, 5, 3, 5];
     let mut names = Vec::new(alloc);
     for round in 0..4usize {
-        name_types_again(&rt, &init, &mut names, &named[..2 * round])?;
+        name_types_again(&rt, &init, &mut names, &named[..2 * round]).expect(&rt, "memory");
     }
     assert!(rt; are(names.as_slice(), &named));
-    Ok(())
 }
 
 // A sequence of one branch table.
@@ -356,13 +335,11 @@ fn sequence(alloc: Global) -> Result<InstrSeq, AllocError> {
 }
 
 #[test]
-fn a_refused_clone_of_a_sequence_comes_when_it_is_asked_for_again(
-    rt: HostRuntime,
-) -> Result<(), Fail> {
-    let source = sequence(rt.alloc())?;
+fn a_refused_clone_of_a_sequence_comes_when_it_is_asked_for_again(rt: HostRuntime) {
+    let source = sequence(rt.alloc()).expect(&rt, "memory");
     let copy = match source.clone() {
         Ok(copy) => copy,
-        Err(_) => source.clone()?,
+        Err(_) => source.clone().expect(&rt, "memory"),
     };
     assert_equal(&rt, copy.id().index(), 4);
     assert_equal(&rt, copy.ty, InstrSeqType::MultiValue(Id::from_index(6)));
@@ -371,7 +348,6 @@ fn a_refused_clone_of_a_sequence_comes_when_it_is_asked_for_again(
             assert!(rt; are(table.blocks.as_slice(), &[4, 5]));
             assert_equal(&rt, *at, InstrLocId::new(8));
         }
-        _ => return Err(Fail::new("other instructions")),
+        _ => panic!(rt; "other instructions"),
     }
-    Ok(())
 }

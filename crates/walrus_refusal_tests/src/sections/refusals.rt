@@ -5,7 +5,6 @@ use Piece::{One, Two};
 use Shape::{Func, Struct};
 use std::alloc::{AllocError, Global};
 use std::process::Abort;
-use std::test::Fail;
 use walrus_types::{
     GroupAt, HashKeys, ModuleTypes, ReadError, SectionReader, TypeId, ValAt, is_normal_form,
     normalise, parse_types, same_up_to_moves,
@@ -71,10 +70,10 @@ fn push_again(alloc: Global, groups: &[GroupAt], count: usize) -> Result<Section
 }
 
 #[test]
-fn a_refused_group_is_not_read(rt: HostRuntime) -> Result<(), Fail> {
-    let groups = four_groups(rt.alloc())?;
+fn a_refused_group_is_not_read(rt: HostRuntime) {
+    let groups = four_groups(rt.alloc()).expect(&rt, "memory");
     for (count, group) in groups.iter().enumerate() {
-        let mut reader = push_again(rt.alloc(), groups.as_slice(), count)?;
+        let mut reader = push_again(rt.alloc(), groups.as_slice(), count).expect(&rt, "memory");
         let answer = reader.push_group(group);
         let (types, ids) = reader.finish();
         match answer {
@@ -85,14 +84,15 @@ fn a_refused_group_is_not_read(rt: HostRuntime) -> Result<(), Fail> {
             }
         }
     }
-    Ok(())
 }
 
 #[test]
-fn a_refused_group_is_read_when_it_is_pushed_again(rt: HostRuntime) -> Result<(), Fail> {
-    let groups = four_groups(rt.alloc())?;
-    let ill = section_again(rt.alloc(), &[Two(Func(None), Struct(Some(to(7))))])?;
-    let mut reader = push_again(rt.alloc(), groups.as_slice(), 4)?;
+fn a_refused_group_is_read_when_it_is_pushed_again(rt: HostRuntime) {
+    let groups = four_groups(rt.alloc()).expect(&rt, "memory");
+    let ill = section_again(rt.alloc(), &[Two(Func(None), Struct(Some(to(7))))]).expect(
+        &rt, "memory",
+    );
+    let mut reader = push_again(rt.alloc(), groups.as_slice(), 4).expect(&rt, "memory");
     let bad = ReadError::BadIndex {
         entry: 6,
         index: 7,
@@ -103,7 +103,6 @@ fn a_refused_group_is_read_when_it_is_pushed_again(rt: HostRuntime) -> Result<()
     }
     let (types, ids) = reader.finish();
     assert!(rt; has_read(&types, ids.as_slice(), 4));
-    Ok(())
 }
 
 // What is read of the section. It is read again after a refusal of memory.
@@ -115,17 +114,16 @@ fn parse_again(alloc: Global, groups: &[GroupAt]) -> Result<(ModuleTypes, Vec<Ty
 }
 
 #[test]
-fn a_refused_section_is_read_when_it_is_given_again(rt: HostRuntime) -> Result<(), Fail> {
-    let groups = four_groups(rt.alloc())?;
-    let (types, ids) = parse_again(rt.alloc(), groups.as_slice())?;
+fn a_refused_section_is_read_when_it_is_given_again(rt: HostRuntime) {
+    let groups = four_groups(rt.alloc()).expect(&rt, "memory");
+    let (types, ids) = parse_again(rt.alloc(), groups.as_slice()).expect(&rt, "memory");
     assert!(rt; has_read(&types, ids.as_slice(), 4));
-    Ok(())
 }
 
 #[test]
-fn a_refused_section_that_is_ill_has_its_error(rt: HostRuntime) -> Result<(), Fail> {
+fn a_refused_section_that_is_ill_has_its_error(rt: HostRuntime) {
     let pieces = [One(Func(None)), One(Struct(Some(to(2))))];
-    let groups = section_again(rt.alloc(), &pieces)?;
+    let groups = section_again(rt.alloc(), &pieces).expect(&rt, "memory");
     let bad = ReadError::BadIndex {
         entry: 1,
         index: 2,
@@ -136,7 +134,6 @@ fn a_refused_section_that_is_ill_has_its_error(rt: HostRuntime) -> Result<(), Fa
         parse_again(rt.alloc(), groups.as_slice()).err(),
         Some(bad),
     );
-    Ok(())
 }
 
 // The normal form. It is asked for again after a refusal of memory.
@@ -151,41 +148,36 @@ fn normalise_again(
 }
 
 // The normal form of the section is the one that is wanted.
-fn gives(
-    rt: &impl Abort,
-    alloc: Global,
-    pieces: &[Piece],
-    wanted: &[Piece],
-    map: &[u32],
-) -> Result<(), Fail> {
-    let groups = section_again(alloc, pieces)?;
-    let wanted = section_again(alloc, wanted)?;
-    let (output, indices) = normalise_again(alloc, groups.as_slice())?;
+fn gives(rt: &impl Abort, alloc: Global, pieces: &[Piece], wanted: &[Piece], map: &[u32]) {
+    let groups = section_again(alloc, pieces).expect(rt, "memory");
+    let wanted = section_again(alloc, wanted).expect(rt, "memory");
+    let (output, indices) = normalise_again(alloc, groups.as_slice()).expect(rt, "memory");
     assert!(rt; output == wanted);
     assert_equal(rt, indices.as_slice(), map);
-    Ok(())
 }
 
 #[test]
-fn a_refused_normal_form_comes_when_it_is_asked_for_again(rt: HostRuntime) -> Result<(), Fail> {
+fn a_refused_normal_form_comes_when_it_is_asked_for_again(rt: HostRuntime) {
     let (func, int) = (One(Func(None)), One(Struct(Some(ValAt::I32))));
     let section = [int, func, One(Struct(Some(to(0))))];
     let sorted = [func, int, One(Struct(Some(to(1))))];
-    gives(&rt, rt.alloc(), &section, &sorted, &[1, 0, 2])
+    gives(&rt, rt.alloc(), &section, &sorted, &[1, 0, 2]);
 }
 
 #[test]
-fn a_refused_normal_form_has_each_single_once(rt: HostRuntime) -> Result<(), Fail> {
+fn a_refused_normal_form_has_each_single_once(rt: HostRuntime) {
     let func = One(Func(None));
     let first = One(Struct(Some(to(0))));
     let second = One(Struct(Some(to(1))));
     let repeats = [func, func, first, second];
-    gives(&rt, rt.alloc(), &repeats, &[func, first], &[0, 0, 1, 1])
+    gives(&rt, rt.alloc(), &repeats, &[func, first], &[0, 0, 1, 1]);
 }
 
 #[test]
-fn a_refused_normal_form_of_an_ill_section_is_its_error(rt: HostRuntime) -> Result<(), Fail> {
-    let groups = section_again(rt.alloc(), &[One(Func(None)), One(Struct(Some(to(2))))])?;
+fn a_refused_normal_form_of_an_ill_section_is_its_error(rt: HostRuntime) {
+    let groups = section_again(rt.alloc(), &[One(Func(None)), One(Struct(Some(to(2))))]).expect(
+        &rt, "memory",
+    );
     let bad = ReadError::BadIndex {
         entry: 1,
         index: 2,
@@ -196,7 +188,6 @@ fn a_refused_normal_form_of_an_ill_section_is_its_error(rt: HostRuntime) -> Resu
         normalise_again(rt.alloc(), groups.as_slice()).err(),
         Some(bad),
     );
-    Ok(())
 }
 
 // Whether the output is the normal form. It is asked for again after a refusal.
@@ -213,18 +204,17 @@ fn is_normal_again(
 }
 
 #[test]
-fn a_refused_judgement_comes_when_it_is_asked_for_again(rt: HostRuntime) -> Result<(), Fail> {
+fn a_refused_judgement_comes_when_it_is_asked_for_again(rt: HostRuntime) {
     let alloc = rt.alloc();
     let (func, int) = (One(Func(None)), One(Struct(Some(ValAt::I32))));
     let (groups, sorted) = (
-        section_again(alloc, &[int, func])?,
-        section_again(alloc, &[func, int])?,
+        section_again(alloc, &[int, func]).expect(&rt, "memory"),
+        section_again(alloc, &[func, int]).expect(&rt, "memory"),
     );
     let (groups, sorted) = (groups.as_slice(), sorted.as_slice());
-    assert!(rt; is_normal_again(alloc, groups, sorted, &[1, 0])?);
-    assert!(rt; !is_normal_again(alloc, groups, sorted, &[0, 1])?);
-    assert!(rt; !is_normal_again(alloc, groups, groups, &[0, 1])?);
-    Ok(())
+    assert!(rt; is_normal_again(alloc, groups, sorted, &[1, 0]).expect(&rt, "memory"));
+    assert!(rt; !is_normal_again(alloc, groups, sorted, &[0, 1]).expect(&rt, "memory"));
+    assert!(rt; !is_normal_again(alloc, groups, groups, &[0, 1]).expect(&rt, "memory"));
 }
 
 // Whether the sections are the same up to moves. It is asked for again after a refusal of memory.
@@ -236,13 +226,13 @@ fn are_same_again(alloc: Global, first: &[GroupAt], second: &[GroupAt]) -> Resul
 }
 
 #[test]
-fn a_refused_comparison_comes_when_it_is_asked_for_again(rt: HostRuntime) -> Result<(), Fail> {
+fn a_refused_comparison_comes_when_it_is_asked_for_again(rt: HostRuntime) {
     let alloc = rt.alloc();
     let (func, int) = (One(Func(None)), One(Struct(Some(ValAt::I32))));
-    let groups = section_again(alloc, &[int, func])?;
-    let turned = section_again(alloc, &[func, int, func])?;
-    let ill = section_again(alloc, &[One(Struct(Some(to(1))))])?;
-    let alone = section_again(alloc, &[func])?;
+    let groups = section_again(alloc, &[int, func]).expect(&rt, "memory");
+    let turned = section_again(alloc, &[func, int, func]).expect(&rt, "memory");
+    let ill = section_again(alloc, &[One(Struct(Some(to(1))))]).expect(&rt, "memory");
+    let alone = section_again(alloc, &[func]).expect(&rt, "memory");
     let (groups, turned) = (groups.as_slice(), turned.as_slice());
     let (alone, ill) = (alone.as_slice(), ill.as_slice());
     let bad = ReadError::BadIndex {
@@ -254,5 +244,4 @@ fn a_refused_comparison_comes_when_it_is_asked_for_again(rt: HostRuntime) -> Res
     assert_equal(&rt, are_same_again(alloc, groups, alone), Ok(false));
     assert_equal(&rt, are_same_again(alloc, ill, groups), Err(bad));
     assert_equal(&rt, are_same_again(alloc, groups, ill), Err(bad));
-    Ok(())
 }

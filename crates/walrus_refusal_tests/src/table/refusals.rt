@@ -3,7 +3,6 @@ use crate::assertions::assert_equal;
 use crate::fixtures::{add_pair, are, field, reference};
 use std::alloc::{AllocError, Global};
 use std::process::Abort;
-use std::test::Fail;
 use walrus_types::{AddRecGroupError, CompositeType, FunctionType, ModuleTypes, Type, TypeId, Val};
 
 // Calls that add a type alone.
@@ -128,43 +127,44 @@ fn add_again(
 }
 
 // Adds five types, and then the same five.
-fn adds_five(rt: &impl Abort, alloc: Global, call: AddCall) -> Result<(), Fail> {
+fn adds_five(rt: &impl Abort, alloc: Global, call: AddCall) {
     let mut types = ModuleTypes::new(alloc);
     for round in 0..10usize {
         let named = round % 5;
         assert_equal(
             rt,
-            add_again(rt, alloc, &mut types, call, named)?.index(),
+            add_again(rt, alloc, &mut types, call, named)
+                .expect(rt, "memory")
+                .index(),
             named,
         );
         assert!(rt; has_types(&types, call, if round < 5 { round + 1 } else { 5 }));
     }
-    Ok(())
 }
 
 #[test]
-fn a_refused_function_type_is_not_added(rt: HostRuntime) -> Result<(), Fail> {
-    adds_five(&rt, rt.alloc(), AddCall::Function)
+fn a_refused_function_type_is_not_added(rt: HostRuntime) {
+    adds_five(&rt, rt.alloc(), AddCall::Function);
 }
 
 #[test]
-fn a_refused_struct_type_is_not_added(rt: HostRuntime) -> Result<(), Fail> {
-    adds_five(&rt, rt.alloc(), AddCall::Struct)
+fn a_refused_struct_type_is_not_added(rt: HostRuntime) {
+    adds_five(&rt, rt.alloc(), AddCall::Struct);
 }
 
 #[test]
-fn a_refused_array_type_is_not_added(rt: HostRuntime) -> Result<(), Fail> {
-    adds_five(&rt, rt.alloc(), AddCall::Array)
+fn a_refused_array_type_is_not_added(rt: HostRuntime) {
+    adds_five(&rt, rt.alloc(), AddCall::Array);
 }
 
 #[test]
-fn a_refused_composite_type_is_not_added(rt: HostRuntime) -> Result<(), Fail> {
-    adds_five(&rt, rt.alloc(), AddCall::Composite)
+fn a_refused_composite_type_is_not_added(rt: HostRuntime) {
+    adds_five(&rt, rt.alloc(), AddCall::Composite);
 }
 
 #[test]
-fn a_refused_entry_type_is_not_added(rt: HostRuntime) -> Result<(), Fail> {
-    adds_five(&rt, rt.alloc(), AddCall::Entry)
+fn a_refused_entry_type_is_not_added(rt: HostRuntime) {
+    adds_five(&rt, rt.alloc(), AddCall::Entry);
 }
 
 // The live ids. They are asked for again after a refusal.
@@ -176,16 +176,20 @@ fn live_ids_again(types: &ModuleTypes) -> Result<Vec<TypeId>, AllocError> {
 }
 
 #[test]
-fn a_refused_list_of_ids_comes_when_it_is_asked_for_again(rt: HostRuntime) -> Result<(), Fail> {
+fn a_refused_list_of_ids_comes_when_it_is_asked_for_again(rt: HostRuntime) {
     let mut types = ModuleTypes::new(rt.alloc());
     for named in 0..6usize {
-        add_again(&rt, rt.alloc(), &mut types, AddCall::Array, named)?;
+        add_again(&rt, rt.alloc(), &mut types, AddCall::Array, named).expect(&rt, "memory");
     }
     let middle = TypeId::from_index(2);
     assert!(rt; types.contains(middle));
-    types.delete(middle)?;
-    assert!(rt; are(live_ids_again(&types)?.as_slice(), &[0, 1, 3, 4, 5]));
-    Ok(())
+    types.delete(middle).expect(&rt, "memory");
+    assert!(rt;
+        are(
+            live_ids_again(&types).expect(&rt, "memory").as_slice(),
+            &[0, 1, 3, 4, 5]
+        )
+    );
 }
 
 // Four function entries that stand alone, and two groups of two that name each other.
@@ -234,10 +238,10 @@ fn delete_group(rt: &impl Abort, types: &mut ModuleTypes) -> Result<(), AllocErr
 
 // Every request may be refused once the table is there.
 #[test]
-fn deletions_take_no_memory(rt: HostRuntime) -> Result<(), Fail> {
+fn deletions_take_no_memory(rt: HostRuntime) {
     let mut types = match eight_types(rt.alloc()) {
         Ok(types) => types,
-        Err(_) => return Ok(()),
+        Err(_) => return,
     };
     assert_equal(&rt, delete_alone(&rt, &mut types), Ok(()));
     assert_equal(&rt, delete_two(&rt, &mut types), Ok(()));
@@ -259,5 +263,4 @@ fn deletions_take_no_memory(rt: HostRuntime) -> Result<(), Fail> {
     let found = [0, 1, 2, 3].map(|named| find(&types, AddCall::Entry, named));
     let (third, fourth) = (TypeId::from_index(2), TypeId::from_index(3));
     assert_equal(&rt, found, [None, None, Some(third), Some(fourth)]);
-    Ok(())
 }

@@ -1,7 +1,6 @@
 //! Refused memory: a call that was refused goes through when it is made again.
 //! Each request for memory of these tests may be refused, one in a run, and they still pass.
 use std::alloc::{AllocError, Global};
-use std::test::Fail;
 use walrus_text::{TextError, read_section, write_section};
 use walrus_ty::GroupAt;
 
@@ -26,11 +25,10 @@ fn room(alloc: Global) -> Result<Vec<u8>, AllocError> {
 }
 
 #[test]
-fn a_refused_reading_is_made_again(rt: HostRuntime) -> Result<(), Fail> {
+fn a_refused_reading_is_made_again(rt: HostRuntime) {
     let text = b"func i32 i64 -> f32\nrec\nstruct i8\nend\nstruct i32 mut:i16\n".as_slice();
-    let mut out = room(rt.alloc())?;
-    let groups = read_again(rt.alloc(), text)?;
-    write_section(&mut out, groups.as_slice())?;
+    let mut out = room(rt.alloc()).expect(&rt, "memory");
+    let groups = read_again(rt.alloc(), text).expect(&rt, "memory");
+    write_section(&mut out, groups.as_slice()).expect(&rt, "memory");
     assert_eq!(rt; out.as_slice(), text);
-    Ok(())
 }

@@ -86,38 +86,36 @@ fn live_types(types: &ModuleTypes) -> [bool; 6] {
 }
 
 #[test]
-fn every_deletion_succeeds(rt: HostRuntime) {
+fn every_deletion_of_an_arena_succeeds(rt: HostRuntime) {
     let mut arena = four_items(rt.alloc()).expect(&rt, "memory");
-    let mut set = four_values(rt.alloc()).expect(&rt, "memory");
-    let mut types = six_types(rt.alloc()).expect(&rt, "memory");
-    // Nothing takes memory from here on.
     assert_equal(&rt, delete_item(&rt, &mut arena), Ok(()));
     assert_equal(&rt, live_items(&arena), [false, true, true, true]);
     assert_equal(&rt, delete_items(&rt, &mut arena), Ok(()));
     assert_equal(&rt, live_items(&arena), [false, true, false, false]);
+}
+
+#[test]
+fn every_deletion_of_a_set_succeeds(rt: HostRuntime) {
+    let mut set = four_values(rt.alloc()).expect(&rt, "memory");
     assert_equal(&rt, remove_value(&rt, &mut set), Ok(()));
     assert_equal(&rt, live_values(&set), [false, true, true, true]);
     assert_equal(&rt, remove_values(&rt, &mut set), Ok(()));
     assert_equal(&rt, live_values(&set), [false, true, false, false]);
+}
+
+#[test]
+fn every_deletion_of_a_table_succeeds(rt: HostRuntime) {
+    let mut types = six_types(rt.alloc()).expect(&rt, "memory");
     assert_equal(&rt, delete(&rt, &mut types, 0), Ok(()));
-    assert_equal(
-        &rt,
-        live_types(&types),
-        [false, true, true, true, true, true],
-    );
+    let live = [false, true, true, true, true, true];
+    assert_equal(&rt, live_types(&types), live);
     assert_equal(&rt, try_delete(&rt, &mut types, 3), Ok(false));
     assert_equal(&rt, try_delete(&rt, &mut types, 1), Ok(true));
-    assert_equal(
-        &rt,
-        live_types(&types),
-        [false, false, true, true, true, true],
-    );
+    let live = [false, false, true, true, true, true];
+    assert_equal(&rt, live_types(&types), live);
     assert_equal(&rt, delete_group(&rt, &mut types, 4), Ok(()));
-    assert_equal(
-        &rt,
-        live_types(&types),
-        [false, false, true, true, false, false],
-    );
+    let live = [false, false, true, true, false, false];
+    assert_equal(&rt, live_types(&types), live);
     assert_equal(&rt, delete_types(&rt, &mut types), Ok(()));
     assert_equal(&rt, live_types(&types), [false; 6]);
     assert!(rt; has_ids(&types, 2, &[]));

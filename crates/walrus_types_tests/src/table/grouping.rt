@@ -21,6 +21,18 @@ fn two_namers(
     Ok(vec![in alloc; namer(alloc, ids.get(1))?, namer(alloc, ids.first())?]?)
 }
 
+// Whether the type is a struct of one reference to the other.
+fn names_just(
+    rt: &impl Abort,
+    alloc: Global,
+    types: &ModuleTypes,
+    id: TypeId,
+    other: TypeId,
+) -> bool {
+    let wanted = structure(alloc, &[reference(other)]).expect(rt, "memory");
+    types.contains(id) && *types.get(id).kind() == wanted
+}
+
 #[test]
 fn the_types_of_a_group_may_name_each_other(rt: HostRuntime) {
     let alloc = rt.alloc();
@@ -30,10 +42,10 @@ fn the_types_of_a_group_may_name_each_other(rt: HostRuntime) {
         .add_rec_group(2, |ids| two_namers(alloc, ids))
         .expect(&rt, "memory");
     assert!(rt; are(ids.as_slice(), &[1, 2]));
-    let first = TypeId::from_index(1);
+    let (first, second) = (TypeId::from_index(1), TypeId::from_index(2));
+    assert!(rt; names_just(&rt, alloc, &types, first, second));
+    assert!(rt; names_just(&rt, alloc, &types, second, first));
     assert!(rt; types.contains(first));
-    let second = reference(TypeId::from_index(2));
-    assert!(rt; *types.get(first).kind() == structure(alloc, &[second]).expect(&rt, "memory"));
     assert_equal(&rt, types.get(first).id(), first);
 }
 
@@ -66,27 +78,6 @@ fn a_type_knows_its_group(rt: HostRuntime) {
     let group = types.rec_group_for_type(TypeId::from_index(0));
     assert!(rt; group.is_some_and(|g| !g.is_explicit && are(g.types.as_slice(), &[0])));
     assert!(rt; types.rec_group_for_type(TypeId::from_index(3)).is_none());
-}
-
-#[test]
-fn a_group_is_built_from_the_ids_it_will_have(rt: HostRuntime) {
-    let alloc = rt.alloc();
-    let mut types = ModuleTypes::new(alloc);
-    types.add(&[], &[]).expect(&rt, "memory");
-    let ids = types
-        .add_rec_group(2, |ids| {
-            let (a, b) = (ids[0], ids[1]);
-            let first = structure(alloc, &[reference(b)])?;
-            let second = structure(alloc, &[reference(a)])?;
-            Ok(vec![in alloc; member(first), member(second)]?)
-        })
-        .expect(&rt, "memory");
-    assert!(rt; are(ids.as_slice(), &[1, 2]));
-    let (a, b) = (TypeId::from_index(1), TypeId::from_index(2));
-    assert!(rt; types.contains(a));
-    assert!(rt; types.contains(b));
-    assert!(rt; *types.get(a).kind() == structure(alloc, &[reference(b)]).expect(&rt, "memory"));
-    assert!(rt; *types.get(b).kind() == structure(alloc, &[reference(a)]).expect(&rt, "memory"));
 }
 
 #[test]
