@@ -113,9 +113,8 @@ fn an_exact_index_is_unsigned(rt: HostRuntime) {
 #[test]
 fn each_count_may_be_padded(rt: HostRuntime) {
     let params = [1, 0x60, 0x81, 0x80, 0x80, 0x80, 0x00, 0x7F, 0x80, 0x00];
-    let group = GroupAt::Single(plain(function(rt.alloc(), &[ValAt::I32], &[]).expect(
-        &rt, "memory",
-    )));
+    let comp = function(rt.alloc(), &[ValAt::I32], &[]).expect(&rt, "memory");
+    let group = GroupAt::Single(plain(comp));
     assert!(rt; reads_group(rt.alloc(), &params, group));
     let fields = [1, 0x5F, 0x80, 0x80, 0x00];
     let group = GroupAt::Single(plain(CompAt::Struct {

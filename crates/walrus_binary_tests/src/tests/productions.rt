@@ -49,9 +49,8 @@ fn function_types(rt: HostRuntime) {
     let params = [ValAt::I32, ValAt::I64, ValAt::F32, ValAt::F64, ValAt::V128];
     let results = [ValAt::F64];
     let bytes = [1, 0x60, 5, 0x7F, 0x7E, 0x7D, 0x7C, 0x7B, 1, 0x7C];
-    let group = GroupAt::Single(plain(function(rt.alloc(), &params, &results).expect(
-        &rt, "memory",
-    )));
+    let comp = function(rt.alloc(), &params, &results).expect(&rt, "memory");
+    let group = GroupAt::Single(plain(comp));
     assert!(rt; reads_group(rt.alloc(), &bytes, group));
     let packed = [1, 0x60, 1, 0x78, 0];
     assert_equal(

@@ -38,8 +38,7 @@ fn a_refused_decode_reads_again(rt: HostRuntime) {
     ];
     let groups = decode_again(rt.alloc(), &bytes)
         .ok()
-        .ok_or("the second call reads")
-        .expect(&rt, "memory");
+        .expect(&rt, "the second call reads");
     assert_equal(&rt, groups.len(), 3);
     assert_equal(&rt, sizes(&groups[0]), [1, 2, 1]);
     assert_equal(&rt, sizes(&groups[1]), [2, 0, 0]);
@@ -62,8 +61,7 @@ fn a_refused_group_comes_when_it_is_read_again(rt: HostRuntime) {
     ];
     let mut reader = TypeSectionReader::new(rt.alloc(), &bytes)
         .ok()
-        .ok_or("a count")
-        .expect(&rt, "memory");
+        .expect(&rt, "a count");
     assert_equal(&rt, next_sizes(&mut reader).ok(), Some(Some([1, 2, 1])));
     assert_equal(&rt, next_sizes(&mut reader).ok(), Some(Some([2, 0, 0])));
     assert_equal(&rt, next_sizes(&mut reader).ok(), Some(None));
@@ -85,8 +83,7 @@ fn a_refused_module_is_read_again(rt: HostRuntime) {
     ];
     let groups = module_types_again(rt.alloc(), &bytes)
         .ok()
-        .ok_or("the second call reads")
-        .expect(&rt, "memory");
+        .expect(&rt, "the second call reads");
     assert_equal(&rt, groups.len(), 2);
     assert_equal(&rt, sizes(&groups[0]), [1, 2, 1]);
     assert_equal(&rt, sizes(&groups[1]), [1, 1, 0]);
@@ -107,12 +104,10 @@ fn a_refused_encode_writes_again(rt: HostRuntime) {
     ];
     let groups = decode_again(rt.alloc(), &bytes)
         .ok()
-        .ok_or("the second call reads")
-        .expect(&rt, "memory");
+        .expect(&rt, "the second call reads");
     let written = encode_again(rt.alloc(), &groups)
         .ok()
-        .ok_or("the second call writes")
-        .expect(&rt, "memory");
+        .expect(&rt, "the second call writes");
     assert_equal(&rt, written.as_slice(), bytes.as_slice());
     assert_equal(&rt, groups.len(), 2);
     assert_equal(&rt, sizes(&groups[0]), [1, 9, 0]);
@@ -132,8 +127,7 @@ fn a_refused_replacement_is_made_again(rt: HostRuntime) {
     let bytes = [0, 0x61, 0x73, 0x6D, 1, 0, 0, 0, 1, 1, 0, 3, 1, 0];
     let new = replace_again(rt.alloc(), &bytes, &[1, 0x60, 0, 0])
         .ok()
-        .ok_or("the second call replaces")
-        .expect(&rt, "memory");
+        .expect(&rt, "the second call replaces");
     let wanted = [
         0, 0x61, 0x73, 0x6D, 1, 0, 0, 0, 1, 4, 1, 0x60, 0, 0, 3, 1, 0,
     ];

@@ -49,12 +49,10 @@ fn groups_of_a_section_come_in_turn(rt: HostRuntime) {
     ];
     let groups = decode_types(rt.alloc(), &bytes)
         .ok()
-        .ok_or("three groups")
-        .expect(&rt, "memory");
+        .expect(&rt, "three groups");
     let mut reader = TypeSectionReader::new(rt.alloc(), &bytes)
         .ok()
-        .ok_or("a count")
-        .expect(&rt, "memory");
+        .expect(&rt, "a count");
     assert_equal(&rt, reader.remaining_count(), 3);
     for group in groups.as_slice() {
         assert!(rt; comes_next(&mut reader, group));
@@ -68,8 +66,7 @@ fn groups_of_a_section_come_in_turn(rt: HostRuntime) {
 fn an_error_comes_after_the_groups_before_it_and_again(rt: HostRuntime) {
     let mut reader = TypeSectionReader::new(rt.alloc(), &[2, 0x5E, 0x78, 0, 0x5F, 1, 0x7F, 2])
         .ok()
-        .ok_or("a count")
-        .expect(&rt, "memory");
+        .expect(&rt, "a count");
     let group = array(StorageAt::I8);
     assert!(rt; comes_next(&mut reader, &group));
     let error = malformed(7, Expected::Mutability);
@@ -82,8 +79,7 @@ fn an_error_comes_after_the_groups_before_it_and_again(rt: HostRuntime) {
 fn bytes_after_the_last_group_are_an_error(rt: HostRuntime) {
     let mut reader = TypeSectionReader::new(rt.alloc(), &[1, 0x5E, 0x78, 0, 0x5E])
         .ok()
-        .ok_or("a count")
-        .expect(&rt, "memory");
+        .expect(&rt, "a count");
     let group = array(StorageAt::I8);
     assert!(rt; comes_next(&mut reader, &group));
     let error = malformed(4, Expected::End);
