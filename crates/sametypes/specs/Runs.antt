@@ -5,18 +5,18 @@ use Rattle.walrus_ty.specs.declared.records.GroupAt.{GroupAt}
 use Rattle.walrus_ty.specs.Groups.{Section}
 use Rattle.walrus_ty.specs.Records.{section_of}
 use Rattle.walrus_binary.specs.ModuleTypes.{HasTypes}
-use Rattle.walrus_text.specs.Words.{lines_of}
-use Rattle.walrus_text.specs.Text.{section_lines}
+use Rattle.walrus_text.specs.Text.{IsTextOf}
 use Rattle.walrus_sections.specs.Section.{index_space, IsWellNamed}
 use Rattle.walrus_sections.specs.NormalForm.{IsOutput}
 use Rattle.walrus_sections.specs.Moves.{AreJoined}
 use Rattle.walrus_types.specs.Differences.{DifferFirstAt}
 
--- The section that bytes say: they are a module with these types, which are none without a type
--- section, or a text of these groups. No bytes are both.
+-- The section of bytes: they are a module with these types, which are none without a type section,
+-- or a text of these groups. No bytes are both, and they have one section at most
+-- (`laws::no_module_is_a_text`, `laws::one_section`).
 pub data HasSection (bytes : List ℕ) (groups : List GroupAt) : Type 0 where
   in_module : HasTypes bytes groups → HasSection bytes groups
-  in_text : lines_of bytes ≡ section_lines groups → HasSection bytes groups
+  in_text : IsTextOf bytes groups → HasSection bytes groups
 
 -- each of the two has a section that can be read, and this holds of these sections
 pub record HaveSections (Holds : Section → Section → Type 0) (first second : List ℕ) : Type 0 where

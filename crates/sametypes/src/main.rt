@@ -9,6 +9,7 @@ ghost use Rattle.sametypes.specs.Runs.{AreApart, HaveFirstDifference, HaveSectio
 ghost use Rattle.sametypes.specs.Steps.Answers.{IsAnswer, answer_line};
 
 mod failure;
+pub mod laws;
 mod normal_form;
 
 use failure::{Failure, Trouble, report};
@@ -29,7 +30,9 @@ use walrus_types::HashKeys;
 /// which one of them ends.
 ///
 /// A reader gives a WebAssembly module, whose first four bytes are `\0asm`, or the text of a
-/// section. A module without type section has the section without groups, as an empty text.
+/// section. No bytes are both, and none have more than one section ([`laws`]), so the clauses speak
+/// of the section of each reader. A module without type section has the section without groups, as
+/// an empty text.
 ///
 /// The answer is the exit status: 0 where they are the same, 1 where they differ, and 2 where
 /// that can't be told: bytes are no module or no text, an entry names an index that it may not

@@ -15,10 +15,11 @@ IsIllNamedText lines =
     (groups : List GroupAt) × HasSectionIndices groups × (lines ≡ section_lines groups) ×
     ¬ IsWellNamed (section_of groups)
 
--- the lines are those of a well-named section, and a writer gained the text of its normal form and
--- the line of the map
+-- The lines are a well-named section's, and a writer gained the text of its normal form and the line
+-- of the map. There is one section at most with these lines (`walrus_text::laws::same_lines`).
 pub record IsNormalised (lines : List (List (List ℕ))) (old new : Option (List ℕ)) : Type 0 where
   pub section : List GroupAt
+  pub fits : HasSectionIndices section
   pub read : lines ≡ section_lines section
   pub well_named : IsWellNamed (section_of section)
   pub output : List GroupAt

@@ -2,3 +2,4 @@ pub mod Basics
 pub mod Lexing
 pub mod Parsing
 pub mod Gathering
+pub mod Texts

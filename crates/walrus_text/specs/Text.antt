@@ -20,7 +20,7 @@ use Rattle.walrus_ty.specs.declared.records.CompAt.TheVariants as comp
 use Rattle.walrus_ty.specs.declared.records.EntryAt.{EntryAt}
 use Rattle.walrus_ty.specs.declared.records.GroupAt.{GroupAt}
 use Rattle.walrus_ty.specs.declared.records.GroupAt.TheVariants as group
-use Rattle.walrus_text.specs.Words.{text_of}
+use Rattle.walrus_text.specs.Words.{lines_of, text_of}
 
 -- the names of abstract heap types in the text format of WebAssembly
 abbrev pub name_word : AbstractHeapType → List ℕ
@@ -114,3 +114,9 @@ HasSectionIndices groups = AllByRecursion HasGroupIndices groups
 -- the lines are those of a section whose numbers can stand for types
 abbrev pub IsSectionText : List (List (List ℕ)) → Type 0
 IsSectionText lines = IsText section_lines HasSectionIndices lines
+
+-- The text is one of these groups: its lines of words are theirs, and their numbers can stand for
+-- types. It is one of no other groups (`laws::one_section`).
+pub record IsTextOf (text : List ℕ) (groups : List GroupAt) : Type 0 where
+  pub fits : HasSectionIndices groups
+  pub lines : lines_of text ≡ section_lines groups

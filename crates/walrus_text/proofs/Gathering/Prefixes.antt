@@ -33,11 +33,11 @@ byte_of [] = 0
 byte_of ([] ∷ ws) = 0
 byte_of ((b ∷ w) ∷ ws) = b
 
-abbrev first_line : Lines → List (List ℕ)
+abbrev pub first_line : Lines → List (List ℕ)
 first_line [] = []
 first_line (l ∷ ls) = l
 
-abbrev later_lines : Lines → Lines
+abbrev pub later_lines : Lines → Lines
 later_lines [] = []
 later_lines (l ∷ ls) = ls
 
@@ -55,20 +55,31 @@ apart true None (comp.Function ps rs) ws k at o u f a e = f (ap byte_of e ∙ at
 apart true None (comp.Struct fs) ws k at o u f a e = u (ap byte_of e ∙ at)
 apart true None (comp.Array g) ws k at o u f a e = a (ap byte_of e ∙ at)
 
-not_rec : (e : EntryAt) → entry_words e ≢ codes "rec" ∷ []
+pub not_rec : (e : EntryAt) → entry_words e ≢ codes "rec" ∷ []
 not_rec e = apart e.is_final e.supertype e.comp (codes "rec" ∷ []) 114 refl (λ k. omega (arith, k)) (λ k. omega (arith, k)) (λ k. omega (arith, k)) (λ k. omega (arith, k))
 
-not_end : (e : EntryAt) → entry_words e ≢ codes "end" ∷ []
+pub not_end : (e : EntryAt) → entry_words e ≢ codes "end" ∷ []
 not_end e = apart e.is_final e.supertype e.comp (codes "end" ∷ []) 101 refl (λ k. omega (arith, k)) (λ k. omega (arith, k)) (λ k. omega (arith, k)) (λ k. omega (arith, k))
 
 not_empty : (e : EntryAt) → entry_words e ≢ []
 not_empty e = apart e.is_final e.supertype e.comp [] 0 refl (λ k. omega (arith, k)) (λ k. omega (arith, k)) (λ k. omega (arith, k)) (λ k. omega (arith, k))
 
-rec_not_end : codes "rec" ∷ [] ≢ codes "end" ∷ []
+not_null_first : (e : EntryAt) (w : List ℕ) (ws : List (List ℕ)) → entry_words e ≢ (0 ∷ w) ∷ ws
+not_null_first e w ws = apart e.is_final e.supertype e.comp ((0 ∷ w) ∷ ws) 0 refl (λ k. omega (arith, k)) (λ k. omega (arith, k)) (λ k. omega (arith, k)) (λ k. omega (arith, k))
+
+pub rec_not_end : codes "rec" ∷ [] ≢ codes "end" ∷ []
 rec_not_end e = let k : 114 ≡ 101 = ap byte_of e in omega (arith, k)
 
-not_none : (l : List (List ℕ)) (ls : Lines) → l ∷ ls ≢ []
+pub not_none : (l : List (List ℕ)) (ls : Lines) → l ∷ ls ≢ []
 not_none l ls e = let k : 1 ≡ 0 = ap has_lines e in omega (arith, k)
+
+-- no line of a section begins with a null byte
+pub null_first :
+    (w : List ℕ) (ws : List (List ℕ)) (ls : Lines) (groups : List GroupAt) →
+    ((0 ∷ w) ∷ ws) ∷ ls ≢ section_lines groups
+null_first w ws ls [] e = not_none _ _ e
+null_first w ws ls (group.Single d ∷ s) e = not_null_first d w ws (sym (ap first_line e))
+null_first w ws ls (group.Rec es ∷ s) e = let k : 0 ≡ 114 = ap (λ l. byte_of (first_line l)) e in omega (arith, k)
 
 -- what stands after some entries of a recursion group: more entries, its end, and more groups
 abbrev FollowsEntries : Lines → Type 0

@@ -126,6 +126,23 @@ first_line-byte c t e = ap first_part (slice_split-cons_no is_feed c t e) ∙ fi
 other_lines-byte : (c : ℕ) (t : List ℕ) → (c == 10) ≡ false → other_lines (c ∷ t) ≡ other_lines t
 other_lines-byte c t e = ap (λ ps. filter has_items (map words_of (other_parts ps))) (slice_split-cons_no is_feed c t e) ∙ ap (λ ps. filter has_items (map words_of ps)) (others-onto c (slice_split is_feed t))
 
+-- a byte of a word begins the first word of the first line
+lines-byte :
+    (c : ℕ) (t : List ℕ) → (c == 10) ≡ false → (c == 32) ≡ false →
+    lines_of (c ∷ t) ≡
+    ((c ∷ first_word (first_line t)) ∷ other_words (first_line t)) ∷ other_lines t
+lines-byte c t nf ns =
+    let l = first_line t in
+    let ws : words_of (first_line (c ∷ t)) ≡ (c ∷ first_word l) ∷ other_words l = ap words_of (first_line-byte c t nf) ∙ words-byte c l ns in
+    lines_by_first (c ∷ t) ∙ (ap (λ x. filter has_items (x ∷ []) ++ other_lines (c ∷ t)) ws ∙ ap (λ ls. ((c ∷ first_word l) ∷ other_words l) ∷ ls) (other_lines-byte c t nf))
+
+pub lines-first_byte :
+    (c : ℕ) (t : List ℕ) → (c == 10) ≡ false → (c == 32) ≡ false →
+    (w : List ℕ) × (ws : List (List ℕ)) × (ls : List (List (List ℕ))) ×
+    (lines_of (c ∷ t) ≡ ((c ∷ w) ∷ ws) ∷ ls)
+lines-first_byte c t nf ns =
+    (first_word (first_line t), other_words (first_line t), other_lines t, lines-byte c t nf ns)
+
 -- behind any text, the two give the same lines of words
 record IsAlike (t u : List ℕ) : Type 0 where
   first : (p : List ℕ) → words_of (p ++ first_line t) ≡ words_of (p ++ first_line u)
@@ -236,8 +253,7 @@ tidies_byte c t nf ns h =
     let o = other_lines-byte c t nf in
     let l = first_line t in
     let ws : words_of (first_line (c ∷ t)) ≡ (c ∷ first_word l) ∷ other_words l = ap words_of f ∙ words-byte c l ns in
-    let lines : lines_of (c ∷ t) ≡ ((c ∷ first_word l) ∷ other_words l) ∷ other_lines t = lines_by_first (c ∷ t) ∙ (ap (λ x. filter has_items (x ∷ []) ++ other_lines (c ∷ t)) ws ∙ ap (λ ls. ((c ∷ first_word l) ∷ other_words l) ∷ ls) o) in
-    let text : text_of (lines_of (c ∷ t)) ≡ c ∷ tail_in_word t = ap text_of lines ∙ (append_assoc ((c ∷ first_word l) ++ space_before_each (other_words l)) (10 ∷ []) (text_of (other_lines t)) ∙ append_assoc (c ∷ first_word l) (space_before_each (other_words l)) (10 ∷ text_of (other_lines t))) in
+    let text : text_of (lines_of (c ∷ t)) ≡ c ∷ tail_in_word t = ap text_of (lines-byte c t nf ns) ∙ (append_assoc ((c ∷ first_word l) ++ space_before_each (other_words l)) (10 ∷ []) (text_of (other_lines t)) ∙ append_assoc (c ∷ first_word l) (space_before_each (other_words l)) (10 ∷ text_of (other_lines t))) in
     let spaces : tail_after_space (c ∷ t) ≡ 32 ∷ c ∷ tail_in_word t = ap (λ x. space_before_each x ++ 10 ∷ text_of (other_lines (c ∷ t))) ws ∙ (ap (λ ls. space_before_each ((c ∷ first_word l) ∷ other_words l) ++ 10 ∷ text_of ls) o ∙ append_assoc (32 ∷ c ∷ first_word l) (space_before_each (other_words l)) (10 ∷ text_of (other_lines t))) in
     let inside : tail_in_word (c ∷ t) ≡ c ∷ tail_in_word t = ap (λ x. first_word x ++ (space_before_each (other_words x) ++ 10 ∷ text_of (other_lines (c ∷ t)))) f ∙ (ap (λ ls. first_word (c ∷ l) ++ (space_before_each (other_words (c ∷ l)) ++ 10 ∷ text_of ls)) o ∙ (ap (λ w. w ++ (space_before_each (other_words (c ∷ l)) ++ 10 ∷ text_of (other_lines t))) (first_word-byte c l ns) ∙ ap (λ w. (c ∷ first_word l) ++ (space_before_each w ++ 10 ∷ text_of (other_lines t))) (other_words-byte c l ns))) in
     record {

@@ -1,0 +1,3 @@
+-- What a text was written of: reading it back gives the groups, so one text is of one section.
+pub mod ReadBack
+pub mod Uniqueness
