@@ -38,6 +38,9 @@ here bytes r = Err (record { left = length bytes; reason = r })
 pub left_is : {A : Type 0} (bytes : List ℕ) (r : Reason) (f : Fault) → here {A = A} bytes r ≡ failed f → f.left ≡ length bytes
 left_is bytes r f e = let same : record { left = length bytes; reason = r } ≡ f = cc in sym (ap (λ (k : Fault). k.left) same)
 
+pub reason_is : {A : Type 0} (bytes : List ℕ) (r : Reason) (f : Fault) → here {A = A} bytes r ≡ failed f → f.reason ≡ r
+reason_is bytes r f e = let same : record { left = length bytes; reason = r } ≡ f = cc in sym (ap (λ (k : Fault). k.reason) same)
+
 -- nothing is left
 pub end_stops : {A : Type 0} (reads : List ℕ → Reading A) (r : Reason) (f : Fault) → here {A = A} [] r ≡ failed f → Stops reads [] f
 end_stops reads r f e = record { front = []; left = []; parts = refl; place = left_is [] r f e; stuck = λ s b rest other q. absurd cc }

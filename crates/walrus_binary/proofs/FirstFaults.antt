@@ -60,9 +60,11 @@ abbreviated_stops : (b : ℕ) (bytes : List ℕ) (f : Fault) (o : Option Abstrac
 unfolding reference_at
 abbreviated_stops b bytes f (Some a) h k is e = absurd cc
 abbreviated_stops b bytes f None h k is e =
-    which (nat_eq b 0x68 || nat_eq b 0x75) _ _ (failed f) e
-    (λ h2 q2. first_stops reference_at b bytes (reason.NotHeld held.Continuation) f q2 (λ other. (stop (b ∷ other) (reason.NotHeld held.Continuation), rw (h, k, is, h2) refl)))
-    (λ h2 q2. first_stops reference_at b bytes (reason.Expected expected.ValType) f q2 (λ other. (stop (b ∷ other) (reason.Expected expected.ValType), rw (h, k, is, h2) refl)))
+    which (nat_eq b 0x65) _ _ (failed f) e
+    (λ h1 q1. first_stops reference_at b bytes (reason.NotHeld held.Shared) f q1 (λ other. (stop (b ∷ other) (reason.NotHeld held.Shared), rw (h, k, is, h1) refl)))
+    (λ h1 q1. which (nat_eq b 0x68 || nat_eq b 0x75) _ _ (failed f) q1
+    (λ h2 q2. first_stops reference_at b bytes (reason.NotHeld held.Continuation) f q2 (λ other. (stop (b ∷ other) (reason.NotHeld held.Continuation), rw (h, k, is, h1, h2) refl)))
+    (λ h2 q2. first_stops reference_at b bytes (reason.Expected expected.ValType) f q2 (λ other. (stop (b ∷ other) (reason.Expected expected.ValType), rw (h, k, is, h1, h2) refl))))
 
 reference_stuck : IsStuck reference_at
 unfolding reference_at

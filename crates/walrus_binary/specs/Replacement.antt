@@ -3,8 +3,8 @@
 use Rattle.std.specs.Prelude.{◌≡◌, ℕ, ◌<◌, ◌≤◌, ◌+◌, List, ◌∷◌, ◌++◌, length, take, IfSome}
 use Rattle.walrus_binary.specs.declared.error.DecodeError.{DecodeError}
 use Rattle.walrus_binary.specs.Leb128.{IsU32}
-use Rattle.walrus_binary.specs.Faults.{error_offset}
-use Rattle.walrus_binary.specs.Modules.{section, IsSection, header, IsNoModule, BeginsNoModule, AreAroundTypes, IsTypeSectionAt, HasNoTypeSection}
+use Rattle.walrus_binary.specs.Faults.{GoesOn, error_offset}
+use Rattle.walrus_binary.specs.Modules.{section, IsSection, header, IsModule, IsNoModule, BeginsNoModule, AreAroundTypes, IsTypeSectionAt, HasNoTypeSection}
 
 -- the shortest text of a type section with this content
 pub record IsShortestTypes (text content : List ℕ) : Type 0 where
@@ -29,11 +29,12 @@ pub record HasTypes (bytes content : List ℕ) : Type 0 where
   pub there : IsTypeSectionAt bytes start stop
   pub same : there.content ≡ content
 
--- The bytes are no module, and the error says where: in the bytes or at their end, and with the
--- byte there no module goes on.
+-- The bytes are no module, and the error says where: in the bytes or at their end. With the byte
+-- there no module goes on, and with the bytes before it one does.
 pub record IsNoModuleBy (bytes : List ℕ) (e : DecodeError) : Type 0 where
   pub no_module : IsNoModule bytes
   pub place : IfSome (error_offset e) (λ offset. offset ≤ length bytes)
   pub stuck :
       IfSome (error_offset e)
       (λ offset. offset < length bytes → BeginsNoModule (take (offset + 1) bytes))
+  pub begun : IfSome (error_offset e) (λ offset. GoesOn IsModule (take offset bytes))

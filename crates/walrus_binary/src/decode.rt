@@ -2,7 +2,7 @@
 ghost use Rattle.std.specs.Prelude.{◌≡◌, ◌+◌, ◌<◌, ◌≤◌, length, take, IfOk, IfErr, IfSome};
 ghost use Rattle.walrus_binary.specs.Grammar.{IsTypes};
 ghost use Rattle.walrus_binary.specs.Faults.{IsNoText, BeginsNoText, IsBegun};
-ghost use Rattle.walrus_binary.specs.Faults.{IsSeenThere, error_offset};
+ghost use Rattle.walrus_binary.specs.Faults.{IsSeenThere, NamesUnheld, error_offset};
 ghost use Rattle.walrus_binary.specs.Steps.Reading.{GivesAll, types_at};
 
 mod composite;
@@ -52,6 +52,8 @@ pub fn decode_types(alloc: Global, bytes: &[u8]) -> Result<Vec<GroupAt>, DecodeE
     // With the bytes before it some text goes on, unless they begin several supertypes.
     ensures begun { IfErr result (λ e. IfSome (error_offset e) (λ offset.
         IsBegun (take offset bytes.now))) }
+    // What is named as nothing that a record holds begins there.
+    ensures unheld { IfErr result (λ e. NamesUnheld bytes.now e) }
 {
     let mut input = bytes;
     match read_types(alloc, &mut input) {

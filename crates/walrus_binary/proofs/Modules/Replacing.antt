@@ -80,11 +80,11 @@ not_first _ _ code_section other = omega arith
 not_first _ _ data_section other = omega arith
 
 -- none of the ids is that of type sections
-abbrev AreOthers : List ℕ → Type 0
+abbrev pub AreOthers : List ℕ → Type 0
 AreOthers [] = Unit {0}
 AreOthers (id ∷ ks) = (id ≡ 1 → ⊥) × AreOthers ks
 
-are_others : (sections : List Section) → All IsOther sections → AreOthers (ids sections)
+pub are_others : (sections : List Section) → All IsOther sections → AreOthers (ids sections)
 are_others [] h = tt
 are_others (s ∷ sections) h = (h 0 s (omega arith), are_others sections (λ k d lt. h (suc k) d (suc-le-suc lt)))
 

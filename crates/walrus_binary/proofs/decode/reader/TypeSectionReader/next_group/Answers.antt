@@ -1,6 +1,6 @@
-use Rattle.std.proofs.Common.{◌≡◌, ◌≤◌, List, [], ◌∷◌, length, nat_eq, true, false, Bool, refl, sym, ◌∙◌, eqb-true, arith}
+use Rattle.std.proofs.Common.{sym}
 use Rattle.walrus_binary.proofs.Progress.{begins_with_groups, group_follows, ends, fails, trails, nothing_left, something_left, some_remain}
-use Rattle.walrus_binary.proofs.Sections.{refused, lies_within, stuck_there, begun_before, left_fits, error_within, error_refused, error_placed, error_stuck, error_begun}
+use Rattle.walrus_binary.proofs.Sections.{refused, stuck_there, begun_before, left_fits, error_within, error_refused, error_stuck, error_begun, error_unheld}
 use Rattle.walrus_binary.proofs.decode.reader.TypeSectionReader.next_group.Goals as goal
 
 pub returns-then-is_empty-clause-begins : goal.returns-then-is_empty-clause-begins
@@ -55,3 +55,7 @@ returns-in-Err-clause-stuck c =
 pub returns-in-Err-clause-begun : goal.returns-in-Err-clause-begun
 returns-in-Err-clause-begun c =
     rw (c.refusal-in-Err.ensures, ← c.self.view_is) (error_begun c.self.inside.bytes.now c.read_group.new.input.now c.in-Err.error (fails _ _ _ _ _ c.self.invariant (some_remain _ c.if-self-eq0.false) c.in-Err.ensures))
+
+pub returns-in-Err-clause-unheld : goal.returns-in-Err-clause-unheld
+returns-in-Err-clause-unheld c =
+    rw (c.refusal-in-Err.ensures, ← c.self.view_is) (error_unheld c.self.inside.bytes.now c.read_group.new.input.now c.in-Err.error (fails _ _ _ _ _ c.self.invariant (some_remain _ c.if-self-eq0.false) c.in-Err.ensures))
