@@ -9,4 +9,5 @@ pub mod Replacing
 pub mod Uniqueness
 pub mod TypeContents
 pub mod FirstSections
+pub mod Customs
 pub mod BadTypes

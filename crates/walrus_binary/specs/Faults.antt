@@ -101,7 +101,7 @@ IsSeenThere (decode.NotHeld offset held.Continuation) = Unit {0}
 IsSeenThere (decode.NotHeld offset held.Descriptor) = Unit {0}
 IsSeenThere decode.Memory = Unit {0}
 
--- Where an error says that no record holds what begins at its place, that begins there.
+-- An error that names what no record holds is right: that begins at its place.
 abbrev pub NamesUnheld : List ℕ → DecodeError → Type 0
 NamesUnheld bytes (decode.NotHeld offset what) = IsUnheld what (take offset bytes) (drop offset bytes)
 NamesUnheld bytes (decode.Malformed offset expected) = Unit {0}

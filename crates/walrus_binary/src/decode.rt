@@ -52,7 +52,7 @@ pub fn decode_types(alloc: Global, bytes: &[u8]) -> Result<Vec<GroupAt>, DecodeE
     // With the bytes before it some text goes on, unless they begin several supertypes.
     ensures begun { IfErr result (λ e. IfSome (error_offset e) (λ offset.
         IsBegun (take offset bytes.now))) }
-    // What is named as nothing that a record holds begins there.
+    // Where it names what no record holds, that begins there.
     ensures unheld { IfErr result (λ e. NamesUnheld bytes.now e) }
 {
     let mut input = bytes;

@@ -26,8 +26,9 @@ pub use types::module_types;
 ///
 /// # Errors
 ///
-/// [`DecodeError::Malformed`] says at which byte the bytes stop being such a module: none begins
-/// with the bytes up to that one and with it. No other error comes.
+/// [`DecodeError::Malformed`] says at which byte the bytes stop being such a module: one begins with
+/// the bytes before that byte, and none with that byte too. Where a content is cut off, the place is
+/// the end of the bytes. No other error comes.
 ///
 /// # A module of one section
 ///

@@ -58,13 +58,13 @@ customs_are_others (k ∷ ks) c = ((λ e. absurd (let zero-is : k ≡ 0 = c.0 in
 
 -- ---- where they end
 
-first_is : (x y : ℕ) (xs ys : List ℕ) → x ∷ xs ≡ y ∷ ys → x ≡ y
+pub first_is : (x y : ℕ) (xs ys : List ℕ) → x ∷ xs ≡ y ∷ ys → x ≡ y
 first_is x y xs ys e = ap (elim [ [] ↦ 0 | z ∷ zs ↦ z ]) e
 
 others_are : (x y : ℕ) (xs ys : List ℕ) → x ∷ xs ≡ y ∷ ys → xs ≡ ys
 others_are x y xs ys e = ap (elim [ [] ↦ [] | z ∷ zs ↦ zs ]) e
 
-starts_with : (text : List ℕ) (s : Section) → IsSection text s → (more : List ℕ) × (text ≡ s.id ∷ more)
+pub starts_with : (text : List ℕ) (s : Section) → IsSection text s → (more : List ℕ) × (text ≡ s.id ∷ more)
 starts_with _ _ (sized id size content h) = (size ++ content, refl)
 
 -- Behind custom sections is what begins with a type section. So it is where other sections end that

@@ -83,7 +83,7 @@ impl<'a> TypeSectionReader<'a> {
         // With the bytes before it some text goes on.
         ensures begun { IfErr result (λ e. IfSome (error_offset e) (λ offset.
             IsBegun (take offset bytes.now))) }
-        // What is named as nothing that a record holds begins there.
+        // Where it names what no record holds, that begins there.
         ensures unheld { IfErr result (λ e. NamesUnheld bytes.now e) }
     {
         let mut rest = bytes;
@@ -146,7 +146,7 @@ impl<'a> TypeSectionReader<'a> {
         // With the bytes before it some text goes on, unless they begin several supertypes.
         ensures begun { IfErr result (λ e. IfSome (error_offset e) (λ offset.
             IsBegun (take offset self.old.bytes))) }
-        // What is named as nothing that a record holds begins there.
+        // Where it names what no record holds, that begins there.
         ensures unheld { IfErr result (λ e. NamesUnheld self.old.bytes e) }
     {
         let mut rest = self.rest;

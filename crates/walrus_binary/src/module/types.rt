@@ -14,9 +14,11 @@ use walrus_ty::GroupAt;
 ///
 /// # Errors
 ///
-/// [`DecodeError::Malformed`] says at which byte of the module the bytes stop being one, or what
-/// its type section contains stops being a text of groups; [`DecodeError::NotHeld`] at which byte a
-/// type begins that no record holds. [`DecodeError::Memory`] comes where memory was refused.
+/// Where the bytes are no module, the error is that of [`type_section`]. Else it is that of
+/// [`decode_types`] for what the type section contains: [`DecodeError::Malformed`] says at which
+/// byte that stops being a text of groups, [`DecodeError::NotHeld`] at which byte a type begins that
+/// no record holds. Both places are counted from the first byte of the module.
+/// [`DecodeError::Memory`] comes where memory was refused.
 ///
 /// # A module of one function type
 ///
