@@ -278,6 +278,12 @@ unended_begun : (end limit : ℕ) (bytes : List ℕ) (f : Fault) → Unended end
 unended_begun end limit bytes f u =
     ends_with (IsInteger end limit) bytes f u.front u.left (0 ∷ []) u.value u.parts u.place u.seen u.is_integer
 
+-- an integer has a first byte
+pub integer_starts : (end limit : ℕ) (text : List ℕ) (n : ℕ) → IsInteger end limit text n
+    → (b : ℕ) × (others : List ℕ) × (text ≡ b ∷ others)
+integer_starts end _ _ _ (last limit b low ends fits) = (b, [], refl)
+integer_starts end _ _ _ (more limit b high bytes big byte wide h) = (b, bytes, refl)
+
 pub u32_begun : StopsInText IsU32 u32_at
 u32_begun bytes f e =
     unended_begun 0x80 (2 ^ 32) bytes f (integer_unended 0x80 (2 ^ 32) bytes f (omega arith) (omega arith) e)

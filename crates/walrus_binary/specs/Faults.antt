@@ -67,11 +67,12 @@ pub data IsUnheldHeap : NotHeld → ℕ → Type 0 where
 
 -- What no record holds, the bytes before the place that an error names, and those from there on. Any
 -- type that a record holds may stand there too. The place of several supertypes is that of their
--- count, behind the first byte of their definition.
+-- count, behind the first byte of their definition, and no text goes on with that count.
 pub data IsUnheld : NotHeld → List ℕ → List ℕ → Type 0 where
   several_supertypes :
       (front count others : List ℕ) (is_final : Bool) (n : ℕ)
       → MayFollow IsSubType front → IsU32 count n → 2 ≤ n
+      → BeginsNoText ((front ++ sub_code is_final ∷ []) ++ count)
       → IsUnheld held.Supertypes (front ++ sub_code is_final ∷ []) (count ++ others)
   comp_type :
       (front others : List ℕ) (what : NotHeld) (code : ℕ)

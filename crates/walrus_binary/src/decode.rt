@@ -27,9 +27,10 @@ use walrus_ty::GroupAt;
 /// # Errors
 ///
 /// [`DecodeError::Malformed`] and [`DecodeError::NotHeld`] say at which byte the bytes stop being a
-/// text of groups: some text begins with the bytes before it, and none with it too. Only several
-/// supertypes are told at the first byte of their count, with which a text may still go on; and a
-/// count of them that isn't ended is told where it stops being an integer.
+/// text of groups: some text begins with the bytes before it, and none with it too. For several
+/// supertypes the byte is the first of their count: no text goes on with that count, but one may
+/// with its first byte. A count of them that does not end is reported where it stops being an
+/// integer.
 /// [`DecodeError::Memory`] comes where memory was refused.
 ///
 /// # A section of one function type

@@ -162,6 +162,7 @@ content_stuck bytes f e =
       parts = sym (append-nil bytes);
       place = left_is [] (reason.Expected expected.Content) f q1;
       stuck = λ s b after other k. absurd cc;
+      counted = λ c count after m k u other. absurd cc;
     }))
 
 -- ---- sections
