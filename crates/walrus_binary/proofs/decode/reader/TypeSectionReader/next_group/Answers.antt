@@ -1,4 +1,4 @@
-use Rattle.std.proofs.Common.{sym}
+use Rattle.std.proofs.Common.{rules, sym}
 use Rattle.walrus_binary.proofs.Progress.{begins_with_groups, group_follows, ends, fails, trails, nothing_left, something_left, some_remain}
 use Rattle.walrus_binary.proofs.Sections.{refused, stuck_there, begun_before, left_fits, error_within, error_refused, error_stuck, error_begun, error_unheld}
 use Rattle.walrus_binary.proofs.decode.reader.TypeSectionReader.next_group.Goals as goal
@@ -13,6 +13,9 @@ returns-then-is_empty-clause-end c =
 pub refusal-requires : goal.refusal-requires
 refusal-requires c =
     rw c.expected-error.ensures (left_fits c.self.inside.bytes.now _ (trails c.self.inside.bytes.now c.self.inside.remaining c.self.inside.rest.now c.self.invariant c.if-self-eq0.true (something_left c.self.inside.rest.now (sym c.if-is_empty.ensures))))
+
+pub returns-then-self-eq0-clause-end : goal.returns-then-self-eq0-clause-end
+returns-then-self-eq0-clause-end c = search rules
 
 pub returns-then-self-eq0-clause-refused : goal.returns-then-self-eq0-clause-refused
 returns-then-self-eq0-clause-refused c =
@@ -35,6 +38,9 @@ pub returns-in-Ok-clause-group : goal.returns-in-Ok-clause-group
 returns-in-Ok-clause-group c =
     let on = group_follows c.self.inside.bytes.now c.self.inside.remaining c.self.inside.rest.now c.in-Ok.group c.read_group.new.input.now c.self.invariant (some_remain _ c.if-self-eq0.false) c.in-Ok.ensures in
     rw (← c.self.view_is) on.groups
+
+pub returns-in-Ok-clause-none : goal.returns-in-Ok-clause-none
+returns-in-Ok-clause-none c = search rules
 
 pub returns-in-Ok-clause-begins : goal.returns-in-Ok-clause-begins
 returns-in-Ok-clause-begins c =
