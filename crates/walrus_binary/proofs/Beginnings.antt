@@ -1,37 +1,87 @@
 -- Where reading stops, a text goes on with the bytes before: how parts of a text do, integers and
 -- lists. Only a count of two supertypes or more may be begun behind bytes that go on.
 use Rattle.std.proofs.Common.{◌≡◌, ℕ, zero, suc, ◌^◌, ◌<◌, ◌≤◌, ◌*◌, ◌+◌, ◌-◌, ◌/◌, Bool, nat_lt, ◌&&◌, List, [], ◌∷◌, ◌++◌, length, refl, sym, ap, subst, ◌∙◌, append_assoc, append-nil, arith, inl, inr, ltb-true, ltb-false}
+use Rattle.walrus_ty.specs.declared.ty.value.Heap.{Heap}
+use Rattle.walrus_ty.specs.declared.ty.value.Reference.{Reference}
+use Rattle.walrus_ty.specs.declared.records.CompAt.{CompAt}
 use Rattle.walrus_ty.specs.declared.records.EntryAt.{EntryAt}
+use Rattle.walrus_binary.specs.declared.error.Expected.{Expected}
 use Rattle.walrus_binary.specs.declared.error.Expected.TheVariants as expected
+use Rattle.walrus_binary.specs.declared.error.NotHeld.{NotHeld}
+use Rattle.walrus_binary.specs.declared.error.NotHeld.TheVariants as held
 use Rattle.walrus_binary.specs.declared.error.Reason.{Reason}
 use Rattle.walrus_binary.specs.declared.error.Reason.TheVariants as reason
 use Rattle.walrus_binary.specs.declared.error.Fault.{Fault}
 use Rattle.walrus_binary.specs.Leb128.{IsInteger, last, more, IsU32, IsS33}
-use Rattle.walrus_binary.specs.Grammar.{AreItems, none, next, IsVec, counted, sub_code, IsSubType}
-use Rattle.walrus_binary.specs.Faults.{GoesOn}
+use Rattle.walrus_binary.specs.Grammar.{AreItems, none, next, IsVec, counted, IsHeapType, IsRefType, IsCompType, sub_code, IsSubType}
+use Rattle.walrus_binary.specs.Faults.{GoesOn, IsUnheldComp, IsUnheldHeap}
 use Rattle.walrus_binary.specs.Steps.Reading.{◌>>=◌, integer_at, u32_at, s33_at, items_at, vec_at}
 use Rattle.walrus_binary.proofs.Basics.{Reading, IsSound, done, chosen}
 use Rattle.walrus_binary.proofs.Integers.{both_true, u32_sound}
-use Rattle.walrus_binary.proofs.Faults.{failed, here, left_is, map_err, step_err}
+use Rattle.walrus_binary.proofs.Faults.{failed, here, left_is, reason_is, map_err, step_err}
 
 -- ---- what goes on
 
--- What stands between bytes that go on and the place where reading stopped: nothing, or the first
--- byte of a definition and the first bytes of its count of supertypes.
+-- What stands between bytes that go on and the place where reading stopped: the first byte of a
+-- definition, with the first bytes of its count of supertypes or without; else nothing. It says what
+-- no record holds there, too.
 pub data Tail : Type 0 where
   nothing : Tail
+  sub_of_several : (is_final : Bool) → Tail
+  before_comp : Tail
+  before_heap : Tail
+  before_ref : Tail
   supertypes :
       (is_final : Bool) (count : List ℕ) (least : ℕ) → IsU32 (count ++ 0 ∷ []) least → 2 ≤ least
       → Tail
 
 abbrev pub tail_bytes : Tail → List ℕ
 tail_bytes nothing = []
+tail_bytes (sub_of_several is_final) = sub_code is_final ∷ []
+tail_bytes before_comp = []
+tail_bytes before_heap = []
+tail_bytes before_ref = []
 tail_bytes (supertypes is_final count least h several) = sub_code is_final ∷ count
 
 -- what may stand in its place
 abbrev pub Fills : Tail → List ℕ → Type 0
 Fills nothing text = text ≡ []
+Fills (sub_of_several is_final) text = (entry : EntryAt) × IsSubType text entry
+Fills before_comp text = (c : CompAt) × IsCompType text c
+Fills before_heap text = (h : Heap ℕ) × IsHeapType text h
+Fills before_ref text = (r : Reference ℕ) × IsRefType text r
 Fills (supertypes is_final count least h several) text = (entry : EntryAt) × IsSubType text entry
+
+-- what no record holds, behind the tail
+pub data Begins : NotHeld → Tail → List ℕ → Type 0 where
+  counts_several :
+      (is_final : Bool) (count others : List ℕ) (n : ℕ) → IsU32 count n → 2 ≤ n
+      → Begins held.Supertypes (sub_of_several is_final) (count ++ others)
+  comp_code :
+      (what : NotHeld) (code : ℕ) (others : List ℕ) → IsUnheldComp what code
+      → Begins what before_comp (code ∷ others)
+  heap_code :
+      (what : NotHeld) (code : ℕ) (others : List ℕ) → IsUnheldHeap what code
+      → Begins what before_heap (code ∷ others)
+  ref_code :
+      (what : NotHeld) (code : ℕ) (others : List ℕ) → IsUnheldHeap what code
+      → Begins what before_ref (code ∷ others)
+
+abbrev pub IsExpected : Reason → Type 0
+IsExpected (reason.Expected e) = Unit {0}
+IsExpected (reason.NotHeld what) = ⊥
+
+abbrev pub Names : Reason → Tail → List ℕ → Type 0
+Names (reason.Expected e) tail left = Unit {0}
+Names (reason.NotHeld what) tail left = Begins what tail left
+
+pub expected_names : (r : Reason) (tail : Tail) (left : List ℕ) → IsExpected r → Names r tail left
+expected_names (reason.Expected e) tail left h = tt
+expected_names (reason.NotHeld what) tail left h = absurd h
+
+pub expected_here : {A : Type 0} (bytes : List ℕ) (e : Expected) (f : Fault)
+    → here {A = A} bytes (reason.Expected e) ≡ failed f → IsExpected f.reason
+expected_here bytes e f h = subst IsExpected (sym (reason_is bytes (reason.Expected e) f h)) tt
 
 -- Reading stopped behind `front` and a tail, and `front` goes on with what may stand in its place.
 pub record Begun {A : Type 0} (IsText : List ℕ → A → Type 0) (bytes : List ℕ) (f : Fault) : Type 0 where
@@ -40,6 +90,7 @@ pub record Begun {A : Type 0} (IsText : List ℕ → A → Type 0) (bytes : List
   pub left : List ℕ
   pub parts : bytes ≡ front ++ (tail_bytes tail ++ left)
   pub place : f.left ≡ length left
+  pub names : Names f.reason tail left
   pub goes_on : (text : List ℕ) → Fills tail text → GoesOn IsText (front ++ text)
 
 abbrev pub StopsInText : {A : Type 0} → (List ℕ → A → Type 0) → (List ℕ → Reading A) → Type 0
@@ -76,6 +127,7 @@ within IsA IsB pre post make made bytes whole f is b =
       left = b.left;
       parts = is ∙ ap (λ (u : List ℕ). pre ++ u) b.parts ∙ sym over;
       place = b.place;
+      names = b.names;
       goes_on = λ text fills.
           subst (λ (u : List ℕ). GoesOn IsB u) (sym (append_assoc pre b.front text))
           (extend IsA IsB pre post make made (b.front ++ text) (b.goes_on text fills));
@@ -92,14 +144,16 @@ inside {A = A} IsA IsB pre make made =
 -- by these last bytes
 pub ends_with : {A : Type 0} (IsText : List ℕ → A → Type 0)
     → (bytes : List ℕ) (f : Fault) (front left end : List ℕ) (value : A)
-    → bytes ≡ front ++ left → f.left ≡ length left → IsText (front ++ end) value → Begun IsText bytes f
-ends_with IsText bytes f front left end value parts place h =
+    → bytes ≡ front ++ left → f.left ≡ length left → IsExpected f.reason → IsText (front ++ end) value
+    → Begun IsText bytes f
+ends_with IsText bytes f front left end value parts place seen h =
     record {
       front = front;
       tail = nothing;
       left = left;
       parts = parts;
       place = place;
+      names = expected_names f.reason nothing left seen;
       goes_on = λ text empty.
           let same : front ++ text ≡ front = ap (λ (u : List ℕ). front ++ u) empty ∙ append-nil front in
           record {
@@ -112,9 +166,33 @@ ends_with IsText bytes f front left end value parts place h =
 -- where nothing of it was read yet
 pub at_once : {A : Type 0} (IsText : List ℕ → A → Type 0)
     → (text : List ℕ) (value : A) → IsText text value
-    → (bytes : List ℕ) (r : Reason) (f : Fault) → here {A = A} bytes r ≡ failed f → Begun IsText bytes f
-at_once IsText text value h bytes r f e =
-    ends_with IsText bytes f [] bytes text value refl (left_is bytes r f e) h
+    → (bytes : List ℕ) (e : Expected) (f : Fault) → here {A = A} bytes (reason.Expected e) ≡ failed f
+    → Begun IsText bytes f
+at_once IsText text value h bytes e f q =
+    ends_with IsText bytes f [] bytes text value refl (left_is bytes (reason.Expected e) f q)
+    (expected_here bytes e f q) h
+
+-- where no record holds what begins there
+pub unheld_here : {A : Type 0} (IsText : List ℕ → A → Type 0) (tail : Tail) → tail_bytes tail ≡ []
+    → ((text : List ℕ) → Fills tail text → (value : A) × IsText text value)
+    → (bytes : List ℕ) (what : NotHeld) (f : Fault) → here {A = A} bytes (reason.NotHeld what) ≡ failed f
+    → Begins what tail bytes → Begun IsText bytes f
+unheld_here IsText tail empty filled bytes what f e h =
+    record {
+      front = [];
+      tail = tail;
+      left = bytes;
+      parts = ap (λ (u : List ℕ). u ++ bytes) (sym empty);
+      place = left_is bytes (reason.NotHeld what) f e;
+      names = subst (λ (r : Reason). Names r tail bytes) (sym (reason_is bytes (reason.NotHeld what) f e)) h;
+      goes_on = λ text fills.
+          let v = filled text fills in
+          record {
+            more = [];
+            value = v.0;
+            is_text = subst (λ (u : List ℕ). IsText u v.0) (sym (append-nil text)) v.1;
+          };
+    }
 
 -- two parts
 pub pair_begun : {A B C : Type 0} (IsA : List ℕ → A → Type 0) (IsB : List ℕ → B → Type 0)
@@ -140,17 +218,19 @@ pub record Unended (end limit : ℕ) (bytes : List ℕ) (f : Fault) : Type 0 whe
   pub value : ℕ
   pub parts : bytes ≡ front ++ left
   pub place : f.left ≡ length left
+  pub seen : IsExpected f.reason
   pub is_integer : IsInteger end limit (front ++ 0 ∷ []) value
 
-unended_here : (end limit : ℕ) (bytes : List ℕ) (r : Reason) (f : Fault) → 0 < end → 0 < limit
-    → here {A = ℕ} bytes r ≡ failed f → Unended end limit bytes f
-unended_here end limit bytes r f from room e =
+unended_here : (end limit : ℕ) (bytes : List ℕ) (e : Expected) (f : Fault) → 0 < end → 0 < limit
+    → here {A = ℕ} bytes (reason.Expected e) ≡ failed f → Unended end limit bytes f
+unended_here end limit bytes e f from room q =
     record {
       front = [];
       left = bytes;
       value = 0;
       parts = refl;
-      place = left_is bytes r f e;
+      place = left_is bytes (reason.Expected e) f q;
+      seen = expected_here bytes e f q;
       is_integer = last limit 0 (omega arith) from room;
     }
 
@@ -163,6 +243,7 @@ behind_byte end limit b bytes f big byte wide u =
       value = u.value * 0x80 + (b - 0x80);
       parts = ap (λ (k : List ℕ). b ∷ k) u.parts;
       place = u.place;
+      seen = u.seen;
       is_integer = more limit b u.value (u.front ++ 0 ∷ []) big byte wide u.is_integer;
     }
 
@@ -170,14 +251,14 @@ pub integer_unended : (end limit : ℕ) (bytes : List ℕ) (f : Fault) → 0 < e
     → integer_at end limit bytes ≡ failed f → Unended end limit bytes f
 unfolding integer_at
 integer_unended end limit [] f from room e =
-    unended_here end limit [] (reason.Expected expected.Integer) f from room e
+    unended_here end limit [] expected.Integer f from room e
 integer_unended end limit (b ∷ bytes) f from room e =
     elim (chosen (nat_lt b 0x80) _ _ (failed f) e) [
       | inl low ↦
           elim (chosen (nat_lt b end && nat_lt b limit) _ _ (failed f) low.1) [
             | inl ok ↦ absurd (let k = ok.1 in cc)
             | inr out ↦
-                unended_here end limit (b ∷ bytes) (reason.Expected expected.Integer) f from room out.1
+                unended_here end limit (b ∷ bytes) expected.Integer f from room out.1
           ]
       | inr big ↦
           elim (chosen (nat_lt b 0x100 && nat_lt 0x80 limit) _ _ (failed f) big.1) [
@@ -188,14 +269,20 @@ integer_unended end limit (b ∷ bytes) f from room e =
                 (integer_unended end (limit / 0x80) bytes f from (omega (arith, wide))
                 (map_err (integer_at end (limit / 0x80) bytes) (λ high. high * 0x80 + (b - 0x80)) f ok.1))
             | inr out ↦
-                unended_here end limit (b ∷ bytes) (reason.Expected expected.Integer) f from room out.1
+                unended_here end limit (b ∷ bytes) expected.Integer f from room out.1
           ]
     ]
 
 unended_begun : (end limit : ℕ) (bytes : List ℕ) (f : Fault) → Unended end limit bytes f
     → Begun (IsInteger end limit) bytes f
 unended_begun end limit bytes f u =
-    ends_with (IsInteger end limit) bytes f u.front u.left (0 ∷ []) u.value u.parts u.place u.is_integer
+    ends_with (IsInteger end limit) bytes f u.front u.left (0 ∷ []) u.value u.parts u.place u.seen u.is_integer
+
+-- an integer has a first byte
+pub integer_starts : (end limit : ℕ) (text : List ℕ) (n : ℕ) → IsInteger end limit text n
+    → (b : ℕ) × (others : List ℕ) × (text ≡ b ∷ others)
+integer_starts end _ _ _ (last limit b low ends fits) = (b, [], refl)
+integer_starts end _ _ _ (more limit b high bytes big byte wide h) = (b, bytes, refl)
 
 pub u32_begun : StopsInText IsU32 u32_at
 u32_begun bytes f e =

@@ -15,13 +15,17 @@ failed f = Err f
 abbrev pub DoesNotRead : {A : Type 0} → (List ℕ → Reading A) → List ℕ → Type 0
 DoesNotRead reads bytes = (g : Fault) × (reads bytes ≡ failed g)
 
--- Reading stopped behind `front`, and does so whatever comes after the next byte.
+-- Reading stopped behind `front`, and does so whatever comes after the next byte, or after the next
+-- integer.
 pub record Stops {A : Type 0} (reads : List ℕ → Reading A) (bytes : List ℕ) (f : Fault) : Type 0 where
   pub front : List ℕ
   pub left : List ℕ
   pub parts : bytes ≡ front ++ left
   pub place : f.left ≡ length left
   pub stuck : IsSeenAtOnce f.reason → (b : ℕ) (rest other : List ℕ) → left ≡ b ∷ rest → DoesNotRead reads (front ++ b ∷ other)
+  pub counted :
+      (c : ℕ) (count rest : List ℕ) (n : ℕ) → left ≡ c ∷ (count ++ rest) → IsU32 (c ∷ count) n → (other : List ℕ)
+      → DoesNotRead reads (front ++ c ∷ (count ++ other))
 
 abbrev pub IsStuck : {A : Type 0} → (List ℕ → Reading A) → Type 0
 IsStuck reads = (bytes : List ℕ) (f : Fault) → reads bytes ≡ failed f → Stops reads bytes f
@@ -38,9 +42,12 @@ here bytes r = Err (record { left = length bytes; reason = r })
 pub left_is : {A : Type 0} (bytes : List ℕ) (r : Reason) (f : Fault) → here {A = A} bytes r ≡ failed f → f.left ≡ length bytes
 left_is bytes r f e = let same : record { left = length bytes; reason = r } ≡ f = cc in sym (ap (λ (k : Fault). k.left) same)
 
+pub reason_is : {A : Type 0} (bytes : List ℕ) (r : Reason) (f : Fault) → here {A = A} bytes r ≡ failed f → f.reason ≡ r
+reason_is bytes r f e = let same : record { left = length bytes; reason = r } ≡ f = cc in sym (ap (λ (k : Fault). k.reason) same)
+
 -- nothing is left
 pub end_stops : {A : Type 0} (reads : List ℕ → Reading A) (r : Reason) (f : Fault) → here {A = A} [] r ≡ failed f → Stops reads [] f
-end_stops reads r f e = record { front = []; left = []; parts = refl; place = left_is [] r f e; stuck = λ s b rest other q. absurd cc }
+end_stops reads r f e = record { front = []; left = []; parts = refl; place = left_is [] r f e; stuck = λ s b rest other q. absurd cc; counted = λ c count rest n q u other. absurd cc }
 
 first_is : (b c : ℕ) (bytes rest : List ℕ) → c ∷ bytes ≡ b ∷ rest → c ≡ b
 first_is b c bytes rest e = ap (elim [ [] ↦ 0 | x ∷ xs ↦ x ]) e
@@ -54,6 +61,8 @@ first_stops reads c bytes r f e h =
       parts = refl;
       place = left_is (c ∷ bytes) r f e;
       stuck = λ s b rest other q. subst (λ k. DoesNotRead reads (k ∷ other)) (first_is b c bytes rest q) (h other);
+      counted = λ b count rest n q u other.
+          subst (λ k. DoesNotRead reads (k ∷ (count ++ other))) (first_is b c bytes (count ++ rest) q) (h (count ++ other));
     }
 
 -- in what stands behind a byte
@@ -66,6 +75,8 @@ tag_stops reads whole k bytes f s h =
       parts = ap (λ (u : List ℕ). k ∷ u) s.parts;
       place = s.place;
       stuck = λ seen b rest other q. let n = s.stuck seen b rest other q in h (s.front ++ b ∷ other) n.0 n.1;
+      counted = λ c count rest n q u other.
+          let m = s.counted c count rest n q u other in h (s.front ++ c ∷ (count ++ other)) m.0 m.1;
     }
 
 -- in what has the same first byte
@@ -78,6 +89,8 @@ through_stops reads whole k bytes f s h =
       parts = s.parts;
       place = s.place;
       stuck = λ seen b rest other q. same s.front s.left b rest other s.parts q (s.stuck seen b rest other q);
+      counted = λ c count rest n q u other.
+          same s.front s.left c (count ++ rest) (count ++ other) s.parts q (s.counted c count rest n q u other);
     }
   where
     same : (front left : List ℕ) (b : ℕ) (rest other : List ℕ) → k ∷ bytes ≡ front ++ left → left ≡ b ∷ rest → DoesNotRead reads (front ++ b ∷ other) → DoesNotRead whole (front ++ b ∷ other)
@@ -102,6 +115,11 @@ behind_stops IsA p q whole complete bytes a rest f t s h =
           let n = s.stuck seen b after other k in
           let is = append_assoc t.text s.front (b ∷ other) in
           subst (λ u. DoesNotRead whole u) (sym is) (h (t.text ++ (s.front ++ b ∷ other)) (s.front ++ b ∷ other) n.0 (complete t.text a (s.front ++ b ∷ other) t.is_text) n.1);
+      counted = λ c count after n k u other.
+          let m = s.counted c count after n k u other in
+          let part : List ℕ = s.front ++ c ∷ (count ++ other) in
+          subst (λ v. DoesNotRead whole v) (sym (append_assoc t.text s.front (c ∷ (count ++ other))))
+          (h (t.text ++ part) part m.0 (complete t.text a part t.is_text) m.1);
     }
 
 -- in the part with which the whole begins
@@ -114,6 +132,8 @@ begin_stops reads whole bytes f s h =
       parts = s.parts;
       place = s.place;
       stuck = λ seen b rest other q. let n = s.stuck seen b rest other q in h (s.front ++ b ∷ other) n.0 n.1;
+      counted = λ c count rest n q u other.
+          let m = s.counted c count rest n q u other in h (s.front ++ c ∷ (count ++ other)) m.0 m.1;
     }
 
 pub map_err : {A B : Type 0} (r : Reading A) (g : A → B) (f : Fault) → (r >>= (λ x. done (g x.0) x.1)) ≡ failed f → r ≡ failed f

@@ -1,5 +1,5 @@
 -- Where the reading of a section stops, no text of a section goes on.
-use Rattle.std.proofs.Common.{◌≡◌, ℕ, Bool, true, false, cond, nat_lt, nat_le, nat_eq, ◌||◌, List, [], ◌∷◌, ◌++◌, length, Option, Some, None, Result, Ok, Err, refl, sym, ap, subst, arith, ne_eqb}
+use Rattle.std.proofs.Common.{◌≡◌, ℕ, Bool, true, false, cond, nat_lt, nat_le, nat_eq, ◌||◌, List, [], ◌∷◌, ◌++◌, length, Option, Some, None, Result, Ok, Err, refl, sym, ap, subst, ◌∙◌, arith, ne_eqb}
 use Rattle.walrus_ty.specs.declared.ty.value.AbstractHeapType.{AbstractHeapType}
 use Rattle.walrus_ty.specs.declared.ty.value.Heap.TheVariants as heap
 use Rattle.walrus_ty.specs.declared.ty.value.Val.TheVariants as val
@@ -19,7 +19,7 @@ use Rattle.walrus_binary.specs.declared.error.Fault.{Fault}
 use Rattle.walrus_binary.specs.Leb128.{IsU32}
 use Rattle.walrus_binary.specs.Grammar.{IsVec, IsStorageType, IsFieldType, IsValType, IsSubType, IsRecType, IsTypes, reference}
 use Rattle.walrus_binary.specs.Steps.Reading.{◌>>=◌, expected_error, u32_at, s33_at, vec_at, heap_type_of, index_at, abstract_or, heap_at, abbreviated_or, reference_at, val_at, storage_at, mutability_at, field_at, function_at, comp_at, supertype_at, declared_at, entry_at, group_at, types_at, IsSeenAtOnce}
-use Rattle.walrus_binary.proofs.Basics.{Reading, which}
+use Rattle.walrus_binary.proofs.Basics.{Reading, which, value_is}
 use Rattle.walrus_binary.proofs.Integers.{u32_sound, u32_complete}
 use Rattle.walrus_binary.proofs.Lists.{vec_sound, vec_complete}
 use Rattle.walrus_binary.proofs.Values.{val_sound, val_complete}
@@ -60,9 +60,11 @@ abbreviated_stops : (b : ℕ) (bytes : List ℕ) (f : Fault) (o : Option Abstrac
 unfolding reference_at
 abbreviated_stops b bytes f (Some a) h k is e = absurd cc
 abbreviated_stops b bytes f None h k is e =
-    which (nat_eq b 0x68 || nat_eq b 0x75) _ _ (failed f) e
-    (λ h2 q2. first_stops reference_at b bytes (reason.NotHeld held.Continuation) f q2 (λ other. (stop (b ∷ other) (reason.NotHeld held.Continuation), rw (h, k, is, h2) refl)))
-    (λ h2 q2. first_stops reference_at b bytes (reason.Expected expected.ValType) f q2 (λ other. (stop (b ∷ other) (reason.Expected expected.ValType), rw (h, k, is, h2) refl)))
+    which (nat_eq b 0x65) _ _ (failed f) e
+    (λ h1 q1. first_stops reference_at b bytes (reason.NotHeld held.Shared) f q1 (λ other. (stop (b ∷ other) (reason.NotHeld held.Shared), rw (h, k, is, h1) refl)))
+    (λ h1 q1. which (nat_eq b 0x68 || nat_eq b 0x75) _ _ (failed f) q1
+    (λ h2 q2. first_stops reference_at b bytes (reason.NotHeld held.Continuation) f q2 (λ other. (stop (b ∷ other) (reason.NotHeld held.Continuation), rw (h, k, is, h1, h2) refl)))
+    (λ h2 q2. first_stops reference_at b bytes (reason.Expected expected.ValType) f q2 (λ other. (stop (b ∷ other) (reason.Expected expected.ValType), rw (h, k, is, h1, h2) refl))))
 
 reference_stuck : IsStuck reference_at
 unfolding reference_at
@@ -147,8 +149,14 @@ comp_stuck (b ∷ bytes) f e =
 
 -- ---- definitions and groups
 
-too_many : (bytes : List ℕ) (f : Fault) → here {A = Option ℕ} bytes (reason.NotHeld held.Supertypes) ≡ failed f → Stops supertype_at bytes f
-too_many bytes f e =
+no_supertype : (bytes : List ℕ) (n : ℕ) (rest : List ℕ) → u32_at bytes ≡ Ok (n, rest) → nat_eq n 0 ≡ false → nat_eq n 1 ≡ false
+    → supertype_at bytes ≡ failed (stop bytes (reason.NotHeld held.Supertypes))
+unfolding supertype_at
+no_supertype bytes n rest h zero-not one-not = rw (h, zero-not, one-not) refl
+
+too_many : (bytes : List ℕ) (n : ℕ) (rest : List ℕ) (f : Fault) → u32_at bytes ≡ Ok (n, rest) → nat_eq n 0 ≡ false → nat_eq n 1 ≡ false
+    → here {A = Option ℕ} bytes (reason.NotHeld held.Supertypes) ≡ failed f → Stops supertype_at bytes f
+too_many bytes n rest f h zero-not one-not e =
     let same : stop bytes (reason.NotHeld held.Supertypes) ≡ f = cc in
     record {
       front = [];
@@ -156,6 +164,12 @@ too_many bytes f e =
       parts = refl;
       place = sym (ap (λ (k : Fault). k.left) same);
       stuck = λ seen b rest other q. absurd (subst (λ (k : Fault). IsSeenAtOnce k.reason) (sym same) seen);
+      counted = λ c count after m q u other.
+          let is : n ≡ m = value_is n m rest after (sym h ∙ ap u32_at q ∙ u32_complete (c ∷ count) m after u) in (
+            stop (c ∷ (count ++ other)) (reason.NotHeld held.Supertypes),
+            no_supertype (c ∷ (count ++ other)) m other (u32_complete (c ∷ count) m other u)
+                (subst (λ k. nat_eq k 0 ≡ false) is zero-not) (subst (λ k. nat_eq k 1 ≡ false) is one-not),
+          );
     }
 
 supertype_stuck : IsStuck supertype_at
@@ -167,7 +181,7 @@ supertype_stuck bytes f e =
     which (nat_eq n 1) _ _ (failed f) q1
     (λ h2 q2. behind_stops IsU32 u32_at u32_at supertype_at u32_complete bytes n rest f (u32_sound bytes n rest h)
     (u32_stuck rest f (map_err (u32_at rest) (λ k. Some k) f q2)) (λ xs ys g i j. (g, rw (i, h1, h2, j) refl)))
-    (λ h2 q2. too_many bytes f q2)))
+    (λ h2 q2. too_many bytes n rest f h h1 h2 q2)))
 
 abbrev made_entry : Bool → Option ℕ → CompAt → EntryAt
 made_entry is_final s c = record { comp = c; is_final = is_final; supertype = s }
@@ -210,6 +224,9 @@ pub record Stopped (bytes : List ℕ) (f : Fault) : Type 0 where
   pub parts : bytes ≡ front ++ left
   pub place : f.left ≡ length left
   pub stuck : IsSeenAtOnce f.reason → (b : ℕ) (rest other : List ℕ) (groups : List GroupAt) → left ≡ b ∷ rest → IsTypes (front ++ b ∷ other) groups → ⊥
+  pub counted :
+      (c : ℕ) (count rest other : List ℕ) (n : ℕ) (groups : List GroupAt) → left ≡ c ∷ (count ++ rest) → IsU32 (c ∷ count) n
+      → IsTypes (front ++ c ∷ (count ++ other)) groups → ⊥
 
 pub whole_err : {P : Type 0} (r : Reading (List GroupAt)) (g : List GroupAt × List ℕ → Result (List GroupAt) Fault) (f : Fault) → (r >>= g) ≡ Err f → (r ≡ failed f → P) → ((x : List GroupAt) (rest : List ℕ) → r ≡ Ok (x, rest) → g (x, rest) ≡ Err f → P) → P
 whole_err (Ok x) g f e h k = k x.0 x.1 refl e
@@ -243,6 +260,10 @@ types_stop bytes f e =
       stuck = λ seen b rest other gs q t.
           let n = s.stuck seen b rest other q in
           not_both (types_at (s.front ++ b ∷ other)) n.0 gs (types_fail (s.front ++ b ∷ other) n.0 n.1) (types_again (s.front ++ b ∷ other) gs t);
+      counted = λ c count rest other n gs q u t.
+          let m = s.counted c count rest n q u other in
+          let all : List ℕ = s.front ++ c ∷ (count ++ other) in
+          not_both (types_at all) m.0 gs (types_fail all m.0 m.1) (types_again all gs t);
     })
     (λ gs rest h q. which (nat_eq (length rest) 0) (Ok gs) (expected_error rest expected.End) (Err f) q (λ h1 q1. absurd cc) (λ h1 q1.
     let t = vec_sound IsRecType group_at group_sound bytes gs rest h in
@@ -253,4 +274,8 @@ types_stop bytes f e =
       place = err_left rest (reason.Expected expected.End) f (expected_error rest expected.End) refl q1;
       stuck = λ seen b after other others k u.
           not_both (types_at (t.text ++ b ∷ other)) (stop (b ∷ other) (reason.Expected expected.End)) others (trailing t.text gs b other t.is_text) (types_again (t.text ++ b ∷ other) others u);
+      counted = λ c count after other n others q u v.
+          let all : List ℕ = t.text ++ c ∷ (count ++ other) in
+          not_both (types_at all) (stop (c ∷ (count ++ other)) (reason.Expected expected.End)) others
+          (trailing t.text gs c (count ++ other) t.is_text) (types_again all others v);
     }))

@@ -1,5 +1,5 @@
 -- What is read as an integer is one, and each integer is read.
-use Rattle.std.proofs.Common.{◌≡◌, ℕ, ◌+◌, ◌-◌, ◌*◌, ◌/◌, ◌^◌, Bool, true, false, nat_lt, ◌&&◌, List, [], ◌∷◌, ◌++◌, Ok, refl, ap, subst, ◌∙◌, inl, inr, ltb-true, ltb-false, lt-ltb, le-ltb}
+use Rattle.std.proofs.Common.{◌≡◌, ℕ, ◌+◌, ◌-◌, ◌*◌, ◌/◌, ◌^◌, Bool, true, false, nat_lt, ◌&&◌, List, [], ◌∷◌, ◌++◌, Ok, refl, ap, subst, ◌∙◌, inl, inr, ltb-true, ltb-false, lt-ltb, le-ltb, ◌||◌, ◌⊎◌}
 use Rattle.walrus_binary.specs.Leb128.{IsInteger, last, more, IsU32, IsS33}
 use Rattle.walrus_binary.specs.Steps.Reading.{◌>>=◌, integer_at, u32_at, s33_at}
 use Rattle.walrus_binary.proofs.Basics.{Takes, IsSound, IsComplete, bind_ok, chosen, guard_ok, value_is, rest_is}
@@ -8,6 +8,10 @@ pub both_true : (a b : Bool) → (a && b) ≡ true → (a ≡ true) × (b ≡ tr
 both_true true true e = (refl, refl)
 both_true true false e = absurd cc
 both_true false b e = absurd cc
+
+pub either_true : (a b : Bool) → (a || b) ≡ true → (a ≡ true) ⊎ (b ≡ true)
+either_true true b e = inl refl
+either_true false b e = inr e
 
 pub integer_again : (end limit : ℕ) (bytes : List ℕ) (n : ℕ) (rest : List ℕ) → IsInteger end limit bytes n → integer_at end limit (bytes ++ rest) ≡ Ok (n, rest)
 unfolding integer_at

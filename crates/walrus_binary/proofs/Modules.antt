@@ -3,7 +3,11 @@ pub mod Orders
 pub mod Readings
 pub mod Seen
 pub mod Framing
+pub mod GoingOn
 pub mod Faulting
 pub mod Replacing
 pub mod Uniqueness
-pub mod ErrorPlaces
+pub mod TypeContents
+pub mod FirstSections
+pub mod Customs
+pub mod BadTypes

@@ -1,5 +1,6 @@
 -- Where the reading of a section stops, a text goes on with the bytes before.
-use Rattle.std.proofs.Common.{◌≡◌, ℕ, zero, suc, ◌^◌, ◌≤◌, ◌⊎◌, inl, inr, Bool, true, false, nat_lt, nat_le, nat_eq, eqb-true, ◌||◌, List, [], ◌∷◌, ◌++◌, length, Option, Some, None, Ok, Err, refl, sym, ap, subst, ◌∙◌, append_assoc, append-nil, arith}
+use Rattle.std.proofs.Common.{◌≡◌, ℕ, zero, suc, ◌^◌, ◌≤◌, ◌⊎◌, inl, inr, Bool, true, false, nat_lt, nat_le, nat_eq, eqb-true, ◌||◌, List, [], ◌∷◌, ◌++◌, length, Option, Some, None, Result, Ok, Err, refl, sym, ap, subst, ◌∙◌, append_assoc, append-nil, arith}
+use Rattle.std.proofs.lemmas.Bool.{eqb-false}
 use Rattle.walrus_ty.specs.declared.ty.value.AbstractHeapType.{AbstractHeapType}
 use Rattle.walrus_ty.specs.declared.ty.value.AbstractHeapType.TheVariants as abstract
 use Rattle.walrus_ty.specs.declared.ty.value.Heap.{Heap}
@@ -12,24 +13,28 @@ use Rattle.walrus_ty.specs.declared.ty.value.Field.{Field}
 use Rattle.walrus_ty.specs.declared.records.CompAt.{CompAt}
 use Rattle.walrus_ty.specs.declared.records.CompAt.TheVariants as comp
 use Rattle.walrus_ty.specs.declared.records.EntryAt.{EntryAt}
+use Rattle.walrus_ty.specs.declared.records.GroupAt.{GroupAt}
 use Rattle.walrus_ty.specs.declared.records.GroupAt.TheVariants as group
+use Rattle.walrus_binary.specs.declared.error.Expected.{Expected}
 use Rattle.walrus_binary.specs.declared.error.Expected.TheVariants as expected
+use Rattle.walrus_binary.specs.declared.error.NotHeld.{NotHeld}
 use Rattle.walrus_binary.specs.declared.error.NotHeld.TheVariants as held
 use Rattle.walrus_binary.specs.declared.error.Reason.{Reason}
 use Rattle.walrus_binary.specs.declared.error.Reason.TheVariants as reason
 use Rattle.walrus_binary.specs.declared.error.Fault.{Fault}
 use Rattle.walrus_binary.specs.Leb128.{last, IsU32, IsS33}
 use Rattle.walrus_binary.specs.Grammar.{none, next, IsVec, counted, IsHeapType, abstract_type, index, exact_index, reference, IsRefType, written_out, abbreviated, IsValType, i32, ref, IsStorageType, i8, value, mutability_code, IsFieldType, field, IsCompType, array, struct, function, sub_code, IsSubType, declared, plain, IsRecType, rec, single, IsTypes}
+use Rattle.walrus_binary.specs.Faults.{GoesOn, IsUnheldComp, shared_comp, continuation_comp, describing_comp, described_comp, IsUnheldHeap, shared_heap, continuation_heap, no_continuation_heap}
 use Rattle.walrus_binary.specs.Steps.Reading.{◌>>=◌, expected_error, u32_at, s33_at, vec_at, heap_type_of, index_at, abstract_or, heap_at, abbreviated_or, reference_at, val_at, storage_at, mutability_at, field_at, function_at, comp_at, supertype_at, declared_at, entry_at, group_at, types_at}
 use Rattle.walrus_binary.proofs.Basics.{done, which}
-use Rattle.walrus_binary.proofs.Integers.{u32_sound}
+use Rattle.walrus_binary.proofs.Integers.{either_true, u32_sound}
 use Rattle.walrus_binary.proofs.Lists.{vec_sound}
 use Rattle.walrus_binary.proofs.Values.{val_sound}
 use Rattle.walrus_binary.proofs.Composites.{storage_sound, field_sound}
 use Rattle.walrus_binary.proofs.Groups.{IsSupertype, supertype_sound, entry_sound, group_sound}
-use Rattle.walrus_binary.proofs.Faults.{failed, here, map_err, step_err}
+use Rattle.walrus_binary.proofs.Faults.{failed, stop, here, left_is, reason_is, map_err, step_err}
 use Rattle.walrus_binary.proofs.FirstFaults.{whole_err, err_left}
-use Rattle.walrus_binary.proofs.Beginnings.{supertypes, Begun, StopsInText, within, inside, ends_with, at_once, pair_begun, integer_unended, u32_begun, s33_begun, vec_begun}
+use Rattle.walrus_binary.proofs.Beginnings.{sub_of_several, before_comp, before_heap, before_ref, supertypes, Begins, counts_several, comp_code, heap_code, ref_code, IsExpected, Names, expected_names, Begun, StopsInText, within, inside, ends_with, at_once, unheld_here, pair_begun, integer_unended, u32_begun, s33_begun, vec_begun}
 
 -- a byte that was told
 tagged : (b k : ℕ) (bytes : List ℕ) → nat_eq b k ≡ true → b ∷ bytes ≡ k ∷ bytes
@@ -37,9 +42,26 @@ tagged b k bytes h = ap (λ c. c ∷ bytes) (eqb-true b k h)
 
 -- ---- heap types
 
-heap_here : (bytes : List ℕ) (r : Reason) (f : Fault) → here {A = Heap ℕ} bytes r ≡ failed f
+heap_here : (bytes : List ℕ) (e : Expected) (f : Fault) → here {A = Heap ℕ} bytes (reason.Expected e) ≡ failed f
     → Begun IsHeapType bytes f
 heap_here = at_once IsHeapType (0x70 ∷ []) (heap.Abstract abstract.Func) (abstract_type abstract.Func)
+
+-- the first byte of one that no record holds
+is_shared_heap : (b : ℕ) → nat_eq b 0x65 ≡ true → IsUnheldHeap held.Shared b
+is_shared_heap b h = subst (IsUnheldHeap held.Shared) (sym (eqb-true b 0x65 h)) shared_heap
+
+is_continuation_heap : (b : ℕ) → (nat_eq b 0x68 || nat_eq b 0x75) ≡ true → IsUnheldHeap held.Continuation b
+is_continuation_heap b h =
+    elim (either_true (nat_eq b 0x68) (nat_eq b 0x75) h) [
+      | inl e ↦ subst (IsUnheldHeap held.Continuation) (sym (eqb-true b 0x68 e)) continuation_heap
+      | inr e ↦ subst (IsUnheldHeap held.Continuation) (sym (eqb-true b 0x75 e)) no_continuation_heap
+    ]
+
+unheld_heap : (b : ℕ) (bytes : List ℕ) (what : NotHeld) (f : Fault) → IsUnheldHeap what b
+    → here {A = Heap ℕ} (b ∷ bytes) (reason.NotHeld what) ≡ failed f → Begun IsHeapType (b ∷ bytes) f
+unheld_heap b bytes what f h e =
+    unheld_here IsHeapType before_heap refl (λ text fills. fills) (b ∷ bytes) what f e
+    (heap_code what b bytes h)
 
 index_begun : (b : ℕ) (bytes : List ℕ) (f : Fault) → index_at b (b ∷ bytes) ≡ failed f
     → Begun IsHeapType (b ∷ bytes) f
@@ -49,10 +71,10 @@ index_begun b bytes f e =
     (λ h q. inside IsS33 IsHeapType [] (λ k. heap.Concrete k) (λ t k i. index t k i) (b ∷ bytes) (b ∷ bytes) f
     refl (s33_begun (b ∷ bytes) f (map_err (s33_at (b ∷ bytes)) (λ k. heap.Concrete k) f q)))
     (λ h q. which (nat_eq b 0x65) _ _ (failed f) q
-    (λ h1 q1. heap_here (b ∷ bytes) (reason.NotHeld held.Shared) f q1)
+    (λ h1 q1. unheld_heap b bytes held.Shared f (is_shared_heap b h1) q1)
     (λ h1 q1. which (nat_eq b 0x68 || nat_eq b 0x75) _ _ (failed f) q1
-    (λ h2 q2. heap_here (b ∷ bytes) (reason.NotHeld held.Continuation) f q2)
-    (λ h2 q2. heap_here (b ∷ bytes) (reason.Expected expected.HeapType) f q2)))
+    (λ h2 q2. unheld_heap b bytes held.Continuation f (is_continuation_heap b h2) q2)
+    (λ h2 q2. heap_here (b ∷ bytes) expected.HeapType f q2)))
 
 abstract_begun : (b : ℕ) (bytes : List ℕ) (f : Fault) (o : Option AbstractHeapType)
     → abstract_or b bytes o ≡ failed f → Begun IsHeapType (b ∷ bytes) f
@@ -61,7 +83,7 @@ abstract_begun b bytes f None e = index_begun b bytes f e
 
 heap_begun : StopsInText IsHeapType heap_at
 unfolding heap_at
-heap_begun [] f e = heap_here [] (reason.Expected expected.HeapType) f e
+heap_begun [] f e = heap_here [] expected.HeapType f e
 heap_begun (b ∷ bytes) f e =
     which (nat_eq b 0x62) _ _ (failed f) e
     (λ h q. inside IsU32 IsHeapType (0x62 ∷ []) (λ k. heap.Exact k) (λ t k i. exact_index t k i)
@@ -71,22 +93,30 @@ heap_begun (b ∷ bytes) f e =
 
 -- ---- reference types and value types
 
-ref_here : (bytes : List ℕ) (r : Reason) (f : Fault) → here {A = Reference ℕ} bytes r ≡ failed f
+ref_here : (bytes : List ℕ) (e : Expected) (f : Fault) → here {A = Reference ℕ} bytes (reason.Expected e) ≡ failed f
     → Begun IsRefType bytes f
 ref_here =
     at_once IsRefType (0x70 ∷ []) (reference true (heap.Abstract abstract.Func)) (abbreviated abstract.Func)
+
+unheld_ref : (b : ℕ) (bytes : List ℕ) (what : NotHeld) (f : Fault) → IsUnheldHeap what b
+    → here {A = Reference ℕ} (b ∷ bytes) (reason.NotHeld what) ≡ failed f → Begun IsRefType (b ∷ bytes) f
+unheld_ref b bytes what f h e =
+    unheld_here IsRefType before_ref refl (λ text fills. fills) (b ∷ bytes) what f e
+    (ref_code what b bytes h)
 
 abbreviated_begun : (b : ℕ) (bytes : List ℕ) (f : Fault) (o : Option AbstractHeapType)
     → abbreviated_or b bytes o ≡ failed f → Begun IsRefType (b ∷ bytes) f
 abbreviated_begun b bytes f (Some a) e = absurd cc
 abbreviated_begun b bytes f None e =
-    which (nat_eq b 0x68 || nat_eq b 0x75) _ _ (failed f) e
-    (λ h q. ref_here (b ∷ bytes) (reason.NotHeld held.Continuation) f q)
-    (λ h q. ref_here (b ∷ bytes) (reason.Expected expected.ValType) f q)
+    which (nat_eq b 0x65) _ _ (failed f) e
+    (λ h q. unheld_ref b bytes held.Shared f (is_shared_heap b h) q)
+    (λ h q. which (nat_eq b 0x68 || nat_eq b 0x75) _ _ (failed f) q
+    (λ h1 q1. unheld_ref b bytes held.Continuation f (is_continuation_heap b h1) q1)
+    (λ h1 q1. ref_here (b ∷ bytes) expected.ValType f q1))
 
 reference_begun : StopsInText IsRefType reference_at
 unfolding reference_at
-reference_begun [] f e = ref_here [] (reason.Expected expected.ValType) f e
+reference_begun [] f e = ref_here [] expected.ValType f e
 reference_begun (b ∷ bytes) f e =
     which (nat_eq b 0x63) _ _ (failed f) e
     (λ h q. inside IsHeapType IsRefType (0x63 ∷ []) (λ k. reference true k) (λ t k i. written_out t true k i)
@@ -100,7 +130,7 @@ reference_begun (b ∷ bytes) f e =
 
 val_begun : StopsInText IsValType val_at
 unfolding val_at
-val_begun [] f e = at_once IsValType (0x7F ∷ []) val.I32 i32 [] (reason.Expected expected.ValType) f e
+val_begun [] f e = at_once IsValType (0x7F ∷ []) val.I32 i32 [] expected.ValType f e
 val_begun (b ∷ bytes) f e =
     which (nat_eq b 0x7F) _ _ (failed f) e (λ h q. absurd cc) (λ h q.
     which (nat_eq b 0x7E) _ _ (failed f) q (λ h1 q1. absurd cc) (λ h1 q1.
@@ -115,7 +145,7 @@ val_begun (b ∷ bytes) f e =
 storage_begun : StopsInText IsStorageType storage_at
 unfolding storage_at
 storage_begun [] f e =
-    at_once IsStorageType (0x78 ∷ []) storage.I8 i8 [] (reason.Expected expected.StorageType) f e
+    at_once IsStorageType (0x78 ∷ []) storage.I8 i8 [] expected.StorageType f e
 storage_begun (b ∷ bytes) f e =
     which (nat_eq b 0x78) _ _ (failed f) e (λ h q. absurd cc) (λ h q.
     which (nat_eq b 0x77) _ _ (failed f) q (λ h1 q1. absurd cc) (λ h1 q1.
@@ -129,11 +159,11 @@ IsMutability text mutable = text ≡ mutability_code mutable ∷ []
 mutability_begun : StopsInText IsMutability mutability_at
 unfolding mutability_at
 mutability_begun [] f e =
-    at_once IsMutability (0x00 ∷ []) false refl [] (reason.Expected expected.Mutability) f e
+    at_once IsMutability (0x00 ∷ []) false refl [] expected.Mutability f e
 mutability_begun (b ∷ bytes) f e =
     which (nat_eq b 0x00) _ _ (failed f) e (λ h q. absurd cc) (λ h q.
     which (nat_eq b 0x01) _ _ (failed f) q (λ h1 q1. absurd cc) (λ h1 q1.
-    at_once IsMutability (0x00 ∷ []) false refl (b ∷ bytes) (reason.Expected expected.Mutability) f q1))
+    at_once IsMutability (0x00 ∷ []) false refl (b ∷ bytes) expected.Mutability f q1))
 
 abbrev made_field : Storage ℕ → Bool → Field ℕ
 made_field s m = record { element_type = s; mutable = m }
@@ -167,16 +197,33 @@ function_begun bytes f e =
     (vec_at val_at) (vec_at val_at) (λ ps rs. comp.Function ps rs) (vec_sound IsValType val_at val_sound)
     vals_begun vals_begun (0 ∷ []) [] (no_items IsValType) (λ s t ps rs h k. function s t ps rs h k) bytes f e
 
-empty_struct : IsCompType (0x5F ∷ 0 ∷ []) (comp.Struct [])
+abbrev pub empty_struct_type : CompAt
+empty_struct_type = comp.Struct []
+
+pub empty_struct : IsCompType (0x5F ∷ 0 ∷ []) empty_struct_type
 empty_struct = struct (0 ∷ []) [] (no_items IsFieldType)
 
-comp_here : (bytes : List ℕ) (r : Reason) (f : Fault) → here {A = CompAt} bytes r ≡ failed f
+comp_here : (bytes : List ℕ) (e : Expected) (f : Fault) → here {A = CompAt} bytes (reason.Expected e) ≡ failed f
     → Begun IsCompType bytes f
 comp_here = at_once IsCompType (0x5F ∷ 0 ∷ []) (comp.Struct []) empty_struct
 
+-- the first byte of one that no record holds
+is_descriptor : (b : ℕ) → (nat_eq b 0x4C || nat_eq b 0x4D) ≡ true → IsUnheldComp held.Descriptor b
+is_descriptor b h =
+    elim (either_true (nat_eq b 0x4C) (nat_eq b 0x4D) h) [
+      | inl e ↦ subst (IsUnheldComp held.Descriptor) (sym (eqb-true b 0x4C e)) describing_comp
+      | inr e ↦ subst (IsUnheldComp held.Descriptor) (sym (eqb-true b 0x4D e)) described_comp
+    ]
+
+unheld_comp : (b : ℕ) (bytes : List ℕ) (what : NotHeld) (f : Fault) → IsUnheldComp what b
+    → here {A = CompAt} (b ∷ bytes) (reason.NotHeld what) ≡ failed f → Begun IsCompType (b ∷ bytes) f
+unheld_comp b bytes what f h e =
+    unheld_here IsCompType before_comp refl (λ text fills. fills) (b ∷ bytes) what f e
+    (comp_code what b bytes h)
+
 comp_begun : StopsInText IsCompType comp_at
 unfolding comp_at
-comp_begun [] f e = comp_here [] (reason.Expected expected.CompType) f e
+comp_begun [] f e = comp_here [] expected.CompType f e
 comp_begun (b ∷ bytes) f e =
     which (nat_eq b 0x60) _ _ (failed f) e
     (λ h q. inside (λ text c. IsCompType (0x60 ∷ text) c) IsCompType (0x60 ∷ []) (λ c. c) (λ t c k. k)
@@ -190,12 +237,14 @@ comp_begun (b ∷ bytes) f e =
     bytes (b ∷ bytes) f (tagged b 0x5E bytes h2)
     (field_begun bytes f (map_err (field_at bytes) (λ k. comp.Array k) f q2)))
     (λ h2 q2. which (nat_eq b 0x5D) _ _ (failed f) q2
-    (λ h3 q3. comp_here (b ∷ bytes) (reason.NotHeld held.Continuation) f q3)
+    (λ h3 q3. unheld_comp b bytes held.Continuation f
+    (subst (IsUnheldComp held.Continuation) (sym (eqb-true b 0x5D h3)) continuation_comp) q3)
     (λ h3 q3. which (nat_eq b 0x65) _ _ (failed f) q3
-    (λ h4 q4. comp_here (b ∷ bytes) (reason.NotHeld held.Shared) f q4)
+    (λ h4 q4. unheld_comp b bytes held.Shared f
+    (subst (IsUnheldComp held.Shared) (sym (eqb-true b 0x65 h4)) shared_comp) q4)
     (λ h4 q4. which (nat_eq b 0x4C || nat_eq b 0x4D) _ _ (failed f) q4
-    (λ h5 q5. comp_here (b ∷ bytes) (reason.NotHeld held.Descriptor) f q5)
-    (λ h5 q5. comp_here (b ∷ bytes) (reason.Expected expected.CompType) f q5))))))
+    (λ h5 q5. unheld_comp b bytes held.Descriptor f (is_descriptor b h5) q5)
+    (λ h5 q5. comp_here (b ∷ bytes) expected.CompType f q5))))))
 
 -- ---- definitions
 
@@ -206,34 +255,51 @@ record SeveralBegun (bytes : List ℕ) (f : Fault) : Type 0 where
   least : ℕ
   parts : bytes ≡ count ++ left
   place : f.left ≡ length left
+  seen : IsExpected f.reason
   is_count : IsU32 (count ++ 0 ∷ []) least
   several : 2 ≤ least
 
+-- Reading stopped before it.
+record SeveralCounted (bytes : List ℕ) (f : Fault) : Type 0 where
+  count : List ℕ
+  others : List ℕ
+  n : ℕ
+  parts : bytes ≡ count ++ others
+  place : f.left ≡ length bytes
+  reason_is : f.reason ≡ reason.NotHeld held.Supertypes
+  is_count : IsU32 count n
+  several : 2 ≤ n
+
 abbrev IsMaybeBegun : {A : Type 0} → (List ℕ → A → Type 0) → List ℕ → Fault → Type 0
-IsMaybeBegun IsText bytes f = Begun IsText bytes f ⊎ SeveralBegun bytes f
+IsMaybeBegun IsText bytes f = Begun IsText bytes f ⊎ (SeveralBegun bytes f ⊎ SeveralCounted bytes f)
 
 count_begun : (bytes : List ℕ) (f : Fault) (front left : List ℕ) (least : ℕ) → bytes ≡ front ++ left
-    → f.left ≡ length left → IsU32 (front ++ 0 ∷ []) least → IsMaybeBegun IsSupertype bytes f
-count_begun bytes f front left zero parts place h =
+    → f.left ≡ length left → IsExpected f.reason → IsU32 (front ++ 0 ∷ []) least
+    → IsMaybeBegun IsSupertype bytes f
+count_begun bytes f front left zero parts place seen h =
     let text : IsSupertype ((front ++ 0 ∷ []) ++ []) None = counted (front ++ 0 ∷ []) [] [] h none in
-    inl (ends_with IsSupertype bytes f front left (0 ∷ []) None parts place
+    inl (ends_with IsSupertype bytes f front left (0 ∷ []) None parts place seen
     (subst (λ (u : List ℕ). IsSupertype u None) (append-nil (front ++ 0 ∷ [])) text))
-count_begun bytes f front left (suc zero) parts place h =
+count_begun bytes f front left (suc zero) parts place seen h =
     let one = next (0 ∷ []) [] 0 [] zero_count none in
     let text : IsSupertype ((front ++ 0 ∷ []) ++ 0 ∷ []) (Some 0) =
     counted (front ++ 0 ∷ []) (0 ∷ []) (0 ∷ []) h one in
-    inl (ends_with IsSupertype bytes f front left (0 ∷ 0 ∷ []) (Some 0) parts place
+    inl (ends_with IsSupertype bytes f front left (0 ∷ 0 ∷ []) (Some 0) parts place seen
     (subst (λ (u : List ℕ). IsSupertype u (Some 0)) (append_assoc front (0 ∷ []) (0 ∷ [])) text))
-count_begun bytes f front left (suc (suc n)) parts place h =
-    inr (record {
+count_begun bytes f front left (suc (suc n)) parts place seen h =
+    inr (inl (record {
       count = front;
       left = left;
       least = suc (suc n);
       parts = parts;
       place = place;
+      seen = seen;
       is_count = h;
       several = omega arith;
-    })
+    }))
+
+two_or_more : (n : ℕ) → nat_eq n 0 ≡ false → nat_eq n 1 ≡ false → 2 ≤ n
+two_or_more n h k = omega (arith, eqb-false n 0 h, eqb-false n 1 k)
 
 supertype_begun : (bytes : List ℕ) (f : Fault) → supertype_at bytes ≡ failed f
     → IsMaybeBegun IsSupertype bytes f
@@ -242,7 +308,7 @@ supertype_begun bytes f e =
     step_err (u32_at bytes) _ f e
     (λ h.
     let u = integer_unended 0x80 (2 ^ 32) bytes f (omega arith) (omega arith) h in
-    count_begun bytes f u.front u.left u.value u.parts u.place u.is_integer)
+    count_begun bytes f u.front u.left u.value u.parts u.place u.seen u.is_integer)
     (λ n rest h q. which (nat_eq n 0) _ _ (failed f) q (λ h1 q1. absurd cc) (λ h1 q1.
     which (nat_eq n 1) _ _ (failed f) q1
     (λ h2 q2.
@@ -252,11 +318,24 @@ supertype_begun bytes f e =
     (λ u k i. subst (λ (v : List ℕ). IsSupertype (t.text ++ v) (Some k)) (append-nil u)
     (counted t.text (u ++ []) (k ∷ []) one (next u [] k [] i none)))
     rest bytes f t.parts (u32_begun rest f (map_err (u32_at rest) (λ k. Some k) f q2))))
-    (λ h2 q2. inl (at_once IsSupertype (0 ∷ []) None (no_items IsU32) bytes (reason.NotHeld held.Supertypes)
-    f q2))))
+    (λ h2 q2.
+    let t = u32_sound bytes n rest h in
+    inr (inr (record {
+      count = t.text;
+      others = rest;
+      n = n;
+      parts = t.parts;
+      place = left_is bytes (reason.NotHeld held.Supertypes) f q2;
+      reason_is = reason_is bytes (reason.NotHeld held.Supertypes) f q2;
+      is_count = t.is_text;
+      several = two_or_more n h1 h2;
+    })))))
 
-abbrev made_entry : Bool → Option ℕ → CompAt → EntryAt
+abbrev pub made_entry : Bool → Option ℕ → CompAt → EntryAt
 made_entry is_final s c = record { comp = c; is_final = is_final; supertype = s }
+
+pub is_sub_entry : (is_final : Bool) → IsSubType (sub_code is_final ∷ 0 ∷ 0x5F ∷ 0 ∷ []) (made_entry is_final None empty_struct_type)
+is_sub_entry is_final = declared (0 ∷ []) (0x5F ∷ 0 ∷ []) is_final None empty_struct_type (no_items IsU32) empty_struct
 
 -- behind the first byte
 abbrev IsDeclared : Bool → List ℕ → EntryAt → Type 0
@@ -281,6 +360,14 @@ declared_begun is_final bytes f e =
     (λ u c k. declared t.text u is_final s c t.is_text k) rest bytes f t.parts
     (comp_begun rest f (map_err (comp_at rest) (made_entry is_final s) f q))))
 
+fills_entry : (text : List ℕ) → (entry : EntryAt) × IsSubType text entry → GoesOn IsSubType text
+fills_entry text filled =
+    record {
+      more = [];
+      value = filled.0;
+      is_text = subst (λ (u : List ℕ). IsSubType u filled.0) (sym (append-nil text)) filled.1;
+    }
+
 -- with the first byte
 begins_declared : (is_final : Bool) (b : ℕ) (bytes : List ℕ) (f : Fault)
     → b ∷ bytes ≡ sub_code is_final ∷ bytes → IsMaybeBegun (IsDeclared is_final) bytes f
@@ -288,18 +375,28 @@ begins_declared : (is_final : Bool) (b : ℕ) (bytes : List ℕ) (f : Fault)
 begins_declared is_final b bytes f is (inl d) =
     inside (IsDeclared is_final) IsSubType (sub_code is_final ∷ []) (λ e. e) (λ t e h. h)
     bytes (b ∷ bytes) f is d
-begins_declared is_final b bytes f is (inr c) =
+begins_declared is_final b bytes f is (inr (inl c)) =
     record {
       front = [];
       tail = supertypes is_final c.count c.least c.is_count c.several;
       left = c.left;
       parts = is ∙ ap (λ (u : List ℕ). sub_code is_final ∷ u) c.parts;
       place = c.place;
-      goes_on = λ text filled. record {
-        more = [];
-        value = filled.0;
-        is_text = subst (λ (u : List ℕ). IsSubType u filled.0) (sym (append-nil text)) filled.1;
-      };
+      names = expected_names f.reason (supertypes is_final c.count c.least c.is_count c.several) c.left c.seen;
+      goes_on = λ text filled. fills_entry text filled;
+    }
+begins_declared is_final b bytes f is (inr (inr c)) =
+    record {
+      front = [];
+      tail = sub_of_several is_final;
+      left = bytes;
+      parts = is;
+      place = c.place;
+      names =
+          subst (λ (r : Reason). Names r (sub_of_several is_final) bytes) (sym c.reason_is)
+          (subst (λ (u : List ℕ). Begins held.Supertypes (sub_of_several is_final) u) (sym c.parts)
+          (counts_several is_final c.count c.others c.n c.is_count c.several));
+      goes_on = λ text filled. fills_entry text filled;
     }
 
 abbrev empty_entry : EntryAt
@@ -311,7 +408,7 @@ is_empty_entry = plain (0x5F ∷ 0 ∷ []) (comp.Struct []) empty_struct
 entry_begun : StopsInText IsSubType entry_at
 unfolding entry_at
 entry_begun [] f e =
-    at_once IsSubType (0x5F ∷ 0 ∷ []) empty_entry is_empty_entry [] (reason.Expected expected.RecType) f e
+    at_once IsSubType (0x5F ∷ 0 ∷ []) empty_entry is_empty_entry [] expected.RecType f e
 entry_begun (b ∷ bytes) f e =
     which (nat_eq b 0x50) _ _ (failed f) e
     (λ h q. begins_declared false b bytes f (tagged b 0x50 bytes h) (declared_begun false bytes f q))
@@ -334,7 +431,7 @@ group_begun : StopsInText IsRecType group_at
 unfolding group_at
 group_begun [] f e =
     at_once IsRecType (0x5F ∷ 0 ∷ []) (group.Single empty_entry) is_empty_group []
-    (reason.Expected expected.RecType) f e
+    expected.RecType f e
 group_begun (b ∷ bytes) f e =
     which (nat_eq b 0x4E) _ _ (failed f) e
     (λ h q. inside (IsVec IsSubType) IsRecType (0x4E ∷ []) (λ es. group.Rec es) (λ t es k. rec t es k)
@@ -349,6 +446,14 @@ groups_begun =
     vec_begun IsRecType group_at group_sound group_begun (0x5F ∷ 0 ∷ []) (group.Single empty_entry)
     is_empty_group
 
+abbrev at_end : List ℕ → Result (List GroupAt) Fault
+at_end rest = expected_error rest expected.End
+
+section_end : (rest : List ℕ) (f : Fault) → at_end rest ≡ Err f → IsExpected f.reason
+section_end rest f e =
+    let same : stop rest (reason.Expected expected.End) ≡ f = cc in
+    subst (λ (k : Fault). IsExpected k.reason) same tt
+
 pub types_begun : (bytes : List ℕ) (f : Fault) → types_at bytes ≡ Err f → Begun IsTypes bytes f
 unfolding types_at
 types_begun bytes f e =
@@ -360,4 +465,5 @@ types_begun bytes f e =
     let t = vec_sound IsRecType group_at group_sound bytes gs rest h in
     ends_with IsTypes bytes f t.text rest [] gs t.parts
     (err_left rest (reason.Expected expected.End) f (expected_error rest expected.End) refl q1)
+    (section_end rest f q1)
     (subst (λ (u : List ℕ). IsTypes u gs) (sym (append-nil t.text)) t.is_text)))

@@ -1,25 +1,29 @@
 -- What the reading of a section says of its bytes.
-use Rattle.std.proofs.Common.{◌≡◌, ℕ, ◌+◌, ◌-◌, ◌<◌, ◌≤◌, List, [], ◌∷◌, ◌++◌, length, take, Result, Ok, Err, refl, sym, ap, subst, ◌∙◌, append_assoc, append-nil, length-append, take_at, drop, take-append-drop, inl, inr, arith}
+use Rattle.std.proofs.Common.{◌≡◌, ℕ, ◌+◌, ◌-◌, ◌^◌, ◌<◌, ◌≤◌, true, List, [], ◌∷◌, ◌++◌, length, take, None, Result, Ok, Err, refl, sym, ap, subst, ◌∙◌, append_assoc, append-nil, length-append, take_at, drop, drop_at, take-append-drop, inl, inr, arith}
 use Rattle.std.proofs.lemmas.Bool.{cases_lt}
 use Rattle.std.proofs.lemmas.List.{take-take}
 use Rattle.std.specs.Prelude.{IfSome}
 use Rattle.walrus_ty.specs.declared.records.GroupAt.{GroupAt}
 use Rattle.walrus_binary.specs.declared.error.Reason.{Reason}
 use Rattle.walrus_binary.specs.declared.error.Reason.TheVariants as reason
+use Rattle.walrus_binary.specs.declared.error.NotHeld.{NotHeld}
 use Rattle.walrus_binary.specs.declared.error.NotHeld.TheVariants as held
 use Rattle.walrus_binary.specs.declared.error.Fault.{Fault}
 use Rattle.walrus_binary.specs.declared.error.ReadError.{ReadError}
 use Rattle.walrus_binary.specs.declared.error.ReadError.TheVariants as errors
-use Rattle.walrus_binary.specs.Grammar.{IsRecType, IsTypes}
-use Rattle.walrus_binary.specs.Faults.{IsNoText, BeginsNoText, GoesOn, IsFirstBad, IsBegun, begins_text, begins_several_supertypes, IsSeenThere, error_offset}
+use Rattle.walrus_binary.specs.Leb128.{IsU32}
+use Rattle.walrus_ty.specs.declared.ty.value.AbstractHeapType.TheVariants as abstract
+use Rattle.walrus_ty.specs.declared.ty.value.Heap.TheVariants as heap
+use Rattle.walrus_binary.specs.Grammar.{abstract_type, reference, abbreviated, sub_code, IsRecType, IsTypes}
+use Rattle.walrus_binary.specs.Faults.{IsNoText, BeginsNoText, GoesOn, IsFirstBad, IsBegun, begins_text, begins_several_supertypes, IsUnheld, several_supertypes, comp_type, heap_type, ref_type, IsSeenThere, error_offset, NamesUnheld}
 use Rattle.walrus_binary.specs.Steps.Reading.{Fails, vec_at, group_at, types_at, IsSeenAtOnce}
 use Rattle.walrus_binary.specs.Steps.Refusals.{with_reason, refusal, IsWithin, error_refusal}
 use Rattle.walrus_binary.proofs.Basics.{rest_is}
 use Rattle.walrus_binary.proofs.Lists.{vec_complete}
 use Rattle.walrus_binary.proofs.Groups.{group_complete, types_again}
 use Rattle.walrus_binary.proofs.FirstFaults.{types_stop}
-use Rattle.walrus_binary.proofs.Beginnings.{Tail, nothing, supertypes, tail_bytes, Fills}
-use Rattle.walrus_binary.proofs.SectionBeginnings.{types_begun}
+use Rattle.walrus_binary.proofs.Beginnings.{Tail, nothing, sub_of_several, before_comp, before_heap, before_ref, supertypes, tail_bytes, Fills, Begins, counts_several, comp_code, heap_code, ref_code, Names, integer_starts}
+use Rattle.walrus_binary.proofs.SectionBeginnings.{made_entry, empty_struct_type, empty_struct, is_sub_entry, types_begun}
 
 abbrev read : List GroupAt → Result (List GroupAt) Fault
 read gs = Ok gs
@@ -91,9 +95,35 @@ stuck_there bytes f e =
 
 -- ---- the bytes before it
 
+begins_shorter : (front some others : List ℕ) → GoesOn IsTypes (front ++ (some ++ others)) → GoesOn IsTypes (front ++ some)
+begins_shorter front some others g =
+    record {
+      more = others ++ g.more;
+      value = g.value;
+      is_text =
+          subst (λ (u : List ℕ). IsTypes u g.value)
+          (ap (λ (u : List ℕ). u ++ g.more) (sym (append_assoc front some others))
+          ∙ append_assoc (front ++ some) others g.more) g.is_text;
+    }
+
 begins_all : (front : List ℕ) (tail : Tail) → ((more : List ℕ) → Fills tail more → GoesOn IsTypes (front ++ more))
     → IsBegun (front ++ tail_bytes tail)
 begins_all front nothing goes_on = begins_text (front ++ []) (goes_on [] refl)
+begins_all front (sub_of_several is_final) goes_on =
+    begins_text (front ++ sub_code is_final ∷ [])
+    (begins_shorter front (sub_code is_final ∷ []) (0 ∷ 0x5F ∷ 0 ∷ [])
+    (goes_on (sub_code is_final ∷ 0 ∷ 0x5F ∷ 0 ∷ []) (made_entry is_final None empty_struct_type, is_sub_entry is_final)))
+begins_all front before_comp goes_on =
+    begins_text (front ++ [])
+    (begins_shorter front [] (0x5F ∷ 0 ∷ []) (goes_on (0x5F ∷ 0 ∷ []) (empty_struct_type, empty_struct)))
+begins_all front before_heap goes_on =
+    begins_text (front ++ [])
+    (begins_shorter front [] (0x70 ∷ [])
+    (goes_on (0x70 ∷ []) (heap.Abstract abstract.Func, abstract_type abstract.Func)))
+begins_all front before_ref goes_on =
+    begins_text (front ++ [])
+    (begins_shorter front [] (0x70 ∷ [])
+    (goes_on (0x70 ∷ []) (reference true (heap.Abstract abstract.Func), abbreviated abstract.Func)))
 begins_all front (supertypes is_final count least h several) goes_on =
     begins_several_supertypes front count is_final least (λ more entry k. goes_on more (entry, k)) h several
 
@@ -115,6 +145,68 @@ begun_before bytes f e =
     let b = types_begun bytes f e in
     placed (λ offset. IsBegun (take offset bytes)) (length bytes - f.left) f.reason
     (before bytes b.front (tail_bytes b.tail) b.left f b.parts b.place (begins_all b.front b.tail b.goes_on))
+
+-- ---- what no record holds there
+
+-- no text goes on with an integer there
+abbrev EndsAtInteger : List ℕ → List ℕ → Type 0
+EndsAtInteger front left =
+    (count rest : List ℕ) (n : ℕ) → left ≡ count ++ rest → IsU32 count n → BeginsNoText (front ++ count)
+
+unheld : (front left : List ℕ) (tail : Tail) (what : NotHeld) → Begins what tail left → EndsAtInteger (front ++ tail_bytes tail) left
+    → ((text : List ℕ) → Fills tail text → GoesOn IsTypes (front ++ text)) → IsUnheld what (front ++ tail_bytes tail) left
+unheld front _ _ _ (counts_several is_final count others n h le) stuck goes_on =
+    several_supertypes front count others is_final n (λ text e k. goes_on text (e, k)) h le (stuck count others n refl h)
+unheld front _ _ _ (comp_code what code others h) stuck goes_on =
+    subst (λ (u : List ℕ). IsUnheld what u (code ∷ others)) (sym (append-nil front))
+    (comp_type front others what code (λ text c k. goes_on text (c, k)) h)
+unheld front _ _ _ (heap_code what code others h) stuck goes_on =
+    subst (λ (u : List ℕ). IsUnheld what u (code ∷ others)) (sym (append-nil front))
+    (heap_type front others what code (λ text c k. goes_on text (c, k)) h)
+unheld front _ _ _ (ref_code what code others h) stuck goes_on =
+    subst (λ (u : List ℕ). IsUnheld what u (code ∷ others)) (sym (append-nil front))
+    (ref_type front others what code (λ text c k. goes_on text (c, k)) h)
+
+ends_at_integer : (bytes : List ℕ) (f : Fault) → types_at bytes ≡ Err f → (front left : List ℕ) → bytes ≡ front ++ left
+    → f.left ≡ length left → EndsAtInteger front left
+ends_at_integer bytes f e front left parts place count rest n is h other groups t =
+    let s = types_stop bytes f e in
+    let both : s.front ++ s.left ≡ front ++ left = sym s.parts ∙ parts in
+    let long : length s.front ≡ length front =
+    omega (arith, place, s.place, ap (λ (u : List ℕ). length u) both, length-append s.front s.left, length-append front left) in
+    let fronts : s.front ≡ front =
+    sym (take_at s.front s.left (length front) long) ∙ ap (λ (u : List ℕ). take (length front) u) both
+    ∙ take_at front left (length front) refl in
+    let lefts : s.left ≡ left =
+    sym (drop_at s.front s.left (length front) long) ∙ ap (λ (u : List ℕ). drop (length front) u) both
+    ∙ drop_at front left (length front) refl in
+    let k = integer_starts 0x80 (2 ^ 32) count n h in
+    let u32 : IsU32 (k.0 ∷ k.1) n = subst (λ (u : List ℕ). IsU32 u n) k.2 h in
+    let whole : (front ++ count) ++ other ≡ s.front ++ k.0 ∷ (k.1 ++ other) =
+    append_assoc front count other ∙ ap (λ (u : List ℕ). u ++ (count ++ other)) (sym fronts)
+    ∙ ap (λ (u : List ℕ). s.front ++ (u ++ other)) k.2 in
+    s.counted k.0 k.1 rest other n groups (lefts ∙ is ∙ ap (λ (u : List ℕ). u ++ rest) k.2) u32
+    (subst (λ (u : List ℕ). IsTypes u groups) whole t)
+
+names_unheld : (bytes front left : List ℕ) (offset : ℕ) (r : Reason) (tail : Tail) → take offset bytes ≡ front ++ tail_bytes tail
+    → drop offset bytes ≡ left → Names r tail left → EndsAtInteger (front ++ tail_bytes tail) left → ((text : List ℕ) → Fills tail text → GoesOn IsTypes (front ++ text))
+    → NamesUnheld bytes (with_reason offset r)
+names_unheld bytes front left offset (reason.Expected e) tail first second h stuck goes_on = tt
+names_unheld bytes front left offset (reason.NotHeld what) tail first second h stuck goes_on =
+    subst (λ (u : List ℕ). IsUnheld what u (drop offset bytes)) (sym first)
+    (subst (λ (u : List ℕ). IsUnheld what (front ++ tail_bytes tail) u) (sym second) (unheld front left tail what h stuck goes_on))
+
+pub unheld_there : (bytes : List ℕ) (f : Fault) → types_at bytes ≡ Err f → NamesUnheld bytes (refusal (length bytes) f)
+unheld_there bytes f e =
+    let b = types_begun bytes f e in
+    let before : List ℕ = b.front ++ tail_bytes b.tail in
+    let again : bytes ≡ before ++ b.left = b.parts ∙ sym (append_assoc b.front (tail_bytes b.tail) b.left) in
+    let long : length bytes ≡ length before + length b.left = ap (λ (u : List ℕ). length u) again ∙ length-append before b.left in
+    let many : length before ≡ length bytes - f.left = omega (arith, long, b.place) in
+    let first = ap (λ (u : List ℕ). take (length bytes - f.left) u) again ∙ take_at before b.left (length bytes - f.left) many in
+    let second = ap (λ (u : List ℕ). drop (length bytes - f.left) u) again ∙ drop_at before b.left (length bytes - f.left) many in
+    names_unheld bytes b.front b.left (length bytes - f.left) f.reason b.tail first second b.names
+    (ends_at_integer bytes f e before b.left again b.place) b.goes_on
 
 -- ---- an error
 
@@ -147,6 +239,11 @@ pub error_begun : (bytes left : List ℕ) (e : ReadError) → Fails left e (type
     → IfSome (error_offset (error_refusal (length bytes) (length left) e)) (λ offset. IsBegun (take offset bytes))
 error_begun bytes left errors.Memory h = tt
 error_begun bytes left (errors.Reason r) h = begun_before bytes (fault_at left r) h
+
+pub error_unheld : (bytes left : List ℕ) (e : ReadError) → Fails left e (types_at bytes)
+    → NamesUnheld bytes (error_refusal (length bytes) (length left) e)
+error_unheld bytes left errors.Memory h = tt
+error_unheld bytes left (errors.Reason r) h = unheld_there bytes (fault_at left r) h
 
 -- ---- the first bad byte
 

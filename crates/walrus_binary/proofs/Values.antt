@@ -74,7 +74,8 @@ abbreviated_takes b bytes v rest (Some a) is e =
     subst (λ k. Takes IsRefType (k ∷ bytes) v rest) (sym (code_from b a is))
     (one_takes IsRefType (heap_code a) bytes (reference true (heap.Abstract a)) v rest (abbreviated a) e)
 abbreviated_takes b bytes v rest None is e =
-    split (nat_eq b 0x68 || nat_eq b 0x75) _ _ (Ok (v, rest)) e (λ q. absurd cc) (λ q. absurd cc)
+    split (nat_eq b 0x65) _ _ (Ok (v, rest)) e (λ q. absurd cc) (λ q.
+    split (nat_eq b 0x68 || nat_eq b 0x75) _ _ (Ok (v, rest)) q (λ q1. absurd cc) (λ q1. absurd cc))
 
 pub reference_sound : IsSound IsRefType reference_at
 unfolding reference_at

@@ -1,13 +1,13 @@
 -- Where bytes stop being a text of a type section, as an error says it.
 -- None of it is of the WebAssembly specification.
-use Rattle.std.specs.Prelude.{ℕ, ◌+◌, ◌<◌, ◌≤◌, Bool, List, [], ◌∷◌, ◌++◌, length, take, Option, Some, None}
-use Rattle.walrus_ty.specs.declared.records.EntryAt.{EntryAt}
+use Rattle.std.specs.Prelude.{ℕ, ◌+◌, ◌<◌, ◌≤◌, Bool, List, [], ◌∷◌, ◌++◌, length, take, drop, Option, Some, None}
 use Rattle.walrus_ty.specs.declared.records.GroupAt.{GroupAt}
 use Rattle.walrus_binary.specs.declared.error.DecodeError.{DecodeError}
 use Rattle.walrus_binary.specs.declared.error.DecodeError.TheVariants as decode
+use Rattle.walrus_binary.specs.declared.error.NotHeld.{NotHeld}
 use Rattle.walrus_binary.specs.declared.error.NotHeld.TheVariants as held
 use Rattle.walrus_binary.specs.Leb128.{IsU32}
-use Rattle.walrus_binary.specs.Grammar.{sub_code, IsSubType, IsTypes}
+use Rattle.walrus_binary.specs.Grammar.{IsHeapType, IsRefType, IsCompType, sub_code, IsSubType, IsTypes}
 
 -- no bytes are a text of it
 abbrev pub HasNoText : {A : Type 0} → (List ℕ → A → Type 0) → A → Type 0
@@ -35,6 +35,10 @@ pub record IsFirstBad (bytes : List ℕ) (offset : ℕ) : Type 0 where
   pub begun : GoesOn IsTypes (take offset bytes)
   pub stuck : offset < length bytes → BeginsNoText (take (offset + 1) bytes)
 
+-- each text of this part may stand behind the bytes: a section's text goes on with it
+abbrev pub MayFollow : {A : Type 0} → (List ℕ → A → Type 0) → List ℕ → Type 0
+MayFollow IsPart front = (text : List ℕ) (part : _) → IsPart text part → GoesOn IsTypes (front ++ text)
+
 -- A text begins with the bytes; or they begin a definition of several supertypes, which no record
 -- holds: they end in its first byte and the first bytes of its count, which is two or more however
 -- it goes on, and each definition may stand where that one begins.
@@ -42,9 +46,45 @@ pub data IsBegun : List ℕ → Type 0 where
   begins_text : (front : List ℕ) → GoesOn IsTypes front → IsBegun front
   begins_several_supertypes :
       (front count : List ℕ) (is_final : Bool) (least : ℕ)
-      → ((text : List ℕ) (entry : EntryAt) → IsSubType text entry → GoesOn IsTypes (front ++ text))
+      → MayFollow IsSubType front
       → IsU32 (count ++ 0 ∷ []) least → 2 ≤ least
       → IsBegun (front ++ sub_code is_final ∷ count)
+
+-- ---- what no record holds
+
+-- the first byte of a composite type that no record holds
+pub data IsUnheldComp : NotHeld → ℕ → Type 0 where
+  shared_comp : IsUnheldComp held.Shared 0x65
+  continuation_comp : IsUnheldComp held.Continuation 0x5D
+  describing_comp : IsUnheldComp held.Descriptor 0x4C
+  described_comp : IsUnheldComp held.Descriptor 0x4D
+
+-- The first byte of a heap type that no record holds. An abbreviated reference to it has the same.
+pub data IsUnheldHeap : NotHeld → ℕ → Type 0 where
+  shared_heap : IsUnheldHeap held.Shared 0x65
+  continuation_heap : IsUnheldHeap held.Continuation 0x68
+  no_continuation_heap : IsUnheldHeap held.Continuation 0x75
+
+-- What no record holds, the bytes before the place that an error names, and those from there on. Any
+-- type that a record holds may stand there too. The place of several supertypes is that of their
+-- count, behind the first byte of their definition, and no text goes on with that count.
+pub data IsUnheld : NotHeld → List ℕ → List ℕ → Type 0 where
+  several_supertypes :
+      (front count others : List ℕ) (is_final : Bool) (n : ℕ)
+      → MayFollow IsSubType front → IsU32 count n → 2 ≤ n
+      → BeginsNoText ((front ++ sub_code is_final ∷ []) ++ count)
+      → IsUnheld held.Supertypes (front ++ sub_code is_final ∷ []) (count ++ others)
+  comp_type :
+      (front others : List ℕ) (what : NotHeld) (code : ℕ)
+      → MayFollow IsCompType front → IsUnheldComp what code → IsUnheld what front (code ∷ others)
+  heap_type :
+      (front others : List ℕ) (what : NotHeld) (code : ℕ)
+      → MayFollow IsHeapType front → IsUnheldHeap what code → IsUnheld what front (code ∷ others)
+  ref_type :
+      (front others : List ℕ) (what : NotHeld) (code : ℕ)
+      → MayFollow IsRefType front → IsUnheldHeap what code → IsUnheld what front (code ∷ others)
+
+-- ---- errors
 
 -- the place that an error names
 abbrev pub error_offset : DecodeError → Option ℕ
@@ -61,3 +101,9 @@ IsSeenThere (decode.NotHeld offset held.Shared) = Unit {0}
 IsSeenThere (decode.NotHeld offset held.Continuation) = Unit {0}
 IsSeenThere (decode.NotHeld offset held.Descriptor) = Unit {0}
 IsSeenThere decode.Memory = Unit {0}
+
+-- An error that names what no record holds is right: that begins at its place.
+abbrev pub NamesUnheld : List ℕ → DecodeError → Type 0
+NamesUnheld bytes (decode.NotHeld offset what) = IsUnheld what (take offset bytes) (drop offset bytes)
+NamesUnheld bytes (decode.Malformed offset expected) = Unit {0}
+NamesUnheld bytes decode.Memory = Unit {0}

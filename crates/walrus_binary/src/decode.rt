@@ -2,7 +2,7 @@
 ghost use Rattle.std.specs.Prelude.{◌≡◌, ◌+◌, ◌<◌, ◌≤◌, length, take, IfOk, IfErr, IfSome};
 ghost use Rattle.walrus_binary.specs.Grammar.{IsTypes};
 ghost use Rattle.walrus_binary.specs.Faults.{IsNoText, BeginsNoText, IsBegun};
-ghost use Rattle.walrus_binary.specs.Faults.{IsSeenThere, error_offset};
+ghost use Rattle.walrus_binary.specs.Faults.{IsSeenThere, NamesUnheld, error_offset};
 ghost use Rattle.walrus_binary.specs.Steps.Reading.{GivesAll, types_at};
 
 mod composite;
@@ -27,9 +27,10 @@ use walrus_ty::GroupAt;
 /// # Errors
 ///
 /// [`DecodeError::Malformed`] and [`DecodeError::NotHeld`] say at which byte the bytes stop being a
-/// text of groups: some text begins with the bytes before it, and none with it too. Only several
-/// supertypes are told at the first byte of their count, with which a text may still go on; and a
-/// count of them that isn't ended is told where it stops being an integer.
+/// text of groups: some text begins with the bytes before it, and none with it too. For several
+/// supertypes the byte is the first of their count: no text goes on with that count, but one may
+/// with its first byte. A count of them that does not end is reported where it stops being an
+/// integer.
 /// [`DecodeError::Memory`] comes where memory was refused.
 ///
 /// # A section of one function type
@@ -52,6 +53,8 @@ pub fn decode_types(alloc: Global, bytes: &[u8]) -> Result<Vec<GroupAt>, DecodeE
     // With the bytes before it some text goes on, unless they begin several supertypes.
     ensures begun { IfErr result (λ e. IfSome (error_offset e) (λ offset.
         IsBegun (take offset bytes.now))) }
+    // Where it names what no record holds, that begins there.
+    ensures unheld { IfErr result (λ e. NamesUnheld bytes.now e) }
 {
     let mut input = bytes;
     match read_types(alloc, &mut input) {

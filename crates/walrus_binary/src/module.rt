@@ -1,10 +1,10 @@
 //! Where the type section of a module stands.
 //! WebAssembly core specification, "Binary Format", modules.
 ghost use Rattle.std.specs.Prelude.{◌≡◌, ◌+◌, ◌-◌, ◌<◌, ◌≤◌, length, take, IfOk, IfErr, IfSome, IfNone, IsSome};
-ghost use Rattle.walrus_binary.specs.Faults.{error_offset};
+ghost use Rattle.walrus_binary.specs.Faults.{GoesOn, error_offset};
 ghost use Rattle.walrus_binary.specs.Replacement.{IsNoModuleBy};
 ghost use Rattle.walrus_binary.specs.Steps.Framing.{IsTypeSectionFrom};
-ghost use Rattle.walrus_binary.specs.Modules.{IsTypeSectionAt, HasNoTypeSection, IsNoModule, BeginsNoModule};
+ghost use Rattle.walrus_binary.specs.Modules.{IsTypeSectionAt, HasNoTypeSection, IsModule, IsNoModule, BeginsNoModule};
 
 mod replace;
 mod section;
@@ -26,8 +26,9 @@ pub use types::module_types;
 ///
 /// # Errors
 ///
-/// [`DecodeError::Malformed`] says at which byte the bytes stop being such a module: none begins
-/// with the bytes up to that one and with it. No other error comes.
+/// [`DecodeError::Malformed`] says at which byte the bytes stop being such a module: one begins with
+/// the bytes before that byte, and none with that byte too. Where a content is cut off, the place is
+/// the end of the bytes. No other error comes.
 ///
 /// # A module of one section
 ///
@@ -54,6 +55,9 @@ pub fn type_section(bytes: &[u8]) -> Result<Option<Range<usize>>, DecodeError>
     // and with the byte there no module goes on.
     ensures stuck { IfErr result (λ e. IfSome (error_offset e) (λ offset.
         offset < length bytes.now → BeginsNoModule (take (offset + 1) bytes.now))) }
+    // With the bytes before it some module goes on.
+    ensures begun { IfErr result (λ e. IfSome (error_offset e) (λ offset.
+        GoesOn IsModule (take offset bytes.now))) }
 {
     match find_type_section(bytes)? {
         Some(found) => Ok(Some(found.content)),
@@ -91,6 +95,7 @@ fn scan_sections(bytes: &[u8]) -> Result<Option<TypeSection>, Fault>
     ensures place { IfErr result (λ f. f.left ≤ length bytes.now) }
     ensures stuck { IfErr result (λ f. 0 < f.left →
         BeginsNoModule (take (length bytes.now - f.left + 1) bytes.now)) }
+    ensures begun { IfErr result (λ f. GoesOn IsModule (take (length bytes.now - f.left) bytes.now)) }
 {
     let mut rest = read_header(bytes)?;
     let mut last = 0;

@@ -2,6 +2,7 @@
 use Rattle.std.proofs.Common.{◌≡◌, ℕ, ◌+◌, ◌-◌, ◌<◌, ◌≤◌, nat_eq, false, inl, inr, List, [], ◌∷◌, ◌++◌, length, take, Option, Ok, Err, refl, sym, ap, subst, ◌∙◌, arith, append_assoc, length-append, take_at}
 use Rattle.std.proofs.lemmas.List.{append_cancel_left}
 use Rattle.walrus_binary.specs.declared.error.Fault.{Fault}
+use Rattle.walrus_binary.specs.Faults.{GoesOn}
 use Rattle.walrus_binary.specs.Modules.{Section, header, IsModule, framed, IsNoModule, BeginsNoModule}
 use Rattle.walrus_binary.specs.Steps.Reading.{IsSeenAtOnce}
 use Rattle.walrus_binary.specs.Steps.Framing.{header_at, section_at}
@@ -10,12 +11,14 @@ use Rattle.walrus_binary.proofs.Faults.{failed, DoesNotRead, Stops}
 use Rattle.walrus_binary.proofs.Modules.Readings.{header_complete, header_stuck, section_stuck}
 use Rattle.walrus_binary.proofs.Modules.Seen.{header_seen, section_seen}
 use Rattle.walrus_binary.proofs.Modules.Framing.{AreBehind, begins, State}
+use Rattle.walrus_binary.proofs.Modules.GoingOn.{StopsBehind, header_goes_on, section_goes_on, goes_on_before}
 
 -- what a fault says of the bytes
 pub record IsFaulty (bytes : List ℕ) (f : Fault) : Type 0 where
   pub refused : IsNoModule bytes
   pub place : f.left ≤ length bytes
   pub stuck : 0 < f.left → BeginsNoModule (take (length bytes - f.left + 1) bytes)
+  pub begun : GoesOn IsModule (take (length bytes - f.left) bytes)
 
 sees : (bytes pre front left : List ℕ) (n : ℕ) → bytes ≡ pre ++ (front ++ left) → n ≡ length left
     → ((b : ℕ) (rest other : List ℕ) → left ≡ b ∷ rest → IsNoModule (pre ++ (front ++ b ∷ other))) → 0 < n → BeginsNoModule (take (length bytes - n + 1) bytes)
@@ -33,9 +36,9 @@ sees bytes pre front (b ∷ left) n whole is none lt =
     (λ more. subst IsNoModule (ap (λ (u : List ℕ). pre ++ u) (sym (append_assoc front (b ∷ []) more)) ∙ sym (append_assoc pre (front ++ b ∷ []) more)) (none b left more refl))
 
 -- in a part behind `pre`
-faulty : {A : Type 0} (reads : List ℕ → Reading A) (bytes pre region : List ℕ) (f : Fault) → bytes ≡ pre ++ region → Stops reads region f → IsSeenAtOnce f.reason → IsNoModule bytes
+faulty : {A : Type 0} (reads : List ℕ → Reading A) (bytes pre region : List ℕ) (f : Fault) → bytes ≡ pre ++ region → Stops reads region f → IsSeenAtOnce f.reason → IsNoModule bytes → StopsBehind IsModule bytes f
     → ((b : ℕ) (front other : List ℕ) → DoesNotRead reads (front ++ b ∷ other) → IsNoModule (pre ++ (front ++ b ∷ other))) → IsFaulty bytes f
-faulty reads bytes pre region f whole s seen refuted none =
+faulty reads bytes pre region f whole s seen refuted begun none =
     let long : length bytes ≡ length pre + length region = ap (λ (u : List ℕ). length u) whole ∙ length-append pre region in
     let region-long : length region ≡ length s.front + length s.left = ap (λ (u : List ℕ). length u) s.parts ∙ length-append s.front s.left in
     record {
@@ -44,6 +47,7 @@ faulty reads bytes pre region f whole s seen refuted none =
       stuck =
           sees bytes pre s.front s.left f.left (whole ∙ ap (λ (u : List ℕ). pre ++ u) s.parts) s.place
           (λ b rest other q. none b s.front other (s.stuck seen b rest other q));
+      begun = goes_on_before bytes f begun;
     }
 
 not_both : {A : Type 0} (x : Reading A) (f : Fault) (y : A × List ℕ) → x ≡ failed f → x ≡ Ok y → ⊥
@@ -64,7 +68,7 @@ no_header bytes n sections h =
 
 pub header_faulty : (bytes : List ℕ) (f : Fault) → header_at bytes ≡ Err f → IsFaulty bytes f
 header_faulty bytes f e =
-    faulty header_at bytes [] bytes f refl (header_stuck bytes f e) (header_seen bytes f e) (no_header bytes (f, e)) (λ b front other n. no_header (front ++ b ∷ other) n)
+    faulty header_at bytes [] bytes f refl (header_stuck bytes f e) (header_seen bytes f e) (no_header bytes (f, e)) (header_goes_on bytes f e) (λ b front other n. no_header (front ++ b ∷ other) n)
 
 -- ---- sections
 
@@ -95,5 +99,6 @@ section_faulty opening start stop bytes rest last found f state more e =
     let whole : bytes ≡ pre ++ rest = state.whole ∙ sym (append_assoc header state.texts rest) in
     faulty (section_at last) bytes pre rest f whole (section_stuck last rest f e) (section_seen last rest f e)
     (subst IsNoModule (sym state.whole) (no_section opening start stop bytes rest last found state rest some (f, e)))
+    (section_goes_on opening start stop bytes rest last found f state e)
     (λ b front other n. subst IsNoModule (sym (append_assoc header state.texts (front ++ b ∷ other)))
     (no_section opening start stop bytes rest last found state (front ++ b ∷ other) (not_empty front other b) n))

@@ -64,7 +64,7 @@ abbrev pub Finds : {R : Type 0} → (R → ℕ) → (R → ℕ) → (R → ℕ) 
 Finds opening start stop texts before found =
     MatchOption found (All IsOther before) (λ r. IsFound texts before (opening r) (start r) (stop r))
 
-one_text : (text : List ℕ) (s : Section) → IsSection text s → AreItems IsSection text (s ∷ [])
+pub one_text : (text : List ℕ) (s : Section) → IsSection text s → AreItems IsSection text (s ∷ [])
 one_text text s h = subst (λ (u : List ℕ). AreItems IsSection u (s ∷ [])) (append-nil text) (next text [] s [] h none)
 
 pub joined : (a b : List ℕ) (xs ys : List Section) → AreItems IsSection a xs → AreItems IsSection b ys → AreItems IsSection (a ++ b) (xs ++ ys)

@@ -19,7 +19,7 @@ use Rattle.walrus_binary.proofs.Modules.Orders.{Follows, place_from, place_is, n
 abbrev pub IsLiteral : List ℕ → List ℕ → Unit {0} → Type 0
 IsLiteral text bytes u = bytes ≡ text
 
-literal_sound : (e : Expected) (text : List ℕ) → IsSound (IsLiteral text) (literal_at e text)
+pub literal_sound : (e : Expected) (text : List ℕ) → IsSound (IsLiteral text) (literal_at e text)
 unfolding literal_at
 literal_sound e [] bytes v rest h = record { text = []; is_text = refl; parts = rest_is tt v bytes rest h }
 literal_sound e (k ∷ text) [] v rest h = absurd cc
@@ -52,7 +52,7 @@ literal_stuck e (k ∷ text) (b ∷ bytes) f h =
 abbrev pub IsHeader : List ℕ → Unit {0} → Type 0
 IsHeader bytes u = bytes ≡ header
 
-abbrev both : Unit {0} → Unit {0} → Unit {0}
+abbrev pub both : Unit {0} → Unit {0} → Unit {0}
 both u v = tt
 
 pub header_sound : IsSound IsHeader header_at
@@ -76,7 +76,7 @@ header_stuck bytes f e =
 
 -- ---- ids
 
-abbrev IsNextId : ℕ → List ℕ → ℕ → Type 0
+abbrev pub IsNextId : ℕ → List ℕ → ℕ → Type 0
 IsNextId last text id = (text ≡ id ∷ []) × Follows last id
 
 id_takes : (last b : ℕ) (bytes : List ℕ) (v : ℕ) (rest : List ℕ) → Follows last b → done b bytes ≡ done v rest → Takes (IsNextId last) (b ∷ bytes) v rest
@@ -87,7 +87,7 @@ id_takes last b bytes v rest f e =
       parts = ap (λ (u : List ℕ). b ∷ u) (rest_is b v bytes rest e);
     }
 
-id_sound : (last : ℕ) → IsSound (IsNextId last) (id_at last)
+pub id_sound : (last : ℕ) → IsSound (IsNextId last) (id_at last)
 unfolding id_at
 id_sound last [] v rest e = absurd cc
 id_sound last (b ∷ bytes) v rest e =
@@ -119,7 +119,7 @@ id_stuck last (b ∷ bytes) f e =
 
 -- ---- contents
 
-abbrev IsContent : List ℕ → List ℕ → Type 0
+abbrev pub IsContent : List ℕ → List ℕ → Type 0
 IsContent text content = (size : List ℕ) × IsU32 size (length content) × (text ≡ size ++ content)
 
 content_sound : IsSound IsContent content_at
@@ -162,6 +162,7 @@ content_stuck bytes f e =
       parts = sym (append-nil bytes);
       place = left_is [] (reason.Expected expected.Content) f q1;
       stuck = λ s b after other k. absurd cc;
+      counted = λ c count after m k u other. absurd cc;
     }))
 
 -- ---- sections
@@ -169,7 +170,7 @@ content_stuck bytes f e =
 abbrev pub IsNextSection : ℕ → List ℕ → Section → Type 0
 IsNextSection last text s = IsSection text s × Follows last s.id
 
-next_section : (last : ℕ) (s t : List ℕ) (id : ℕ) (content : List ℕ) → IsNextId last s id → IsContent t content → IsNextSection last (s ++ t) (section id content)
+pub next_section : (last : ℕ) (s t : List ℕ) (id : ℕ) (content : List ℕ) → IsNextId last s id → IsContent t content → IsNextSection last (s ++ t) (section id content)
 next_section last s t id content h k =
     let text-is : id ∷ (k.0 ++ content) ≡ s ++ t = sym (ap (λ (u : List ℕ). u ++ t) h.0 ∙ ap (λ (u : List ℕ). id ∷ u) k.2) in
     (subst (λ u. IsSection u (section id content)) text-is (sized id k.0 content k.1), h.1)

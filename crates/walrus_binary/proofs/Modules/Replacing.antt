@@ -2,15 +2,13 @@
 use Rattle.std.proofs.Common.{◌≡◌, ℕ, suc, ◌+◌, ◌-◌, ◌<◌, ◌≤◌, List, [], ◌∷◌, ◌++◌, length, take, drop, refl, sym, ap, subst, ◌∙◌, arith, append_assoc, length-append, take_at, drop_at, suc-le-suc, Option, Some, None, Result, Ok, Err}
 use Rattle.std.specs.Prelude.{IfOk, OnOk, IfSome, IfNone}
 use Rattle.std.specs.List.{All}
-use Rattle.std.proofs.lemmas.List.{append_cancel_left, take_rest}
+use Rattle.std.proofs.lemmas.List.{take_rest}
 use Rattle.walrus_binary.specs.Leb128.{IsU32}
-use Rattle.walrus_binary.specs.Grammar.{AreItems, none}
-use Rattle.walrus_binary.specs.Modules.{Section, section, ids, IsSection, sized, IsPlace, type_section, import_section, function_section, table_section, memory_section, tag_section, global_section, export_section, start_section, element_section, data_count_section, code_section, data_section, AreInOrder, no_more, custom, later, header, AreAroundTypes, around, IsOther, HasNoTypeSection}
+use Rattle.walrus_binary.specs.Modules.{Section, section, ids, IsSection, sized, IsPlace, type_section, import_section, function_section, table_section, memory_section, tag_section, global_section, export_section, start_section, element_section, data_count_section, code_section, data_section, AreInOrder, no_more, custom, later, header, AreAroundTypes, IsOther}
 use Rattle.walrus_binary.specs.Replacement.{IsShortestTypes, IsReplaced, replaced, inserted, HasTypes}
 use Rattle.walrus_binary.specs.Steps.Writing.{u32_text}
 use Rattle.walrus_binary.specs.Steps.Framing.{IsTypeSectionFrom}
 use Rattle.walrus_binary.proofs.Least.{u32_least}
-use Rattle.walrus_binary.proofs.Modules.Faulting.{module_parts}
 
 -- what is written
 abbrev pub types_text : List ℕ → List ℕ
@@ -19,7 +17,7 @@ types_text content = 1 ∷ (u32_text (length content) ++ content)
 no_shorter : (others : List ℕ) (s : Section) → IsSection others s → suc (length (u32_text (length s.content)) + length s.content) ≤ length others
 no_shorter _ _ (sized id size content h) = omega (arith, u32_least size (length content) h, length-append size content)
 
-shortest : (content : List ℕ) → IsU32 (u32_text (length content)) (length content) → IsShortestTypes (types_text content) content
+pub shortest : (content : List ℕ) → IsU32 (u32_text (length content)) (length content) → IsShortestTypes (types_text content) content
 shortest content h =
     record {
       is_section = sized 1 (u32_text (length content)) content h;
@@ -48,20 +46,6 @@ replaces bytes content new opening start stop f text is =
     replaced_parts bytes t.front t.size t.content t.back content new opening stop t.around_it t.sized t.parts f.opens stops text
     (is ∙ ap (λ (u : List ℕ). (take opening bytes ++ types_text content) ++ u) (take_rest bytes stop))
 
--- ---- where there was none
-
-pub inserts : (bytes content new front back : List ℕ) → HasNoTypeSection bytes → IsU32 (u32_text (length content)) (length content)
-    → front ≡ take 8 bytes → back ≡ drop 8 bytes → new ≡ (front ++ types_text content) ++ back → IsReplaced content bytes new
-inserts bytes content new front back h text front-is back-is is =
-    let m = module_parts bytes h.sections h.is_module in
-    let first : front ≡ header = front-is ∙ ap (λ (u : List ℕ). take 8 u) m.1 ∙ take_at header m.0 8 refl in
-    let second : back ≡ m.0 = back-is ∙ ap (λ (u : List ℕ). drop 8 u) m.1 ∙ drop_at header m.0 8 refl in
-    let new-is : new ≡ header ++ (types_text content ++ m.0) =
-    is ∙ ap (λ (u : List ℕ). (u ++ types_text content) ++ back) first ∙ ap (λ (u : List ℕ). (header ++ types_text content) ++ u) second ∙ append_assoc header (types_text content) m.0 in
-    subst (λ (u : List ℕ). IsReplaced content bytes u) (sym new-is)
-    (subst (λ (u : List ℕ). IsReplaced content u (header ++ (types_text content ++ m.0))) (sym m.1)
-    (inserted m.0 (types_text content) (subst HasNoTypeSection m.1 h) (shortest content text)))
-
 -- ---- the content is there
 
 not_first : (id place : ℕ) → IsPlace id place → (id ≡ 1 → ⊥) → 1 < place
@@ -80,15 +64,15 @@ not_first _ _ code_section other = omega arith
 not_first _ _ data_section other = omega arith
 
 -- none of the ids is that of type sections
-abbrev AreOthers : List ℕ → Type 0
+abbrev pub AreOthers : List ℕ → Type 0
 AreOthers [] = Unit {0}
 AreOthers (id ∷ ks) = (id ≡ 1 → ⊥) × AreOthers ks
 
-are_others : (sections : List Section) → All IsOther sections → AreOthers (ids sections)
+pub are_others : (sections : List Section) → All IsOther sections → AreOthers (ids sections)
 are_others [] h = tt
 are_others (s ∷ sections) h = (h 0 s (omega arith), are_others sections (λ k d lt. h (suc k) d (suc-le-suc lt)))
 
-later_all : (ks : List ℕ) → AreInOrder 0 ks → AreOthers ks → AreInOrder 1 ks
+pub later_all : (ks : List ℕ) → AreInOrder 0 ks → AreOthers ks → AreInOrder 1 ks
 later_all _ (no_more last) others = no_more 1
 later_all _ (custom last ks h) others = custom 1 ks (later_all ks h others.1)
 later_all _ (later last id place ks is lt h) others = later 1 id place ks is (not_first id place is others.0) h
@@ -108,16 +92,9 @@ has_types front text content back a h =
       same = refl;
     }
 
-first_of : (texts : List ℕ) → HasNoTypeSection (header ++ texts) → AreAroundTypes header texts
-first_of texts h =
-    let m = module_parts (header ++ texts) h.sections h.is_module in
-    let same : m.0 ≡ texts = append_cancel_left header m.0 texts (sym m.1) in
-    around [] texts [] h.sections none (subst (λ (u : List ℕ). AreItems IsSection u h.sections) same m.2.0)
-    (later 0 1 1 (ids h.sections) type_section (omega arith) (later_all (ids h.sections) m.2.1 (are_others h.sections h.others)))
-
 pub types_there : (content old new : List ℕ) → IsReplaced content old new → HasTypes new content
 types_there content _ _ (replaced front size before back text a h t) = has_types front text content back a t.is_section
-types_there content _ _ (inserted texts text h t) = has_types header text content texts (first_of texts h) t.is_section
+types_there content _ _ (inserted customs others text h c first a t) = has_types (header ++ customs) text content others a t.is_section
 
 -- ---- what an answer says
 

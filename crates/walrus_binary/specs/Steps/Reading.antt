@@ -143,8 +143,9 @@ heap_at (b ∷ bytes) =
 abbrev pub abbreviated_or : ℕ → List ℕ → Option AbstractHeapType → Result (Reference ℕ × List ℕ) Fault
 abbreviated_or b bytes (Some a) = Ok (reference true (heap.Abstract a), bytes)
 abbreviated_or b bytes None =
-    cond (nat_eq b 0x68 || nat_eq b 0x75) (not_held_error (b ∷ bytes) held.Continuation)
-    (expected_error (b ∷ bytes) expected.ValType)
+    cond (nat_eq b 0x65) (not_held_error (b ∷ bytes) held.Shared)
+    (cond (nat_eq b 0x68 || nat_eq b 0x75) (not_held_error (b ∷ bytes) held.Continuation)
+    (expected_error (b ∷ bytes) expected.ValType))
 
 unfoldable pub reference_at : List ℕ → Result (Reference ℕ × List ℕ) Fault
 reference_at [] = expected_error [] expected.ValType

@@ -2,7 +2,7 @@
 ghost use Rattle.std.specs.Prelude.{◌≡◌, ◌+◌, ◌<◌, ◌≤◌, [], ◌∷◌, ◌++◌, length, take, IfOk, IfErr, IfSome, IfNone, OnOk, OnErr};
 ghost use Rattle.walrus_binary.specs.Grammar.{IsTypes};
 ghost use Rattle.walrus_binary.specs.Faults.{IsNoText, BeginsNoText, IsBegun};
-ghost use Rattle.walrus_binary.specs.Faults.{IsSeenThere, error_offset};
+ghost use Rattle.walrus_binary.specs.Faults.{IsSeenThere, NamesUnheld, error_offset};
 
 use crate::decode::group::read_group;
 use crate::error::{DecodeError, Expected, ReadError};
@@ -83,6 +83,8 @@ impl<'a> TypeSectionReader<'a> {
         // With the bytes before it some text goes on.
         ensures begun { IfErr result (λ e. IfSome (error_offset e) (λ offset.
             IsBegun (take offset bytes.now))) }
+        // Where it names what no record holds, that begins there.
+        ensures unheld { IfErr result (λ e. NamesUnheld bytes.now e) }
     {
         let mut rest = bytes;
         match read_u32(&mut rest) {
@@ -144,6 +146,8 @@ impl<'a> TypeSectionReader<'a> {
         // With the bytes before it some text goes on, unless they begin several supertypes.
         ensures begun { IfErr result (λ e. IfSome (error_offset e) (λ offset.
             IsBegun (take offset self.old.bytes))) }
+        // Where it names what no record holds, that begins there.
+        ensures unheld { IfErr result (λ e. NamesUnheld self.old.bytes e) }
     {
         let mut rest = self.rest;
         if self.remaining == 0 {

@@ -68,6 +68,7 @@ fn read_reference(input: &mut &[u8]) -> Result<RefAt, ReadError>
                 heap_type,
             })
         }
+        None if byte == 0x65 => Err(ReadError::not_held(NotHeld::Shared)),
         None if byte == 0x68 || byte == 0x75 => Err(ReadError::not_held(NotHeld::Continuation)),
         None => Err(ReadError::expected(Expected::ValType)),
     }

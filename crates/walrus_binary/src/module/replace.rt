@@ -1,22 +1,27 @@
 //! Another content for the type section of a module.
-ghost use Rattle.std.specs.Prelude.{◌≡◌, ◌≤◌, ◌^◌, ◌∷◌, ◌++◌, length, IfOk, OnOk, IsErrOf, Err};
+ghost use Rattle.std.specs.Prelude.{◌≡◌, ◌+◌, ◌-◌, ◌<◌, ◌≤◌, ◌^◌, ◌∷◌, ◌++◌, length, take, IfOk, IfErr, OnOk, IsErrOf, Err};
 ghost use Rattle.walrus_binary.specs.declared.error.DecodeError.{DecodeError};
 ghost use Rattle.walrus_binary.specs.declared.error.ReplaceError.TheVariants.{NoModule, TooLong};
+ghost use Rattle.walrus_binary.specs.Faults.{GoesOn};
 ghost use Rattle.walrus_binary.specs.Leb128.{IsU32};
+ghost use Rattle.walrus_binary.specs.Modules.{IsModule, IsNoModule, BeginsNoModule};
 ghost use Rattle.walrus_binary.specs.Replacement.{IsReplaced, HasTypes, IsNoModuleBy};
+ghost use Rattle.walrus_binary.specs.Steps.Framing.{IsBehindCustoms};
 ghost use Rattle.walrus_binary.specs.Steps.Writing.{u32_text};
 
-use crate::error::ReplaceError;
+use crate::error::{DecodeError, Fault, ReplaceError};
 use crate::leb128::push_u32;
 use crate::module::find_type_section;
-use crate::module::section::{HEADER_LEN, TYPE};
+use crate::module::section::{TYPE, begins_custom, read_header, read_section};
 use std::alloc::Global;
 
 /// The module with this as what its type section has after its id and size.
 ///
 /// The size of the section is written in its shortest form, and every byte outside the section is
-/// kept. A module that has no type section gets one right behind its header. Neither the content
-/// nor what the other sections contain is judged, as by [`type_section`](crate::type_section):
+/// kept. A module that has no type section gets one before its first section that is not custom, or
+/// at its end where it has custom sections alone. So the custom sections with which a module begins
+/// stay in front, as `dylink.0` has to, which is the first section of a module that has it. Neither
+/// the content nor what the other sections contain is judged, as by [`type_section`](crate::type_section):
 /// where types get other indices, what names them in other sections is still to be changed.
 ///
 /// # Errors
@@ -53,10 +58,38 @@ pub fn replace_type_section(
             write_module(alloc, &bytes[..found.id], content, back)
         }
         None => {
-            let (header, sections) = bytes.split_at(HEADER_LEN);
-            write_module(alloc, header, content, sections)
+            let back = behind_customs(bytes)?;
+            let front = &bytes[..bytes.len() - back.len()];
+            write_module(alloc, front, content, back)
         }
     }
+}
+
+/// The bytes behind the custom sections with which a module begins.
+fn behind_customs(bytes: &[u8]) -> Result<&[u8], DecodeError>
+    ensures behind { IfOk result (λ rest. IsBehindCustoms bytes.now rest.now) }
+    ensures refused { IfErr result (λ e. IsNoModuleBy bytes.now e) }
+{
+    match skip_customs(bytes) {
+        Ok(rest) => Ok(rest),
+        Err(fault) => Err(fault.refusal(bytes.len())),
+    }
+}
+
+fn skip_customs(bytes: &[u8]) -> Result<&[u8], Fault>
+    ensures behind { IfOk result (λ rest. IsBehindCustoms bytes.now rest.now) }
+    ensures refused { IfErr result (λ f. IsNoModule bytes.now) }
+    ensures place { IfErr result (λ f. f.left ≤ length bytes.now) }
+    ensures stuck { IfErr result (λ f. 0 < f.left →
+        BeginsNoModule (take (length bytes.now - f.left + 1) bytes.now)) }
+    ensures begun { IfErr result (λ f. GoesOn IsModule (take (length bytes.now - f.left) bytes.now)) }
+{
+    let mut rest = read_header(bytes)?;
+    while begins_custom(rest) {
+        let (_, _, after) = read_section(0, rest)?;
+        rest = after;
+    }
+    Ok(rest)
 }
 
 /// A type section of this content between other bytes.

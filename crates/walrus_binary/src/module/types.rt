@@ -1,8 +1,8 @@
 //! The types of a module.
 //! WebAssembly core specification, "Binary Format", "Type Section" and modules.
-ghost use Rattle.std.specs.Prelude.{IfErr, IfOk, IfSome, IsSome};
-ghost use Rattle.walrus_binary.specs.Faults.{error_offset};
-ghost use Rattle.walrus_binary.specs.ModuleTypes.{HasTypes, HasBadTypes};
+ghost use Rattle.std.specs.Prelude.{◌≡◌, ◌+◌, ◌<◌, ◌≤◌, ◌^◌, length, take, IfErr, IfOk, IfSome};
+ghost use Rattle.walrus_binary.specs.Faults.{IsSeenThere, error_offset};
+ghost use Rattle.walrus_binary.specs.ModuleTypes.{HasTypes, HasBadTypes, BeginsNoTypes, HasBadTypesBy, behind};
 
 use crate::{DecodeError, decode_types, type_section};
 use std::alloc::Global;
@@ -14,9 +14,11 @@ use walrus_ty::GroupAt;
 ///
 /// # Errors
 ///
-/// [`DecodeError::Malformed`] says at which byte of the module the bytes stop being one, or what
-/// its type section contains stops being a text of groups; [`DecodeError::NotHeld`] at which byte a
-/// type begins that no record holds. [`DecodeError::Memory`] comes where memory was refused.
+/// Where the bytes are no module, the error is that of [`type_section`]. Else it is that of
+/// [`decode_types`] for what the type section contains: [`DecodeError::Malformed`] says at which
+/// byte that stops being a text of groups, [`DecodeError::NotHeld`] at which byte a type begins that
+/// no record holds. Both places are counted from the first byte of the module.
+/// [`DecodeError::Memory`] comes where memory was refused.
 ///
 /// # A module of one function type
 ///
@@ -30,6 +32,17 @@ pub fn module_types(alloc: Global, bytes: &[u8]) -> Result<Vec<GroupAt>, DecodeE
     // Bytes that are refused are no module or one with bad types, unless memory was refused.
     ensures refused { IfErr result (λ e. IfSome (error_offset e) (λ offset.
         HasBadTypes bytes.now)) }
+    // The place lies in the bytes or at their end,
+    ensures place { IfErr result (λ e. IfSome (error_offset e) (λ offset.
+        offset ≤ length bytes.now)) }
+    // and with the byte there no module goes on whose types can be read.
+    ensures stuck { IfErr result (λ e. IfSome (error_offset e) (λ offset.
+        IsSeenThere e → offset < length bytes.now →
+        BeginsNoTypes (take (offset + 1) bytes.now))) }
+    // The error is one of the framing, as `type_section` says it, or one in what the type section
+    // contains, as `decode_types` says it.
+    ensures reason { IfErr result (λ e. IfSome (error_offset e) (λ offset.
+        HasBadTypesBy bytes.now e)) }
 {
     let Some(range) = type_section(bytes)? else {
         return Ok(Vec::new(alloc));
@@ -41,17 +54,18 @@ pub fn module_types(alloc: Global, bytes: &[u8]) -> Result<Vec<GroupAt>, DecodeE
     }
 }
 
-/// An error in bytes that stand behind so many others.
+/// The same error of bytes before which `start` others stand.
 fn behind(start: usize, error: DecodeError) -> DecodeError
-    ensures { IfSome (error_offset result) (λ offset. IsSome (error_offset error)) }
+    requires { IfSome (error_offset error) (λ offset. start + offset < 2 ^ 64) }
+    ensures { result ≡ behind start error }
 {
     match error {
         DecodeError::Malformed { offset, expected } => DecodeError::Malformed {
-            offset: start.saturating_add(offset),
+            offset: start + offset,
             expected,
         },
         DecodeError::NotHeld { offset, what } => DecodeError::NotHeld {
-            offset: start.saturating_add(offset),
+            offset: start + offset,
             what,
         },
         DecodeError::Memory => DecodeError::Memory,

@@ -3,6 +3,7 @@
 use super::*;
 use crate::assertions::assert_equal;
 use std::test::*;
+use walrus_binary::{NotHeld, module_types};
 
 fn stands_at(bytes: &[u8], start: usize, end: usize) -> bool {
     match type_section(bytes) {
@@ -125,6 +126,34 @@ fn headers_are_exact(rt: HostRuntime) {
     assert_equal(&rt, fault(&component), malformed(4, Expected::Version));
     let later = [0, 0x61, 0x73, 0x6D, 1, 0, 0, 1];
     assert_equal(&rt, fault(&later), malformed(7, Expected::Version));
+}
+
+#[test]
+fn errors_in_types_have_their_place_in_the_module(rt: HostRuntime) {
+    let malformed_types = [
+        0, 0x61, 0x73, 0x6D, 1, 0, 0, 0, 0, 2, 1, 0x61, 1, 5, 1, 0x5F, 1, 0x7F, 2, 3, 1, 0,
+    ];
+    assert_equal(
+        &rt,
+        module_types(rt.alloc(), &malformed_types).err(),
+        malformed(18, Expected::Mutability),
+    );
+    let several = [
+        0, 0x61, 0x73, 0x6D, 1, 0, 0, 0, 1, 7, 1, 0x50, 2, 0, 1, 0x5F, 0,
+    ];
+    let offset = 12;
+    let what = NotHeld::Supertypes;
+    assert_equal(
+        &rt,
+        module_types(rt.alloc(), &several).err(),
+        Some(DecodeError::NotHeld { offset, what }),
+    );
+    let cut = [0, 0x61, 0x73, 0x6D, 1, 0, 0, 0, 1, 1, 1];
+    assert_equal(
+        &rt,
+        module_types(rt.alloc(), &cut).err(),
+        malformed(11, Expected::RecType),
+    );
 }
 
 // What is expected where a module of a custom section, a type section and a function section ends.

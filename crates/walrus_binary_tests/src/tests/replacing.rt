@@ -51,15 +51,20 @@ fn a_padded_size_becomes_the_shortest(rt: HostRuntime) {
 }
 
 #[test]
-fn a_module_without_types_gets_them_first(rt: HostRuntime) {
+fn a_module_without_types_gets_them_behind_its_first_custom_sections(rt: HostRuntime) {
     let empty = [0, 0x61, 0x73, 0x6D, 1, 0, 0, 0];
     let wanted = [0, 0x61, 0x73, 0x6D, 1, 0, 0, 0, 1, 1, 0];
     assert!(rt; becomes(rt.alloc(), &empty, &[0], &wanted));
-    let bytes = [0, 0x61, 0x73, 0x6D, 1, 0, 0, 0, 0, 2, 1, 0x61, 2, 1, 0];
-    let first = [
-        0, 0x61, 0x73, 0x6D, 1, 0, 0, 0, 1, 1, 0, 0, 2, 1, 0x61, 2, 1, 0,
+    let bytes = [
+        0, 0x61, 0x73, 0x6D, 1, 0, 0, 0, 0, 2, 1, 0x61, 2, 1, 0, 0, 2, 1, 0x62,
     ];
-    assert!(rt; becomes(rt.alloc(), &bytes, &[0], &first));
+    let between = [
+        0, 0x61, 0x73, 0x6D, 1, 0, 0, 0, 0, 2, 1, 0x61, 1, 1, 0, 2, 1, 0, 0, 2, 1, 0x62,
+    ];
+    assert!(rt; becomes(rt.alloc(), &bytes, &[0], &between));
+    let customs = [0, 0x61, 0x73, 0x6D, 1, 0, 0, 0, 0, 2, 1, 0x61];
+    let last = [0, 0x61, 0x73, 0x6D, 1, 0, 0, 0, 0, 2, 1, 0x61, 1, 1, 0];
+    assert!(rt; becomes(rt.alloc(), &customs, &[0], &last));
 }
 
 #[test]

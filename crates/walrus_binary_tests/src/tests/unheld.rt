@@ -32,6 +32,12 @@ fn shared_types(rt: HostRuntime) {
         error_of(rt.alloc(), &heap_type),
         not_held(3, NotHeld::Shared),
     );
+    let abbreviated = [1, 0x60, 1, 0x65, 0x70, 0];
+    assert_equal(
+        &rt,
+        error_of(rt.alloc(), &abbreviated),
+        not_held(3, NotHeld::Shared),
+    );
 }
 
 #[test]

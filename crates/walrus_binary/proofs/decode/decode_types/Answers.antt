@@ -1,5 +1,5 @@
 use Rattle.walrus_binary.proofs.Groups.{types_take}
-use Rattle.walrus_binary.proofs.Sections.{error_within, error_refused, error_placed, error_stuck, error_begun}
+use Rattle.walrus_binary.proofs.Sections.{error_within, error_refused, error_placed, error_stuck, error_begun, error_unheld}
 use Rattle.walrus_binary.proofs.decode.decode_types.Goals as goal
 
 pub returns-in-Ok-clause-found : goal.returns-in-Ok-clause-found
@@ -23,3 +23,7 @@ returns-in-Err-clause-stuck c =
 pub returns-in-Err-clause-begun : goal.returns-in-Err-clause-begun
 returns-in-Err-clause-begun c =
     rw c.refusal.ensures (error_begun c.args.bytes.now c.read_types.new.input.now c.in-Err.error c.in-Err.ensures)
+
+pub returns-in-Err-clause-unheld : goal.returns-in-Err-clause-unheld
+returns-in-Err-clause-unheld c =
+    rw c.refusal.ensures (error_unheld c.args.bytes.now c.read_types.new.input.now c.in-Err.error c.in-Err.ensures)

@@ -20,6 +20,11 @@ returns-in_err-rest-clause-stuck c =
     let p = err_from_is_err_and c.from_residual.result c.from_residual.ensures.1 in
     rw (p.1, p.2) (header_faulty c.args.bytes.now c.in_err-rest.field-0.0 c.in_err-rest.ensures).stuck
 
+pub returns-in_err-rest-clause-begun : goal.returns-in_err-rest-clause-begun
+returns-in_err-rest-clause-begun c =
+    let p = err_from_is_err_and c.from_residual.result c.from_residual.ensures.1 in
+    rw (p.1, p.2) (header_faulty c.args.bytes.now c.in_err-rest.field-0.0 c.in_err-rest.ensures).begun
+
 pub loop-rest-init : goal.loop-rest-init
 loop-rest-init c = begun _ _ _ c.args.bytes.now c.in_ok-rest.rest.now c.in_ok-rest.ensures
 
@@ -37,6 +42,11 @@ pub returns-in_err-id-clause-stuck : goal.returns-in_err-id-clause-stuck
 returns-in_err-id-clause-stuck c =
     let p = err_from_is_err_and c.from_residual-in_err-id.result c.from_residual-in_err-id.ensures.1 in
     rw (p.1, p.2) (section_faulty _ _ _ c.args.bytes.now c.loop-rest.rest.now c.loop-rest.last c.loop-rest.found c.in_err-id.field-0.0 c.loop-rest.invariant c.loop-rest-test.ensures c.in_err-id.ensures).stuck
+
+pub returns-in_err-id-clause-begun : goal.returns-in_err-id-clause-begun
+returns-in_err-id-clause-begun c =
+    let p = err_from_is_err_and c.from_residual-in_err-id.result c.from_residual-in_err-id.ensures.1 in
+    rw (p.1, p.2) (section_faulty _ _ _ c.args.bytes.now c.loop-rest.rest.now c.loop-rest.last c.loop-rest.found c.in_err-id.field-0.0 c.loop-rest.invariant c.loop-rest-test.ensures c.in_err-id.ensures).begun
 
 pub overflow_sub-end : goal.overflow_sub-end
 overflow_sub-end c =

@@ -1,4 +1,6 @@
-use Rattle.walrus_binary.proofs.Modules.Replacing.{replaces, inserts, types_there, both_ok, some_is, none_is}
+use Rattle.std.proofs.Common.{refl}
+use Rattle.walrus_binary.proofs.Modules.Customs.{inserts}
+use Rattle.walrus_binary.proofs.Modules.Replacing.{replaces, types_there, both_ok, some_is, none_is}
 use Rattle.walrus_binary.proofs.module.replace.replace_type_section.Goals as goal
 
 pub returns-in-Some-clause-replaced : goal.returns-in-Some-clause-replaced
@@ -16,15 +18,15 @@ returns-in-Some-clause-types c =
     (λ v p q. types_there c.args.content.now c.args.bytes.now v.items
     (replaces c.args.bytes.now c.args.content.now v.items s.id s.content.start s.content.end there q p))
 
-pub returns-in-None-clause-replaced : goal.returns-in-None-clause-replaced
-returns-in-None-clause-replaced c =
+pub returns-in_ok-back-in-None-clause-replaced : goal.returns-in_ok-back-in-None-clause-replaced
+returns-in_ok-back-in-None-clause-replaced c =
     let there = none_is _ c.in_ok-found.field-0 c.in-None.is c.in_ok-found.ensures.none in
     both_ok c.write_module-in-None.result _ _ _ c.write_module-in-None.ensures.parts c.write_module-in-None.ensures.text
-    (λ v p q. inserts c.args.bytes.now c.args.content.now v.items c.split_at.result.0.now c.split_at.result.1.now there q c.split_at.ensures.front c.split_at.ensures.back p)
+    (λ v p q. inserts c.args.bytes.now c.args.content.now _ c.in_ok-back-in-None.back.now v.items there c.in_ok-back-in-None.ensures.behind q refl p)
 
-pub returns-in-None-clause-types : goal.returns-in-None-clause-types
-returns-in-None-clause-types c =
+pub returns-in_ok-back-in-None-clause-types : goal.returns-in_ok-back-in-None-clause-types
+returns-in_ok-back-in-None-clause-types c =
     let there = none_is _ c.in_ok-found.field-0 c.in-None.is c.in_ok-found.ensures.none in
     both_ok c.write_module-in-None.result _ _ _ c.write_module-in-None.ensures.parts c.write_module-in-None.ensures.text
     (λ v p q. types_there c.args.content.now c.args.bytes.now v.items
-    (inserts c.args.bytes.now c.args.content.now v.items c.split_at.result.0.now c.split_at.result.1.now there q c.split_at.ensures.front c.split_at.ensures.back p))
+    (inserts c.args.bytes.now c.args.content.now _ c.in_ok-back-in-None.back.now v.items there c.in_ok-back-in-None.ensures.behind q refl p))

@@ -1,5 +1,5 @@
 use Rattle.walrus_binary.proofs.Progress.{begins, begins_with_none, begins_with_groups, count_fails}
-use Rattle.walrus_binary.proofs.Sections.{error_within, error_refused, error_placed, error_stuck, error_begun}
+use Rattle.walrus_binary.proofs.Sections.{error_within, error_refused, error_placed, error_stuck, error_begun, error_unheld}
 use Rattle.walrus_binary.proofs.decode.reader.TypeSectionReader.new.Goals as goal
 
 pub invariant_of-result : goal.invariant_of-result
@@ -30,3 +30,7 @@ returns-in-Err-clause-stuck c =
 pub returns-in-Err-clause-begun : goal.returns-in-Err-clause-begun
 returns-in-Err-clause-begun c =
     rw c.refusal.ensures (error_begun c.args.bytes.now c.read_u32.new.input.now c.in-Err.error (count_fails _ _ _ c.in-Err.ensures))
+
+pub returns-in-Err-clause-unheld : goal.returns-in-Err-clause-unheld
+returns-in-Err-clause-unheld c =
+    rw c.refusal.ensures (error_unheld c.args.bytes.now c.read_u32.new.input.now c.in-Err.error (count_fails _ _ _ c.in-Err.ensures))

@@ -1,6 +1,6 @@
-use Rattle.std.proofs.Common.{◌≡◌, ◌≤◌, List, [], ◌∷◌, length, nat_eq, true, false, Bool, refl, sym, ◌∙◌, eqb-true, arith}
+use Rattle.std.proofs.Common.{rules, sym}
 use Rattle.walrus_binary.proofs.Progress.{begins_with_groups, group_follows, ends, fails, trails, nothing_left, something_left, some_remain}
-use Rattle.walrus_binary.proofs.Sections.{refused, lies_within, stuck_there, begun_before, left_fits, error_within, error_refused, error_placed, error_stuck, error_begun}
+use Rattle.walrus_binary.proofs.Sections.{refused, stuck_there, begun_before, left_fits, error_within, error_refused, error_stuck, error_begun, error_unheld}
 use Rattle.walrus_binary.proofs.decode.reader.TypeSectionReader.next_group.Goals as goal
 
 pub returns-then-is_empty-clause-begins : goal.returns-then-is_empty-clause-begins
@@ -13,6 +13,9 @@ returns-then-is_empty-clause-end c =
 pub refusal-requires : goal.refusal-requires
 refusal-requires c =
     rw c.expected-error.ensures (left_fits c.self.inside.bytes.now _ (trails c.self.inside.bytes.now c.self.inside.remaining c.self.inside.rest.now c.self.invariant c.if-self-eq0.true (something_left c.self.inside.rest.now (sym c.if-is_empty.ensures))))
+
+pub returns-then-self-eq0-clause-end : goal.returns-then-self-eq0-clause-end
+returns-then-self-eq0-clause-end c = search rules
 
 pub returns-then-self-eq0-clause-refused : goal.returns-then-self-eq0-clause-refused
 returns-then-self-eq0-clause-refused c =
@@ -36,6 +39,9 @@ returns-in-Ok-clause-group c =
     let on = group_follows c.self.inside.bytes.now c.self.inside.remaining c.self.inside.rest.now c.in-Ok.group c.read_group.new.input.now c.self.invariant (some_remain _ c.if-self-eq0.false) c.in-Ok.ensures in
     rw (← c.self.view_is) on.groups
 
+pub returns-in-Ok-clause-none : goal.returns-in-Ok-clause-none
+returns-in-Ok-clause-none c = search rules
+
 pub returns-in-Ok-clause-begins : goal.returns-in-Ok-clause-begins
 returns-in-Ok-clause-begins c =
     let on = group_follows c.self.inside.bytes.now c.self.inside.remaining c.self.inside.rest.now c.in-Ok.group c.read_group.new.input.now c.self.invariant (some_remain _ c.if-self-eq0.false) c.in-Ok.ensures in
@@ -55,3 +61,7 @@ returns-in-Err-clause-stuck c =
 pub returns-in-Err-clause-begun : goal.returns-in-Err-clause-begun
 returns-in-Err-clause-begun c =
     rw (c.refusal-in-Err.ensures, ← c.self.view_is) (error_begun c.self.inside.bytes.now c.read_group.new.input.now c.in-Err.error (fails _ _ _ _ _ c.self.invariant (some_remain _ c.if-self-eq0.false) c.in-Err.ensures))
+
+pub returns-in-Err-clause-unheld : goal.returns-in-Err-clause-unheld
+returns-in-Err-clause-unheld c =
+    rw (c.refusal-in-Err.ensures, ← c.self.view_is) (error_unheld c.self.inside.bytes.now c.read_group.new.input.now c.in-Err.error (fails _ _ _ _ _ c.self.invariant (some_remain _ c.if-self-eq0.false) c.in-Err.ensures))
