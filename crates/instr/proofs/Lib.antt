@@ -1,1 +1,2 @@
+pub mod LocalEquality
 pub mod LocalHashes

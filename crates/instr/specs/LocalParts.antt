@@ -1,4 +1,4 @@
--- What the hash of a local looks at.
+-- What makes two locals equal, and what the hash of a local looks at.
 use Rattle.std.specs.Prelude.{ℕ, List, Option, option_map, string_bytes}
 use Rattle.walrus_ty.specs.declared.ty.value.Val.{Val}
 use Rattle.instr.specs.Locals.{LocalVariable}

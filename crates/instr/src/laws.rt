@@ -9,14 +9,13 @@ ghost use Rattle.walrus_ty.specs.Value.{val_name};
 use crate::Local;
 use std::hash::Hash;
 
-/// Locals are equal exactly where their ids, their types and their names are.
+/// Locals are equal exactly where their parts are: the id, the type and the bytes of the name.
 pub fn equal_locals_are_the_same()
-    ensures { (l m : LocalVariable) → (IsTrue (⟦<Local as PartialEq>⟧.eq l m) ↔
-        ((l.id ≡ m.id) × (l.ty ≡ m.ty)
-        × IsTrue (⟦<Option<String> as PartialEq>⟧.eq l.name m.name))) }
+    ensures { (l m : LocalVariable) →
+        (IsTrue (⟦<Local as PartialEq>⟧.eq l m) ↔ (local_parts l ≡ local_parts m)) }
 {}
 
-/// `Hash` looks at all three parts of a local: at its id, at its type and at the bytes of its name.
+/// `Hash` looks at the same parts of a local as `==`: the id, the type and the bytes of the name.
 pub fn local_hashes_agree()
     ensures { HashesBy local_parts (λ l. (l.id < 2 ^ 64) × Fits 64 (val_name l.ty))
         ⟦<Local as Hash>⟧.hash_input }

@@ -4,20 +4,23 @@ use Rattle.std.specs.Option.{option_eq}
 use Rattle.std.specs.Coded.{Coded, code_by, coded×, coded_ℕ, coded_list, coded_option}
 use Rattle.std.specs.Map.{lookup}
 use Rattle.walrus_arena.specs.Arena.{Slots, get, with_value, without}
+use Rattle.walrus_arena.specs.HashKeys.{InitialHasher, keys_code}
 
--- the slots, and the entries of the map, whose order means nothing: `mapped_id` reads them
+-- the slots, the entries of the map, whose order means nothing (`mapped_id` reads them), and the
+-- keys of the map's hash
 pub record Set (T : Type 0) : Type 0 where
   pub slots : Slots T
   pub entries : List (T × ℕ)
+  pub keys : InitialHasher
 
--- a set is stored as the pair of its parts
+-- a set is stored as the tuple of its parts
 abbrev pub set_code : {T : Type 0} → Coded T → Coded (Set T)
 set_code {T} code =
     code_by
-    (List (Option T) × List (T × ℕ))
-    (coded× (coded_list (coded_option code)) (coded_list (coded× code coded_ℕ)))
-    (λ s. (s.slots, s.entries))
-    (λ p. record { slots = p.0; entries = p.1 })
+    (List (Option T) × (List (T × ℕ) × InitialHasher))
+    (coded× (coded_list (coded_option code)) (coded× (coded_list (coded× code coded_ℕ)) keys_code))
+    (λ s. (s.slots, (s.entries, s.keys)))
+    (λ p. record { slots = p.0; entries = p.1.0; keys = p.1.1 })
     (λ _. refl)
 
 -- a clone is equal to its source
@@ -57,28 +60,33 @@ module _ {T : Type 0} (eq : T → T → Bool) where
       (get s.slots id)
 
 module _ {T : Type 0} (eq : T → T → Bool) (old new : Set T) where
-  -- the same slots, and the same map
+  -- the same slots, the same map and the same keys
   pub record IsSame : Type 0 where
     pub slots : new.slots ≡ old.slots
     pub map : SameMap eq old new
+    pub keys : new.keys ≡ old.keys
 
-  -- a new slot at the end has the value, and the map has its id there
+  -- a new slot at the end has the value, the map has its id there, and the keys stay
   pub record Adds (value : T) (id : ℕ) : Type 0 where
     pub named : id ≡ length old.slots
     pub slots : new.slots ≡ old.slots ++ Some value ∷ []
     pub map : Maps eq old new value id
+    pub keys : new.keys ≡ old.keys
 
-  -- the slot of the id has the value, and the map has the id there
+  -- the slot of the id has the value, the map has the id there, and the keys stay
   pub record Registers (id : ℕ) (value : T) : Type 0 where
     pub slots : new.slots ≡ with_value old.slots id value
     pub map : Maps eq old new value id
+    pub keys : new.keys ≡ old.keys
 
-  -- the slot died, and the map lost the entry of its item where that was the slot's own
+  -- the slot died, the map lost the entry of its item where that was the slot's own, and the keys
+  -- stay
   pub record Removes (id : ℕ) : Type 0 where
     pub slots : new.slots ≡ without old.slots id
     pub map :
         (q : T) → mapped_id eq new q ≡
         (if is_own_entry eq old id q then None else mapped_id eq old q)
+    pub keys : new.keys ≡ old.keys
 
 module _ {T : Type 0} (eq : T → T → Bool) where
   -- `Removes` of each of these ids in order

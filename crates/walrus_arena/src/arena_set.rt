@@ -1,6 +1,7 @@
 //! A set of values in an arena: a value is found again by an equal one.
 ghost use Rattle.std.specs.Prelude.{◌≡◌, ◌∷◌, ◌++◌, [], length, IsTrue, ◌↔◌, IfOk, OnOk, OnErr, IsOk, IsSome, Some, None, MatchOption, ◌<◌, All, map, nat_eq, true};
 ghost use Rattle.walrus_arena.specs.Arena.{get, IsLive, items, range};
+ghost use Rattle.walrus_arena.specs.HashKeys.{fixed_hasher};
 ghost use Rattle.walrus_arena.specs.Set.{found_id, holds, Adds, Registers, Removes, IsSame, ClonesAreEqual, RemovesAll};
 ghost use Rattle.std.specs.Borrow.{sem};
 ghost use Rattle.std.specs.List.{IsDistinct};
@@ -18,7 +19,7 @@ use std::ops::{Index, IndexMut};
 /// An item may be changed in place, through `[id]`. The map does not follow such a change; so a
 /// mapped id is used only while it is live and its item is equal to the value that was asked for.
 ///
-/// A contract sees the slots of the arena and the entries of the map.
+/// A contract sees the slots of the arena, the entries of the map and the keys of its hash.
 #[derive(Drop)]
 pub struct ArenaSet<T: Clone + Eq + Hash, A: Allocator = Global> {
     arena: TombstoneArena<T, A>,
@@ -26,13 +27,14 @@ pub struct ArenaSet<T: Clone + Eq + Hash, A: Allocator = Global> {
 }
 
 impl<T: Clone + Eq + Hash, A: Allocator> Model for ArenaSet<T, A> {
+    ghost use Rattle.std.specs.HashMap.{hasher_of};
     ghost use Rattle.walrus_arena.specs.Set.{Set, set_code};
 
     ghost Value = { Set T };
 
     ghost coded = { set_code T.code };
 
-    ghost view = { λ s. record { slots = s.arena; entries = s.map.entries } };
+    ghost view = { λ s. record { slots = s.arena; entries = s.map.entries; keys = hasher_of s.map } };
 }
 
 impl<T: Clone + Eq + Hash, A: Allocator> ArenaSet<T, A> {
@@ -44,16 +46,19 @@ impl<T: Clone + Eq + Hash, A: Allocator> ArenaSet<T, A> {
         A: Copy,
         ensures slots { result.slots ≡ [] }
         ensures map { result.entries ≡ [] }
+        ensures keys { result.keys ≡ fixed_hasher }
     {
         ArenaSet::with_hash_keys(alloc, HashKeys::fixed())
     }
 
-    /// An empty set whose hash has these keys. It takes no memory. No answer hangs on the keys.
+    /// An empty set whose hash has these keys. It takes no memory. What the calls return does not
+    /// depend on the keys.
     pub fn with_hash_keys(alloc: A, keys: HashKeys) -> Self
     where
         A: Copy,
         ensures slots { result.slots ≡ [] }
         ensures map { result.entries ≡ [] }
+        ensures keys { result.keys ≡ keys }
     {
         ArenaSet {
             arena: TombstoneArena::new(alloc),

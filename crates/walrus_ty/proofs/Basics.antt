@@ -1,5 +1,5 @@
 -- Small lemmas that many proofs need.
-use Rattle.std.proofs.Common.{◌≡◌, ℕ, zero, suc, ◌+◌, ◌-◌, ◌≤◌, List, [], ◌∷◌, ◌++◌, length, Bool, true, false, ◌&&◌, not, refl, ap, arith, Some, ◌⊎◌, inl, inr}
+use Rattle.std.proofs.Common.{◌≡◌, ℕ, zero, suc, ◌+◌, ◌-◌, ◌≤◌, List, [], ◌∷◌, ◌++◌, ◌∙◌, length, Bool, true, false, ◌&&◌, not, refl, ap, arith, Some, ◌⊎◌, inl, inr}
 use Rattle.std.specs.declared.cmp.Ordering.{Ordering}
 use Rattle.std.specs.declared.cmp.Ordering.TheVariants.{Less, Equal}
 use Rattle.std.specs.Ordering.{nat_cmp, ordering_then}
@@ -41,6 +41,12 @@ pub slice_get-left :
 slice_get-left [] ys k x h = cc
 slice_get-left (y ∷ xs) ys zero x h = h
 slice_get-left (y ∷ xs) ys (suc k) x h = slice_get-left xs ys k x h
+
+pub slice_get-right :
+    (xs ys : List ℕ) (j x : ℕ) → slice_get ys j ≡ Some x →
+    slice_get (xs ++ ys) (length xs + j) ≡ Some x
+slice_get-right [] ys j x h = let place : 0 + j ≡ j = omega arith in ap (slice_get ys) place ∙ h
+slice_get-right (y ∷ xs) ys j x h = let place : suc (length xs) + j ≡ suc (length xs + j) = omega arith in ap (slice_get (y ∷ xs ++ ys)) place ∙ slice_get-right xs ys j x h
 
 pub slice_get-parts :
     (xs ys : List ℕ) (k x : ℕ) → slice_get (xs ++ ys) k ≡ Some x →

@@ -1,7 +1,7 @@
 -- Which indices the ids of a module were given in a section.
 -- WebAssembly core specification, "Modules", indices: types, functions and globals have an index
 -- space each, numbered from 0.
-use Rattle.std.specs.Prelude.{◌≡◌, ℕ, ◌+◌, ◌==◌, ◌++◌, List, length, Option, Some, None, nat_eq, slice_get, ◌↔◌, if◌then◌else◌}
+use Rattle.std.specs.Prelude.{◌≡◌, ℕ, ◌+◌, ◌==◌, List, length, Contains, Option, Some, None, nat_eq, slice_get, ◌↔◌, if◌then◌else◌}
 use Rattle.std.specs.Map.{lookup}
 use Rattle.walrus_ty.specs.declared.indices.ids_to_indices.Indices.{Indices}
 use Rattle.walrus_ty.specs.declared.indices.ids_to_indices.IdsToIndices.{IdsToIndices}
@@ -48,7 +48,8 @@ pub record Indexes (known : List ℕ) (x : IndexMap) : Type 0 where
   pub count : x.count ≡ length known
   pub index : (id k : ℕ) → (x.index id ≡ Some k) ↔ (slice_get known k ≡ Some id)
 
--- these ids got the next indices in order: they go to the end of the list of those that have one
+-- these ids got the next indices in order, and each other id keeps what it had
 pub record GivesAll (old new : IndexMap) (ids : List ℕ) : Type 0 where
   pub count : new.count ≡ old.count + length ids
-  pub index : (known : List ℕ) → Indexes known old → Indexes (known ++ ids) new
+  pub given : (k id : ℕ) → slice_get ids k ≡ Some id → new.index id ≡ Some (old.count + k)
+  pub kept : (id : ℕ) → ¬ (Contains ids id) → new.index id ≡ old.index id

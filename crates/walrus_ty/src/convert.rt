@@ -413,7 +413,8 @@ pub struct SubType {
 
 impl SubType {
     /// What this record says. `UnknownIndex` has the first index in it that stands for nothing:
-    /// those of the composite type from left to right, then the supertype.
+    /// those of the composite type from left to right, then the supertype. `Memory` comes where
+    /// room for the lists of the composite type was refused, and so never of an array type.
     #[tactic(auto, using(crate::proofs::Names::Lookups::missing_first, crate::proofs::Names::Lookups::missing_second))]
     pub fn from_record(
         alloc: Global,
@@ -427,6 +428,8 @@ impl SubType {
             (first_missing (type_at ids.now) (names_of (entry_definition at.now)) ≡ None) }
         ensures missing { IfErr result (λ e. IfUnknownIndex e (λ k.
             first_missing (type_at ids.now) (names_of (entry_definition at.now)) ≡ Some k)) }
+        ensures memory { IfErr result (λ e.
+            e ≡ reading.Memory → IsTrue (has_lists (comp_composite at.now.comp))) }
     {
         Ok(SubType {
             kind: CompositeType::from_record(alloc, &at.comp, ids)?,
@@ -438,7 +441,8 @@ impl SubType {
 
 impl Type {
     /// The record of this type. `NoIndex` has the first id in it that has no index: those of the
-    /// composite type from left to right, then the supertype.
+    /// composite type from left to right, then the supertype. `Memory` comes where room for the
+    /// lists of the composite type was refused, and so never of an array type.
     #[tactic(auto, using(crate::proofs::Names::Lookups::missing_first, crate::proofs::Names::Lookups::missing_second))]
     pub fn to_record(&self, alloc: Global, indices: &IdsToIndices) -> Result<EntryAt, ToRecordError>
         ensures renamed { IfOk result (λ x.
@@ -450,6 +454,8 @@ impl Type {
             option_map OfType (first_missing (type_index indices.now)
             (names_of (type_definition self.now)))
             ≡ Some n)) }
+        ensures memory { IfErr result (λ e.
+            e ≡ writing.Memory → IsTrue (has_lists (kind_composite self.now.kind))) }
     {
         Ok(EntryAt {
             comp: self.kind.to_record(alloc, indices)?,

@@ -7,6 +7,7 @@ use Rattle.std.specs.declared.vec.Vec.{Vec}
 use Rattle.std.specs.declared.alloc.Global.{Global}
 use Rattle.std.specs.declared.alloc.AllocError.{AllocError}
 use Rattle.std.specs.List.{Contains, list_any, range_with_len}
+use Rattle.walrus_arena.specs.HashKeys.{InitialHasher}
 use Rattle.walrus_ty.specs.declared.ty.composite.CompositeType.{CompositeType}
 use Rattle.walrus_types.specs.declared.table.rec_group.RecGroup.{RecGroup}
 use Rattle.walrus_ty.specs.Signature.{Signature}
@@ -20,6 +21,10 @@ use Rattle.std.specs.String.{string_bytes}
 pub record Table : Type 0 where
   pub types : TypesById
   pub groups : List RecGroup
+
+-- the table without types, with these keys of its hash
+abbrev pub empty_table : InitialHasher → Table
+empty_table keys = record { types = record { slots = []; entries = []; keys = keys }; groups = [] }
 
 -- stands for a group that is not there
 abbrev pub no_rec_group : RecGroup
@@ -69,7 +74,7 @@ abbrev pub own_group : ℕ → RecGroup
 own_group id = record { types = id ∷ []; is_explicit = false }
 
 module _ (old new : Table) where
-  -- the same types, found in the same way, and the same groups
+  -- the same types, found in the same way and with the same keys, and the same groups
   pub record IsSameTable : Type 0 where
     pub types : IsUnchanged old.types new.types
     pub groups : new.groups ≡ old.groups

@@ -2,15 +2,13 @@
 -- The specification has no table of types that changes: its calls are of this crate's own.
 use Rattle.std.specs.Prelude.{◌≡◌, ℕ, Bool, List, [], ◌∷◌, ◌++◌, length, All, is_some, nat_eq, MatchBool, if◌then◌else◌}
 use Rattle.std.specs.List.{IsDistinct, range_with_len}
+use Rattle.walrus_arena.specs.HashKeys.{InitialHasher}
 use Rattle.walrus_ty.specs.Groups.{Section}
 use Rattle.walrus_ty.specs.Types.{ModuleType}
 use Rattle.walrus_types.specs.TypesById.{IsLive, found_id}
-use Rattle.walrus_types.specs.Table.{Table, Member, next_id, IsTable, IsSameTable, FindsOrAdds, AddsGroup, Deletes, DeletesAll, DeletesGroup}
+use Rattle.walrus_types.specs.Table.{Table, empty_table, Member, next_id, IsTable, IsSameTable, FindsOrAdds, AddsGroup, Deletes, DeletesAll, DeletesGroup}
 use Rattle.walrus_types.specs.ReaderState.{IsReadInto}
 use Rattle.walrus_types.specs.TableLends.{with_type}
-
-abbrev pub empty_table : Table
-empty_table = record { types = record { slots = []; entries = [] }; groups = [] }
 
 -- what one call makes of the table old, as the clauses of the call say it
 pub data Call (old new : Table) : Type 0 where
@@ -65,7 +63,7 @@ IsAddition old new ty id = IsCall old new (if is_some (found_id old.types ty) th
 -- calls that make the table of an empty one, or of one that a section was read into, with all ids
 -- that were given, in order
 pub data Calls : Table → List ℕ → Type 0 where
-  Start : Calls empty_table []
+  Start : (keys : InitialHasher) → Calls (empty_table keys) []
   Read : (s : Section) (t : Table) (ids : List ℕ) (read : IsReadInto s t ids)
       (grouping : IsTable t) → Calls t (range_with_len 0 (next_id t))
   Then : (old new : Table) (ids : List ℕ) (before : Calls old ids) (call : Call old new) →

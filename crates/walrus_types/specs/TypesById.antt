@@ -3,6 +3,7 @@
 -- WebAssembly core specification, "Modules", types: a module has a list of types, and each is named
 -- by its place in it.
 -- The specification has no type that dies and no look-up by value; both are of this crate's own.
+use Rattle.walrus_arena.specs.HashKeys.{InitialHasher}
 use Rattle.walrus_ty.specs.SameTypes.{type_eq}
 use Rattle.std.specs.Prelude.{◌≡◌, ℕ, List, [], ◌∷◌, ◌++◌, length, Bool, false, ◌&&◌, ◌==◌, if◌then◌else◌, Option, Some, None, IsSome, option_and_then, slice_index_or, slice_set}
 use Rattle.std.specs.Option.{option_eq}
@@ -13,11 +14,12 @@ use Rattle.walrus_ty.specs.Types.{ModuleType}
 abbrev pub TypeSlots : Type 0
 TypeSlots = List (Option ModuleType)
 
--- the types by id, and a finite map from types to ids, of which only the look-up means something:
--- `known_id`
+-- the types by id; a finite map from types to ids, of which only the look-up means something
+-- (`known_id`); and the keys of the hash by which types are found
 pub record TypesById : Type 0 where
   pub slots : TypeSlots
   pub entries : List (ModuleType × ℕ)
+  pub keys : InitialHasher
 
 -- the type of this id, if it is live
 abbrev pub live_type : TypeSlots → ℕ → Option ModuleType
@@ -54,23 +56,26 @@ module _ (old new : TypesById) where
   abbrev pub KnowsSame : Type 0
   KnowsSame = (q : ModuleType) → known_id new q ≡ known_id old q
 
-  -- the same types, and the same ids known for them
+  -- the same types, the same ids known for them, and the same keys
   pub record IsUnchanged : Type 0 where
     pub slots : new.slots ≡ old.slots
     pub map : KnowsSame
+    pub keys : new.keys ≡ old.keys
 
-  -- the type has the next id, and this is known for the types equal to it
+  -- the type has the next id, this is known for the types equal to it, and the keys stay
   pub record Gains (ty : ModuleType) (id : ℕ) : Type 0 where
     pub is_next : id ≡ length old.slots
     pub slots : new.slots ≡ old.slots ++ Some ty ∷ []
     pub map : (q : ModuleType) → known_id new q ≡ (if type_eq ty q then Some id else known_id old q)
+    pub keys : new.keys ≡ old.keys
 
   -- the type of the id died; where this very id was known for the types equal to it, none is known
-  -- any more
+  -- any more; and the keys stay
   pub record Loses (id : ℕ) : Type 0 where
     pub slots : new.slots ≡ slice_set old.slots id None
     pub map :
         (q : ModuleType) → known_id new q ≡ (if is_known_as old id q then None else known_id old q)
+    pub keys : new.keys ≡ old.keys
 
 -- the types of these ids died, one after the other
 abbrev pub LosesAll : TypesById → List ℕ → TypesById → Type 0

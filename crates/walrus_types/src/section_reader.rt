@@ -1,5 +1,6 @@
 //! Reading a type section into a table of types.
 ghost use Rattle.std.specs.Prelude.{◌≡◌, ◌+◌, ◌⊎◌, [], ◌∷◌, ◌++◌, List, length, map, IfOk, IfErr, OnOk, OnErr, MatchResult, None, Some};
+ghost use Rattle.walrus_arena.specs.HashKeys.{fixed_hasher};
 ghost use Rattle.walrus_sections.specs.declared.error.ReadError.TheVariants as error;
 ghost use Rattle.walrus_ty.specs.Definition.{rename};
 ghost use Rattle.walrus_ty.specs.Groups.{Section, Single, Rec};
@@ -49,15 +50,17 @@ impl SectionReader {
     ///
     /// Fixed keys are safe where the section is trusted: see [`HashKeys`].
     pub fn new(alloc: Global) -> SectionReader
-        ensures { IsReadInto [] result.table result.ids }
+        ensures section { IsReadInto [] result.table result.ids }
+        ensures keys { result.table.types.keys ≡ fixed_hasher }
     {
         SectionReader::with_hash_keys(alloc, HashKeys::fixed())
     }
 
     /// A reader that has read the empty section, into a table whose hash has these keys. It takes
-    /// no memory. No answer hangs on the keys.
+    /// no memory. What the calls return does not depend on the keys.
     pub fn with_hash_keys(alloc: Global, keys: HashKeys) -> SectionReader
-        ensures { IsReadInto [] result.table result.ids }
+        ensures section { IsReadInto [] result.table result.ids }
+        ensures keys { result.table.types.keys ≡ keys }
     {
         SectionReader {
             types: ModuleTypes::with_hash_keys(alloc, keys),
@@ -80,6 +83,7 @@ impl SectionReader {
             (λ e. (e ≡ error.Memory) ⊎
             (group_error (length self.old.ids) (definitions_of (group_of group.now)) ≡ Some e)) }
         ensures err { OnErr result (IsSameState self.old self.new) }
+        ensures keys { self.new.table.types.keys ≡ self.old.table.types.keys }
         ensures kept { (s : Section) → IsReadInto s self.old.table self.old.ids
             → OnErr result (IsReadInto s self.new.table self.new.ids) }
     {
@@ -107,6 +111,7 @@ impl SectionReader {
             (λ e. (e ≡ error.Memory) ⊎
             (group_error (length self.old.ids) (entry_definition entry.now ∷ []) ≡ Some e)) }
         ensures err { OnErr result (IsSameState self.old self.new) }
+        ensures keys { self.new.table.types.keys ≡ self.old.table.types.keys }
     {
         let index = self.ids.type_count();
         if let Some(refusal) = first_error(slice::from_ref(entry), index) {
@@ -135,6 +140,7 @@ impl SectionReader {
             (λ e. (e ≡ error.Memory) ⊎
             (group_error (length self.old.ids) (map entry_definition entries.now) ≡ Some e)) }
         ensures err { OnErr result (IsSameState self.old self.new) }
+        ensures keys { self.new.table.types.keys ≡ self.old.table.types.keys }
     {
         let first = self.ids.type_count();
         if let Some(refusal) = first_error(entries, first) {
@@ -163,6 +169,7 @@ fn read_single(
         (type_of_definition (rename (image ids.now.types) (entry_definition entry.now))
         (length types.old.types.slots)) id) }
     ensures err { OnErr result (IsSameTable types.old types.new) }
+    ensures keys { types.new.types.keys ≡ types.old.types.keys }
 {
     let id = types.next_id();
     let alloc = types.allocator();
@@ -181,6 +188,7 @@ fn read_rec(
         (ReadsRec types.old types.new
         (map (rename (image ids.now.types)) (map entry_definition entries.now))) }
     ensures err { OnErr result (IsSameTable types.old types.new) }
+    ensures keys { types.new.types.keys ≡ types.old.types.keys }
 {
     let members = members(types.allocator(), entries, ids)?;
     types.place_group(members)?;
@@ -214,6 +222,7 @@ pub fn parse_types(
     groups: &[GroupAt],
 ) -> Result<(ModuleTypes, Vec<TypeId>), ReadError>
     ensures ok { IfOk result (λ read. IsReadInto (section_of groups.now) read.0 read.1.items) }
+    ensures keys { IfOk result (λ read. read.0.types.keys ≡ keys) }
     ensures err { IfErr result (λ e. (e ≡ error.Memory) ⊎ IsFirstError (section_of groups.now) e) }
 {
     let mut reader = SectionReader::with_hash_keys(alloc, keys);

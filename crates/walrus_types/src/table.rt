@@ -1,8 +1,9 @@
 //! The types of a module, and the recursion groups that they stand in.
 ghost use Rattle.std.specs.Prelude.{◌≡◌, ◌↔◌, [], IfOk, IsTrue, IsSome, IsSomeAnd, Some, length, option_copied};
 ghost use Rattle.std.specs.Borrow.{sem};
+ghost use Rattle.walrus_arena.specs.HashKeys.{fixed_hasher};
 ghost use Rattle.walrus_types.specs.TypesById.{live_type, IsLive};
-ghost use Rattle.walrus_types.specs.Table.{IsTable, group_with, live_ids, live_types, signature_at};
+ghost use Rattle.walrus_types.specs.Table.{IsTable, empty_table, group_with, live_ids, live_types, signature_at};
 ghost use Rattle.walrus_types.specs.TableLends.{LendsType};
 
 mod add;
@@ -40,13 +41,13 @@ impl Model for ModuleTypes {
     ghost Value = { Table };
 
     ghost view = { λ t. record {
-      types = record { slots = t.types.slots; entries = t.types.entries };
+      types = record { slots = t.types.slots; entries = t.types.entries; keys = t.types.keys };
       groups = t.groups.items;
     } };
 
     ghost invariant = { λ t. IsIndexed
         (record {
-          types = record { slots = t.types.slots; entries = t.types.entries };
+          types = record { slots = t.types.slots; entries = t.types.entries; keys = t.types.keys };
           groups = t.groups.items;
         })
         t.group_of.items };
@@ -58,15 +59,15 @@ impl ModuleTypes {
     ///
     /// Fixed keys are safe where the types are trusted: see [`HashKeys`].
     pub fn new(alloc: Global) -> Self
-        ensures { result ≡ record { types = record { slots = []; entries = [] }; groups = [] } }
+        ensures { result ≡ empty_table fixed_hasher }
     {
         ModuleTypes::with_hash_keys(alloc, HashKeys::fixed())
     }
 
     /// A table without types, in which types are found by a hash with these keys. It takes no
-    /// memory. No answer hangs on the keys.
+    /// memory. What the calls return does not depend on the keys.
     pub fn with_hash_keys(alloc: Global, keys: HashKeys) -> Self
-        ensures { result ≡ record { types = record { slots = []; entries = [] }; groups = [] } }
+        ensures { result ≡ empty_table keys }
     {
         ModuleTypes {
             types: ArenaSet::with_hash_keys(alloc, keys),

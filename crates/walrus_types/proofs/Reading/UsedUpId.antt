@@ -59,9 +59,10 @@ module _ (t new : Table) (go : List ℕ) (is : IsIndexed t go) (uses : UsesUpId 
   }
 
 -- a new slot that is dead from the start
-pub uses_up : (old new : Set ModuleType) (groups : List RecGroup) → new ≡ record { slots = old.slots ++ None ∷ []; entries = old.entries } → UsesUpId (record { types = seen old; groups = groups }) (record { types = seen new; groups = groups })
+pub uses_up : (old new : Set ModuleType) (groups : List RecGroup) → new ≡ record { slots = old.slots ++ None ∷ []; entries = old.entries; keys = old.keys } → UsesUpId (record { types = seen old; groups = groups }) (record { types = seen new; groups = groups })
 uses_up old new groups is = record {
   slots = ap (λ (s : Set ModuleType). s.slots) is;
   map = λ q. ap (λ (s : Set ModuleType). known_id (seen s) q) is;
   groups = refl;
+  keys = ap (λ (s : Set ModuleType). s.keys) is;
 }

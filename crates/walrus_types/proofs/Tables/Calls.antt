@@ -5,15 +5,16 @@ use Rattle.std.proofs.lemmas.List.FromFn.{length-map-range_with_len, get_or-map-
 use Rattle.std.proofs.lemmas.Bool.{cases_lt}
 use Rattle.std.proofs.lemmas.List.{length-set, length_push}
 use Rattle.walrus_arena.specs.Arena.{Slots, get, IsLive}
+use Rattle.walrus_arena.specs.HashKeys.{InitialHasher}
 use Rattle.walrus_types.specs.declared.table.rec_group.RecGroup.{RecGroup}
 use Rattle.walrus_ty.specs.Types.{ModuleType}
 use Rattle.walrus_types.specs.TypesById.{LosesAll, found_id, known_id}
-use Rattle.walrus_types.specs.Table.{Table, IsTable, IsIdAt, IsSameTable, AddsType, rec_group_at, next_id, Deletes, DeletesAll, DeletesGroup, member_types}
+use Rattle.walrus_types.specs.Table.{Table, empty_table, IsTable, IsIdAt, IsSameTable, AddsType, rec_group_at, next_id, Deletes, DeletesAll, DeletesGroup, member_types}
 use Rattle.walrus_types.specs.ReaderState.{IsReadInto}
 use Rattle.walrus_ty.specs.Groups.{Section}
 use Rattle.walrus_types.specs.TableLends.{with_type}
 use Rattle.walrus_types.specs.Steps.TableIndex.{IsIndexed}
-use Rattle.walrus_types.specs.TableCalls.{Call, Adds, AddFails, AddsRec, AddRecFails, Writes, DeletesOne, DeletesMany, TriesToDelete, DeletesWhole, new_ids, Calls, Start, Read, Then, empty_table, EveryTableIsSound}
+use Rattle.walrus_types.specs.TableCalls.{Call, Adds, AddFails, AddsRec, AddRecFails, Writes, DeletesOne, DeletesMany, TriesToDelete, DeletesWhole, new_ids, Calls, Start, Read, Then, EveryTableIsSound}
 use Rattle.walrus_types.proofs.Tables.Places.{IsHome, is_table, indexed_same, live_below, member_below, group_answer, none_some, many_grown}
 use Rattle.walrus_types.proofs.Tables.NewType.{table_added}
 use Rattle.walrus_types.proofs.Tables.NewGroup.{table_grouped, length-placed}
@@ -26,8 +27,8 @@ use Rattle.std.specs.Option.{IsSomeAnd}
 IsSomewhere : Table → Type 0
 IsSomewhere t = (go : List ℕ) × IsIndexed t go
 
-empty_indexed : IsIndexed empty_table []
-empty_indexed = record {
+empty_indexed : (keys : InitialHasher) → IsIndexed (empty_table keys) []
+empty_indexed keys = record {
   one_each = refl;
   grouping = λ id live. (let c : ⊥ = cc in absurd c);
   live = λ k u id h. absurd (none_some h);
@@ -243,7 +244,7 @@ ids_after old new (DeletesWhole id live ok) ids go is e =
 somewhere :
     (t : Table) (ids : List ℕ) → Calls t ids → IsSomewhere t × (ids ≡ range_with_len 0 (next_id t))
 unfolding IsSomewhere
-somewhere t ids Start = (([], empty_indexed), refl)
+somewhere t ids (Start keys) = (([], empty_indexed keys), refl)
 somewhere t ids (Read s _ read_ids read grouping) = (read_indexed s t read_ids read grouping, refl)
 somewhere t ids (Then old _ before made call) =
     let was : _ = somewhere old before made in

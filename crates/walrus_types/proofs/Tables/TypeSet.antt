@@ -11,7 +11,7 @@ use Rattle.walrus_ty.specs.SameTypes.{type_eq}
 
 -- the types of a set
 abbrev pub seen : Set ModuleType → TypesById
-seen s = record { slots = s.slots; entries = s.entries }
+seen s = record { slots = s.slots; entries = s.entries; keys = s.keys }
 
 holds_seen : (test : ModuleType → Bool) (o : Option ModuleType) → arena.holds test o ≡ passes test o
 holds_seen test None = refl
@@ -27,12 +27,12 @@ found_seen s q = by_map (lookup (type_eq q) s.entries)
 
 pub same_seen :
     (old new : Set ModuleType) → IsSame type_eq old new → IsUnchanged (seen old) (seen new)
-same_seen old new same = record { slots = same.slots; map = same.map }
+same_seen old new same = record { slots = same.slots; map = same.map; keys = same.keys }
 
 pub adds_seen :
     (old new : Set ModuleType) (ty : ModuleType) (id : ℕ) → Adds type_eq old new ty id →
     Gains (seen old) (seen new) ty id
-adds_seen old new ty id adds = record { is_next = adds.named; slots = adds.slots; map = adds.map }
+adds_seen old new ty id adds = record { is_next = adds.named; slots = adds.slots; map = adds.map; keys = adds.keys }
 
 pub removes_seen :
     (old new : Set ModuleType) (id : ℕ) → Removes type_eq old new id →
@@ -40,6 +40,7 @@ pub removes_seen :
 removes_seen old new id removes = record {
   slots = removes.slots;
   map = λ q. (let own : arena.is_own_entry type_eq old id q ≡ is_known_as (seen old) id q = holds_seen _ (get old.slots id) in removes.map q ∙ ap (λ (b : Bool). cond b None (known_id (seen old) q)) own);
+  keys = removes.keys;
 }
 
 pub removes_all_seen :

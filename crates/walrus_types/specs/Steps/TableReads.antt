@@ -12,6 +12,7 @@ pub record UsesUpId (old new : Table) : Type 0 where
   pub slots : new.types.slots ≡ old.types.slots ++ None ∷ []
   pub map : KnowsSame old.types new.types
   pub groups : new.groups ≡ old.groups
+  pub keys : new.types.keys ≡ old.types.keys
 
 -- what is found is answered and the next id is used up; where nothing is found the type is added
 abbrev pub ReadsSingle : Table → Table → ModuleType → ℕ → Type 0

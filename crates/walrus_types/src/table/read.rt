@@ -20,6 +20,7 @@ impl ModuleTypes {
     pub(crate) fn read_single(&mut self, ty: Type) -> Result<TypeId, AllocError>
         ensures ok { IfOk result (λ id. ReadsSingle self.old self.new ty id) }
         ensures err { OnErr result (IsSameTable self.old self.new) }
+        ensures keys { self.new.types.keys ≡ self.old.types.keys }
     {
         match self.find_equal(&ty) {
             Some(id) => {

@@ -1,3 +1,4 @@
+use Rattle.std.specs.HashMap.{hasher_of}
 use Rattle.std.proofs.Common.{◌∙◌, ap}
 use Rattle.walrus_arena.specs.Arena.{without}
 use Rattle.walrus_arena.proofs.ArenaLemmas.{died_at_once}
@@ -12,4 +13,4 @@ returns-clause-ok g c =
     let at = c.index-dead.result in
     let last = c.index-dead.ensures ∙ c.in_ok-alloc.ensures.id in
     let dead = c.mark_dead.ensures ∙ (ap (λ s. without s at) c.in_ok-alloc.ensures.ok ∙ died_at_once arena c.args.value at last) in
-    rw (← c.self.view_is) (ap (λ s. record { slots = s; entries = c.self.inside.map.entries }) dead)
+    rw (← c.self.view_is) (ap (λ s. record { slots = s; entries = c.self.inside.map.entries; keys = hasher_of c.self.inside.map }) dead)

@@ -3,7 +3,8 @@ use Rattle.std.specs.List.{IsDistinct}
 use Rattle.std.proofs.lemmas.Result.{err_from_is_err_and}
 use Rattle.walrus_types.specs.TableEmission.{contents, definition_at}
 use Rattle.walrus_types.specs.TypesById.{IsLive}
-use Rattle.walrus_ty.specs.Indices.{Indexes, type_indices, func_indices, global_indices}
+use Rattle.walrus_ty.specs.Indices.{Indexes, GivesAll, type_indices, func_indices, global_indices}
+use Rattle.walrus_ty.proofs.IndexMaps.NextIndex.{indexes_all}
 use Rattle.walrus_types.specs.declared.table.rec_group.RecGroup.{RecGroup}
 use Rattle.walrus_types.specs.Steps.PendingGroups.{groups_of}
 use Rattle.walrus_types.proofs.Emission.WriteLoop.{all_of, filled_of, groups_count, key_of, picked, FailsBy-weaker, advances, distinct, empty_same, filled_at, finishes, fresh, room, stops}
@@ -62,7 +63,9 @@ returns-in_err-record-clause-missing c =
     let below : j < length ws = omega (arith, c.loop-item-test.true, groups_count groups ps) in
     let x = type_indices c.loop-item.indices in
     let y = type_indices c.push_all_types.new.self in
-    let gives : (known : List ℕ) → Indexes known x → Indexes (known ++ g.ids) y = λ known is. subst (λ (ids : List ℕ). Indexes (known ++ ids) y) c.as_slice.ensures (c.in_ok-push_all_types.ensures.ok.index known is) in
+    let free : All (λ i. x.index i ≡ None) g.ids = fresh def ws (filled_at ws c.requires.filled) j g below here c.loop-item.written.items x c.loop-item.invariant.written c.requires.apart in
+    let all : GivesAll x y g.ids = subst (λ (ids : List ℕ). GivesAll x y ids) c.as_slice.ensures c.in_ok-push_all_types.ensures.ok in
+    let gives : (known : List ℕ) → Indexes known x → Indexes (known ++ g.ids) y = λ known is. indexes_all known g.ids x y free all is in
     let p = err_from_is_err_and c.from_residual-in_err-record.result c.from_residual-in_err-record.ensures.1 in
     rw (p.1, p.2) (FailsBy-weaker _ _ (stops def ws (filled_at ws c.requires.filled) j g below here c.loop-item.written.items x c.loop-item.invariant.written y gives) c.in_err-record.field-0.0 c.in_err-record.ensures.missing)
 
@@ -78,7 +81,9 @@ loop-item-preserved c =
     let below : j < length ws = omega (arith, c.loop-item-test.true, groups_count groups ps) in
     let x = type_indices c.loop-item.indices in
     let y = type_indices c.push_all_types.new.self in
-    let gives : (known : List ℕ) → Indexes known x → Indexes (known ++ g.ids) y = λ known is. subst (λ (ids : List ℕ). Indexes (known ++ ids) y) c.as_slice.ensures (c.in_ok-push_all_types.ensures.ok.index known is) in
+    let free : All (λ i. x.index i ≡ None) g.ids = fresh def ws (filled_at ws c.requires.filled) j g below here c.loop-item.written.items x c.loop-item.invariant.written c.requires.apart in
+    let all : GivesAll x y g.ids = subst (λ (ids : List ℕ). GivesAll x y ids) c.as_slice.ensures c.in_ok-push_all_types.ensures.ok in
+    let gives : (known : List ℕ) → Indexes known x → Indexes (known ++ g.ids) y = λ known is. indexes_all known g.ids x y free all is in
     record {
       written = rw c.in_ok-push.ensures.items (advances def ws (filled_at ws c.requires.filled) j g below here c.loop-item.written.items x c.loop-item.invariant.written y gives c.in_ok-record.record c.in_ok-record.ensures.renamed c.in_ok-record.ensures.complete);
       funcs = empty_same (func_indices c.loop-item.indices) (func_indices c.push_all_types.new.self) c.loop-item.invariant.funcs c.in_ok-push_all_types.ensures.funcs;
