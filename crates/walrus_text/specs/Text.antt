@@ -115,8 +115,8 @@ HasSectionIndices groups = AllByRecursion HasGroupIndices groups
 abbrev pub IsSectionText : List (List (List ℕ)) → Type 0
 IsSectionText lines = IsText section_lines HasSectionIndices lines
 
--- The text is one of these groups: its lines of words are theirs, and their numbers can stand for
--- types. It is one of no other groups (`laws::one_section`).
+-- The bytes are a text of these groups: their lines of words are the groups', whose numbers can
+-- stand for types. They are a text of no other groups (`laws::one_section`).
 pub record IsTextOf (text : List ℕ) (groups : List GroupAt) : Type 0 where
   pub fits : HasSectionIndices groups
   pub lines : lines_of text ≡ section_lines groups

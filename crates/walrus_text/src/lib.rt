@@ -4,7 +4,8 @@
 //! - [`read_section`] reads the groups of a text, and says which line is no part of a section.
 //! - [`write_section`] writes groups, and [`write_output`] also where each entry of another
 //!   section went.
-//! - [`laws`] has the theorem that nothing but words and lines counts in a text.
+//! - [`laws`] has the theorems that nothing but words and lines counts in a text, that a text has
+//!   one section at most, and that what is written is read back.
 //!
 //! The WebAssembly specification has no text for a type section alone; this one takes the names of
 //! its types from there. Spaces divide words, and no other byte does: a tab or a carriage return is

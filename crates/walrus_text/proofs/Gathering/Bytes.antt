@@ -22,7 +22,7 @@ Lines = List (List (List ℕ))
 abbrev is_feed : ℕ → Bool
 is_feed b = b == 10
 
-abbrev IsOneLine : List ℕ → Type 0
+abbrev pub IsOneLine : List ℕ → Type 0
 IsOneLine line = All (λ b. (b == 10) ≡ false) line
 
 some_lines :
@@ -31,7 +31,7 @@ some_lines :
 some_lines [] others = refl
 some_lines (w ∷ ws) others = refl
 
-lines_at_feed :
+pub lines_at_feed :
     (line rest : List ℕ) → IsOneLine line →
     lines_of (line ++ 10 ∷ rest) ≡ words_if_any line ++ lines_of rest
 lines_at_feed line rest one = ap (λ parts. filter has_items (map words_of parts)) (slice_split_at is_feed line 10 rest one refl) ∙ some_lines (words_of line) (map words_of (slice_split is_feed rest))

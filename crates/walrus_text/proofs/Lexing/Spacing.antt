@@ -85,7 +85,7 @@ at_space (c ∷ l) r = by_test (c == 32) refl (at_space l r) where
     others = other_words-byte c (l ++ 32 ∷ r) e ∙ (h.others ∙ ap (λ ws. ws ++ words_of r) (sym (other_words-byte c l e)));
   }
 
-words_at_space : (l r : List ℕ) → words_of (l ++ 32 ∷ r) ≡ words_of l ++ words_of r
+pub words_at_space : (l r : List ℕ) → words_of (l ++ 32 ∷ r) ≡ words_of l ++ words_of r
 words_at_space l r =
     let h = at_space l r in
     words_by_first (l ++ 32 ∷ r) ∙ (ap (λ w. filter has_items (w ∷ []) ++ other_words (l ++ 32 ∷ r)) h.first ∙ (ap (λ ws. filter has_items (first_word l ∷ []) ++ ws) h.others ∙ (sym (append_assoc (filter has_items (first_word l ∷ [])) (other_words l) (words_of r)) ∙ ap (λ ws. ws ++ words_of r) (sym (words_by_first l)))))
