@@ -37,7 +37,8 @@ pub record IsFirstBad (bytes : List ℕ) (offset : ℕ) : Type 0 where
 
 -- each text of this part may stand behind the bytes: a section's text goes on with it
 abbrev pub MayFollow : {A : Type 0} → (List ℕ → A → Type 0) → List ℕ → Type 0
-MayFollow IsPart front = (text : List ℕ) (part : _) → IsPart text part → GoesOn IsTypes (front ++ text)
+MayFollow IsPart front =
+    (text : List ℕ) (part : _) → IsPart text part → GoesOn IsTypes (front ++ text)
 
 -- A text begins with the bytes; or they begin a definition of several supertypes, which no record
 -- holds: they end in its first byte and the first bytes of its count, which is two or more however
@@ -65,8 +66,8 @@ pub data IsUnheldHeap : NotHeld → ℕ → Type 0 where
   continuation_heap : IsUnheldHeap held.Continuation 0x68
   no_continuation_heap : IsUnheldHeap held.Continuation 0x75
 
--- What no record holds, the bytes before the place that an error names, and those from there on. Any
--- type that a record holds may stand there too. The place of several supertypes is that of their
+-- What no record holds, the bytes before the place that an error names, and those from there on.
+-- Any type that a record holds may stand there too. The place of several supertypes is that of their
 -- count, behind the first byte of their definition, and no text goes on with that count.
 pub data IsUnheld : NotHeld → List ℕ → List ℕ → Type 0 where
   several_supertypes :
@@ -104,6 +105,7 @@ IsSeenThere decode.Memory = Unit {0}
 
 -- An error that names what no record holds is right: that begins at its place.
 abbrev pub NamesUnheld : List ℕ → DecodeError → Type 0
-NamesUnheld bytes (decode.NotHeld offset what) = IsUnheld what (take offset bytes) (drop offset bytes)
+NamesUnheld bytes (decode.NotHeld offset what) =
+    IsUnheld what (take offset bytes) (drop offset bytes)
 NamesUnheld bytes (decode.Malformed offset expected) = Unit {0}
 NamesUnheld bytes decode.Memory = Unit {0}

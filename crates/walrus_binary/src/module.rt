@@ -26,9 +26,9 @@ pub use types::module_types;
 ///
 /// # Errors
 ///
-/// [`DecodeError::Malformed`] says at which byte the bytes stop being such a module: one begins with
-/// the bytes before that byte, and none with that byte too. Where a content is cut off, the place is
-/// the end of the bytes. No other error comes.
+/// [`DecodeError::Malformed`] says at which byte the bytes stop being such a module: one begins
+/// with the bytes before that byte, and none with that byte too. Where a content is cut off, the
+/// place is the end of the bytes. No other error comes.
 ///
 /// # A module of one section
 ///
@@ -95,7 +95,8 @@ fn scan_sections(bytes: &[u8]) -> Result<Option<TypeSection>, Fault>
     ensures place { IfErr result (λ f. f.left ≤ length bytes.now) }
     ensures stuck { IfErr result (λ f. 0 < f.left →
         BeginsNoModule (take (length bytes.now - f.left + 1) bytes.now)) }
-    ensures begun { IfErr result (λ f. GoesOn IsModule (take (length bytes.now - f.left) bytes.now)) }
+    ensures begun { IfErr result (λ f.
+        GoesOn IsModule (take (length bytes.now - f.left) bytes.now)) }
 {
     let mut rest = read_header(bytes)?;
     let mut last = 0;

@@ -20,9 +20,11 @@ use std::alloc::Global;
 /// The size of the section is written in its shortest form, and every byte outside the section is
 /// kept. A module that has no type section gets one before its first section that is not custom, or
 /// at its end where it has custom sections alone. So the custom sections with which a module begins
-/// stay in front, as `dylink.0` has to, which is the first section of a module that has it. Neither
-/// the content nor what the other sections contain is judged, as by [`type_section`](crate::type_section):
-/// where types get other indices, what names them in other sections is still to be changed.
+/// stay in front, as `dylink.0` has to, which is the first section of a module that has it.
+///
+/// Neither the content nor what the other sections contain is judged, as by
+/// [`type_section`](crate::type_section): where types get other indices, what names them in other
+/// sections is still to be changed.
 ///
 /// # Errors
 ///
@@ -82,7 +84,8 @@ fn skip_customs(bytes: &[u8]) -> Result<&[u8], Fault>
     ensures place { IfErr result (λ f. f.left ≤ length bytes.now) }
     ensures stuck { IfErr result (λ f. 0 < f.left →
         BeginsNoModule (take (length bytes.now - f.left + 1) bytes.now)) }
-    ensures begun { IfErr result (λ f. GoesOn IsModule (take (length bytes.now - f.left) bytes.now)) }
+    ensures begun { IfErr result (λ f.
+        GoesOn IsModule (take (length bytes.now - f.left) bytes.now)) }
 {
     let mut rest = read_header(bytes)?;
     while begins_custom(rest) {

@@ -16,8 +16,8 @@ use walrus_ty::GroupAt;
 ///
 /// Where the bytes are no module, the error is that of [`type_section`]. Else it is that of
 /// [`decode_types`] for what the type section contains: [`DecodeError::Malformed`] says at which
-/// byte that stops being a text of groups, [`DecodeError::NotHeld`] at which byte a type begins that
-/// no record holds. Both places are counted from the first byte of the module.
+/// byte that stops being a text of groups, [`DecodeError::NotHeld`] at which byte a type begins
+/// that no record holds. Both places are counted from the first byte of the module.
 /// [`DecodeError::Memory`] comes where memory was refused.
 ///
 /// # A module of one function type
