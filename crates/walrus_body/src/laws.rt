@@ -3,7 +3,7 @@
 ghost use Rattle.std.specs.Prelude.{◌≡◌, ◌↔◌, ℕ, List, Contains};
 ghost use Rattle.walrus_functions.specs.Body.{Body, sequence};
 ghost use Rattle.walrus_functions.specs.Nesting.{IsNested, IsReachable};
-ghost use Rattle.walrus_body.specs.Counting.{CutWalk, IsFunction};
+ghost use Rattle.walrus_body.specs.Counting.{CutWalk, CountedWalk, IsFunction};
 ghost use Rattle.walrus_body.specs.Extents.{Full, Partial};
 ghost use Rattle.walrus_body.specs.FieldMaps.{FieldMap, MapsFields, IsMapped};
 ghost use Rattle.walrus_body.specs.Premises.{HasSteps, KeepsNesting};
@@ -24,6 +24,23 @@ pub fn partial_walks_are_cut<V: VisitorMut>()
 pub fn full_walks_are_determined<V: VisitorMut>()
     ensures { IsFunction V.step → (s t u : V × Body) (id : ℕ) →
         Walks V.step s id Full t → Walks V.step s id Full u → t ≡ u }
+{}
+
+/// A full walk makes a number of hook calls (`counted`). Where the step of the visitor is a
+/// function, the start of the walk determines this number, and what the walk leaves (`determined`).
+pub fn full_walks_are_counted<V: VisitorMut>()
+    ensures counted { (s t : V × Body) (id : ℕ) → Walks V.step s id Full t →
+        (k : ℕ) × CountedWalk V.step k s id t }
+    ensures determined { IsFunction V.step → (k l : ℕ) (s t u : V × Body) (id : ℕ) →
+        CountedWalk V.step k s id t → CountedWalk V.step l s id u → (k ≡ l) × (t ≡ u) }
+{}
+
+/// Where the step of a visitor is a function, the start of a walk and the number of hook calls
+/// after which it is cut determine what it leaves. Each walk that stops early is cut after some
+/// number of them ([`partial_walks_are_cut`]).
+pub fn cut_walks_are_determined<V: VisitorMut>()
+    ensures { IsFunction V.step → (k : ℕ) (s t u : V × Body) (id : ℕ) →
+        CutWalk V.step k s id t → CutWalk V.step k s id u → t ≡ u }
 {}
 
 /// Where a visitor has a step at each hook, whatever the hook is given, and no step changes which
