@@ -72,6 +72,23 @@ pub fn field_maps_map_the_body<V: VisitorMut>()
         (visits : List ℕ) × Unfolds s start visits × IsMapped f visits s t.1 }
 {}
 
+/// [`RenameTypes`] meets the premises of the laws of walks: it has a step at each hook
+/// (`has_steps`), no step changes the nesting (`keeps_nesting`), and what it leaves is determined
+/// by what it is given (`is_function`). So there is just one full walk with it over a nested
+/// sequence (`one`).
+pub fn rename_types_has_one_full_walk()
+    ensures has_steps { HasSteps ⟦<RenameTypes as VisitorMut>⟧.step }
+    ensures keeps_nesting { KeepsNesting ⟦<RenameTypes as VisitorMut>⟧.step }
+    ensures is_function { IsFunction ⟦<RenameTypes as VisitorMut>⟧.step }
+    ensures one { (s : List ℕ × Body) (id : ℕ) → IsNested s.1 id →
+        (t : List ℕ × Body) × Walks ⟦<RenameTypes as VisitorMut>⟧.step s id Full t
+        × ((u : List ℕ × Body) →
+        Walks ⟦<RenameTypes as VisitorMut>⟧.step s id Full u → u ≡ t) }
+{
+    nested_sequences_have_a_full_walk::<RenameTypes>();
+    full_walks_are_determined::<RenameTypes>();
+}
+
 /// What a full walk with [`RenameTypes`] leaves. The visitor keeps its names (`names`), and each
 /// sequence is renamed as often as the unfolding of the body visits it, and nothing else changes
 /// (`body`). So where no sequence is named twice, each that is reached is renamed once (`once`);
