@@ -8,6 +8,7 @@ use Rattle.walrus_body.specs.Hooks.{Steps}
 use Rattle.walrus_body.specs.Steps.{SameNesting, Within, depth}
 use Rattle.walrus_body.specs.Walks.{VisitsBlock, Walks, WalksAll, goes_on, stops, none, next, stops_in, last_first_of}
 use Rattle.walrus_body.proofs.Bodies.{same_write}
+use Rattle.walrus_body.proofs.Keeping.{nesting_same, nesting_both, nested_after}
 use Rattle.walrus_body.proofs.Depths.{within_from_nested, within_same, still_within, known_within, below_within}
 use Rattle.walrus_body.proofs.Members.{all_append, all_weaker}
 
@@ -54,14 +55,20 @@ module _ {V : Type 0} (step : Steps V) where
   all_none_done s [] = none s Partial
   all_none_done s (q ∷ qs) = stops_in s s q qs (stops s s q (none_done s q))
 
-  -- between two visits: walking what is pending from here ends the walk of all, and it is nested
+  -- between two visits: walking what is pending from here ends the walk of all, it is nested, and the
+  -- nesting is that of the start
   pub record Pending (s0 : V × Body) (start : ℕ) (s : V × Body) (pending : List ℕ) : Type 0 where
     pub rest : (extent : Extent) (t : V × Body) → WalksAll step s pending extent t → Walks step s0 start extent t
     pub within : AllByRecursion (Within s.1 (depth s.1)) pending
+    pub same : SameNesting s0.1 s.1
 
   module _ (s0 : V × Body) (start : ℕ) where
     pub begin : IsNested s0.1 start → Pending s0 start s0 (start ∷ [])
-    begin h = record { rest = λ extent t k. alone s0 t start extent k; within = (within_from_nested s0.1 start h, tt) }
+    begin h = record {
+      rest = λ extent t k. alone s0 t start extent k;
+      within = (within_from_nested s0.1 start h, tt);
+      same = nesting_same s0.1;
+    }
 
     pub go_on : (s m : V × Body) (q : ℕ) (rest : List ℕ) → Pending s0 start s (q ∷ rest) → VisitsBlock step s q Full m → SameNesting s.1 m.1 → Pending s0 start m (last_first_of m.1 q ++ rest)
     go_on s m q rest p v same =
@@ -74,7 +81,15 @@ module _ {V : Type 0} (step : Steps V) where
         record {
           rest = λ extent t k. p.rest extent t (walk_on s m t extent q rest v k);
           within = subst F (sym size) (all_append (Within m.1 (suc n)) (last_first_of m.1 q) rest (subst G (sym (same.children q)) here) there);
+          same = nesting_both s0.1 s.1 m.1 p.same same;
         }
+
+    -- the body is still nested, before and after a visit
+    pub nested_now : (s : V × Body) (pending : List ℕ) → IsNested s0.1 start → Pending s0 start s pending → IsNested s.1 start
+    nested_now s pending h p = nested_after s0.1 s.1 p.same start h
+
+    pub nested_then : (s m : V × Body) (pending : List ℕ) → IsNested s0.1 start → Pending s0 start s pending → SameNesting s.1 m.1 → IsNested m.1 start
+    nested_then s m pending h p same = nested_after s.1 m.1 same start (nested_now s pending h p)
 
     pub ended : (s : V × Body) → Pending s0 start s [] → Walks step s0 start Full s
     ended s p = p.rest Full s (none s Full)

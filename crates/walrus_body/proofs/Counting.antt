@@ -6,7 +6,7 @@ use Rattle.instr.specs.declared.exceptions.LegacyCatch.TheVariants as legacy
 use Rattle.instr.specs.declared.exceptions.TryTableCatch.TheVariants as clause
 use Rattle.instr.specs.declared.instr.Instr.{Instr}
 use Rattle.walrus_functions.specs.Body.{Body, sequence}
-use Rattle.walrus_body.specs.Counting.{with_budget, CutWalk}
+use Rattle.walrus_body.specs.Counting.{with_budget, CutWalk, CountedWalk}
 use Rattle.walrus_body.specs.Extents.{Extent, Full, Partial, Visit, Call, Then, Each, Both}
 use Rattle.walrus_body.specs.Fields.{Row, no_field, one, two, three, with_catches, with_legacy_catches, row, VisitsType, VisitsCatch, VisitsLegacyCatch, VisitsRow}
 use Rattle.walrus_body.specs.Hooks.{Hook, Steps, start_instr_seq, end_instr_seq, visit_instr, visit_instr_seq_id, visit_heap_type, visit_type_id, visit_tag_id}
@@ -164,3 +164,6 @@ module _ {V : Type 0} (step : Steps V) where
 
   pub cut_walk : (s t : V × Body) (q : ℕ) → Walks step s q Partial t → (k : ℕ) × CutWalk step k s q t
   cut_walk s t q h = walk_counts s t q Partial h 0
+
+  pub counted_walk : (s t : V × Body) (q : ℕ) → Walks step s q Full t → (k : ℕ) × CountedWalk step k s q t
+  counted_walk s t q h = walk_counts s t q Full h 0

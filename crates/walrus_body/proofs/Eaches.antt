@@ -59,6 +59,10 @@ pub record Done {V A B : Type 0} (P : V → A → Extent → V → A → Type 0)
   pub same : map f now ≡ map f init
 
 module _ {V A B : Type 0} (P : V → A → Extent → V → A → Type 0) (f : A → B) where
+  -- an item whose image stays is written
+  pub done_same : (v : V) (init : List A) (u : V) (now : List A) (i : ℕ) (x y : A) → Done P f v init u now i → x ≡ get_or now i x → f y ≡ f x → map f (set now i y) ≡ map f init
+  done_same v init u now i x y h g e = map-set f now i y x (e ∙ ap f g) ∙ h.same
+
   pub done_more : (v : V) (init : List A) (u : V) (now : List A) (i : ℕ) (w : V) (x y : A) → Done P f v init u now i → i < length now → x ≡ get_or now i x → P u x Full w y → f y ≡ f x → Done P f v init w (set now i y) (i + 1)
   done_more v init u now i w x y h lt g k e =
       let size = h.size in
@@ -69,7 +73,7 @@ module _ {V A B : Type 0} (P : V → A → Extent → V → A → Type 0) (f : A
         each = rw (take_more_set now i y lt, take_more init i x lt2, ← s.0, ← g) (each_push P v (take i init) u (take i now) x y w h.each k);
         rest = rw (drop-set-lt (i + 1) now i y n, add-one) s.1;
         size = length-set now i y ∙ h.size;
-        same = map-set f now i y x (e ∙ ap f g) ∙ h.same;
+        same = done_same v init u now i x y h g e;
       }
 
   pub done_begun : (v : V) (init : List A) (u : V) (now : List A) (i : ℕ) (w : V) (x y : A) → Done P f v init u now i → i < length now → x ≡ get_or now i x → P u x Partial w y → Each P v init Partial w (set now i y)

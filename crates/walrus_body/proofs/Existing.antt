@@ -3,8 +3,6 @@ use Rattle.std.proofs.Common.{◌≡◌, ℕ, zero, suc, List, [], ◌∷◌, So
 use Rattle.std.specs.Bool.{⊤}
 use Rattle.std.specs.List.{AllByRecursion, flat_map}
 use Rattle.walrus_ty.specs.declared.ty.value.Val.TheVariants as val
-use Rattle.walrus_ir.specs.Sequence.{Sequence}
-use Rattle.walrus_ir.specs.declared.instr_seq_type.InstrSeqType.{InstrSeqType}
 use Rattle.walrus_ir.specs.declared.instr_seq_type.InstrSeqType.TheVariants.{Simple, MultiValue}
 use Rattle.instr.specs.declared.exceptions.LegacyCatch.{LegacyCatch}
 use Rattle.instr.specs.declared.exceptions.LegacyCatch.TheVariants as legacy
@@ -22,7 +20,7 @@ use Rattle.walrus_body.specs.Sequences.{VisitsFieldsOf, VisitsInstr, VisitsTypeO
 use Rattle.walrus_body.specs.Steps.{SameNesting, Within, depth}
 use Rattle.walrus_body.specs.Walks.{VisitsBlock, Walks, WalksAll, goes_on, none, next, last_first_of}
 use Rattle.walrus_body.proofs.Depths.{within_from_nested, within_same, below_within}
-use Rattle.walrus_body.proofs.Keeping.{flat_map_kept, nesting_kept}
+use Rattle.walrus_body.proofs.Keeping.{flat_map_kept, nesting_kept, nesting_same, nesting_both, keeps_children_both}
 use Rattle.walrus_body.proofs.Members.{all_weaker}
 
 -- there is a whole visit from everywhere, and what it leaves is related to what it began with
@@ -154,7 +152,7 @@ module _ {V : Type 0} (step : Steps V) (has : HasSteps step) (keeps : KeepsNesti
 
   sequence_goes : Goes (VisitsSequence step) KeepsChildren
   sequence_goes =
-      let trans : IsTransitive KeepsChildren = λ a b c h k. (k.0 ∙ h.0, k.1 ∙ h.1) in
+      let trans : IsTransitive KeepsChildren = keeps_children_both in
       then_goes (Call step start_instr_seq) (Then (VisitsTypeOf step) (Then (VisitsInstrsOf step) (Call step end_instr_seq))) KeepsChildren trans (call_goes start_instr_seq)
       (then_goes (VisitsTypeOf step) (Then (VisitsInstrsOf step) (Call step end_instr_seq)) KeepsChildren trans type_of_goes
       (then_goes (VisitsInstrsOf step) (Call step end_instr_seq) KeepsChildren trans instrs_of_go (call_goes end_instr_seq)))
@@ -164,22 +162,16 @@ module _ {V : Type 0} (step : Steps V) (has : HasSteps step) (keeps : KeepsNesti
       let a = sequence_goes s.0 (sequence s.1 q) in
       ((a.0, with_sequence s.1 q a.1), (a.1, a.2, refl), nesting_kept s.1 q (sequence s.1 q) a.1 refl a.3)
 
-  same_nesting : (f g h : Body) → SameNesting f g → SameNesting g h → SameNesting f h
-  same_nesting f g h a b = record {
-    count = b.count ∙ a.count;
-    children = λ q. b.children q ∙ a.children q;
-  }
-
   -- a walk from here, over these that lie within n levels
   abbrev Entered : ℕ → Type 0
   Entered n = (s : V × Body) (q : ℕ) → Within s.1 n q → (t : V × Body) × Walks step s q Full t × SameNesting s.1 t.1
 
   walks_go : (n : ℕ) → Entered n → (s : V × Body) (qs : List ℕ) → AllByRecursion (Within s.1 n) qs → (t : V × Body) × WalksAll step s qs Full t × SameNesting s.1 t.1
-  walks_go n enter s [] h = (s, none s Full, record { count = refl; children = λ q. refl })
+  walks_go n enter s [] h = (s, none s Full, nesting_same s.1)
   walks_go n enter s (q ∷ qs) h =
       let a = enter s q h.0 in
       let r = walks_go n enter a.0 qs (all_weaker (Within s.1 n) (Within a.0.1 n) qs (within_same s.1 a.0.1 a.2 n) h.1) in
-      (r.0, next s a.0 r.0 q qs Full a.1 r.1, same_nesting s.1 a.0.1 r.0.1 a.2 r.2)
+      (r.0, next s a.0 r.0 q qs Full a.1 r.1, nesting_both s.1 a.0.1 r.0.1 a.2 r.2)
 
   walk_goes : (n : ℕ) → Entered n
   unfolding Within
@@ -188,7 +180,7 @@ module _ {V : Type 0} (step : Steps V) (has : HasSteps step) (keeps : KeepsNesti
       let b = block_goes s q in
       let below = below_within b.0.1 n q (within_same s.1 b.0.1 b.2 (suc n) q h) in
       let r = walks_go n (walk_goes n) b.0 (last_first_of b.0.1 q) below in
-      (r.0, goes_on s b.0 r.0 q Full b.1 r.1, same_nesting s.1 b.0.1 r.0.1 b.2 r.2)
+      (r.0, goes_on s b.0 r.0 q Full b.1 r.1, nesting_both s.1 b.0.1 r.0.1 b.2 r.2)
 
   pub full_walk : (s : V × Body) (q : ℕ) → IsNested s.1 q → (t : V × Body) × Walks step s q Full t
   full_walk s q h = let a = walk_goes (depth s.1) s q (within_from_nested s.1 q h) in (a.0, a.1)

@@ -1,16 +1,22 @@
 -- Visits keep the nesting.
 use Rattle.std.proofs.lemmas.List.{reverse-append, append-nil}
 use Rattle.std.proofs.lemmas.List.Concat.{flat_map-append}
-use Rattle.std.proofs.Common.{◌≡◌, ℕ, List, [], ◌∷◌, ◌++◌, map, reverse, refl, sym, ap, ◌∙◌}
+use Rattle.std.proofs.Common.{◌≡◌, ℕ, List, [], ◌∷◌, ◌++◌, map, reverse, refl, sym, ap, ◌∙◌, subst, Result, Ok, Err, OnOk, OnErr}
 use Rattle.std.specs.List.{flat_map}
 use Rattle.walrus_ir.specs.Sequence.{Sequence}
 use Rattle.instr.specs.declared.instr.Instr.{Instr}
 use Rattle.walrus_functions.specs.Body.{Body, sequence, with_sequence}
-use Rattle.walrus_functions.specs.Nesting.{children}
-use Rattle.walrus_body.specs.Premises.{nonempty, KeepsChildren}
+use Rattle.walrus_functions.specs.Nesting.{children, IsChild, IsReachable, at_start, below, IsNested}
+use Rattle.walrus_body.specs.Premises.{nonempty, child_lists, KeepsChildren}
 use Rattle.walrus_body.specs.Steps.{SameNesting}
 use Rattle.walrus_body.specs.Walks.{last_first}
-use Rattle.walrus_body.proofs.Bodies.{count_after, last_first_after}
+use Rattle.walrus_body.proofs.Bodies.{count_after, last_first_after, still_known}
+use Rattle.walrus_body.proofs.Members.{Member, child_from_last_first, last_first_from_child}
+
+-- what holds after `Ok` and after `Err`
+pub either_way : {T E : Type 0} (P : Type 0) (r : Result T E) → OnOk r P → OnErr r P → P
+either_way P (Ok x) h k = h
+either_way P (Err e) h k = k
 
 -- the lists one after another, the last first
 abbrev pub back : List (List ℕ) → List ℕ
@@ -74,3 +80,39 @@ pub no_child_added :
     nonempty (map (λ y. children y.0) (is ++ x ∷ [])) ≡ nonempty (map (λ y. children y.0) is)
 no_child_added is x e =
     ap nonempty (map_end is x) ∙ ap (λ l. nonempty (map (λ (y : Instr × ℕ). children y.0) is ++ l ∷ [])) e ∙ nonempty_end (map (λ y. children y.0) is)
+
+pub keeps_children_same : (a b : Sequence) → b ≡ a → KeepsChildren a b
+keeps_children_same a b e = (ap (λ s. s.id) e, ap child_lists e)
+
+pub keeps_children_both :
+    (a b c : Sequence) → KeepsChildren a b → KeepsChildren b c → KeepsChildren a c
+keeps_children_both a b c h k = (k.0 ∙ h.0, k.1 ∙ h.1)
+
+pub nesting_same : (f : Body) → SameNesting f f
+nesting_same f = record { count = refl; children = λ q. refl }
+
+pub nesting_both : (f g h : Body) → SameNesting f g → SameNesting g h → SameNesting f h
+nesting_both f g h a b = record {
+  count = b.count ∙ a.count;
+  children = λ q. b.children q ∙ a.children q;
+}
+
+-- with the same nesting, what is a child, reached, or nested in the one is so in the other
+module _ (f g : Body) (same : SameNesting f g) where
+  child_before : (p c : ℕ) → IsChild g p c → IsChild f p c
+  child_before p c i =
+      let F : List ℕ → Type 0 = λ l. Member c l in
+      child_from_last_first f p c (subst F (same.children p) (last_first_from_child g p c i))
+
+  reached_before : (start q : ℕ) → IsReachable g start q → IsReachable f start q
+  reached_before start _ at_start = at_start
+  reached_before start _ (below p c r i) = below p c (reached_before start p r) (child_before p c i)
+
+  pub nested_after : (start : ℕ) → IsNested f start → IsNested g start
+  nested_after start h = (
+    h.0,
+    record {
+      known = λ q r. still_known f g q same.count (h.1.known q (reached_before start q r));
+      falls = λ p c r i. h.1.falls p c (reached_before start p r) (child_before p c i);
+    },
+  )

@@ -1,7 +1,7 @@
--- A walk that is cut after so many hook calls.
+-- Walks whose hook calls are counted.
 use Rattle.std.specs.Prelude.{◌≡◌, ℕ, suc}
 use Rattle.walrus_functions.specs.Body.{Body}
-use Rattle.walrus_body.specs.Extents.{Partial}
+use Rattle.walrus_body.specs.Extents.{Full, Partial}
 use Rattle.walrus_body.specs.Hooks.{Hook, Given, Steps}
 use Rattle.walrus_body.specs.Walks.{Walks}
 
@@ -14,6 +14,10 @@ module _ {V : Type 0} where
   -- the walk that is cut after k hook calls: its budget is k, and all of it is spent
   abbrev pub CutWalk : Steps V → ℕ → V × Body → ℕ → V × Body → Type 0
   CutWalk step k s id t = Walks (with_budget step) ((s.0, k), s.1) id Partial ((t.0, 0), t.1)
+
+  -- the full walk that makes k hook calls: its budget is k, and all of it is spent
+  abbrev pub CountedWalk : Steps V → ℕ → V × Body → ℕ → V × Body → Type 0
+  CountedWalk step k s id t = Walks (with_budget step) ((s.0, k), s.1) id Full ((t.0, 0), t.1)
 
   -- what a hook leaves is determined by what it is given
   abbrev pub IsFunction : Steps V → Type 0

@@ -20,13 +20,13 @@ pub(crate) fn visit_fields<V: VisitorMut>(
 ) -> Result<(), V::Error>
     ensures ok { OnOk result (VisitsFields V.step visitor.old instr.old
         Full visitor.new instr.new) }
-    ensures nesting { OnOk result (children instr.new ≡ children instr.old) }
+    ensures nesting { children instr.new ≡ children instr.old }
     ensures err { OnErr result (VisitsFields V.step visitor.old instr.old
         Partial visitor.new instr.new) }
 {
     match instr {
-        Instr::Block(x) => visitor.visit_instr_seq_id_mut(&mut x.seq),
-        Instr::Loop(x) => visitor.visit_instr_seq_id_mut(&mut x.seq),
+        Instr::Block(x) => visit_seq_id(visitor, &mut x.seq),
+        Instr::Loop(x) => visit_seq_id(visitor, &mut x.seq),
         Instr::IfElse(x) => visit_instr_seq_and_instr_seq(
             visitor,
             &mut x.consequent,
@@ -137,6 +137,15 @@ pub(crate) fn visit_fields<V: VisitorMut>(
     }
 }
 
+// The hook of a sequence that stands in an instruction: its id stays, also where the hook refuses.
+fn visit_seq_id<V: VisitorMut>(visitor: &mut V, id: &mut InstrSeqId) -> Result<(), V::Error>
+    ensures ok { OnOk result (V.step visit_instr_seq_id visitor.old id.old visitor.new id.new) }
+    ensures nesting { id.new ≡ id.old }
+    ensures err { OnErr result ((visitor.new ≡ visitor.old) × (id.new ≡ id.old)) }
+{
+    visitor.visit_instr_seq_id_mut(id)
+}
+
 fn visit_instr_seq_and_instr_seq<V: VisitorMut>(
     visitor: &mut V,
     first: &mut InstrSeqId,
@@ -144,13 +153,13 @@ fn visit_instr_seq_and_instr_seq<V: VisitorMut>(
 ) -> Result<(), V::Error>
     ensures ok { OnOk result (Both (Call V.step visit_instr_seq_id) (Call V.step visit_instr_seq_id)
         visitor.old (first.old, second.old) Full visitor.new (first.new, second.new)) }
-    ensures nesting { OnOk result ((first.new ≡ first.old) × (second.new ≡ second.old)) }
+    ensures nesting { (first.new ≡ first.old) × (second.new ≡ second.old) }
     ensures err { OnErr result (Both (Call V.step visit_instr_seq_id)
         (Call V.step visit_instr_seq_id)
         visitor.old (first.old, second.old) Partial visitor.new (first.new, second.new)) }
 {
-    visitor.visit_instr_seq_id_mut(first)?;
-    visitor.visit_instr_seq_id_mut(second)
+    visit_seq_id(visitor, first)?;
+    visit_seq_id(visitor, second)
 }
 
 fn visit_type_and_table<V: VisitorMut>(
@@ -319,12 +328,12 @@ fn visit_try_table<V: VisitorMut>(visitor: &mut V, table: &mut TryTable) -> Resu
     ensures ok { OnOk result (Both (Call V.step visit_instr_seq_id) (Each (VisitsCatch V.step))
         visitor.old (table.old.seq, table.old.catches)
         Full visitor.new (table.new.seq, table.new.catches)) }
-    ensures nesting { OnOk result (table.new.seq ≡ table.old.seq) }
+    ensures nesting { table.new.seq ≡ table.old.seq }
     ensures err { OnErr result (Both (Call V.step visit_instr_seq_id) (Each (VisitsCatch V.step))
         visitor.old (table.old.seq, table.old.catches)
         Partial visitor.new (table.new.seq, table.new.catches)) }
 {
-    visitor.visit_instr_seq_id_mut(&mut table.seq)?;
+    visit_seq_id(visitor, &mut table.seq)?;
     visit_catches(visitor, &mut table.catches)
 }
 
@@ -362,15 +371,14 @@ fn visit_try<V: VisitorMut>(visitor: &mut V, block: &mut Try) -> Result<(), V::E
         (Each (VisitsLegacyCatch V.step))
         visitor.old (block.old.seq, block.old.catches)
         Full visitor.new (block.new.seq, block.new.catches)) }
-    ensures nesting { OnOk result ((block.new.seq ≡ block.old.seq)
-        × (flat_map handlers block.new.catches
-        ≡ flat_map handlers block.old.catches)) }
+    ensures nesting { (block.new.seq ≡ block.old.seq)
+        × (flat_map handlers block.new.catches ≡ flat_map handlers block.old.catches) }
     ensures err { OnErr result (Both (Call V.step visit_instr_seq_id)
         (Each (VisitsLegacyCatch V.step))
         visitor.old (block.old.seq, block.old.catches)
         Partial visitor.new (block.new.seq, block.new.catches)) }
 {
-    visitor.visit_instr_seq_id_mut(&mut block.seq)?;
+    visit_seq_id(visitor, &mut block.seq)?;
     visit_legacy_catches(visitor, &mut block.catches)
 }
 
@@ -380,8 +388,7 @@ fn visit_legacy_catches<V: VisitorMut>(
 ) -> Result<(), V::Error>
     ensures ok { OnOk result (Each (VisitsLegacyCatch V.step)
         visitor.old clauses.old Full visitor.new clauses.new) }
-    ensures nesting { OnOk result (map handlers clauses.new
-        ≡ map handlers clauses.old) }
+    ensures nesting { map handlers clauses.new ≡ map handlers clauses.old }
     ensures err { OnErr result (Each (VisitsLegacyCatch V.step)
         visitor.old clauses.old Partial visitor.new clauses.new) }
 {
@@ -397,7 +404,7 @@ fn visit_legacy_catch<V: VisitorMut>(
 ) -> Result<(), V::Error>
     ensures ok { OnOk result (VisitsLegacyCatch V.step visitor.old clause.old
         Full visitor.new clause.new) }
-    ensures nesting { OnOk result (handlers clause.new ≡ handlers clause.old) }
+    ensures nesting { handlers clause.new ≡ handlers clause.old }
     ensures err { OnErr result (VisitsLegacyCatch V.step
         visitor.old clause.old Partial visitor.new clause.new) }
 {

@@ -3,7 +3,7 @@
 ghost use Rattle.std.specs.Prelude.{◌≡◌, ◌↔◌, ℕ, List, Contains};
 ghost use Rattle.walrus_functions.specs.Body.{Body, sequence};
 ghost use Rattle.walrus_functions.specs.Nesting.{IsNested, IsReachable};
-ghost use Rattle.walrus_body.specs.Counting.{CutWalk, IsFunction};
+ghost use Rattle.walrus_body.specs.Counting.{CutWalk, CountedWalk, IsFunction};
 ghost use Rattle.walrus_body.specs.Extents.{Full, Partial};
 ghost use Rattle.walrus_body.specs.FieldMaps.{FieldMap, MapsFields, IsMapped};
 ghost use Rattle.walrus_body.specs.Premises.{HasSteps, KeepsNesting};
@@ -24,6 +24,23 @@ pub fn partial_walks_are_cut<V: VisitorMut>()
 pub fn full_walks_are_determined<V: VisitorMut>()
     ensures { IsFunction V.step → (s t u : V × Body) (id : ℕ) →
         Walks V.step s id Full t → Walks V.step s id Full u → t ≡ u }
+{}
+
+/// A full walk makes a number of hook calls (`counted`). Where the step of the visitor is a
+/// function, the start of the walk determines this number, and what the walk leaves (`determined`).
+pub fn full_walks_are_counted<V: VisitorMut>()
+    ensures counted { (s t : V × Body) (id : ℕ) → Walks V.step s id Full t →
+        (k : ℕ) × CountedWalk V.step k s id t }
+    ensures determined { IsFunction V.step → (k l : ℕ) (s t u : V × Body) (id : ℕ) →
+        CountedWalk V.step k s id t → CountedWalk V.step l s id u → (k ≡ l) × (t ≡ u) }
+{}
+
+/// Where the step of a visitor is a function, the start of a walk and the number of hook calls
+/// after which it is cut determine what it leaves. Each walk that stops early is cut after some
+/// number of them ([`partial_walks_are_cut`]).
+pub fn cut_walks_are_determined<V: VisitorMut>()
+    ensures { IsFunction V.step → (k : ℕ) (s t u : V × Body) (id : ℕ) →
+        CutWalk V.step k s id t → CutWalk V.step k s id u → t ≡ u }
 {}
 
 /// Where a visitor has a step at each hook, whatever the hook is given, and no step changes which
@@ -54,6 +71,23 @@ pub fn field_maps_map_the_body<V: VisitorMut>()
         (s : Body) (t : V × Body) (start : ℕ) → Walks V.step (v, s) start Full t →
         (visits : List ℕ) × Unfolds s start visits × IsMapped f visits s t.1 }
 {}
+
+/// [`RenameTypes`] meets the premises of the laws of walks: it has a step at each hook
+/// (`has_steps`), no step changes the nesting (`keeps_nesting`), and what it leaves is determined
+/// by what it is given (`is_function`). So there is just one full walk with it over a nested
+/// sequence (`one`).
+pub fn rename_types_has_one_full_walk()
+    ensures has_steps { HasSteps ⟦<RenameTypes as VisitorMut>⟧.step }
+    ensures keeps_nesting { KeepsNesting ⟦<RenameTypes as VisitorMut>⟧.step }
+    ensures is_function { IsFunction ⟦<RenameTypes as VisitorMut>⟧.step }
+    ensures one { (s : List ℕ × Body) (id : ℕ) → IsNested s.1 id →
+        (t : List ℕ × Body) × Walks ⟦<RenameTypes as VisitorMut>⟧.step s id Full t
+        × ((u : List ℕ × Body) →
+        Walks ⟦<RenameTypes as VisitorMut>⟧.step s id Full u → u ≡ t) }
+{
+    nested_sequences_have_a_full_walk::<RenameTypes>();
+    full_walks_are_determined::<RenameTypes>();
+}
 
 /// What a full walk with [`RenameTypes`] leaves. The visitor keeps its names (`names`), and each
 /// sequence is renamed as often as the unfolding of the body visits it, and nothing else changes

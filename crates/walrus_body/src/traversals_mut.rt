@@ -25,7 +25,9 @@ use walrus_nesting::WalkError;
 /// after the hooks before it. A sequence that is named twice is visited twice, the second time as
 /// the first left it.
 ///
-/// The body has to be nested from `start`: unfolding it ends, and each sequence is known.
+/// The body has to be nested from `start`: unfolding it ends, and each sequence is known. The walk
+/// leaves it nested from there, whether it ends with `Ok` or with an error, so another walk from
+/// `start` needs no new check.
 ///
 /// The walk ends with [`WalkError::Hook`] where a hook refuses, and with [`WalkError::Memory`]
 /// where memory for its stack is refused. Visitor and body are then as after a first part of the
@@ -42,6 +44,7 @@ pub fn dfs_pre_order_mut<V: VisitorMut>(
         (visitor.new, func.new.body)) }
     ensures err { OnErr result (Walks V.step (visitor.old, func.old.body) start Partial
         (visitor.new, func.new.body)) }
+    ensures nested { IsNested func.new.body start }
     ensures args { func.new.args ≡ func.old.args }
 {
     let mut stack = Vec::new(alloc);
@@ -68,7 +71,7 @@ fn visit_block<V: VisitorMut>(
     requires { Knows func.old.body id }
     ensures ok { OnOk result (VisitsBlock V.step (visitor.old, func.old.body) id Full
         (visitor.new, func.new.body)) }
-    ensures nesting { OnOk result (SameNesting func.old.body func.new.body) }
+    ensures nesting { SameNesting func.old.body func.new.body }
     ensures err { OnErr result (VisitsBlock V.step (visitor.old, func.old.body) id Partial
         (visitor.new, func.new.body)) }
     ensures args { func.new.args ≡ func.old.args }
@@ -79,7 +82,7 @@ fn visit_block<V: VisitorMut>(
 // The hooks of a sequence.
 fn visit_seq<V: VisitorMut>(visitor: &mut V, seq: &mut InstrSeq) -> Result<(), V::Error>
     ensures ok { OnOk result (VisitsSequence V.step visitor.old seq.old Full visitor.new seq.new) }
-    ensures nesting { OnOk result (KeepsChildren seq.old seq.new) }
+    ensures nesting { KeepsChildren seq.old seq.new }
     ensures err { OnErr result (VisitsSequence V.step visitor.old seq.old Partial
         visitor.new seq.new) }
 {
@@ -96,8 +99,8 @@ fn visit_instrs<V: VisitorMut>(
 ) -> Result<(), V::Error>
     ensures ok { OnOk result (Each (VisitsInstr V.step)
         visitor.old instrs.old.items Full visitor.new instrs.new.items) }
-    ensures nesting { OnOk result (map (λ x. children x.0) instrs.new.items
-        ≡ map (λ x. children x.0) instrs.old.items) }
+    ensures nesting { map (λ x. children x.0) instrs.new.items
+        ≡ map (λ x. children x.0) instrs.old.items }
     ensures err { OnErr result (Each (VisitsInstr V.step)
         visitor.old instrs.old.items Partial visitor.new instrs.new.items) }
 {
@@ -116,7 +119,7 @@ fn visit_instr<V: VisitorMut>(
 ) -> Result<(), V::Error>
     ensures ok { OnOk result (VisitsInstr V.step
         visitor.old (instr.old, loc.old) Full visitor.new (instr.new, loc.new)) }
-    ensures nesting { OnOk result (children instr.new ≡ children instr.old) }
+    ensures nesting { children instr.new ≡ children instr.old }
     ensures err { OnErr result (VisitsInstr V.step
         visitor.old (instr.old, loc.old) Partial visitor.new (instr.new, loc.new)) }
 {

@@ -24,12 +24,13 @@ TakesNew pre f ty =
     (b : MutBor InstrSeqBuilder)
     → seq_id b.now ≡ next_seq f → function_of b.now ≡ with_new f ty → pre b
 
--- the builder after the call writes through the same `&mut`: the closure put no other builder in
--- place of it
-abbrev pub KeepsFunction : Post → Type 0
-KeepsFunction post =
+-- after a call of the closure on such a builder, the builder writes through the same `&mut`: the
+-- closure put no other builder in its place
+abbrev pub KeepsFunction : Post → Body → InstrSeqType → Type 0
+KeepsFunction post f ty =
     (b : MutBor InstrSeqBuilder) (r : Result (Unit {0}) BuildError) (c : MutBor InstrSeqBuilder)
-    → post b r c → loan_of c.now ≡ loan_of b.now
+    → seq_id b.now ≡ next_seq f → function_of b.now ≡ with_new f ty → post b r c
+    → loan_of c.now ≡ loan_of b.now
 
 -- a new sequence of this type was added to old, and the closure, called on a builder of it, may
 -- answer r and leave new
@@ -97,6 +98,11 @@ FailsToNestAt post ty parent position old e new =
 -- first may leave
 abbrev pub TakesSecond : Post → Pre → Body → InstrSeqType → Type 0
 TakesSecond post pre f ty = (mid : Body) → Fills post ty f (Ok tt) mid → TakesNew pre mid ty
+
+-- after a call of the second closure on such a builder, the builder writes through the same `&mut`
+abbrev pub KeepsSecond : Post → Post → Body → InstrSeqType → Type 0
+KeepsSecond first second f ty =
+    (mid : Body) → Fills first ty f (Ok tt) mid → KeepsFunction second mid ty
 
 abbrev pub NestsBoth : Post → Post → InstrSeqType → ℕ → (ℕ → ℕ → Instr) → Body → Body → Type 0
 NestsBoth first second ty parent make old new =

@@ -115,6 +115,52 @@ fn a_refused_hook_leaves_what_the_hooks_before_it_did(rt: HostRuntime) {
     }
 }
 
+// Walks from the sequence 0 with one visitor, and then with another, after one check.
+fn walk_with_both(
+    rt: &impl Abort,
+    alloc: Global,
+    first: &mut Adder,
+    second: &mut Adder,
+    func: &mut LocalFunction,
+) -> (Result<(), WalkError<Full>>, Result<(), WalkError<Full>>) {
+    let start = id(0);
+    match check_nesting(alloc, func, start).expect(rt, "memory") {
+        Nesting::Nested(_) => {
+            let once = dfs_pre_order_mut(alloc, first, func, start);
+            (once, dfs_pre_order_mut(alloc, second, func, start))
+        }
+        Nesting::Cycle { .. } | Nesting::Unknown(_) => panic!(rt; "not nested"),
+    }
+}
+
+// A whole walk makes 15 hook calls, and adds one to the constant at each of two visits.
+#[test]
+fn two_walks_need_one_check(rt: HostRuntime) {
+    let alloc = rt.alloc();
+    let mut func = shared(&rt, alloc);
+    let mut first = adder(alloc, ALL);
+    let mut second = adder(alloc, ALL);
+    let (once, again) = walk_with_both(&rt, alloc, &mut first, &mut second, &mut func);
+    assert_equal(&rt, once, Ok(()));
+    assert_equal(&rt, again, Ok(()));
+    assert_equal(&rt, (first.calls.len(), second.calls.len()), (15, 15));
+    assert_equal(&rt, constant(&func), Some(9));
+}
+
+// The first walk is refused after the constant was visited once.
+#[test]
+fn a_walk_after_a_refused_one_needs_no_check(rt: HostRuntime) {
+    let alloc = rt.alloc();
+    let mut func = shared(&rt, alloc);
+    let mut first = adder(alloc, 9);
+    let mut second = adder(alloc, ALL);
+    let (once, again) = walk_with_both(&rt, alloc, &mut first, &mut second, &mut func);
+    assert_equal(&rt, once, Err(WalkError::Hook(Full(9))));
+    assert_equal(&rt, again, Ok(()));
+    assert_equal(&rt, (first.calls.len(), second.calls.len()), (9, 15));
+    assert_equal(&rt, constant(&func), Some(8));
+}
+
 // How many of the calls are for types.
 fn types(calls: &[HookCall]) -> usize {
     calls

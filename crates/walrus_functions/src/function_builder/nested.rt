@@ -10,7 +10,7 @@ use walrus_ir::{Block, IfElse, Instr, InstrSeqId, InstrSeqType, Loop};
 impl<'a> InstrSeqBuilder<'a> {
     ghost use Rattle.walrus_functions.specs.Body.{next_seq};
     ghost use Rattle.walrus_functions.specs.Building.{seq_id, function_of, IsKnown, Stays};
-    ghost use Rattle.walrus_functions.specs.NestedForms.{TakesNew, TakesSecond, KeepsFunction, Fills, FailsToFill, Attaches, FailsToAttach, AttachesAt, FailsToAttachAt, Nests, FailsToNest, NestsAt, FailsToNestAt, NestsBoth, FailsToNestBoth, NestsBothAt, FailsToNestBothAt};
+    ghost use Rattle.walrus_functions.specs.NestedForms.{TakesNew, TakesSecond, KeepsFunction, KeepsSecond, Fills, FailsToFill, Attaches, FailsToAttach, AttachesAt, FailsToAttachAt, Nests, FailsToNest, NestsAt, FailsToNestAt, NestsBoth, FailsToNestBoth, NestsBothAt, FailsToNestBothAt};
 
     /// Adds a `block` over a new sequence of this type, which `make_block` fills.
     ///
@@ -28,7 +28,7 @@ impl<'a> InstrSeqBuilder<'a> {
         make_block: F,
     ) -> Result<(), BuildError>
         requires takes { TakesNew (F.pre make_block) (function_of self.old) ty }
-        requires keeps { KeepsFunction (F.post make_block) }
+        requires keeps { KeepsFunction (F.post make_block) (function_of self.old) ty }
         ensures same { Stays self.old self.new }
         ensures known { OnOk result (IsKnown self.new) }
         ensures ok { OnOk result (Nests (F.post make_block) ty (seq_id self.old)
@@ -48,7 +48,7 @@ impl<'a> InstrSeqBuilder<'a> {
         make_loop: F,
     ) -> Result<(), BuildError>
         requires takes { TakesNew (F.pre make_loop) (function_of self.old) ty }
-        requires keeps { KeepsFunction (F.post make_loop) }
+        requires keeps { KeepsFunction (F.post make_loop) (function_of self.old) ty }
         ensures same { Stays self.old self.new }
         ensures known { OnOk result (IsKnown self.new) }
         ensures ok { OnOk result (Nests (F.post make_loop) ty (seq_id self.old)
@@ -68,10 +68,11 @@ impl<'a> InstrSeqBuilder<'a> {
         G: FnOnce(&mut InstrSeqBuilder<'_>) -> Result<(), BuildError>,
     >(&mut self, ty: InstrSeqType, consequent: F, alternative: G) -> Result<(), BuildError>
         requires takes { TakesNew (F.pre consequent) (function_of self.old) ty }
-        requires keeps { KeepsFunction (F.post consequent) }
+        requires keeps { KeepsFunction (F.post consequent) (function_of self.old) ty }
         requires takes_second { TakesSecond (F.post consequent) (G.pre alternative)
             (function_of self.old) ty }
-        requires keeps_second { KeepsFunction (G.post alternative) }
+        requires keeps_second { KeepsSecond (F.post consequent) (G.post alternative)
+            (function_of self.old) ty }
         ensures same { Stays self.old self.new }
         ensures known { OnOk result (IsKnown self.new) }
         ensures ok { OnOk result
@@ -100,7 +101,7 @@ impl<'a> InstrSeqBuilder<'a> {
         make_block: F,
     ) -> Result<(), BuildError>
         requires takes { TakesNew (F.pre make_block) (function_of self.old) ty }
-        requires keeps { KeepsFunction (F.post make_block) }
+        requires keeps { KeepsFunction (F.post make_block) (function_of self.old) ty }
         ensures same { Stays self.old self.new }
         ensures known { OnOk result (IsKnown self.new) }
         ensures ok { OnOk result (NestsAt (F.post make_block) ty (seq_id self.old) position
@@ -123,7 +124,7 @@ impl<'a> InstrSeqBuilder<'a> {
         make_loop: F,
     ) -> Result<(), BuildError>
         requires takes { TakesNew (F.pre make_loop) (function_of self.old) ty }
-        requires keeps { KeepsFunction (F.post make_loop) }
+        requires keeps { KeepsFunction (F.post make_loop) (function_of self.old) ty }
         ensures same { Stays self.old self.new }
         ensures known { OnOk result (IsKnown self.new) }
         ensures ok { OnOk result (NestsAt (F.post make_loop) ty (seq_id self.old) position
@@ -150,10 +151,11 @@ impl<'a> InstrSeqBuilder<'a> {
         alternative: G,
     ) -> Result<(), BuildError>
         requires takes { TakesNew (F.pre consequent) (function_of self.old) ty }
-        requires keeps { KeepsFunction (F.post consequent) }
+        requires keeps { KeepsFunction (F.post consequent) (function_of self.old) ty }
         requires takes_second { TakesSecond (F.post consequent) (G.pre alternative)
             (function_of self.old) ty }
-        requires keeps_second { KeepsFunction (G.post alternative) }
+        requires keeps_second { KeepsSecond (F.post consequent) (G.post alternative)
+            (function_of self.old) ty }
         ensures same { Stays self.old self.new }
         ensures known { OnOk result (IsKnown self.new) }
         ensures ok { OnOk result
@@ -183,7 +185,7 @@ impl<'a> InstrSeqBuilder<'a> {
         make: F,
     ) -> Result<InstrSeqId, BuildError>
         requires takes { TakesNew (F.pre make) (function_of self.old) ty }
-        requires keeps { KeepsFunction (F.post make) }
+        requires keeps { KeepsFunction (F.post make) (function_of self.old) ty }
         ensures same { Stays self.old self.new }
         ensures id { IfOk result (λ id. id ≡ next_seq (function_of self.old)) }
         ensures ok { OnOk result

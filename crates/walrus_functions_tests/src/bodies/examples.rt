@@ -3,7 +3,7 @@ ghost use Rattle.std.specs.Prelude.{◌≡◌, OnOk, None};
 ghost use Rattle.walrus_ir.specs.declared.instr_seq_type.InstrSeqType.TheVariants.{Simple};
 ghost use Rattle.instr.specs.declared.instr.Instr.TheVariants as instr;
 ghost use Rattle.walrus_functions.specs.Body.{next_seq, with_new, with_instr};
-ghost use Rattle.walrus_functions.specs.Building.{function_of, seq_id, IsKnown};
+ghost use Rattle.walrus_functions.specs.Building.{function_of, seq_id, IsKnown, Stays};
 
 use super::*;
 
@@ -24,6 +24,22 @@ fn add_endless_loop(body: &mut InstrSeqBuilder<'_>) -> Result<(), BuildError>
     body.block(NOTHING, |block| {
         block.loop_(NOTHING, |again| again.br(again.id()))
     })
+}
+
+// Adds a `drop`. That the builder stays is said of known sequences alone: a nested form asks no more,
+// as it calls its closure on a new one.
+fn add_drop(body: &mut InstrSeqBuilder<'_>) -> Result<(), BuildError>
+    requires { IsKnown body.old }
+    ensures same { IsKnown body.old → Stays body.old body.new }
+{
+    body.drop()
+}
+
+#[test]
+fn a_closure_that_stays_in_a_known_sequence(rt: HostRuntime) {
+    let text = "0: Block(Block { seq: Id(1) })\n1: Drop(DropInstr)\n";
+    let fill = |b: &mut InstrSeqBuilder<'_>| b.block(NOTHING, |block| add_drop(block));
+    builds(&rt, rt.alloc(), fill, Ok(()), text);
 }
 
 #[test]

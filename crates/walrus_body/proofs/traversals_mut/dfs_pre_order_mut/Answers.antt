@@ -3,7 +3,7 @@ use Rattle.walrus_functions.specs.Body.{Body}
 use Rattle.walrus_body.proofs.Stacks.{popped, pushed, none_left}
 use Rattle.walrus_body.proofs.Depths.{stack_falls}
 use Rattle.walrus_body.proofs.Bodies.{sequence_at, still_known}
-use Rattle.walrus_body.proofs.Composing.{begin, go_on, ended, given_up, refused, at_top, onto, top_known, not_begun, none_pending}
+use Rattle.walrus_body.proofs.Composing.{begin, go_on, ended, given_up, refused, at_top, onto, top_known, not_begun, none_pending, nested_now, nested_then}
 use Rattle.walrus_body.proofs.traversals_mut.dfs_pre_order_mut.Goals as goal
 
 pub returns-in-Err-clause-err : goal.returns-in-Err-clause-err
@@ -31,7 +31,7 @@ block-requires g c =
     let s0 : g.row.V.Denot × Body = (c.args.visitor.now, c.args.func.now.body) in
     let s : g.row.V.Denot × Body = (c.loop-seq.visitor, c.loop-seq.func.body) in
     let e = popped c.loop-seq.stack.items c.pop.new.self.items c.in-Some.seq c.in-Some.ensures.items in
-    still_known c.loop-seq.func.body c.visit_block.new.func.body c.in-Some.seq c.in_default-visit_block.ensures.nesting.count
+    still_known c.loop-seq.func.body c.visit_block.new.func.body c.in-Some.seq c.visit_block.ensures.nesting.count
     (top_known g.V.VisitorMut.step s0 c.args.start s c.in-Some.seq (reverse c.pop.new.self.items)
     (at_top g.V.VisitorMut.step s0 c.args.start s (reverse c.loop-seq.stack.items) c.in-Some.seq (reverse c.pop.new.self.items) e c.loop-seq.invariant.0))
 
@@ -55,7 +55,17 @@ returns-in-Err-push_children-clause-err g c =
     given_up g.V.VisitorMut.step s0 c.args.start m _
     (go_on g.V.VisitorMut.step s0 c.args.start s m c.in-Some.seq rest
     (at_top g.V.VisitorMut.step s0 c.args.start s (reverse c.loop-seq.stack.items) c.in-Some.seq rest e c.loop-seq.invariant.0)
-    c.in_default-visit_block.ensures.ok c.in_default-visit_block.ensures.nesting)
+    c.in_default-visit_block.ensures.ok c.visit_block.ensures.nesting)
+
+pub returns-in-Err-visit_block-clause-nested : goal.returns-in-Err-visit_block-clause-nested
+returns-in-Err-visit_block-clause-nested g c =
+    nested_then g.V.VisitorMut.step (c.args.visitor.now, c.args.func.now.body) c.args.start (c.loop-seq.visitor, c.loop-seq.func.body) (c.visit_block.new.visitor, c.visit_block.new.func.body)
+    (reverse c.loop-seq.stack.items) c.requires c.loop-seq.invariant.0 c.visit_block.ensures.nesting
+
+pub returns-in-Err-push_children-clause-nested : goal.returns-in-Err-push_children-clause-nested
+returns-in-Err-push_children-clause-nested g c =
+    nested_then g.V.VisitorMut.step (c.args.visitor.now, c.args.func.now.body) c.args.start (c.loop-seq.visitor, c.loop-seq.func.body) (c.visit_block.new.visitor, c.visit_block.new.func.body)
+    (reverse c.loop-seq.stack.items) c.requires c.loop-seq.invariant.0 c.visit_block.ensures.nesting
 
 pub loop-seq-smaller : goal.loop-seq-smaller
 loop-seq-smaller g c =
@@ -66,7 +76,7 @@ loop-seq-smaller g c =
     let p = at_top g.V.VisitorMut.step s0 c.args.start s (reverse c.loop-seq.stack.items) c.in-Some.seq rest e c.loop-seq.invariant.0 in
     stack_falls c.loop-seq.func.body c.visit_block.new.func.body c.in-Some.seq rest (reverse c.loop-seq.stack.items) (reverse c.push_children.new.stack.items) e
     (pushed (reverse c.push_children.new.stack.items) rest c.visit_block.new.func.body c.in-Some.seq c.block.result.now (sequence_at c.visit_block.new.func.body c.in-Some.seq c.block.result.now c.block.ensures) c.in_default-push_children.ensures.ok)
-    c.in_default-visit_block.ensures.nesting p.within.0
+    c.visit_block.ensures.nesting p.within.0
 
 pub loop-seq-preserved : goal.loop-seq-preserved
 loop-seq-preserved g c =
@@ -79,7 +89,7 @@ loop-seq-preserved g c =
           (pushed (reverse c.push_children.new.stack.items) rest c.visit_block.new.func.body c.in-Some.seq c.block.result.now (sequence_at c.visit_block.new.func.body c.in-Some.seq c.block.result.now c.block.ensures) c.in_default-push_children.ensures.ok)
           (go_on g.V.VisitorMut.step s0 c.args.start s m c.in-Some.seq rest
           (at_top g.V.VisitorMut.step s0 c.args.start s (reverse c.loop-seq.stack.items) c.in-Some.seq rest e c.loop-seq.invariant.0)
-          c.in_default-visit_block.ensures.ok c.in_default-visit_block.ensures.nesting),
+          c.in_default-visit_block.ensures.ok c.visit_block.ensures.nesting),
       c.visit_block.ensures.args ∙ c.loop-seq.invariant.1,
     )
 
@@ -90,3 +100,8 @@ returns-clause-ok g c =
     let z : length c.loop-seq.stack.items ≡ 0 = omega (arith, c.in_default-pop.ensures.cases.0) in
     ended g.V.VisitorMut.step s0 c.args.start s
     (none_pending g.V.VisitorMut.step s0 c.args.start s (reverse c.loop-seq.stack.items) (none_left c.loop-seq.stack.items z) c.loop-seq.invariant.0)
+
+pub returns-clause-nested : goal.returns-clause-nested
+returns-clause-nested g c =
+    nested_now g.V.VisitorMut.step (c.args.visitor.now, c.args.func.now.body) c.args.start (c.loop-seq.visitor, c.loop-seq.func.body)
+    (reverse c.loop-seq.stack.items) c.requires c.loop-seq.invariant.0

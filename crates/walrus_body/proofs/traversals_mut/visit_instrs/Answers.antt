@@ -4,7 +4,7 @@ use Rattle.instr.specs.declared.instr.Instr.{Instr}
 use Rattle.walrus_functions.specs.Nesting.{children}
 use Rattle.walrus_body.specs.Extents.{Extent, Full, Each}
 use Rattle.walrus_body.specs.Sequences.{VisitsInstr}
-use Rattle.walrus_body.proofs.Eaches.{Done, done_more, done_begun, take_all}
+use Rattle.walrus_body.proofs.Eaches.{Done, done_more, done_begun, done_same, take_all}
 use Rattle.walrus_body.proofs.traversals_mut.visit_instrs.Goals as goal
 
 -- the loop came to the end
@@ -26,13 +26,18 @@ returns-in_err-visit_instr-clause-err g c =
     rw p.1 (done_begun (VisitsInstr g.V.VisitorMut.step) (λ (x : Instr × ℕ). children x.0) c.args.visitor.now c.args.instrs.now.items c.loop-i.visitor c.loop-i.instrs.items c.loop-i.i
     c.visit_instr.new.visitor c.index_mut.result.now (c.visit_instr.new.instr, c.visit_instr.new.loc) inv lt c.index_mut.ensures.value e)
 
+pub returns-in_err-visit_instr-clause-nesting : goal.returns-in_err-visit_instr-clause-nesting
+returns-in_err-visit_instr-clause-nesting g c =
+    done_same (VisitsInstr g.V.VisitorMut.step) (λ (x : Instr × ℕ). children x.0) c.args.visitor.now c.args.instrs.now.items c.loop-i.visitor c.loop-i.instrs.items c.loop-i.i
+    c.index_mut.result.now (c.visit_instr.new.instr, c.visit_instr.new.loc) c.loop-i.invariant c.index_mut.ensures.value c.visit_instr.ensures.nesting
+
 pub loop-i-preserved : goal.loop-i-preserved
 loop-i-preserved g c =
     let inv = c.loop-i.invariant in
     let lt : c.loop-i.i < length c.loop-i.instrs.items = omega (arith, inv.size) in
     done_more (VisitsInstr g.V.VisitorMut.step) (λ (x : Instr × ℕ). children x.0) c.args.visitor.now c.args.instrs.now.items c.loop-i.visitor c.loop-i.instrs.items c.loop-i.i
     c.visit_instr.new.visitor c.index_mut.result.now (c.visit_instr.new.instr, c.visit_instr.new.loc) inv lt c.index_mut.ensures.value
-    c.in_ok-visit_instr.ensures.ok c.in_ok-visit_instr.ensures.nesting
+    c.in_ok-visit_instr.ensures.ok c.visit_instr.ensures.nesting
 
 pub returns-clause-ok : goal.returns-clause-ok
 returns-clause-ok g c =
