@@ -124,6 +124,30 @@ fn the_first_fault_decides(rt: HostRuntime) {
     answers(&rt, alloc, f, 0, Nesting::Cycle { path, back_to: 0 });
 }
 
+// Sequence 0 has a block of 1 and then an unknown child, and 1 leads back to 0.
+#[test]
+fn a_cycle_below_comes_before_an_unknown_child(rt: HostRuntime) {
+    let alloc = rt.alloc();
+    let mut f = empty(alloc);
+    let entry = vec![in alloc; block(1), loop_of(9)].expect(&rt, "memory");
+    add_sequence(&rt, alloc, &mut f, entry);
+    add_one(&rt, alloc, &mut f, block(0));
+    let path = ids(&rt, alloc, &[0, 1]);
+    answers(&rt, alloc, f, 0, Nesting::Cycle { path, back_to: 0 });
+}
+
+// Sequence 0 has a block of 1 and then one of itself, and 1 has an unknown child.
+#[test]
+fn an_unknown_child_below_comes_before_a_cycle(rt: HostRuntime) {
+    let alloc = rt.alloc();
+    let mut f = empty(alloc);
+    let entry = vec![in alloc; block(1), block(0)].expect(&rt, "memory");
+    add_sequence(&rt, alloc, &mut f, entry);
+    add_one(&rt, alloc, &mut f, loop_of(9));
+    let want = Nesting::Unknown(ids(&rt, alloc, &[0, 1, 9]));
+    answers(&rt, alloc, f, 0, want);
+}
+
 // A `try` of the sequence 1, with the handlers 2 and 3.
 fn attempt(rt: &impl Abort, alloc: Global) -> Instr {
     let caught = LegacyCatch::Catch {

@@ -284,3 +284,13 @@ fn errors_print(rt: HostRuntime) {
     let text = format!(in alloc; "{hook}").expect(&rt, "memory");
     assert_equal(&rt, text.as_str(), "no room for call 3");
 }
+
+#[test]
+fn a_cloned_error_is_the_same(rt: HostRuntime) {
+    let hook = WalkError::Hook(Full(3));
+    let same = hook.clone().expect(&rt, "memory");
+    assert_equal(&rt, same, WalkError::Hook(Full(3)));
+    let memory: WalkError<Full> = WalkError::Memory;
+    let same = memory.clone().expect(&rt, "memory");
+    assert_equal(&rt, same, WalkError::Memory);
+}
