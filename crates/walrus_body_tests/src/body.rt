@@ -1,6 +1,7 @@
 //! The changing walk, on worked bodies.
 mod adder;
 mod calls;
+mod fields;
 mod functions;
 mod log;
 mod rename_types;

@@ -12,6 +12,7 @@ mod functions;
 mod nested;
 mod plain;
 mod refusals;
+mod walrus_examples;
 
 use crate::assertions::assert_equal;
 use std::alloc::{AllocError, Global};

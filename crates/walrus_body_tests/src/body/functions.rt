@@ -1,7 +1,10 @@
 //! The functions of the worked walks.
+ghost use Rattle.walrus_functions.specs.Building.{function_of, IsKnown, Stays, StayKnown};
+
 use super::*;
-use walrus_ir::{Const, DropInstr, IfElse, LegacyCatch, Try, Value};
-use walrus_types::{Listed, ModuleTypes};
+use walrus_functions::InstrSeqBuilder;
+use walrus_ir::{Const, LegacyCatch, Try, Value};
+use walrus_types::{Listed, ModuleTypes, TypeId};
 
 // Adds a sequence with these instructions. Sequences have the ids 0, 1, and so on.
 fn add(
@@ -53,66 +56,87 @@ fn number(n: i32) -> Instr {
     })
 }
 
-fn dropping() -> Instr {
-    Instr::from(DropInstr {})
-}
-
 fn block(index: usize) -> Instr {
     Instr::from(Block { seq: id(index) })
 }
 
-// Sequence 0 is the entry, 1 the block, 2 and 3 its arms, 4 the body of the `Try`, 5 and 6 its
-// handlers. All but the entry have the type 0.
+// Adds the number, and takes it away.
+fn add_number(seq: &mut InstrSeqBuilder<'_>, number: i32) -> Result<(), BuildError>
+    requires { IsKnown seq.old }
+    ensures same { Stays seq.old seq.new }
+    ensures known { StayKnown (function_of seq.old) (function_of seq.new) }
+{
+    seq.i32_const(number)?;
+    seq.drop()
+}
+
+// Adds a sequence of this number that no instruction names yet.
+fn add_dangling(
+    f: &mut FunctionBuilder,
+    ty: TypeId,
+    number: i32,
+) -> Result<InstrSeqId, BuildError> {
+    let mut seq = f.dangling_instr_seq(InstrSeqType::MultiValue(ty))?;
+    add_number(&mut seq, number)?;
+    Ok(seq.id())
+}
+
+// The builder of a function that takes and leaves nothing, and the type of its inner sequences,
+// which is in the table first.
+fn begin_typed(alloc: Global) -> Result<(FunctionBuilder, TypeId), AllocError> {
+    let mut types = ModuleTypes::new(alloc);
+    let inner = types.add(&[], &[])?;
+    let f = FunctionBuilder::new(alloc, &mut types, &[], &[])?;
+    Ok((f, inner))
+}
+
+// A block with an `if` in it, and a `try` with two handlers, among numbers. The three sequences of
+// the `try` are made before all else.
 pub(super) fn test_function(rt: &impl Abort, alloc: Global) -> LocalFunction {
-    let attempt = with_handlers(alloc).expect(rt, "memory");
-    let entry = vec![in alloc;
-        number(1),
-        dropping(),
-        block(1),
-        number(6),
-        dropping(),
-        attempt,
-        number(10),
-        dropping(),
-    ]
-    .expect(rt, "memory");
-    let mut f = begin(alloc, entry).expect(rt, "memory");
-    let both = Instr::from(IfElse {
-        consequent: id(2),
-        alternative: id(3),
-    });
-    let inside = vec![in alloc; number(2), dropping(), both, number(5), dropping()].expect(
-        rt, "memory",
-    );
-    add_inner(alloc, &mut f, inside).expect(rt, "memory");
-    for n in [3, 4, 7, 8, 9] {
-        let instrs = vec![in alloc; number(n), dropping()].expect(rt, "memory");
-        add_inner(alloc, &mut f, instrs).expect(rt, "memory");
-    }
+    let (mut f, ty) = begin_typed(alloc).expect(rt, "memory");
+    let attempt = attempt(rt, alloc, &mut f, ty);
+    assert!(rt; f.entry().is_some());
+    fill_entry(rt, &mut f.func_body(), ty, attempt);
     f.local_func(Vec::new(alloc))
 }
 
-// Adds a sequence of the type 0 with these instructions.
-fn add_inner(
-    alloc: Global,
-    f: &mut FunctionBuilder,
-    instrs: Vec<Instr>,
-) -> Result<InstrSeqId, BuildError> {
-    add_typed(alloc, f, InstrSeqType::MultiValue(id(0)), instrs)
+// A `try` of new sequences, with a handler of the tag 0 and one of all else.
+fn attempt(rt: &impl Abort, alloc: Global, f: &mut FunctionBuilder, ty: TypeId) -> Try {
+    let seq = add_dangling(f, ty, 7).expect(rt, "memory");
+    let handler = add_dangling(f, ty, 8).expect(rt, "memory");
+    let other = add_dangling(f, ty, 9).expect(rt, "memory");
+    let caught = LegacyCatch::Catch {
+        tag: id(0),
+        handler,
+    };
+    let all = LegacyCatch::CatchAll { handler: other };
+    let catches = vec![in alloc; caught, all].expect(rt, "memory");
+    Try {
+        seq,
+        catches: Listed::from_vec(catches),
+    }
 }
 
-fn with_handlers(alloc: Global) -> Result<Instr, AllocError> {
-    let handlers = vec![in alloc;
-        LegacyCatch::Catch {
-            tag: id(0),
-            handler: id(5),
-        },
-        LegacyCatch::CatchAll { handler: id(6) },
-    ]?;
-    Ok(Instr::from(Try {
-        seq: id(4),
-        catches: Listed::from_vec(handlers),
-    }))
+fn fill_entry(rt: &impl Abort, entry: &mut InstrSeqBuilder<'_>, ty: TypeId, attempt: Try)
+    requires { IsKnown entry.old }
+{
+    add_number(entry, 1).expect(rt, "memory");
+    entry
+        .block(InstrSeqType::MultiValue(ty), |block| fill_block(block, ty))
+        .expect(rt, "memory");
+    add_number(entry, 6).expect(rt, "memory");
+    entry.instr(attempt).expect(rt, "memory");
+    add_number(entry, 10).expect(rt, "memory");
+}
+
+fn fill_block(block: &mut InstrSeqBuilder<'_>, ty: TypeId) -> Result<(), BuildError>
+    requires { IsKnown block.old }
+    ensures { Stays block.old block.new }
+{
+    add_number(block, 2)?;
+    let ty = InstrSeqType::MultiValue(ty);
+    block.if_else(ty, |arm| add_number(arm, 3), |arm| add_number(arm, 4))?;
+    add_number(block, 5)
 }
 
 // Two blocks of the entry name the sequence 1, which holds the constant 5.

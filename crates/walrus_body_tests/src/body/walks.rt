@@ -169,6 +169,14 @@ fn types(calls: &[HookCall]) -> usize {
         .count()
 }
 
+// How many of the calls are for starts.
+fn starts(calls: &[HookCall]) -> usize {
+    calls
+        .iter()
+        .filter(|call| matches!(call, HookCall::Start(_)))
+        .count()
+}
+
 // Every hook call in turn is refused, those for the types of the seven sequences among them: the
 // log is that of the whole walk, cut there, the error is that of the refused call, and the body is
 // changed by the calls before it alone, as another walk sees.
@@ -225,4 +233,5 @@ fn a_body_of_ten_thousand_levels_is_walked(rt: HostRuntime) {
     walk_whole(&rt, alloc, &mut visitor, &mut func);
     // of each sequence a start and an end, and of each block the instruction and its sequence
     assert_equal(&rt, visitor.calls.len(), 40_002);
+    assert_equal(&rt, starts(visitor.calls.as_slice()), 10_001);
 }

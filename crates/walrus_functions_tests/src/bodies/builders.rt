@@ -2,17 +2,37 @@
 use super::*;
 use crate::assertions::assert_equal;
 use walrus_ir::{Block, DropInstr};
+use walrus_types::{CompAt, EntryAt, GroupAt, Listed};
 
+// The section of the function type without parameters and results, standing alone.
+fn one_function(alloc: Global) -> Result<Vec<GroupAt>, AllocError> {
+    let comp = CompAt::Function {
+        params: Listed::from_vec(Vec::new(alloc)),
+        results: Listed::from_vec(Vec::new(alloc)),
+    };
+    Ok(vec![in alloc;
+        GroupAt::Single(EntryAt {
+            comp,
+            is_final: true,
+            supertype: None
+        }),
+    ]?)
+}
+
+// The table has the function type, the type of the body, and no third type.
 #[test]
 fn the_type_of_a_body_is_not_written(rt: HostRuntime) {
-    let mut types = ModuleTypes::new(rt.alloc());
-    let f = FunctionBuilder::new(rt.alloc(), &mut types, &[], &[]).expect(&rt, "memory");
-    let entry_ty = Id::from_index(1);
-    assert!(rt; types.contains(entry_ty));
+    let alloc = rt.alloc();
+    let mut types = ModuleTypes::new(alloc);
+    let f = FunctionBuilder::new(alloc, &mut types, &[], &[]).expect(&rt, "memory");
+    let (ty, entry_ty) = (Id::from_index(0), Id::from_index(1));
+    assert!(rt; types.contains(ty) && types.contains(entry_ty));
+    assert!(rt; types.get(ty).is_function() && !types.get(ty).is_for_function_entry());
     assert!(rt; types.get(entry_ty).is_for_function_entry());
+    assert!(rt; !types.contains(Id::from_index(2)));
     let (groups, _) = types.emit().expect(&rt, "memory");
-    assert_equal(&rt, groups.len(), 1);
-    assert_equal(&rt, f.local_func(Vec::new(rt.alloc())).ty().index(), 0);
+    assert!(rt; groups == one_function(alloc).expect(&rt, "memory"));
+    assert_equal(&rt, f.local_func(Vec::new(alloc)).ty(), ty);
 }
 
 #[test]
