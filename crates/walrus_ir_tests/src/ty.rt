@@ -8,3 +8,4 @@ mod listed;
 mod referenced;
 mod value;
 mod views;
+mod walrus_examples;

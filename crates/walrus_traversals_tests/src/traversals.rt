@@ -1,5 +1,6 @@
 //! Worked bodies.
 mod fields;
+mod functions;
 mod log;
 mod nesting;
 mod used_ids;

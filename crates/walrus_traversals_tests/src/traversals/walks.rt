@@ -1,12 +1,11 @@
 //! Worked walks.
+use super::functions::{test_function, try_table_function};
 use super::log::{Full, HookCall, Log, walk};
 use super::*;
 use crate::assertions::assert_equal;
-use walrus_ir::{
-    BrOnCast, Const, DropInstr, IfElse, LegacyCatch, Select, Try, TryTable, TryTableCatch, Value,
-};
+use walrus_ir::{BrOnCast, Const, Select, Value};
 use walrus_traversals::WalkError;
-use walrus_types::{AbstractHeapType, HeapType, Listed, ModuleTypes, RefType, ValType};
+use walrus_types::{AbstractHeapType, HeapType, ModuleTypes, RefType, ValType};
 
 const ALL: usize = 1_000_000;
 
@@ -70,10 +69,6 @@ fn number(n: i32) -> Instr {
     })
 }
 
-fn dropping() -> Instr {
-    Instr::from(DropInstr {})
-}
-
 // Inner sequences have the type 0, the entry has the type 1.
 const INNER: usize = 0;
 
@@ -81,49 +76,6 @@ const OUTER: usize = 1;
 
 fn typed(ty: usize) -> InstrSeqType {
     InstrSeqType::MultiValue(id(ty))
-}
-
-// Sequence 0 is the entry, 1 the block, 2 and 3 its arms, 4 the body of the `Try`, 5 and 6 its
-// handlers.
-fn test_function(rt: &impl Abort, alloc: Global) -> LocalFunction {
-    let mut f = empty(alloc);
-    let handlers = vec![in alloc;
-        LegacyCatch::Catch {
-            tag: id(0),
-            handler: id(5),
-        },
-        LegacyCatch::CatchAll { handler: id(6) },
-    ]
-    .expect(rt, "memory");
-    let attempt = Instr::from(Try {
-        seq: id(4),
-        catches: Listed::from_vec(handlers),
-    });
-    let entry = vec![in alloc;
-        number(1),
-        dropping(),
-        block(1),
-        number(6),
-        dropping(),
-        attempt,
-        number(10),
-        dropping(),
-    ]
-    .expect(rt, "memory");
-    add(alloc, &mut f, typed(OUTER), entry).expect(rt, "memory");
-    let both = Instr::from(IfElse {
-        consequent: id(2),
-        alternative: id(3),
-    });
-    let inside = vec![in alloc; number(2), dropping(), both, number(5), dropping()].expect(
-        rt, "memory",
-    );
-    add(alloc, &mut f, typed(INNER), inside).expect(rt, "memory");
-    for n in [3, 4, 7, 8, 9] {
-        let instrs = vec![in alloc; number(n), dropping()].expect(rt, "memory");
-        add(alloc, &mut f, typed(INNER), instrs).expect(rt, "memory");
-    }
-    f.local_func(Vec::new(alloc))
 }
 
 const IN_ORDER: &str =
@@ -153,30 +105,7 @@ fn a_refusing_hook_cuts_the_walk(rt: HostRuntime) {
 #[test]
 fn labels_of_a_try_table_are_not_entered(rt: HostRuntime) {
     let alloc = rt.alloc();
-    let mut f = empty(alloc);
-    let caught = TryTableCatch::Catch {
-        tag: id(0),
-        label: id(2),
-    };
-    let all = TryTableCatch::CatchAll { label: id(3) };
-    let clauses = vec![in alloc; caught, all].expect(&rt, "memory");
-    let table = Instr::from(TryTable {
-        seq: id(1),
-        catches: Listed::from_vec(clauses),
-    });
-    let entry = vec![in alloc; number(1), dropping(), table, number(99), dropping()];
-    add_sequence(
-        &rt,
-        alloc,
-        &mut f,
-        typed(OUTER),
-        entry.expect(&rt, "memory"),
-    );
-    let inside = vec![in alloc; number(5), dropping()].expect(&rt, "memory");
-    add_sequence(&rt, alloc, &mut f, typed(INNER), inside);
-    add_sequence(&rt, alloc, &mut f, typed(INNER), Vec::new(alloc));
-    add_sequence(&rt, alloc, &mut f, typed(INNER), Vec::new(alloc));
-    let func = f.local_func(Vec::new(alloc));
+    let func = try_table_function(&rt, alloc);
     let text = "start 1 drop try-table tag start 5 drop end 99 drop end ";
     says(&rt, alloc, &func, text);
 }
