@@ -17,21 +17,22 @@ use crate::error::{DecodeError, Expected, ReadError};
 use std::alloc::Global;
 use walrus_ty::GroupAt;
 
-/// The groups of a type section, of which `bytes` are all that stands after its id and size
-/// (WebAssembly core specification, "Binary Format", "Type Section").
+/// Reads the groups of a type section. `bytes` are the content of the section: everything after its
+/// id and size (WebAssembly core specification, "Binary Format", "Type Section").
 ///
-/// Integers may be longer than they need to be, as far as the specification lets them. What an
-/// index stands for is not looked at. A count takes memory for a thousand items at most before they
-/// are read, and for none where fewer bytes follow it than it counts.
+/// Integers may be padded as far as the specification allows. It is not checked whether an index is
+/// in range. A count takes memory for at most a thousand items before they are read, and for none
+/// where fewer bytes follow it than it counts.
 ///
 /// # Errors
+///
+/// Places are counted in bytes from 0. After an error there are no groups.
 ///
 /// [`DecodeError::Malformed`] and [`DecodeError::NotHeld`] say at which byte the bytes stop being a
 /// text of groups: some text begins with the bytes before it, and none with it too. For several
 /// supertypes the byte is the first of their count: no text goes on with that count, but one may
 /// with its first byte. A count of them that does not end is reported where it stops being an
-/// integer.
-/// [`DecodeError::Memory`] comes where memory was refused.
+/// integer. [`DecodeError::Memory`] comes where memory was refused.
 ///
 /// # A section of one function type
 ///
@@ -40,11 +41,11 @@ use walrus_ty::GroupAt;
 /// assert_eq!(rt; groups.len(), 1);
 /// ```
 pub fn decode_types(alloc: Global, bytes: &[u8]) -> Result<Vec<GroupAt>, DecodeError>
-    // What is answered has these bytes as a text.
+    // The groups that are returned have these bytes as a text.
     ensures found { IfOk result (λ groups. IsTypes bytes.now groups.items) }
     // Bytes that are refused are a text of no groups, unless memory was refused.
     ensures refused { IfErr result (λ e. IfSome (error_offset e) (λ offset. IsNoText bytes.now)) }
-    // The place lies in the bytes or at their end,
+    // The place is in the bytes or at their end,
     ensures place { IfErr result (λ e. IfSome (error_offset e) (λ offset.
         offset ≤ length bytes.now)) }
     // and with the byte there no text goes on.

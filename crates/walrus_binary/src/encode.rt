@@ -14,14 +14,14 @@ use crate::error::EncodeError;
 use std::alloc::Global;
 use walrus_ty::GroupAt;
 
-/// The shortest text of these groups: what a type section of them has after its id and size
-/// (WebAssembly core specification, "Binary Format", "Type Section").
+/// Returns the shortest text of these groups: the content of a type section, without its id and
+/// size (WebAssembly core specification, "Binary Format", "Type Section").
 ///
 /// # Errors
 ///
 /// [`EncodeError::TooMany`] comes where a list of parameters, results, fields, definitions or
-/// groups has 2^32 items or more, so that no text counts them; [`EncodeError::Memory`] where memory
-/// was refused.
+/// groups has 2^32 items or more, so that no text counts them. [`EncodeError::Memory`] comes where
+/// memory was refused. After an error there are no bytes.
 ///
 /// # A padded count gets shorter
 ///

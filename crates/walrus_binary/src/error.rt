@@ -9,10 +9,10 @@ ghost use Rattle.walrus_binary.specs.declared.error.ReplaceError.TheVariants as 
 use std::alloc::{AllocError, AllocFailed};
 use thiserror::Error;
 
-/// What has to stand at a place of a module or of its type section.
+/// What has to be at a place of a module or of its type section.
 ///
-/// A byte that begins none of several parts is told by the last of them that was tried: as no
-/// `ValType` where a storage type may stand, and as no `CompType` where a definition may. So
+/// A byte that begins none of several parts is reported as the last of them that was tried:
+/// `ValType` where a storage type may be, and `CompType` where a definition may be. So
 /// `StorageType` and `RecType` come at the end of the bytes alone.
 #[derive(Clone, Copy, PartialEq, Eq, Debug, Error)]
 pub enum Expected {
@@ -81,16 +81,17 @@ pub enum DecodeError {
     /// bytes end.
     #[error("byte {offset}: expected {expected}")]
     Malformed {
-        /// The byte's place, counted from 0; the number of bytes where there are too few.
+        /// The byte's place, counted from 0. Where there are too few bytes, it is their number.
         offset: usize,
-        /// What had to stand there.
+        /// What had to be there.
         expected: Expected,
     },
     /// What begins at this place is of the binary format or of a proposal to it, but no record
     /// holds it.
     #[error("byte {offset}: no record for {what}")]
     NotHeld {
-        /// The place of its first byte, counted from 0; for several supertypes that of their count.
+        /// The place of its first byte, counted from 0. For several supertypes it is the first byte
+        /// of their count.
         offset: usize,
         /// What it is.
         what: NotHeld,
@@ -181,14 +182,14 @@ impl ReadError {
         ReadError::Reason(Reason::Expected(expected))
     }
 
-    /// What stands where the input is left, and no record can hold.
+    /// What is where the input is left, and no record can hold.
     pub fn not_held(what: NotHeld) -> ReadError
         ensures { result ≡ errors.Reason (reason.NotHeld what) }
     {
         ReadError::Reason(Reason::NotHeld(what))
     }
 
-    /// What a caller of the crate is told, where so many bytes are left of `len`.
+    /// The error for callers of the crate, where `left` of `len` bytes are left.
     pub fn refusal(self, len: usize, left: usize) -> DecodeError
         requires { IsWithin len left self }
         ensures { result ≡ error_refusal len left self }

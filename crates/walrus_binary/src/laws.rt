@@ -6,7 +6,7 @@ ghost use Rattle.walrus_binary.specs.Grammar.{IsTypes};
 ghost use Rattle.walrus_binary.specs.Modules.{Section, section, IsModule, IsTypeSectionAt};
 ghost use Rattle.walrus_ty.specs.declared.records.GroupAt.{GroupAt};
 
-/// Bytes are a text of one list of groups at most.
+/// Bytes are a text of at most one list of groups.
 pub fn one_section()
     ensures { (bytes : List ℕ) (a b : List GroupAt) → IsTypes bytes a → IsTypes bytes b → a ≡ b }
 {}
@@ -17,12 +17,12 @@ pub fn no_longer_text()
         IsTypes (bytes ++ more) b → more ≡ [] }
 {}
 
-/// Bytes have one first bad byte at most: where two are named, they are the same.
+/// Bytes have at most one first bad byte: where two are named, they are the same.
 pub fn one_first_bad_byte()
     ensures { (bytes : List ℕ) (a b : ℕ) → IsFirstBad bytes a → IsFirstBad bytes b → a ≡ b }
 {}
 
-/// Bytes are a module of one list of sections at most.
+/// Bytes are a module of at most one list of sections.
 pub fn one_module()
     ensures { (bytes : List ℕ) (a b : List Section) → IsModule bytes a → IsModule bytes b → a ≡ b }
 {}

@@ -38,8 +38,8 @@ pub fn read_size(bytes: &[u8]) -> Result<(u32, &[u8]), Fault>
     }
 }
 
-/// Takes a number whose last byte is below `end`. Most have one byte: it is told here, and where it
-/// is called.
+/// Takes a number whose last byte is below `end`. Most have one byte, and are read here, inlined
+/// into the caller.
 #[inline(always)]
 #[tactic(auto, unfolding(crate::specs::Steps::Reading::integer_at))]
 fn read_number(end: u8, input: &mut &[u8]) -> Result<u32, ReadError>

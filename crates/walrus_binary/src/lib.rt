@@ -2,14 +2,14 @@
 //! [`walrus_ty`](walrus_ty::GroupAt).
 //!
 //! - [`type_section`] finds the type section of a module, and [`replace_type_section`] gives it
-//!   another content.
-//! - [`decode_types`] reads the groups of a section, and says where bytes are no text of groups;
-//!   [`module_types`] reads those of a module. A [`TypeSectionReader`] reads a section group by
-//!   group, in the memory of one.
+//!   another content. The rest of the module still names the old indices then.
+//! - [`decode_types`] reads the groups of a section, and says where bytes are no text of groups.
+//!   [`module_types`] reads the groups of a module. A [`TypeSectionReader`] reads a section group
+//!   by group, in the memory of one.
 //! - [`encode_types`] writes the shortest text of groups.
-//! - [`laws`] has the theorems: bytes are a text of one list of groups at most, no text is the
-//!   beginning of a longer one, bytes have one first bad byte at most, and they are a module of one
-//!   list of sections at most.
+//! - [`laws`] has the theorems: bytes are a text of at most one list of groups, no text is the
+//!   beginning of a longer one, bytes have at most one first bad byte, and they are a module of at
+//!   most one list of sections.
 //!
 //! Whether the bytes are read as groups that have this text for their shortest:
 //!

@@ -1,4 +1,5 @@
-//! Where the type section of a module stands.
+//! Where the type section of a module is.
+//!
 //! WebAssembly core specification, "Binary Format", modules.
 ghost use Rattle.std.specs.Prelude.{◌≡◌, ◌+◌, ◌-◌, ◌<◌, ◌≤◌, length, take, IfOk, IfErr, IfSome, IfNone, IsSome};
 ghost use Rattle.walrus_binary.specs.Faults.{GoesOn, error_offset};
@@ -16,13 +17,13 @@ pub use replace::replace_type_section;
 use std::ops::Range;
 pub use types::module_types;
 
-/// Which bytes of a module, counted from 0, its type section has after its id and size, and `None`
-/// where the module has no type section (WebAssembly core specification, "Binary Format",
-/// "Modules").
+/// Returns which bytes of a module, counted from 0, are the content of its type section: everything
+/// after its id and size. `None` says that the module has no type section (WebAssembly core
+/// specification, "Binary Format", "Modules").
 ///
-/// Header, ids, sizes and the order of the sections are those of a module; what the sections
-/// contain, and whether a custom section begins with a name, is not judged. No memory is taken, and
-/// each byte is read once at most.
+/// The header, ids, sizes and the order of the sections are checked. What the sections contain, and
+/// whether a custom section begins with a name, is not. No memory is taken, and each byte is read
+/// at most once.
 ///
 /// # Errors
 ///
@@ -37,10 +38,10 @@ pub use types::module_types;
 /// assert_eq!(rt; type_section(&bytes)?, Some(10..14));
 /// ```
 pub fn type_section(bytes: &[u8]) -> Result<Option<Range<usize>>, DecodeError>
-    // The bytes are a module, and there stands the content of its type section,
+    // The bytes are a module, and there is the content of its type section,
     ensures found { IfOk result (λ found. IfSome found (λ r.
         IsTypeSectionAt bytes.now r.start r.end)) }
-    // which lies in them.
+    // which is within them.
     ensures within { IfOk result (λ found. IfSome found (λ r.
         (r.start ≤ r.end) × (r.end ≤ length bytes.now))) }
     // Or they are a module without type section.
@@ -49,7 +50,7 @@ pub fn type_section(bytes: &[u8]) -> Result<Option<Range<usize>>, DecodeError>
     ensures refused { IfErr result (λ e. IsNoModule bytes.now) }
     // Each error has a place: memory is never refused.
     ensures placed { IfErr result (λ e. IsSome (error_offset e)) }
-    // The place lies in the bytes or at their end,
+    // The place is in the bytes or at their end,
     ensures place { IfErr result (λ e. IfSome (error_offset e) (λ offset.
         offset ≤ length bytes.now)) }
     // and with the byte there no module goes on.

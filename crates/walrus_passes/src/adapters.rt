@@ -12,18 +12,18 @@ use walrus_functions::{BuildError, FunctionBuilder, InstrSeqBuilder, LocalFuncti
 use walrus_ir::{InstrSeqType, LocalId, ModuleLocals};
 use walrus_types::{FunctionId, ModuleTypes, TypeId};
 
-/// A function of the type `ty` that calls `func`, such as an import of that type, with its own
-/// parameters, and returns what that returns. `ty` has to be a live function type; whether there is
-/// such a `func`, and of which type it is, is not looked at.
+/// Returns a new function of the type `ty` that calls `func`, such as an import of that type, with
+/// its own parameters, and returns its results. `ty` has to be a live function type. It is not
+/// checked whether there is such a `func`, and of which type it is.
 ///
 /// Its parameters are new locals, one for each parameter of the type. Its body reads them in order,
-/// and calls `func`; by its end all that `func` left is returned. It has the very type `ty`, and
-/// its entry has the type that `ModuleTypes::add_entry_ty` answers for the results.
+/// and calls `func`. It returns at its end all that `func` left. It has the very type `ty`, and its
+/// entry has the type that `ModuleTypes::add_entry_ty` returns for the results.
 ///
 /// # Errors
 ///
-/// Where memory is refused. Then the table may have the entry type, and there may be all of the new
-/// locals or none; what was there is as it was.
+/// `AllocError` comes where memory was refused. Then the table may have the entry type, and there
+/// may be all of the new locals or none. What was there before is as it was.
 ///
 /// # A wrapper of an import
 ///

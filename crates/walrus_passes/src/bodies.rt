@@ -8,15 +8,16 @@ use walrus_functions::{FunctionBuilder, LocalFunction, LocalFunctions};
 use walrus_ir::InstrSeqType;
 use walrus_types::FunctionId;
 
-/// Makes the body of a function a single `unreachable`. `id` has to be one of `funcs`.
+/// Makes the body of a function a single `unreachable` (WebAssembly core specification, "Control
+/// Instructions"). `id` has to be one of `funcs`.
 ///
 /// The function keeps its type, its parameters and its name, and its entry keeps the type that it
-/// had; where there was no entry, the new one takes and leaves nothing. All other functions are as
+/// had. Where there was no entry, the new one takes and leaves nothing. All other functions are as
 /// they were.
 ///
 /// # Errors
 ///
-/// Where memory is refused. Then no function has changed.
+/// `AllocError` comes where memory was refused. Then no function has changed.
 ///
 /// # A function that must not be run
 ///
@@ -35,11 +36,11 @@ pub fn snip(alloc: Global, funcs: &mut LocalFunctions, id: FunctionId) -> Result
     replace_with(alloc, funcs, id, body)
 }
 
-/// Gives a function the body that is built. `id` has to be one of `funcs`.
+/// Replaces the body of a function by the one in the builder. `id` has to be one of `funcs`.
 ///
-/// The function keeps its parameters, and its name if it has one; else it gets that of the builder.
-/// Its sequences, its entry and its type are those of the builder: where the type is to stay, begin
-/// the builder with [`LocalFunction::ty`]. Whether the parameters fit the type is not looked at.
+/// The function keeps its parameters, and its name if it has one. Otherwise it gets the name of the
+/// builder. Its sequences, its entry and its type come from the builder: to keep the type, begin
+/// the builder with [`LocalFunction::ty`]. It is not checked whether the parameters fit the type.
 /// All other functions are as they were.
 ///
 /// # Errors

@@ -1,22 +1,24 @@
-//! Maps from the indices of a section to those of another one.
+//! Maps from the indices of a section to the indices of another one.
 ghost use Rattle.std.specs.Prelude.{◌≡◌, IfOk, map};
 ghost use Rattle.walrus_ty.specs.Indices.{type_index};
 
 use std::alloc::{AllocError, Global};
 use walrus_types::{IdsToIndices, TypeId};
 
-/// The new index of each type index of a section that was read, after its types were written again;
-/// `None` where the type was not written.
+/// Returns the new index of each type index of a section that was read, after its types were
+/// written again. `None` says that the type was not written.
 ///
-/// `ids` are the types that the old indices stand for, as
-/// [`parse_types`](walrus_types::parse_types) answers them, and `indices` is the map that
-/// [`ModuleTypes::emit`](walrus_types::ModuleTypes::emit) answers. What names a type by its old
-/// index, such as a body in a module's bytes, has to name it by the new one.
+/// `ids` are the types of the old indices, as [`parse_types`](walrus_types::parse_types) returns
+/// them. `indices` is the map that [`ModuleTypes::emit`](walrus_types::ModuleTypes::emit) returns.
 /// [`new_indices_compose`](crate::laws::new_indices_compose) says that this is both maps in turn.
+///
+/// **The map is not applied to anything.** The rest of the module still names the old indices:
+/// imports, functions, code and other sections. The module is wrong until they are all renumbered,
+/// and a name of a type that was not written has to be refused.
 ///
 /// # Errors
 ///
-/// Where memory is refused.
+/// `AllocError` comes where memory was refused. Nothing has changed then.
 ///
 /// # From one section to its normal form
 ///

@@ -11,9 +11,9 @@ ghost use Rattle.walrus_passes.specs.IndexMaps.{new_index, index_through};
 ghost use Rattle.walrus_passes.specs.NeededTypes.{IsNeeded, Keeps};
 ghost use Rattle.walrus_passes.specs.UsedTypes.{UsesType};
 
-/// What a function uses stays where it stands among the roots: a table that keeps the types which
-/// the roots need, as [`delete_unused_types`](crate::delete_unused_types) leaves it, has each type
-/// that the function uses as it was.
+/// What a function uses stays where it is among the roots. A table that keeps the types which the
+/// roots need, as [`delete_unused_types`](crate::delete_unused_types) leaves it, has each type that
+/// the function uses as it was.
 pub fn used_types_are_kept()
     ensures { (old new : Table) (roots : List ℕ) → Keeps (IsNeeded old roots) old new →
         (locals : List LocalVariable) (f : FunctionWithArgs) →
@@ -22,7 +22,7 @@ pub fn used_types_are_kept()
         live_type new.types.slots id ≡ live_type old.types.slots id }
 {}
 
-/// What a constant expression names stays where it stands among the roots, as
+/// What a constant expression names stays where it is among the roots, as
 /// [`referenced_types`](walrus_ir::ConstExpr::referenced_types) puts it there.
 pub fn referenced_types_are_kept()
     ensures { (old new : Table) (roots : List ℕ) → Keeps (IsNeeded old roots) old new →
@@ -32,8 +32,8 @@ pub fn referenced_types_are_kept()
         live_type new.types.slots id ≡ live_type old.types.slots id }
 {}
 
-/// The new index of an old one is what both maps give in turn: from the old index to the type that
-/// it stands for, and from that to its index. So it has one exactly where both have something.
+/// The new index of an old one is what both maps give in turn: from the old index to its type, and
+/// from that to its index. So it has one exactly where both have something.
 pub fn new_indices_compose()
     ensures { (ids : List ℕ) (index : ℕ → Option ℕ) (old : ℕ) →
         new_index (map index ids) old ≡ index_through ids index old }

@@ -5,11 +5,11 @@
 //! - [`snip`] makes the body of a function a single `unreachable`, and [`replace_with`] gives it
 //!   another one.
 //! - [`adapter`] makes a function that calls another one of its type.
-//! - [`new_indices`] maps the type indices of a section to those that it gets once it is written
-//!   again.
+//! - [`new_indices`] maps the type indices of a section to its indices once it is written again.
+//!   The rest of the module still names the old ones.
 //! - [`laws`] has the theorems, such as that no type dies which a function uses.
 //!
-//! Of two types one is used, and the section written has that one alone:
+//! One of two types is used, and the written section has that one alone:
 //!
 //! ```
 //! let mut types = ModuleTypes::new(rt.alloc());

@@ -12,24 +12,25 @@ use walrus_ir::{Instr, InstrSeq, InstrSeqId, LocalId, ModuleLocals};
 use walrus_nesting::{Nesting, check_nesting};
 use walrus_types::{TypeId, ValType};
 
-/// The types that a function uses, or `None` where its body is not nested from its entry: the roots
-/// that it brings to [`delete_unused_types`](crate::delete_unused_types).
+/// Returns the types that a function uses, or `None` where its body is not nested from its entry.
+/// These are the roots that it brings to [`delete_unused_types`](crate::delete_unused_types):
 ///
-/// They are its own type, the types of its parameters, and in the sequences that are reached from
-/// its entry the types of blocks and those of instructions: the ones that stand behind them, also
-/// behind `ref.null` and `select`, and those of the locals that they read and write. A type stands
-/// in the list as often as it is used. A local that `locals` does not know has no type.
+/// - its own type, and the types of its parameters;
+/// - in the sequences that are reached from its entry, the types of blocks and the types that
+///   instructions name, including `ref.null` and `select`;
+/// - the types of the locals that these instructions read and write. A local that `locals` does not
+///   know has no type.
 ///
-/// The types of the functions, tables, globals and tags that it names are not in the list: each of
-/// these brings roots of its own. Nor is it looked at whether the types are live, which
-/// `delete_unused_types` asks of its roots.
+/// A type is listed as often as it is used. The types of the functions, tables, globals and tags
+/// that it names are not in the list: each of these brings roots of its own. It is not checked
+/// whether the types are live, which `delete_unused_types` requires of its roots.
 ///
-/// It takes time linear in the size of the function, also where a sequence stands in several.
+/// It takes time linear in the size of the function, also where a sequence is in several others.
 /// Constant expressions have [`referenced_types`](walrus_ir::ConstExpr::referenced_types).
 ///
 /// # Errors
 ///
-/// Where memory is refused.
+/// `AllocError` comes where memory was refused. Nothing has changed then.
 ///
 /// # Deleting what neither a function nor the first value of a global uses
 ///

@@ -11,25 +11,26 @@ use marking::Marking;
 use std::alloc::{AllocError, Global};
 use walrus_types::{ModuleTypes, TypeId};
 
-/// Deletes the types that no root needs, and answers their ids in order. Each root has to be the id
-/// of a live type, and may stand among the roots more than once.
+/// Deletes the types that no root needs, and returns their ids in order. Each root has to be the id
+/// of a live type. It may be listed more than once.
 ///
-/// A type is needed if it is a root, if a needed type names it, be it as supertype, or if it stands
-/// in one recursion group with a needed type: so a group is kept whole or dies whole. A type that
-/// stands for the entry of a function is a type as all others: it stays where it is a root, or
+/// A type is needed in three cases: it is a root; a needed type names it, also as supertype; or it
+/// is in one recursion group with a needed type. So a group is kept whole or deleted whole. A type
+/// that marks the entry of a function is a type like all others: it stays where it is a root, or
 /// where a needed type names it. A name of an id that isn't live needs nothing.
 ///
 /// What stays keeps its id, its contents and its group, and is found as before. Groups that lost
-/// their types stay in the list of groups, without types. A table that [`ModuleTypes::emit`] writes
-/// without a name that misses its index stays one, and what it is then written as can be read again
+/// their types stay in the list of groups, without types. If no name misses its index when
+/// [`ModuleTypes::emit`] writes the table before, none does after. What it is then written as can
+/// be read again
 /// ([`emitted_section_can_be_read`](walrus_types::laws::emitted_section_can_be_read)).
 ///
-/// It takes time linear in the size of the table and the number of roots, however many groups die
-/// and however large they are.
+/// It takes time linear in the size of the table and the number of roots, however many groups are
+/// deleted and however large they are.
 ///
 /// # Errors
 ///
-/// Where memory is refused. Then nothing was deleted.
+/// `AllocError` comes where memory was refused. Then nothing was deleted.
 ///
 /// # A struct that nothing names
 ///

@@ -8,10 +8,11 @@ use thiserror::Error;
 /// Why a text was not read as the groups of a section.
 #[derive(Clone, Copy, PartialEq, Eq, Debug, Error)]
 pub enum TextError {
-    /// A line is no part of a section where it stands.
+    /// A line is not part of a section at its place.
     #[error("line {line}: bad text")]
     BadText {
-        /// The first such line, counted from 1; one past the last where a `rec` has no `end`.
+        /// The first such line, counted from 1. It is one past the last line where a `rec` has no
+        /// `end`.
         line: u64,
     },
     /// Memory was refused.

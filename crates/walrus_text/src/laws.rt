@@ -21,7 +21,7 @@ pub fn same_lines()
         section_lines a ≡ section_lines b → a ≡ b }
 {}
 
-/// A text is the text of one section at most.
+/// A text is the text of at most one section.
 pub fn one_section()
     ensures { (text : List ℕ) (a b : List GroupAt) → IsTextOf text a → IsTextOf text b → a ≡ b }
 {}

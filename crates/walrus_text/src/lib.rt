@@ -2,12 +2,12 @@
 //! [`walrus_ty`](walrus_ty::GroupAt) and written from them.
 //!
 //! - [`read_section`] reads the groups of a text, and says which line is no part of a section.
-//! - [`write_section`] writes groups, and [`write_output`] also where each entry of another
-//!   section went.
+//! - [`write_section`] writes groups, and [`write_output`] also the new index of each entry of
+//!   another section.
 //! - [`laws`] has the theorems that nothing but words and lines counts in a text, that a text has
-//!   one section at most, and that what is written is read back.
+//!   at most one section, and that what is written is read back.
 //!
-//! The WebAssembly specification has no text for a type section alone; this one takes the names of
+//! The WebAssembly specification has no text for a type section alone. This one takes the names of
 //! its types from there. Spaces divide words, and no other byte does: a tab or a carriage return is
 //! a part of its word. A line ends with a line feed, which the last one may lack, and a line
 //! without words does not count. In this grammar `LF` is the end of a line:

@@ -14,20 +14,22 @@ use std::alloc::{AllocError, Global};
 use std::io::Read;
 use walrus_ty::GroupAt;
 
-/// How many reads may pass without the end.
+/// The greatest number of reads without the end.
 const READ_LIMIT: u64 = 1 << 48;
 
 /// How many bytes one read asks for.
 const BLOCK: usize = 8192;
 
-/// The groups of the text that a reader gives up to its end, in the grammar of
-/// [this crate](crate). The reader needs no buffer: each read asks for 8192 bytes.
+/// Returns the groups of the text that a reader gives up to its end, in the grammar of [this
+/// crate](crate). The reader needs no buffer: each read asks for 8192 bytes. Indices are below
+/// 2^32; what they name is not checked.
 ///
 /// # Errors
 ///
-/// [`TextError::BadText`] has the first bad line; the text is read to its end even behind it.
-/// [`TextError::Stream`] comes where a read fails, or where 2^48 reads did not come to the end,
-/// [`TextError::Memory`] where memory was refused. After these two some of the text may be unread.
+/// [`TextError::BadText`] has the first bad line, counted from 1. The text is read to its end even
+/// after it. [`TextError::Stream`] comes where a read fails, or where 2^48 reads did not come to
+/// the end, and [`TextError::Memory`] where memory was refused. After these two some of the text
+/// may be unread. After an error there are no groups.
 ///
 /// # A group of two types
 ///
@@ -37,10 +39,10 @@ const BLOCK: usize = 8192;
 /// assert_eq!(rt; groups.len(), 1);
 /// ```
 pub fn read_section<R: Read>(alloc: Global, reader: &mut R) -> Result<Vec<GroupAt>, TextError>
-    // What is answered has this text,
+    // The groups that are returned have this text,
     ensures read { IfOk result (λ groups.
         IfSome (R.remaining reader.old) (λ text. lines_of text ≡ section_lines groups.items)) }
-    // and its indices lie below 2^32.
+    // and their indices are below 2^32.
     ensures fits { IfOk result (λ groups. HasSectionIndices groups.items) }
     // A text with a bad line is that of no section.
     ensures refused { IfErr result (λ e. IfSome (R.remaining reader.old) (λ text.

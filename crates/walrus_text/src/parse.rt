@@ -1,4 +1,4 @@
-//! The text of a section's parts. Each call answers `None` exactly where its bytes are the text of
+//! The text of a section's parts. Each call returns `None` exactly where its bytes are the text of
 //! no such part.
 mod entry;
 mod line;

@@ -9,12 +9,13 @@ use std::io;
 use std::io::Write;
 use walrus_ty::{AbstractHeapType, CompAt, EntryAt, FieldAt, GroupAt, HeapAt, StorageAt, ValAt};
 
-/// Writes the lines of the groups, each with a line feed: nothing where there are no groups. Words
-/// are written piece by piece, so an unbuffered writer is slow; the writer is not flushed.
+/// Writes the lines of the groups in the grammar of [this crate](crate), each with a line feed.
+/// Where there are no groups it writes nothing. Words are written piece by piece, so an unbuffered
+/// writer is slow. The writer is not flushed.
 ///
 /// # Errors
 ///
-/// Where a write fails. Then a part of the text may have been written.
+/// An error comes where a write fails. Then a part of the text may have been written.
 ///
 /// # The text of a section
 ///
@@ -31,13 +32,13 @@ pub fn write_section<W: Write>(out: &mut W, groups: &[GroupAt]) -> io::Result<()
     Ok(())
 }
 
-/// Writes the lines of the groups, as [`write_section`] does, and then the line `map` with an index
-/// for each entry of another section: the one that it has in these groups.
-/// [`read_section`](crate::read_section) takes no such line.
+/// Writes the lines of the groups, as [`write_section`] does, and then the line `map`. It has an
+/// index for each entry of another section: the new index of that entry in these groups.
+/// [`read_section`](crate::read_section) accepts no such line.
 ///
 /// # Errors
 ///
-/// Where a write fails. Then a part of the text may have been written.
+/// An error comes where a write fails. Then a part of the text may have been written.
 ///
 /// # Two entries that changed places
 ///

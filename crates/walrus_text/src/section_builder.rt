@@ -31,8 +31,7 @@ impl SectionBuilder {
         }
     }
 
-    /// Takes one more line. `false` says that it may not stand here: no text of a section begins
-    /// so.
+    /// Takes one more line. `false` says that it may not be here: no text of a section begins so.
     pub fn add(&mut self, line: Line) -> Result<bool, AllocError>
         ensures taken { IfOk result (λ taken. IsTrue taken →
             builder_lines self.new ≡ builder_lines self.old ++ line_words_if_any line) }

@@ -1,10 +1,10 @@
-//! A line as words: what stands between spaces. No other byte divides words.
+//! A line as words, which spaces divide. No other byte divides words.
 ghost use Rattle.std.specs.Prelude.{◌≡◌, ◌==◌, ◌∷◌, [], ◌<◌, ◌≤◌, length, not, IfSome, IfNone};
 ghost use Rattle.std.specs.List.{position, position_or_len};
 ghost use Rattle.walrus_text.specs.Words.{has_items, words_of};
 ghost use Rattle.walrus_text.specs.Steps.Words.{word_count_before};
 
-/// The first word of a line, and what stands after it; `None` where the line has no word.
+/// The first word of a line, and the rest of the line. `None` says that the line has no word.
 #[tactic(auto, using(crate::proofs::Lexing::FirstWord::words_from_word, crate::proofs::Lexing::FirstWord::no_words))]
 pub fn next_word(line: &[u8]) -> Option<(&[u8], &[u8])>
     ensures found { IfSome result (λ found. words_of line.now ≡ found.0.now ∷
@@ -20,7 +20,7 @@ pub fn next_word(line: &[u8]) -> Option<(&[u8], &[u8])>
     Some((word, rest))
 }
 
-/// How many words the line has.
+/// The number of words in the line.
 pub fn word_count(line: &[u8]) -> usize
     ensures { result ≡ length (words_of line.now) }
 {
@@ -33,7 +33,8 @@ pub fn word_count(line: &[u8]) -> usize
     count
 }
 
-/// How many words stand before the first that is `end`; all of them where none is.
+/// The number of words before the first that is `end`. Where none is, it is the number of all
+/// words.
 pub fn word_count_before(line: &[u8], end: &[u8]) -> usize
     ensures { result ≡ word_count_before end.now (words_of line.now) }
 {
@@ -56,7 +57,7 @@ pub fn is_blank(line: &[u8]) -> bool
     next_word(line).is_none()
 }
 
-/// How many spaces the line begins with.
+/// The number of spaces that the line begins with.
 #[tactic(auto, using(crate::proofs::Lexing::FirstWord::place_or_end))]
 fn spaces_len(line: &[u8]) -> usize
     ensures within { result ≤ length line.now }
@@ -71,7 +72,7 @@ fn word_start(line: &[u8]) -> Option<usize>
     line.iter().position(|byte| *byte != b' ')
 }
 
-/// How many bytes stand before the first space; all where there is none.
+/// The number of bytes before the first space, or of all bytes where there is none.
 #[tactic(auto, using(crate::proofs::Lexing::FirstWord::place_or_end))]
 fn word_len(line: &[u8]) -> usize
     ensures within { result ≤ length line.now }

@@ -8,9 +8,9 @@ ghost use Rattle.walrus_types.specs.Differences.{DifferFirstAt};
 use crate::GroupAt;
 use walrus_ty::laws::equal_records_are_the_same;
 
-/// The first place, counted in groups from 0, where two sections differ: another group is there, or
-/// one of the two ends there. `None` says that they are equal, record for record; whether they are
-/// the same up to moves is told by their normal forms.
+/// Returns the first place, counted in groups from 0, where two sections differ: another group is
+/// there, or one of the two ends there. `None` says that they are equal, record for record. Whether
+/// two sections are the same up to moves shows in their normal forms.
 ///
 /// [`entries_before`] leads from the place to the index of a type. walrus has no such call.
 ///
@@ -46,8 +46,8 @@ fn same_group(a: &GroupAt, b: &GroupAt) -> bool
     a == b
 }
 
-/// How many entries stand in the groups before this place: the index of the first entry of the
-/// group there.
+/// Returns the number of entries in the groups before this place: the index of the first entry of
+/// the group there.
 ///
 /// # All entries of a section
 ///

@@ -23,18 +23,34 @@ use write::write_groups;
 const TOO_MANY: usize = 1 << 32;
 
 impl ModuleTypes {
-    /// The type section of the table, and the index that each type has in it.
+    /// Writes the table as a type section. Returns its groups, and the index that each type has in
+    /// it.
     ///
-    /// Empty groups are left out, and groups whose types all stand for entries of functions. A
-    /// group that isn't explicit and whose type names no other live type is free: neighbouring free
-    /// groups are sorted by their types, and groups with equal types keep their order. All other
-    /// groups stay where they are. The section can be read again
+    /// Empty groups are left out, and groups whose types all mark function entries. A group that
+    /// isn't explicit and whose type names no other live type is free: neighbouring free groups are
+    /// sorted by their types, and groups with equal types keep their order. All other groups stay
+    /// where they are. The section can be read again
     /// ([`emitted_section_can_be_read`](crate::laws::emitted_section_can_be_read)).
     ///
-    /// `TooMany` is answered where 2^32 types or more would be written, before anything else is
-    /// looked at. `NoIndex` has the first type in the order of the section that names one which has
-    /// no index by the end of its own group, and its first such name. `Memory` comes where there
-    /// was no room. The table is never changed.
+    /// Only the groups have the new indices. **Bytes of a module that name types still have the old
+    /// ones**, and have to be written anew with the map.
+    ///
+    /// # Errors
+    ///
+    /// `TooMany` comes where 2^32 types or more would be written, before anything else is looked
+    /// at. `NoIndex` has the first type in the order of the section that names one without an index
+    /// by the end of its own group, and its first such name. `Memory` comes where memory was
+    /// refused. The table is never changed.
+    ///
+    /// # A table of one type
+    ///
+    /// ```
+    /// let mut types = ModuleTypes::new(alloc);
+    /// let id = types.add(&[ValType::I32], &[])?;
+    /// let (groups, indices) = types.emit()?;
+    /// assert_eq!(rt; groups.len(), 1);
+    /// assert_eq!(rt; indices.get_type_index(id)?, 0);
+    /// ```
     pub fn emit(&self) -> Result<(Vec<GroupAt>, IdsToIndices), EmitError>
         ensures written { IfOk result (λ r. IsEmitted self.now r.0.items (type_indices r.1)) }
         ensures others { IfOk result
@@ -57,7 +73,7 @@ fn has_too_many(table: &ModuleTypes) -> bool
     table.next_id().index() >= TOO_MANY && counts_too_many(table, groups)
 }
 
-// Whether 2^32 types or more stand in those of these groups that are written.
+// Whether the groups that are written have 2^32 types or more.
 fn counts_too_many(table: &ModuleTypes, groups: &[RecGroup]) -> bool
     requires { All (λ (g : RecGroup). All (IsLive table.now.types.slots) g.types) groups.now }
     ensures { IsTrue result ↔

@@ -1,5 +1,5 @@
-//! Laws of type sections and of tables. Each function does nothing, or answers what its clause
-//! speaks of; its clauses are theorems, which a caller gets by calling it.
+//! Laws of type sections and of tables. Each function does nothing, or returns what its clause
+//! speaks of. Its clauses are theorems, which a caller gets by calling it.
 //!
 //! A section is the list of the contents of its recursion groups, as `section_of` gives them for a
 //! list of `GroupAt`.
@@ -49,11 +49,11 @@ pub fn read_table_can_be_written()
 /// A table that is emitted is written as a section that can be read: no name points past its own
 /// group, and 32 bits count the entries.
 ///
-/// That a group which isn't explicit has one type at most is so for each table that calls make
-/// ([`every_table_is_sound`]). It has to be said here: two types of such a group would be written
-/// apart, and the first must not name the second. That fewer than 2^32 types are written is so
-/// wherever [`emit`](crate::ModuleTypes::emit) answers `Ok`, for else it answers `TooMany`. That
-/// each name has an index when it is written is part of `IsEmitted`.
+/// Each group that isn't explicit has at most one type. That holds of each table that calls make
+/// ([`every_table_is_sound`]), and is a premise here: two types of such a group would be written
+/// apart, and the first must not name the second. Fewer than 2^32 types are written. That holds
+/// wherever [`emit`](crate::ModuleTypes::emit) returns `Ok`, since it returns `TooMany` otherwise.
+/// That each name has an index when it is written is part of `IsEmitted`.
 pub fn emitted_section_can_be_read()
     ensures { (t : Table) (out : List GroupAt) (x : IndexMap) → IsEmitted t out x →
         ((k : ℕ) → (rec_group_at t.groups k).is_explicit ≡ false →

@@ -6,12 +6,12 @@
 //!   [`IndicesToIds`] and [`IdsToIndices`] lead from one to the other.
 //! - [`SectionReader`] and [`parse_types`] read a section into a table, and [`ModuleTypes::emit`]
 //!   writes a table as a section.
-//! - [`normalise`] does both, which gives the normal form of a section. [`is_normal_form`] judges
-//!   an answer, and [`same_up_to_moves`] compares two sections. [`first_difference`] says where
+//! - [`normalise`] does both, which gives the normal form of a section. [`is_normal_form`] judges a
+//!   normal form, and [`same_up_to_moves`] compares two sections. [`first_difference`] shows where
 //!   two normal forms differ.
 //! - [`laws`] and [`record_laws`] have the theorems.
 //!
-//! Of a section `groups`, `wanted` is the normal form, and `map` has the place of each entry in it,
+//! For a section `groups`, `wanted` is the normal form, and `map` has the new index of each entry,
 //! as [`is_normal_form`] says too:
 //!
 //! ```
@@ -21,8 +21,11 @@
 //! assert!(rt; is_normal_form(alloc, groups.as_slice(), wanted.as_slice(), map)?);
 //! ```
 //!
-//! Nothing here says what is valid: whether a supertype is final or matches, for one, is not looked
-//! at.
+//! A type outside a recursion group is called a lone type. Groups keep their order and are never
+//! merged, and a group of one is not the lone type. The map is applied to nothing else: the rest of
+//! a module still names the old indices.
+//!
+//! Nothing here validates: for example, a supertype may be final, or not match.
 #![tactic(auto)]
 
 mod difference;

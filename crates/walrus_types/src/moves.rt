@@ -10,16 +10,19 @@ use crate::laws::equal_outputs_by_moves;
 use crate::{GroupAt, HashKeys, ReadError, normalise};
 use std::alloc::Global;
 
-/// Whether a chain of moves leads from the one section to the other: an empty `Rec` goes in or out,
-/// a `Single` that repeats an earlier one goes in or out, neighbouring `Single`s that name nothing
-/// but themselves change places, and names move along.
-/// It is so exactly where the two have the same normal form.
+/// Returns whether a chain of moves leads from the one section to the other. It is so exactly where
+/// the two have the same normal form. The moves are, with names moved along:
 ///
-/// Where the first section can't be read, that is the answer, and else, where the second can't be;
-/// `Memory` comes only where memory was refused. The keys are those of the hash in [`normalise`],
-/// on which no answer hangs.
+/// - an empty `Rec` comes in or goes out;
+/// - a lone type that repeats an earlier one comes in or goes out;
+/// - two neighbouring lone types that name nothing but themselves change places.
 ///
-/// walrus has no such call.
+/// The keys begin the hash in [`normalise`]. No result depends on them. walrus has no such call.
+///
+/// # Errors
+///
+/// Where the first section can't be read, its error is returned, and otherwise that of the second
+/// where that can't be read. `Memory` comes where memory was refused.
 pub fn same_up_to_moves(
     alloc: Global,
     keys: HashKeys,

@@ -15,12 +15,32 @@ use crate::laws::{contents_tell_records, one_normal_form, second_round, swap_kee
 use crate::{EmitError, GroupAt, HashKeys, IdsToIndices, ReadError, TypeId, parse_types};
 use std::alloc::{AllocError, Global};
 
-/// The normal form of a section, with the index in it of each index of the section: the section is
-/// read into a table, which is then emitted. The hash of the table has these keys, on which no
-/// answer hangs: fixed ones are safe where the section is trusted (see [`HashKeys`]).
+/// Returns the normal form of a type section, and the new index of each old index (WebAssembly core
+/// specification, "Types", recursive types). It reads the section into a table and emits the table.
 ///
-/// `TooMany` and `BadIndex` come exactly where a group can't be read, for the first such group;
-/// `Memory` comes only where memory was refused.
+/// Equal lone types are merged, and lone types are sorted as far as references allow. Recursion
+/// groups keep their order and are never merged. A `Rec` of one type is not the lone type: both
+/// stay, although WebAssembly treats them as equal. Nothing else is validated.
+///
+/// **The map is not applied to anything else.** The rest of the module still names the old indices:
+/// imports, functions, code and other sections. The module is wrong until they are all renumbered.
+///
+/// The keys begin the hash by which equal types are found. They change how long the call takes, and
+/// no result. Fixed keys are safe where the section is trusted: see [`HashKeys`].
+///
+/// # Errors
+///
+/// The first group that can't be read decides. `BadIndex` comes where one of its entries names an
+/// index at or past the group's end, and `TooMany` where the section has 2^32 entries or more by
+/// the group's end. `Memory` comes where memory was refused. No other section is refused.
+///
+/// # A struct and a function type change places
+///
+/// ```
+/// let groups = [GroupAt::Single(structure), GroupAt::Single(function)];
+/// let (output, map) = normalise(alloc, HashKeys::fixed(), &groups)?;
+/// assert_eq!(rt; map.as_slice(), [1, 0].as_slice());
+/// ```
 pub fn normalise(
     alloc: Global,
     keys: HashKeys,

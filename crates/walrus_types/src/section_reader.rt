@@ -22,14 +22,15 @@ use std::slice;
 use walrus_sections::first_error;
 use walrus_ty::SubType;
 
-/// Reads a type section into a table of types, one recursion group after the other.
+/// Reads a type section into a table of types, one recursion group after the other (WebAssembly
+/// core specification, "Types", recursive types).
 ///
-/// Each entry gets an id of its own, which is its index. An entry that stands alone and is equal to
-/// an earlier one that stands alone is sent to that one, and its own id is dead. The entries of a
-/// `Rec` are never sent elsewhere.
+/// Each entry gets an id of its own, which is its index. A lone type that is equal to an earlier
+/// lone type is sent to that one, and its own id is dead. The entries of a `Rec` are never sent
+/// elsewhere.
 ///
-/// Only names are checked, not what else makes a section valid: a supertype may be final, come
-/// later in its group, or not match.
+/// Only names are checked. Nothing else that makes a section valid is: a supertype may be final,
+/// come later in its group, or not match.
 #[derive(Drop)]
 pub struct SectionReader {
     types: ModuleTypes,
@@ -68,13 +69,15 @@ impl SectionReader {
         }
     }
 
-    /// Reads one more group.
+    /// Reads one more group. On success it is appended to what was read; on failure nothing
+    /// changes.
     ///
-    /// `TooMany` comes where the group brings the number of entries to 2^32 or more. Else
-    /// `BadIndex` comes where an entry of it names an index at or past the group's end: it has the
-    /// first such entry and the first such index in it, the composite type from left to right
-    /// before the supertype. `Memory` comes where there was no room. After an error the reader is
-    /// as it was.
+    /// # Errors
+    ///
+    /// `TooMany` comes where the group brings the number of entries to 2^32 or more. Otherwise
+    /// `BadIndex` comes where an entry names an index at or past the group's end. It has the first
+    /// such entry and the first such index in it: the composite type from left to right, then the
+    /// supertype. `Memory` comes where memory was refused.
     pub fn push_group(&mut self, group: &GroupAt) -> Result<(), ReadError>
         ensures ok { (s : Section) → IsReadInto s self.old.table self.old.ids
             → OnOk result (IsReadInto (s ++ group_of group.now ∷ []) self.new.table self.new.ids) }
@@ -93,7 +96,7 @@ impl SectionReader {
         }
     }
 
-    /// The table of the section that was read, and the id that each index stands for. It takes no
+    /// Returns the table of the section that was read, and the id of each index. It takes no
     /// memory.
     pub fn finish(self) -> (ModuleTypes, Vec<TypeId>)
         ensures types { result.0 ≡ self.table }
@@ -158,7 +161,7 @@ impl SectionReader {
     }
 }
 
-// Puts an entry that stands alone into the table, with an id for each index.
+// Puts a lone type into the table, with an id for each index.
 fn read_single(
     types: &mut ModuleTypes,
     ids: &IndicesToIds,
@@ -212,10 +215,23 @@ fn members(
     Ok(members)
 }
 
-/// Reads a whole section: the table of its types, and the id that each index stands for. The hash
+/// Reads a whole type section. Returns the table of its types, and the id of each index. The hash
 /// of the table has these keys: see [`HashKeys`].
 ///
-/// The first group that `SectionReader::push_group` refuses decides, with its error.
+/// A lone type that is equal to an earlier lone type is merged with it: both indices have one id.
+/// The entries of a `Rec` are never merged.
+///
+/// # Errors
+///
+/// The first group that [`SectionReader::push_group`] refuses decides, with its error. Then there
+/// is no table.
+///
+/// # Each index has a live type
+///
+/// ```
+/// let (types, ids) = parse_types(alloc, HashKeys::fixed(), groups.as_slice())?;
+/// assert!(rt; ids.iter().all(|id| types.contains(*id)));
+/// ```
 pub fn parse_types(
     alloc: Global,
     keys: HashKeys,

@@ -1,4 +1,4 @@
-//! The types of a module, and the recursion groups that they stand in.
+//! The types of a module, and their recursion groups.
 ghost use Rattle.std.specs.Prelude.{◌≡◌, ◌↔◌, [], IfOk, IsTrue, IsSome, IsSomeAnd, Some, length, option_copied};
 ghost use Rattle.std.specs.Borrow.{sem};
 ghost use Rattle.walrus_arena.specs.HashKeys.{fixed_hasher};
@@ -22,15 +22,16 @@ use std::alloc::{AllocError, Global};
 use std::marker::Model;
 use walrus_arena::ArenaSet;
 
-/// The types of a module, each in one recursion group.
+/// The types of a module, each in one recursion group (WebAssembly core specification, "Types",
+/// recursive types).
 ///
-/// A type that is added alone is the same as an equal one that was added alone before, and gets no
-/// second slot. The types of explicit groups are never shared.
+/// A type that is added alone is shared with equal ones that were added alone before. The types of
+/// explicit groups are never shared, and a group of one type is not the same as that type alone.
 #[derive(Drop)]
 pub struct ModuleTypes {
     types: ArenaSet<Type>,
     groups: Vec<RecGroup>,
-    // For each slot the place of the group that its type stands in, or stood in while it lived.
+    // For each slot the place of the group of its type, also once the type is deleted.
     group_of: Vec<usize>,
 }
 
@@ -100,8 +101,8 @@ impl ModuleTypes {
         }
     }
 
-    /// The live ids in order. With `get_mut` it goes over the types for writing, and with
-    /// `delete_all` it deletes many of them.
+    /// The live ids in order, for changing the types with `get_mut` or deleting many of them with
+    /// `delete_all`.
     pub fn live_ids(&self) -> Result<Vec<TypeId>, AllocError>
         ensures { IfOk result (λ all. all.items ≡ live_ids self.now) }
     {
@@ -135,9 +136,9 @@ impl ModuleTypes {
         *self.groups.allocator()
     }
 
-    /// The type of a live id, for writing. A whole type that is written keeps the id that it
-    /// brings, and the table goes on by slots: what was found before the write is still found at
-    /// this id, as long as it is equal.
+    /// The type of a live id, for writing. A whole type that is written over it keeps the `id()`
+    /// that it brings, while the table uses the slot. A type that was found at this id before the
+    /// write is still found there as long as it is equal.
     pub fn get_mut(&mut self, id: TypeId) -> &mut Type
         requires { IsLive self.old.types.slots id }
         ensures* writes_back { sem 𝓛 (LendsType self.entry id result) }

@@ -16,8 +16,8 @@ use walrus_ty::{CompAt, EntryAt, GroupAt, Listed};
 
 /// Takes a recursion group from the front: several definitions behind `rec`, or one alone.
 ///
-/// A group is large, and to move it costs more than to read it. So it is put together in this
-/// function alone, from parts that are small, and what would answer it a whole group is inlined.
+/// A group is large, and moving it costs more than reading it. So it is put together in this
+/// function alone, from parts that are small. Whatever would return a whole group to it is inlined.
 #[inline(never)]
 #[tactic(auto, unfolding(crate::specs::Steps::Reading::group_at))]
 pub fn read_group(alloc: Global, input: &mut &[u8]) -> Result<GroupAt, ReadError>
@@ -135,7 +135,8 @@ fn read_declared(is_final: bool, input: &mut &[u8]) -> Result<Head, ReadError>
     })
 }
 
-/// The one supertype, if there is one. Several are told where their count begins.
+/// The one supertype, if there is one. The error for several has the place where their count
+/// begins.
 #[inline(always)]
 #[tactic(auto, unfolding(crate::specs::Steps::Reading::supertype_at))]
 fn read_supertype(input: &mut &[u8]) -> Result<Option<u32>, ReadError>

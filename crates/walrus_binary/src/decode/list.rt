@@ -8,7 +8,7 @@ use crate::error::ReadError;
 use crate::leb128::read_u32;
 use std::alloc::Global;
 
-/// What can stand at the front of bytes.
+/// What can be at the front of bytes.
 pub trait Decode: Sized {
     /// The value at the front of bytes, and the bytes after it.
     ghost reading: { List ℕ → Result (Self × List ℕ) Fault };
@@ -18,11 +18,11 @@ pub trait Decode: Sized {
         ensures { Gives (λ x. x) result input.new.now (reading input.old.now) };
 }
 
-/// For how many items room is taken at most before they are read.
+/// The greatest number of items for which memory is taken before they are read.
 const MOST_RESERVED: usize = 1000;
 
-/// How many there are, and then as many. A count that fewer bytes follow takes no memory. An empty
-/// list, as that of the results often is, costs no call.
+/// A count, and then that many items. A count that fewer bytes follow takes no memory. An empty
+/// list, as the results often are, costs no call.
 #[inline(always)]
 #[tactic(auto, unfolding(crate::specs::Steps::Reading::vec_at, crate::specs::Steps::Reading::items_at))]
 pub fn read_vec<T: Decode + Drop>(alloc: Global, input: &mut &[u8]) -> Result<Vec<T>, ReadError>
@@ -35,7 +35,7 @@ pub fn read_vec<T: Decode + Drop>(alloc: Global, input: &mut &[u8]) -> Result<Ve
     read_items(alloc, count, input)
 }
 
-/// So many items. This is a call, so that what reads several lists stays small.
+/// Reads `count` items. This is a call, so that what reads several lists stays small.
 #[inline(never)]
 fn read_items<T: Decode + Drop>(
     alloc: Global,
@@ -52,8 +52,8 @@ fn read_items<T: Decode + Drop>(
     Ok(items)
 }
 
-/// For how many items room is taken before they are read, where so many bytes are left: none where
-/// there are fewer bytes than items, since the last items are then missing.
+/// The number of items for which memory is taken before they are read, where `left` bytes are left.
+/// It is 0 where there are fewer bytes than items, since the last items are then missing.
 fn room(count: u32, left: usize) -> usize {
     let count = count as usize;
     if count > left {

@@ -14,14 +14,14 @@ use walrus_ty::GroupAt;
 /// Reads a type section one recursion group after the other (WebAssembly core specification,
 /// "Binary Format", "Type Section").
 ///
-/// [`decode_types`](crate::decode_types) reads all groups at once. A reader keeps none of them: who
-/// lets each go before the next needs the memory of one group, however long the section is.
-/// [`remaining_count`](TypeSectionReader::remaining_count) goes down with each group, so that a
+/// [`decode_types`](crate::decode_types) reads all groups at once. A reader keeps none of them: a
+/// caller who drops each before the next needs the memory of one group, however long the section
+/// is. [`remaining_count`](TypeSectionReader::remaining_count) goes down with each group, so that a
 /// loop over them ends.
 ///
 /// # Whether a section has a group behind `rec`
 ///
-/// The last call finds the end, or the bytes that stand there.
+/// The last call finds the end, or the bytes that are there.
 ///
 /// ```
 /// let mut reader = TypeSectionReader::new(alloc, bytes)?;
@@ -56,13 +56,13 @@ impl<'a> Model for TypeSectionReader<'a> {
 impl<'a> TypeSectionReader<'a> {
     ghost use Rattle.walrus_binary.specs.SectionProgress.{BeginsWithGroups};
 
-    /// A reader of a type section, of which `bytes` are all that stands after its id and size. It
-    /// reads how many groups there are, and takes no memory.
+    /// Returns a reader of a type section. `bytes` are its content: everything after its id and
+    /// size. It reads how many groups there are, and takes no memory.
     ///
     /// # Errors
     ///
-    /// [`DecodeError::Malformed`] comes where the bytes begin with no count, as
-    /// [`decode_types`](crate::decode_types) says it.
+    /// [`DecodeError::Malformed`] comes where the bytes do not begin with a count, with the place
+    /// that [`decode_types`](crate::decode_types) has.
     pub fn new(alloc: Global, bytes: &'a [u8]) -> Result<TypeSectionReader<'a>, DecodeError>
         // It is a reader of these bytes,
         ensures bytes { IfOk result (λ reader. reader.bytes ≡ bytes.now) }
@@ -73,7 +73,7 @@ impl<'a> TypeSectionReader<'a> {
         // Bytes that are refused are a text of no groups.
         ensures refused { IfErr result (λ e. IfSome (error_offset e) (λ offset.
             IsNoText bytes.now)) }
-        // The place lies in the bytes or at their end,
+        // The place is in the bytes or at their end,
         ensures place { IfErr result (λ e. IfSome (error_offset e) (λ offset.
             offset ≤ length bytes.now)) }
         // and with the byte there no text goes on.
@@ -98,21 +98,22 @@ impl<'a> TypeSectionReader<'a> {
         }
     }
 
-    /// How many more groups the section has by its count.
+    /// The number of groups that are still to come, by the section's count.
     pub fn remaining_count(&self) -> usize
         ensures { result ≡ self.now.remaining }
     {
         self.remaining as usize
     }
 
-    /// Reads the next group; `None` comes behind the last one, where the bytes end.
+    /// Reads the next group. `None` comes after the last one, where the bytes end.
     ///
     /// # Errors
     ///
     /// [`DecodeError::Malformed`] and [`DecodeError::NotHeld`] say at which of all bytes they stop
-    /// being a text of groups, as [`decode_types`](crate::decode_types) does: bytes after the last
-    /// group are told at the first of them. [`DecodeError::Memory`] comes where memory was refused.
-    /// After an error the reader is as it was, so that the same call reads the same bytes again.
+    /// being a text of groups, as [`decode_types`](crate::decode_types) does. Where bytes follow
+    /// the last group, it is the first of them. [`DecodeError::Memory`] comes where memory was
+    /// refused. After an error the reader is as it was, so that the same call reads the same bytes
+    /// again.
     pub fn next_group(&mut self) -> Result<Option<GroupAt>, DecodeError>
         // A group comes behind those that were read,
         ensures group { IfOk result (λ next. IfSome next (λ group.
@@ -136,7 +137,7 @@ impl<'a> TypeSectionReader<'a> {
         // Bytes that are refused are a text of no groups, unless memory was refused.
         ensures refused { IfErr result (λ e. IfSome (error_offset e) (λ offset.
             IsNoText self.old.bytes)) }
-        // The place lies in the bytes or at their end,
+        // The place is in the bytes or at their end,
         ensures place { IfErr result (λ e. IfSome (error_offset e) (λ offset.
             offset ≤ length self.old.bytes)) }
         // and with the byte there no text goes on.

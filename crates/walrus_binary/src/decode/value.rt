@@ -97,7 +97,7 @@ fn read_heap(input: &mut &[u8]) -> Result<HeapAt, ReadError>
     }
 }
 
-/// A heap type whose first byte stands for no abstract one.
+/// A heap type whose first byte is not the code of an abstract one.
 #[inline(always)]
 #[tactic(auto, unfolding(crate::specs::Steps::Reading::index_at))]
 fn read_index(byte: u8, input: &mut &[u8]) -> Result<HeapAt, ReadError>
@@ -115,7 +115,7 @@ fn read_index(byte: u8, input: &mut &[u8]) -> Result<HeapAt, ReadError>
     }
 }
 
-/// The abstract heap type that a byte stands for.
+/// The abstract heap type with this code.
 #[tactic(auto, unfolding(crate::specs::Steps::Reading::heap_type_of))]
 fn abstract_heap_type(byte: u8) -> Option<AbstractHeapType>
     ensures { result ≡ heap_type_of byte }

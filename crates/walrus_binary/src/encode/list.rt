@@ -18,14 +18,14 @@ pub trait Encode {
     /// The text that is written.
     ghost text: { Self → List ℕ };
 
-    /// Puts the text at the end. After an error some of it may stand there.
+    /// Puts the text at the end. After an error some of it may be there.
     fn write(&self, out: &mut Vec<u8>) -> Result<(), EncodeError>
         ensures appends { OnOk result (out.new.items ≡ out.old.items ++ text self.now) }
         ensures text { OnOk result (texts (text self.now) self.now) }
         ensures too_many { IsErrOf result TooMany → HasNoText texts self.now };
 }
 
-/// How many there are, and then each of them.
+/// The count of the items, and then each of them.
 pub fn write_vec<T: Encode>(out: &mut Vec<u8>, items: &[T]) -> Result<(), EncodeError>
     ensures appends { OnOk result (out.new.items ≡ out.old.items ++ vec_text T.text items.now) }
     ensures text { OnOk result (IsVec T.texts (vec_text T.text items.now) items.now) }

@@ -63,7 +63,7 @@ fn write_heap(out: &mut Vec<u8>, heap_type: HeapAt) -> Result<(), AllocError>
     }
 }
 
-/// The byte that stands for an abstract heap type.
+/// The code of an abstract heap type, one byte.
 fn heap_type_code(heap_type: AbstractHeapType) -> u8
     ensures { result ≡ heap_code heap_type }
 {

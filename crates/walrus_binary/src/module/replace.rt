@@ -15,22 +15,26 @@ use crate::module::find_type_section;
 use crate::module::section::{TYPE, begins_custom, read_header, read_section};
 use std::alloc::Global;
 
-/// The module with this as what its type section has after its id and size.
+/// Returns the module with another type section. `content` is what the section has after its id and
+/// size (WebAssembly core specification, "Binary Format", "Modules").
+///
+/// **The rest of the module still names the old indices.** Where types get other indices, imports,
+/// functions, code and other sections have to be changed too. Until then the module is wrong, even
+/// if it validates.
 ///
 /// The size of the section is written in its shortest form, and every byte outside the section is
 /// kept. A module that has no type section gets one before its first section that is not custom, or
-/// at its end where it has custom sections alone. So the custom sections with which a module begins
-/// stay in front, as `dylink.0` has to, which is the first section of a module that has it.
-///
-/// Neither the content nor what the other sections contain is judged, as by
-/// [`type_section`](crate::type_section): where types get other indices, what names them in other
-/// sections is still to be changed.
+/// at its end where all its sections are custom. So the custom sections with which a module begins
+/// stay in front, as `dylink.0` has to, which is the first section of a module that has it. As with
+/// [`type_section`](crate::type_section), neither the content nor what the other sections contain
+/// is checked.
 ///
 /// # Errors
 ///
-/// [`ReplaceError::NoModule`] comes where the bytes are no module, with what `type_section` says of
-/// them; [`ReplaceError::TooLong`] where the content has 2^32 bytes or more, so that no size counts
-/// them; [`ReplaceError::Memory`] where memory was refused.
+/// [`ReplaceError::NoModule`] comes where the bytes are no module, with the error of
+/// `type_section`. [`ReplaceError::TooLong`] comes where the content has 2^32 bytes or more, so
+/// that no size counts them. [`ReplaceError::Memory`] comes where memory was refused. After an
+/// error there is no module.
 ///
 /// # Another type for a module
 ///
@@ -44,7 +48,7 @@ pub fn replace_type_section(
     bytes: &[u8],
     content: &[u8],
 ) -> Result<Vec<u8>, ReplaceError>
-    // The answer is the same module but for its type section,
+    // The result is the same module except for its type section,
     ensures replaced { IfOk result (λ new. IsReplaced content.now bytes.now new.items) }
     // whose content is the one that was given.
     ensures types { IfOk result (λ new. HasTypes new.items content.now) }
@@ -67,7 +71,7 @@ pub fn replace_type_section(
     }
 }
 
-/// The bytes behind the custom sections with which a module begins.
+/// The bytes after the custom sections with which a module begins.
 fn behind_customs(bytes: &[u8]) -> Result<&[u8], DecodeError>
     ensures behind { IfOk result (λ rest. IsBehindCustoms bytes.now rest.now) }
     ensures refused { IfErr result (λ e. IsNoModuleBy bytes.now e) }

@@ -8,16 +8,16 @@ use crate::{DecodeError, decode_types, type_section};
 use std::alloc::Global;
 use walrus_ty::GroupAt;
 
-/// The groups of a module's type section, as [`type_section`] finds it and [`decode_types`] reads
-/// it: none where the module has no such section (WebAssembly core specification, "Binary Format",
-/// "Modules"). What the other sections contain is not judged.
+/// Returns the groups of a module's type section, as [`type_section`] finds it and [`decode_types`]
+/// reads it, or no groups where the module has no such section (WebAssembly core specification,
+/// "Binary Format", "Modules"). What the other sections contain is not checked.
 ///
 /// # Errors
 ///
-/// Where the bytes are no module, the error is that of [`type_section`]. Else it is that of
-/// [`decode_types`] for what the type section contains: [`DecodeError::Malformed`] says at which
-/// byte that stops being a text of groups, [`DecodeError::NotHeld`] at which byte a type begins
-/// that no record holds. Both places are counted from the first byte of the module.
+/// Where the bytes are no module, the error is that of [`type_section`]. Otherwise it is that of
+/// [`decode_types`] for the content of the type section. [`DecodeError::Malformed`] says at which
+/// byte that stops being a text of groups, and [`DecodeError::NotHeld`] at which byte a type begins
+/// that no record holds. All places are counted from the first byte of the module.
 /// [`DecodeError::Memory`] comes where memory was refused.
 ///
 /// # A module of one function type
@@ -27,12 +27,12 @@ use walrus_ty::GroupAt;
 /// assert_eq!(rt; module_types(alloc, &bytes)?.len(), 1);
 /// ```
 pub fn module_types(alloc: Global, bytes: &[u8]) -> Result<Vec<GroupAt>, DecodeError>
-    // What is answered are the types of the module.
+    // The groups that are returned are the types of the module.
     ensures found { IfOk result (λ groups. HasTypes bytes.now groups.items) }
     // Bytes that are refused are no module or one with bad types, unless memory was refused.
     ensures refused { IfErr result (λ e. IfSome (error_offset e) (λ offset.
         HasBadTypes bytes.now)) }
-    // The place lies in the bytes or at their end,
+    // The place is in the bytes or at their end,
     ensures place { IfErr result (λ e. IfSome (error_offset e) (λ offset.
         offset ≤ length bytes.now)) }
     // and with the byte there no module goes on whose types can be read.
@@ -54,7 +54,7 @@ pub fn module_types(alloc: Global, bytes: &[u8]) -> Result<Vec<GroupAt>, DecodeE
     }
 }
 
-/// The same error of bytes before which `start` others stand.
+/// The same error in bytes that follow `start` others.
 fn behind(start: usize, error: DecodeError) -> DecodeError
     requires { IfSome (error_offset error) (λ offset. start + offset < 2 ^ 64) }
     ensures { result ≡ behind start error }

@@ -8,7 +8,7 @@ use std::alloc::{AllocError, Global};
 use std::marker::Model;
 use walrus_types::{ModuleTypes, TypeId};
 
-// Which types are known to be needed, and those of them whose names are still to be followed.
+// Which types are known to be needed, and which of them have names that are still to be followed.
 #[derive(Drop)]
 pub(super) struct Marking {
     // Whether each id is marked.
@@ -27,7 +27,7 @@ impl Model for Marking {
 }
 
 impl Marking {
-    // No marks, with one for each id up to this one, and room for so much work.
+    // No marks, with one for each id up to this one, and room for `room` ids to follow.
     pub(super) fn new(alloc: Global, greatest: usize, room: usize) -> Result<Marking, AllocError>
         ensures { IfOk result (λ s. s ≡ no_marks greatest) }
     {

@@ -78,7 +78,7 @@ fn supertype_index(word: &[u8]) -> Option<u32>
     type_index(after_prefix(word, b"sub:")?)
 }
 
-/// What stands after this word, where the line begins with it.
+/// The rest of the line after this word, where the line begins with it.
 pub fn after_word<'a>(line: &'a [u8], wanted: &[u8]) -> Option<&'a [u8]>
     ensures found { IfSome result (λ rest. words_of line.now ≡ wanted.now ∷ words_of rest.now) }
     ensures none { IfNone result ((ws : List (List ℕ)) → words_of line.now ≢ wanted.now ∷ ws) }
@@ -168,7 +168,7 @@ fn only_field(line: &[u8]) -> Option<FieldAt>
     if is_blank(rest) { Some(field) } else { None }
 }
 
-/// The value types that a line begins with, and what stands after them.
+/// The value types that a line begins with, and the rest of the line.
 #[tactic(auto, using(crate::proofs::Parsing::Entries::fits_more_values))]
 fn values(alloc: Global, line: &[u8]) -> Result<(Vec<ValAt>, &[u8]), AllocError>
     ensures read { IfOk result (λ read. words_of line.now ≡ map val_word read.0.items ++
@@ -198,7 +198,7 @@ fn next_value(line: &[u8]) -> Option<(ValAt, &[u8])>
     Some((value, rest))
 }
 
-/// The fields that a line begins with, and what stands after them.
+/// The fields that a line begins with, and the rest of the line.
 #[tactic(auto, using(crate::proofs::Parsing::Entries::fits_more_fields))]
 fn fields(alloc: Global, line: &[u8]) -> Result<(Vec<FieldAt>, &[u8]), AllocError>
     ensures read { IfOk result (λ read. words_of line.now ≡ map field_word read.0.items ++

@@ -26,7 +26,7 @@ fn number(text: &str) -> Option<u32>
     text.parse().ok()
 }
 
-/// Whether a sign or zeros stand before the digits.
+/// Whether a sign or zeros precede the digits.
 fn has_sign_or_leading_zero(word: &[u8]) -> bool
     ensures { result ≡ has_sign_or_leading_zero word.now }
 {
@@ -82,7 +82,7 @@ fn exact_index(word: &[u8]) -> Option<u32>
     type_index(after_prefix(word, b"exact:")?)
 }
 
-/// What stands after a prefix.
+/// The rest of a word after a prefix.
 pub fn after_prefix<'a>(word: &'a [u8], prefix: &[u8]) -> Option<&'a [u8]>
     ensures found { IfSome result (λ rest. word.now ≡ prefix.now ++ rest.now) }
     ensures none { IfNone result ((rest : List ℕ) → word.now ≢ prefix.now ++ rest) }

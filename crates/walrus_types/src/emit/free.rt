@@ -11,7 +11,7 @@ ghost use Rattle.walrus_ty.specs.Value.{val_names, field_names};
 use super::sort_key::KeyedType;
 use crate::{CompositeType, FieldType, ModuleTypes, RecGroup, Type, TypeId, ValType};
 
-// Whether some type of the group stands for more than the entry of a function.
+// Whether some type of the group does not just mark the entry of a function.
 pub(super) fn is_written_group(table: &ModuleTypes, group: &RecGroup) -> bool
     requires { All (IsLive table.now.types.slots) group.now.types }
     ensures { result ≡ is_written_group table.now.types.slots group.now }

@@ -17,7 +17,7 @@ use crate::{ModuleTypes, RecGroup};
 use std::alloc::{AllocError, Global};
 
 // A group that is to be written: where its run begins, its first type, and its place. They are
-// sorted by these in turn: each run of free groups by their first types, and all else stays.
+// sorted by these in turn: each run of free groups by their first types. All others stay.
 #[derive(PartialEq, Eq, PartialOrd, Ord, Drop)]
 pub(super) struct PendingGroup<'a> {
     start: usize,
@@ -57,7 +57,7 @@ pub(super) fn writing_order<'a>(
     Ok(pending)
 }
 
-// The groups that are written, in their own order. `run` is where the free groups begin that stand
+// The groups that are written, in their own order. `run` is where the free groups begin that come
 // just before the next one.
 fn pending_groups<'a>(
     alloc: Global,

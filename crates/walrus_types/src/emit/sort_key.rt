@@ -1,5 +1,5 @@
-//! Sort keys of types: a few small numbers, by which most types are told apart before their lists
-//! are looked at.
+//! Sort keys of types: a few small numbers, by which most types differ before their lists are
+//! compared.
 //!
 //! Of two types the one with the lesser key is less. A lossless key has all of its type: `decode`
 //! makes the type's record from the key alone.

@@ -12,8 +12,25 @@ use crate::{
 use std::alloc::AllocError;
 
 impl ModuleTypes {
-    /// The id of the final function type with these parameters and results, and without supertype,
-    /// as `add_composite` answers it.
+    /// Returns the id of the final function type with these parameters and results, and without
+    /// supertype (WebAssembly core specification, "Types", composite types).
+    ///
+    /// If the table finds an equal type that was added alone, this is its id. Otherwise the type is
+    /// new, and gets a group of its own at the end. Types of explicit groups are never returned.
+    ///
+    /// # Errors
+    ///
+    /// `AllocError` comes where memory was refused. Then the table has the same types and groups,
+    /// finds the same, and no id is used up.
+    ///
+    /// # An equal type is added once
+    ///
+    /// ```
+    /// let mut types = ModuleTypes::new(alloc);
+    /// let first = types.add(&[ValType::I32], &[ValType::I64])?;
+    /// let again = types.add(&[ValType::I32], &[ValType::I64])?;
+    /// assert_eq!(rt; first, again);
+    /// ```
     pub fn add(&mut self, params: &[ValType], results: &[ValType]) -> Result<TypeId, AllocError>
         ensures answer { IfOk result
             (λ id. IsAnswer self.new
@@ -30,8 +47,8 @@ impl ModuleTypes {
         self.add_composite(CompositeType::Function(ty), true, None)
     }
 
-    /// The id of the final struct type with these fields, and without supertype, as `add_composite`
-    /// answers it.
+    /// Returns the id of the final struct type with these fields, and without supertype. It is
+    /// found or added as by [`add_composite`](ModuleTypes::add_composite), with the same errors.
     pub fn add_struct(&mut self, fields: Vec<FieldType>) -> Result<TypeId, AllocError>
         ensures answer { IfOk result
             (λ id. IsAnswer self.new
@@ -49,8 +66,8 @@ impl ModuleTypes {
         self.add_composite(CompositeType::Struct(ty), true, None)
     }
 
-    /// The id of the final array type with these elements, and without supertype, as
-    /// `add_composite` answers it.
+    /// Returns the id of the final array type with these elements, and without supertype. It is
+    /// found or added as by [`add_composite`](ModuleTypes::add_composite), with the same errors.
     pub fn add_array(&mut self, element: FieldType) -> Result<TypeId, AllocError>
         ensures answer { IfOk result
             (λ id. IsAnswer self.new
@@ -69,11 +86,16 @@ impl ModuleTypes {
         )
     }
 
-    /// The id of the type with this composite, finality and supertype.
+    /// Returns the id of the type with this composite type, finality and supertype.
     ///
-    /// It is the id of an equal type that was added alone, where the table knows one, or else that
-    /// of a new type without a name, in a group of its own at the end. After an `AllocError` the
-    /// table has the same types and groups, finds the same, and no id is used up.
+    /// If the table finds an equal type that was added alone, this is its id. Otherwise the type is
+    /// new: it has no name, and gets a group of its own at the end. Types of explicit groups are
+    /// never returned.
+    ///
+    /// # Errors
+    ///
+    /// `AllocError` comes where memory was refused. Then the table has the same types and groups,
+    /// finds the same, and no id is used up.
     pub fn add_composite(
         &mut self,
         comp: CompositeType,
@@ -93,9 +115,10 @@ impl ModuleTypes {
         self.insert(Type::new(alloc, id, comp, is_final, supertype))
     }
 
-    /// The id of the type that stands for a function body with these results: a final function type
-    /// without parameters and supertype, with the mark of a function entry. It is found or made as
-    /// by `add_composite`.
+    /// Returns the id of the type that marks a function body with these results: a final function
+    /// type without parameters and supertype, with the mark of a function entry. It is found or
+    /// added as by [`add_composite`](ModuleTypes::add_composite), with the same errors. Such a type
+    /// is not written.
     pub fn add_entry_ty(&mut self, results: &[ValType]) -> Result<TypeId, AllocError>
         ensures answer { IfOk result
             (λ id. IsAnswer self.new

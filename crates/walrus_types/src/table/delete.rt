@@ -10,11 +10,12 @@ use std::alloc::AllocError;
 use std::mem;
 
 impl ModuleTypes {
-    /// Deletes the type of a live id, which leaves its group. It takes no memory, and answers `Ok`.
+    /// Deletes the type of a live id, which leaves its group. It takes no memory, and always
+    /// returns `Ok`.
     ///
-    /// It is for the caller to see that nothing names the id any more. Beside one look-up of the
-    /// type by its value, it takes constant time where the type is the last of its group, else time
-    /// linear in the number of the group's types.
+    /// The caller has to see to it that nothing names the id any more. The call looks the type up
+    /// once by its value. Beyond that it takes constant time where the type is the last of its
+    /// group, else time linear in the number of the group's types.
     pub fn delete(&mut self, id: TypeId) -> Result<(), AllocError>
         requires { IsLive self.old.types.slots id }
         ensures ok { OnOk result (Deletes self.old self.new id) }
@@ -26,13 +27,13 @@ impl ModuleTypes {
         self.types.remove(id)
     }
 
-    /// `delete` of each of these distinct live ids, from the last to the first. It takes no memory,
-    /// and answers `Ok`.
+    /// Deletes each of these distinct live ids, from the last to the first, as by
+    /// [`delete`](ModuleTypes::delete). It takes no memory, and always returns `Ok`.
     ///
-    /// It is for the caller to see that nothing that stays names one of them any more. Beside one
-    /// look-up by its value, a type takes constant time where it is the last of its group when its
-    /// turn comes, else time linear in the number of the group's types. So where groups die whole
-    /// and the ids ascend, no group is gone over more than once.
+    /// The caller has to see to it that no type that stays names one of them. Each type is looked
+    /// up once by its value. Beyond that it takes constant time where it is the last of its group
+    /// when its turn comes, else time linear in the number of the group's types. So where groups
+    /// are deleted whole and the ids ascend, no group is visited more than once.
     pub fn delete_all(&mut self, ids: &[TypeId]) -> Result<(), AllocError>
         requires live { All (IsLive self.old.types.slots) ids.now }
         requires distinct { IsDistinct nat_eq ids.now }
@@ -47,8 +48,9 @@ impl ModuleTypes {
         Ok(())
     }
 
-    /// Deletes the type of a live id, unless another type of its group names it: then the answer is
-    /// `false`, and nothing has changed. It takes no memory, and answers `Ok`.
+    /// Deletes the type of a live id and returns `true`, unless another type of its group names it.
+    /// Then it returns `false`, and nothing has changed. It takes no memory, and never returns an
+    /// error.
     ///
     /// A type that names itself is deleted. Names from outside the group are not looked at.
     pub fn try_delete(&mut self, id: TypeId) -> Result<bool, AllocError>
@@ -68,7 +70,7 @@ impl ModuleTypes {
     }
 
     /// Deletes all types of the group of a live id. The group stays, without types. It takes no
-    /// memory, and answers `Ok`.
+    /// memory, and always returns `Ok`.
     pub fn delete_entire_group(&mut self, id: TypeId) -> Result<(), AllocError>
         requires { IsLive self.old.types.slots id }
         ensures ok { OnOk result (DeletesGroup self.old self.new id) }

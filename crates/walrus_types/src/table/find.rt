@@ -8,7 +8,7 @@ use super::ModuleTypes;
 use crate::{CompositeType, Type, TypeId, ValType};
 
 impl ModuleTypes {
-    /// The first live type with this name, by id.
+    /// Returns the first live type with this name, in the order of ids.
     pub fn by_name(&self, name: &str) -> Option<TypeId>
         ensures { IsFirst self.now (IsNamed name.now) result }
     {
@@ -21,8 +21,20 @@ impl ModuleTypes {
         None
     }
 
-    /// The first live function type with these parameters and results, by id, whatever its finality
-    /// and supertype. It is none that stands for a function body.
+    /// Returns the first live function type with these parameters and results, in the order of ids,
+    /// or `None` where there is none. Finality and supertype do not matter, and types of explicit
+    /// groups are found too. Types that mark function bodies are not.
+    ///
+    /// It looks at the types one by one, and takes no memory. [`add`](ModuleTypes::add) finds by a
+    /// hash.
+    ///
+    /// # An open type is found
+    ///
+    /// ```
+    /// let open = types.add_composite(function, false, None)?;
+    /// assert_eq!(rt; types.find(&[], &[]), Some(open));
+    /// assert_eq!(rt; types.find(&[ValType::I32], &[]), None);
+    /// ```
     pub fn find(&self, params: &[ValType], results: &[ValType]) -> Option<TypeId>
         ensures { IsFirst self.now (IsPlainFunction params.now results.now) result }
     {
@@ -35,7 +47,8 @@ impl ModuleTypes {
         None
     }
 
-    /// The first live type that stands for a function body with these results, by id.
+    /// Returns the first live type that marks a function body with these results, in the order of
+    /// ids.
     pub fn find_for_function_entry(&self, results: &[ValType]) -> Option<TypeId>
         ensures { IsFirst self.now (IsEntryType results.now) result }
     {

@@ -1,13 +1,12 @@
 //! Laws of tables.
 ghost use Rattle.walrus_types.specs.TableCalls.{EveryTableIsSound};
 
-/// Whatever a list of calls makes of an empty table, or of one that a section was read into, each
-/// live type stands in exactly one group, once; no dead type stands in one; a group that was not
-/// given as one has one type at most; and the ids that were answered for new types came in order,
-/// each once.
+/// Begin with an empty table, or with one that a section was read into, and make any list of calls.
+/// Then each live type is in exactly one group, once, and no dead type is in any. A group that was
+/// not added as one has at most one type. The ids of new types came in order, each once.
 ///
 /// A call is what the clauses of the additions, of `get_mut` and of the deletions of `ModuleTypes`
-/// say, in their own words.
+/// say, in the words of these clauses.
 pub fn every_table_is_sound()
     ensures { EveryTableIsSound }
 {}

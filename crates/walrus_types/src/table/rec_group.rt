@@ -29,7 +29,7 @@ pub enum AddRecGroupError {
     /// Another number of types was built than was asked for.
     #[error("wanted {wanted}, got {got}")]
     Count { wanted: usize, got: usize },
-    /// There was no memory left, here or for what builds the types.
+    /// Memory was refused, here or in the closure that builds the types.
     #[error("out of memory")]
     Memory,
 }
@@ -46,16 +46,21 @@ impl From<AllocError> for AddRecGroupError {
 }
 
 impl ModuleTypes {
-    /// Adds an explicit recursion group of `count` types at the end, and answers their ids.
+    /// Adds an explicit recursion group of `count` types at the end, and returns their ids
+    /// (WebAssembly core specification, "Types", recursive types).
     ///
-    /// The types are made by `build`, which runs at most once, on a slice of exactly `count` ids:
-    /// those that the types will have, in order. So the types can name each other, and `build` may
-    /// index the slice at each place below `count`. Nothing more is asked of it than that it can be
-    /// called with these ids. Each type gets its composite, finality and supertype from it, and no
-    /// name. They are not shared: no later addition of an equal type answers one of them.
+    /// The types are made by `build`, which runs at most once, on a slice of exactly `count` ids.
+    /// These are the ids that the types will have, in order. So the types can name each other, and
+    /// `build` may index the slice at each place below `count`. The only condition on `build` is
+    /// that it can be called with these ids. It returns the composite type, finality and supertype
+    /// of each type. The types have no name. They are not shared: later additions of equal types
+    /// never return one of their ids.
+    ///
+    /// # Errors
+    ///
     /// `Count` comes where `build` made another number of types than `count`. `Memory` comes where
-    /// there was no room, or `build` said so. After an error the table is as it was, and no id is
-    /// used up.
+    /// memory was refused, or `build` returned an error. After an error the table is as it was, and
+    /// no id is used up.
     pub fn add_rec_group<
         F: FnOnce(&[TypeId]) -> Result<Vec<(CompositeType, bool, Option<TypeId>)>, AllocError>
             + Drop,
@@ -83,7 +88,7 @@ impl ModuleTypes {
         Ok(ids)
     }
 
-    // The ids that so many new types will have.
+    // The ids that this many new types will have.
     fn next_ids(&self, count: usize) -> Result<Vec<TypeId>, AllocError>
         ensures { IfOk result (λ ids. ids.items ≡ range_with_len (next_id self.now) count) }
     {
@@ -135,7 +140,7 @@ fn named(
     Ok(types)
 }
 
-// The number so many times more, for which there is room.
+// Pushes the number `count` times, for which there is room.
 fn push_all(numbers: &mut Vec<usize>, number: usize, count: usize)
     requires { vec_len numbers.old + count ≤ vec_capacity numbers.old }
     ensures { numbers.new.items ≡ numbers.old.items ++ replicate count number }

@@ -26,7 +26,7 @@ const HEAP_TYPES: u8 = NAMED_HEAP + 1;
 
 const NAMED_HEAP: u8 = 12;
 
-// The ranks of a reference to a type and of a nullable one, which do not tell all of it.
+// The ranks of a reference to a type and of a nullable one, which do not determine the type.
 const NAMED: u8 = 2 * (FIRST_REFERENCE + NAMED_HEAP + 1);
 
 const NAMED_OR_NULL: u8 = 2 * (FIRST_NULLABLE + NAMED_HEAP + 1);
