@@ -90,10 +90,10 @@ pub enum ConstOpAt {
 
 impl ConstExpr {
     /// The constant expression of these operations. One operation alone that is a constant,
-    /// `GlobalGet`, `RefNull` or `RefFunc` gets the form of its own; all other lists, the empty one
-    /// too, are `Extended`. The type of a null reference is nullable. `UnknownIndex` has the first
-    /// index that stands for nothing; `Memory` comes where room for `Extended` was refused, and so
-    /// never for one operation that has a form of its own.
+    /// `GlobalGet`, `RefNull` or `RefFunc` gets the form of its own. All other lists, including the
+    /// empty one, are `Extended`. The type of a null reference is nullable. `UnknownIndex` has the
+    /// first index that is not in the map. `Memory` comes where memory for `Extended` was refused,
+    /// and so never for one operation that has a form of its own.
     pub fn eval(
         alloc: Global,
         ops: &[ConstOpAt],
@@ -117,8 +117,9 @@ impl ConstExpr {
         Ok(ConstExpr::Extended(Listed::from_vec(ops_from(alloc, ops, ids)?)))
     }
 
-    /// The operations of this constant expression. `NoIndex` has the first id that has no index;
-    /// `Memory` comes where room was refused. Whether a null reference is nullable is not written.
+    /// The operations of this constant expression. `NoIndex` has the first id that has no index.
+    /// `Memory` comes where memory was refused. Whether a null reference is nullable is not
+    /// written.
     pub fn to_ops(
         &self,
         alloc: Global,

@@ -5,7 +5,7 @@
 //! - [`ConstOpAt`] is an operation of a module's binary, which names them by index.
 //! - [`laws`] has the theorem that what is read is written again.
 //!
-//! Nothing here says what is valid. `walrus_ir` exports all of this.
+//! Nothing here validates. `walrus_ir` exports all of this.
 //!
 //! # A constant, if it is one
 //!

@@ -1,5 +1,5 @@
-//! Atomic instructions on a memory that several threads share.
-//! Names and meaning are those of the threads proposal.
+//! Atomic instructions on a memory that several threads share. Names and meaning are from the
+//! threads proposal.
 ghost use Rattle.std.specs.Prelude.{◌≡◌};
 ghost use Rattle.instr.specs.declared.instr.Instr.TheVariants as instr;
 
@@ -7,7 +7,7 @@ use crate::{Instr, MemArg};
 use operators::{AtomicOp, AtomicWidth};
 use walrus_ty::MemoryId;
 
-/// `i32.atomic.rmw.add` and its kin: changes a value in memory and gives the one that stood there.
+/// `i32.atomic.rmw.add` and similar instructions: changes a value in memory and gives the old one.
 #[derive(Clone, Copy, Debug)]
 pub struct AtomicRmw {
     /// The memory.
@@ -28,8 +28,8 @@ impl From<AtomicRmw> for Instr {
     }
 }
 
-/// `i32.atomic.rmw.cmpxchg` and its kin: writes a value where the one in memory is the expected
-/// one.
+/// `i32.atomic.rmw.cmpxchg` and similar instructions: writes a value where the one in memory is the
+/// expected one.
 #[derive(Clone, Copy, Debug)]
 pub struct Cmpxchg {
     /// The memory.

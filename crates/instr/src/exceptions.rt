@@ -1,6 +1,6 @@
-//! Exceptions, in the form of the specification and in the older one.
-//! WebAssembly core specification, "Control Instructions"; `try` and `rethrow` are those of the
-//! older exception handling proposal.
+//! Exceptions, in the form of the specification and in the older one. WebAssembly core
+//! specification, "Control Instructions"; `try` and `rethrow` are from the older exception handling
+//! proposal.
 ghost use Rattle.std.specs.Prelude.{◌≡◌};
 ghost use Rattle.instr.specs.declared.instr.Instr.TheVariants as instr;
 

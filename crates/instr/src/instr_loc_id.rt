@@ -1,4 +1,4 @@
-//! Where an instruction stood in the binary that it was read from.
+//! Where an instruction was in the binary that it was read from.
 ghost use Rattle.std.specs.Prelude.{◌≡◌, ◌≢◌, ◌↔◌, IsTrue, nat_eq};
 ghost use Rattle.std.proofs.Common.{rules};
 ghost use Rattle.std.specs.Cmp.{partial_order_from_own_ties};

@@ -1,16 +1,16 @@
 //! The instructions of WebAssembly as data, their constants, and the locals of functions.
 //!
 //! - [`Instr`] is an instruction, with a struct for each of its 95 kinds, which becomes an `Instr`
-//!   by `From`. [`BinaryOp`], [`UnaryOp`] and [`TernaryOp`] are the operators, [`LoadKind`] and its
-//!   kin say what memory accesses touch.
+//!   by `From`. [`BinaryOp`], [`UnaryOp`] and [`TernaryOp`] are the operators, [`LoadKind`] and
+//!   similar types say what memory accesses touch.
 //! - Instructions that have sequences of instructions inside name them by [`InstrSeqId`].
-//! - [`Local`] is a local of a function, [`Value`] what a constant gives.
+//! - [`Local`] is a local of a function, and [`Value`] is what a constant gives.
 //!
-//! Nothing here says what is valid: any instruction may stand anywhere, and nothing here needs the
-//! types of a module. `walrus_ir` has sequences and their types, and exports all of this. Names, and
-//! fields with their order, are those of walrus's `ir`, but for the struct [`DropInstr`] and the
-//! fields `data_id`, which are `Drop` and `data` there. The variants of [`Instr`] and [`UnaryOp`]
-//! are grouped by what they do.
+//! Nothing here validates: any instruction may be anywhere, and nothing here needs the types of a
+//! module. `walrus_ir` has sequences and their types, and exports all of this. Names, and fields
+//! with their order, are from walrus's `ir`, except the struct [`DropInstr`] and the fields
+//! `data_id`, which are `Drop` and `data` there. The variants of [`Instr`] and [`UnaryOp`] are
+//! grouped by what they do.
 //!
 //! # A branch
 //!

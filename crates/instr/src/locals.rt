@@ -83,7 +83,7 @@ impl ModuleLocals {
         }
     }
 
-    /// Adds a local of this type without a name, and answers its id: the number of locals before. A
+    /// Adds a local of this type without a name, and returns its id: the number of locals before. A
     /// refusal changes nothing.
     pub fn add(&mut self, ty: ValType) -> Result<LocalId, AllocError>
         ensures id { IfOk result (λ id. id ≡ length self.old) }
@@ -95,7 +95,7 @@ impl ModuleLocals {
         Ok(id)
     }
 
-    /// Adds a local without a name for each of these types, in order, and answers their ids. All or
+    /// Adds a local without a name for each of these types, in order, and returns their ids. All or
     /// none: a refusal changes nothing.
     ///
     /// walrus has no such call.
@@ -131,8 +131,8 @@ impl ModuleLocals {
         &self.locals[id.index()]
     }
 
-    /// The local with this id, for writing. A whole local that is written keeps the id that it
-    /// brings, and stays at this place.
+    /// The local with this id, for writing. A whole local that is written over it keeps the id that
+    /// it brings, and stays at this place.
     pub fn get_mut(&mut self, id: LocalId) -> &mut Local
         requires { id < length self.old }
         ensures* writes_back { sem 𝓛 (LendsLocal self.entry id result) }

@@ -7,7 +7,7 @@ use crate::Instr;
 use operators::{LoadKind, LoadSimdKind, StoreKind};
 use walrus_ty::{DataId, MemoryId};
 
-/// Where an instruction reaches into a memory, beside the address that it takes.
+/// Where an instruction reaches into a memory, in addition to the address that it takes.
 #[derive(Clone, Copy, Debug)]
 pub struct MemArg {
     /// The alignment that is promised, in bytes. Nothing checks it.
@@ -110,7 +110,7 @@ impl From<DataDrop> for Instr {
     }
 }
 
-/// `i32.load` and its kin: reads a value.
+/// `i32.load` and similar instructions: reads a value.
 #[derive(Clone, Copy, Debug)]
 pub struct Load {
     /// The memory.
@@ -129,7 +129,7 @@ impl From<Load> for Instr {
     }
 }
 
-/// `i32.store` and its kin: writes a value.
+/// `i32.store` and similar instructions: writes a value.
 #[derive(Clone, Copy, Debug)]
 pub struct Store {
     /// The memory.
@@ -148,7 +148,7 @@ impl From<Store> for Instr {
     }
 }
 
-/// `v128.load8_splat` and its kin: reads or writes a vector or a lane of one.
+/// `v128.load8_splat` and similar instructions: reads or writes a vector or a lane of one.
 #[derive(Clone, Copy, Debug)]
 pub struct LoadSimd {
     /// The memory.

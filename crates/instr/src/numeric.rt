@@ -1,6 +1,6 @@
-//! Constants, operators, and what works on values of any type.
-//! WebAssembly core specification, "Numeric Instructions" and "Parametric Instructions"; those on
-//! 128 bits are of the wide arithmetic proposal.
+//! Constants, operators, and what works on values of any type. WebAssembly core specification,
+//! "Numeric Instructions" and "Parametric Instructions"; the instructions on 128 bits are from the
+//! wide arithmetic proposal.
 ghost use Rattle.std.specs.Prelude.{◌≡◌};
 ghost use Rattle.instr.specs.declared.instr.Instr.TheVariants as instr;
 

@@ -1,5 +1,5 @@
-//! What atomic instructions do with memory, and how many bytes of it they touch.
-//! Names and meaning are those of the threads proposal.
+//! What atomic instructions do with memory, and how many bytes of it they touch. Names and meaning
+//! are from the threads proposal.
 ghost use Rattle.std.specs.Prelude.{◌≡◌};
 ghost use Rattle.operators.specs.Atomics.{atomic_width};
 
@@ -28,7 +28,7 @@ pub enum AtomicWidth {
 }
 
 impl AtomicWidth {
-    /// How many bytes of memory the instruction touches.
+    /// The number of bytes of memory that the instruction touches.
     pub fn bytes(&self) -> u32
         ensures { result ≡ atomic_width self.now }
     {

@@ -248,7 +248,7 @@ pub enum BinaryOp {
     I64x2ExtMulLowI32x4U,
     I64x2ExtMulHighI32x4U,
 
-    // Relaxed operators, whose answer may differ between machines.
+    // Relaxed operators, whose result may differ between machines.
     I8x16RelaxedSwizzle,
     F32x4RelaxedMin,
     F32x4RelaxedMax,

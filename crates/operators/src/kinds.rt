@@ -1,7 +1,6 @@
 //! What loads and stores read and write, how many bytes of memory that is, and whether it is
-//! atomic.
-//! WebAssembly core specification, "Memory Instructions"; what is atomic is of the threads
-//! proposal.
+//! atomic. WebAssembly core specification, "Memory Instructions"; what is atomic is from the
+//! threads proposal.
 ghost use Rattle.std.specs.Prelude.{◌≡◌};
 ghost use Rattle.operators.specs.Loads.{extended_is_atomic, load_is_atomic, load_width};
 ghost use Rattle.operators.specs.Stores.{store_is_atomic, store_width};
@@ -42,7 +41,7 @@ pub enum LoadKind {
 }
 
 impl LoadKind {
-    /// How many bytes of memory the load reads.
+    /// The number of bytes of memory that the load reads.
     pub fn width(&self) -> u32
         ensures { result ≡ load_width self.now }
     {
@@ -87,7 +86,7 @@ pub enum StoreKind {
 }
 
 impl StoreKind {
-    /// How many bytes of memory the store writes.
+    /// The number of bytes of memory that the store writes.
     pub fn width(&self) -> u32
         ensures { result ≡ store_width self.now }
     {
@@ -117,7 +116,7 @@ impl StoreKind {
     }
 }
 
-/// What a vector load or store does. Those with a number work on the lane of that number.
+/// What a vector load or store does. The variants with a number work on the lane with that number.
 ///
 /// Names follow the text format: `Splat8` is `v128.load8_splat`, `V128Load8x8S` is
 /// `v128.load8x8_s`, `V128Store16Lane` is `v128.store16_lane`.

@@ -6,7 +6,7 @@
 //! - [`Value`] is a constant.
 //!
 //! Nothing here names a type, a memory or anything else of a module. `instr` has the instructions
-//! that these are parts of, and `walrus_ir` exports both. Names are those of walrus's `ir`.
+//! that these are parts of, and `walrus_ir` exports both. Names are from walrus's `ir`.
 //!
 //! # How much of memory is read
 //!

@@ -3,7 +3,7 @@
 
 /// An operator on one value.
 ///
-/// Names follow the text format: `I32Clz` is `i32.clz`. In a conversion of numbers the sign stands
+/// Names follow the text format: `I32Clz` is `i32.clz`. In a conversion of numbers the sign comes
 /// before the type that it is of: `I32TruncSF64` is `i32.trunc_f64_s`, `I64TruncUSatF32` is
 /// `i64.trunc_sat_f32_u`. `I16x8WidenLowI8x16S` is `i16x8.extend_low_i8x16_s`. An `idx` is the
 /// number of a lane.
@@ -176,7 +176,7 @@ pub enum UnaryOp {
     F32x4DemoteF64x2Zero,
     F64x2PromoteLowF32x4,
 
-    // Relaxed operators, whose answer may differ between machines.
+    // Relaxed operators, whose result may differ between machines.
     I32x4RelaxedTruncF32x4S,
     I32x4RelaxedTruncF32x4U,
     I32x4RelaxedTruncF64x2SZero,

@@ -4,10 +4,10 @@ ghost use Rattle.operators.specs.Values.{value_text};
 
 use std::fmt;
 
-/// A constant of a number type or of the vector type. A float stands as its bits, so that two
+/// A constant of a number type or of the vector type. A float is stored as its bits, so two
 /// constants are equal where their bits are.
 ///
-/// It prints as its number in decimal; a float prints as its bits, `0x` and eight or sixteen
+/// It prints as its number in decimal. A float prints as its bits, `0x` and eight or sixteen
 /// hexadecimal digits.
 #[derive(Clone, Copy, PartialEq, Eq, Debug)]
 pub enum Value {

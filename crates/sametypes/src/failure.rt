@@ -1,4 +1,4 @@
-//! What ends a run without an answer: its line on standard error.
+//! What ends a run without a result: its line on standard error.
 ghost use Rattle.std.specs.Prelude.{◌≡◌};
 
 use std::fmt;
@@ -8,21 +8,21 @@ use walrus_binary::DecodeError;
 use walrus_text::TextError;
 use walrus_types::ReadError;
 
-/// The exit status of a run without an answer, as the command `cmp` has it.
+/// The exit status of a run without a result, as the command `cmp` has it.
 pub const STATUS: u8 = 2;
 
-/// What ends a run without an answer.
+/// What ends a run without a result.
 #[derive(Debug, Drop)]
 pub enum Failure {
-    /// Not two files were named.
+    /// The arguments are not two files.
     Arguments,
-    /// There is no section in the first.
+    /// The first has no section.
     First(Trouble),
-    /// There is no section in the second.
+    /// The second has no section.
     Second(Trouble),
     /// No random keys could be had.
     Keys,
-    /// The answer could not be written.
+    /// The result could not be written.
     Output,
 }
 
@@ -31,7 +31,7 @@ pub enum Failure {
 pub enum Trouble {
     /// The bytes are no module, or its types can't be read.
     Module(DecodeError),
-    /// The text is that of no section.
+    /// The text is not that of a section.
     Text(TextError),
     /// The section has no normal form.
     Section(ReadError),
@@ -41,8 +41,8 @@ pub enum Trouble {
     Memory,
 }
 
-/// Writes the line that tells the failure, and answers [`STATUS`]. A line that can't be written
-/// changes nothing: there is no other place to tell it.
+/// Writes the line that explains the failure, and returns [`STATUS`]. A line that can't be written
+/// changes nothing: there is no other place to report it.
 pub fn report<E: Write>(failure: &Failure, err: &mut E) -> u8
     ensures { result ≡ 2 }
 {

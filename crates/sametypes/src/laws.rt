@@ -1,5 +1,5 @@
-//! Laws of the sections that bytes have. Each function does nothing; its clause is a theorem, which a
-//! caller gets by calling it.
+//! Laws of the sections that bytes have. Each function does nothing; its clause is a theorem, which
+//! a caller gets by calling it.
 ghost use Rattle.std.specs.Prelude.{◌≡◌, ◌≢◌, ℕ, List};
 ghost use Rattle.walrus_ty.specs.declared.records.GroupAt.{GroupAt};
 ghost use Rattle.walrus_binary.specs.Modules.{IsModule, Section};
@@ -14,7 +14,7 @@ pub fn no_module_is_a_text()
         IsModule bytes sections → lines_of bytes ≢ section_lines groups }
 {}
 
-/// Bytes have one section at most, whether they are a module or a text. So [`run`](crate::run)
+/// Bytes have at most one section, whether they are a module or a text. So [`run`](crate::run)
 /// compares the section of the one reader with the section of the other.
 pub fn one_section()
     ensures { (bytes : List ℕ) (a b : List GroupAt) → HasSection bytes a → HasSection bytes b →

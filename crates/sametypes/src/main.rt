@@ -24,24 +24,32 @@ use std::rt::Files;
 use std::{env, fs};
 use walrus_types::HashKeys;
 
-/// Reads a section from each of two readers, and writes `same` to `out` where they are the same up
-/// to moves, which is where they have the same normal form; else `different at entry N`, where `N`
-/// is the index of the first entry of the first group in which their normal forms differ, or at
-/// which one of them ends.
+/// Reads a section from each of two readers, and compares their normal forms. It writes `same` to
+/// `out` where they are the same up to moves, which is where they have the same normal form.
+/// Otherwise it writes `different at entry N`. `N` is the index of the first entry of the first
+/// group in which the normal forms differ, or at which one of them ends.
+///
+/// Groups keep their order and are never merged, and a `Rec` of one type is not the lone type. So
+/// sections that WebAssembly treats as equal can differ here.
 ///
 /// A reader gives a WebAssembly module, whose first four bytes are `\0asm`, or the text of a
 /// section. No bytes are both, and none have more than one section ([`laws`]), so the clauses speak
 /// of the section of each reader. A module without type section has the section without groups, as
 /// an empty text.
 ///
-/// The answer is the exit status: 0 where they are the same, 1 where they differ, and 2 where
-/// that can't be told: bytes are no module or no text, an entry names an index that it may not
-/// name, there are too many entries, memory was refused, a read failed, or the answer could not be
-/// written. One line on `err` says which, and in which of the two, `A` or `B`; where both are bad
-/// it is `A`. At 2 `out` gains nothing, unless it is the write of the answer that failed.
+/// It returns the exit status:
 ///
-/// The keys are those of the hash by which equal types are found. No answer hangs on them; where
-/// they can be foreseen, a section can be made that takes time with the square of its length.
+/// - 0: they are the same.
+/// - 1: they differ.
+/// - 2: it can't be decided. Bytes are no module or no text, an entry names an index that it may
+///   not name, there are too many entries, memory was refused, a read failed, or the result could
+///   not be written. One line on `err` says which, and in which of the two, `A` or `B`. Where both
+///   are bad it is `A`.
+///
+/// At 2 `out` gains nothing, unless the write of the result failed.
+///
+/// The keys begin the hash by which equal types are found. No result depends on them. Where they
+/// can be foreseen, a section can be made that takes time quadratic in its length.
 pub fn run<A: Read, B: Read, W: Write, E: Write>(
     alloc: Global,
     keys: HashKeys,
@@ -55,7 +63,7 @@ pub fn run<A: Read, B: Read, W: Write, E: Write>(
         (HaveSections AreJoined) }
     ensures same_line { result ≡ 0 →
         Appends (W.contents out.old) (W.contents out.new) same_line }
-    // or no moves do, and their normal forms differ first at the entry that is told.
+    // or no moves do, and their normal forms differ first at the entry that is written.
     ensures different { result ≡ 1 → IfBothKnown (A.remaining a.old) (B.remaining b.old)
         (HaveSections AreApart) }
     ensures different_line { result ≡ 1 → (index : ℕ) ×
@@ -105,7 +113,7 @@ fn compare<A: Read, B: Read, W: Write>(
     }
 }
 
-/// Writes the line of the answer, and sends on what the writer still holds.
+/// Writes the line of the result, and flushes the writer.
 fn write_answer<W: Write>(out: &mut W, answer: Option<usize>) -> io::Result<()>
     ensures { OnOk result (Appends (W.contents out.old) (W.contents out.new)
         (answer_line answer)) }
@@ -117,7 +125,7 @@ fn write_answer<W: Write>(out: &mut W, answer: Option<usize>) -> io::Result<()>
     out.flush()
 }
 
-/// Keys that nobody who writes a file can foresee.
+/// Keys that the author of a file can't foresee.
 fn random_keys(source: &impl RandomSource) -> io::Result<HashKeys> {
     let random = RandomState::new(source)?;
     Ok(HashKeys::new(random.hash_one(0u64), random.hash_one(1u64)))

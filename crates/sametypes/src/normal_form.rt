@@ -46,7 +46,7 @@ fn read_bytes<R: Read>(alloc: Global, reader: &mut R) -> Result<Vec<u8>, Trouble
     Err(Trouble::Input)
 }
 
-/// The section that the bytes say, as a module or as a text.
+/// The section of the bytes, as a module or as a text.
 fn section_in(alloc: Global, bytes: &[u8]) -> Result<Vec<GroupAt>, Trouble>
     ensures { IfOk result (λ groups. HasSection bytes.now groups.items) }
 {

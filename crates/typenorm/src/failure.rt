@@ -11,8 +11,8 @@ use walrus_text::TextError;
 /// What ends a run without a normal form.
 #[derive(Debug, Drop)]
 pub enum Failure {
-    /// The text of this line, counted from 1, is none of a section. It is one past the last line
-    /// where a `rec` has no `end`.
+    /// This line, counted from 1, is not part of a section. It is one past the last line where a
+    /// `rec` has no `end`.
     BadText { line: u64 },
     /// The section has no normal form.
     Refused(ReadError),
@@ -59,8 +59,8 @@ impl From<ReadError> for Failure {
     }
 }
 
-/// Writes the line that tells the failure, and answers its exit status, which is 4 where that write
-/// failed.
+/// Writes the line that explains the failure, and returns its exit status, which is 4 where that
+/// write failed.
 #[tactic(auto, using(crate::proofs::Failures::status_range))]
 pub fn report<E: Write>(failure: &Failure, err: &mut E) -> u8
     ensures status { (result ≡ status_of failure.now) ⊎ (result ≡ 4) }

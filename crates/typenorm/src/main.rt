@@ -19,17 +19,25 @@ use std::random::RandomSource;
 use walrus_text::{read_section, write_output};
 use walrus_types::{GroupAt, HashKeys, ReadError, normalise};
 
-/// Reads a section from `reader`, and writes its normal form and the place of each entry in it to
-/// `out`.
+/// Reads a section from `reader`, and writes its normal form to `out`, with the new index of each
+/// entry.
 ///
-/// The answer is the exit status: 0 where that is done; 1 where a line is bad; 2 where the section
-/// names a type that it may not name or has too many entries; 3 where memory was refused; 4 where a
-/// read or a write failed, or where 2^48 reads did not come to the end. One line on `err` tells
-/// each of 1 to 4. `out` gains nothing at 1 to 3, since all memory that a run takes is taken before
-/// it writes; at 4 it may have gained a part of the output.
+/// Groups keep their order and are never merged, and a `Rec` of one type is not the lone type. The
+/// map of indices is only printed: the rest of a module still names the old indices.
 ///
-/// The keys are those of the hash by which equal types are found. No answer hangs on them; where
-/// they can be foreseen, a text can be made that takes time with the square of its length.
+/// It returns the exit status. One line on `err` explains each of 1 to 4.
+///
+/// - 0: done.
+/// - 1: a line is bad.
+/// - 2: the section names a type that it may not name, or has too many entries.
+/// - 3: memory was refused.
+/// - 4: a read or a write failed, or 2^48 reads did not come to the end.
+///
+/// `out` gains nothing at 1 to 3, since a run takes all its memory before it writes. At 4 it may
+/// have gained a part of the output.
+///
+/// The keys begin the hash by which equal types are found. No result depends on them. Where they
+/// can be foreseen, a text can be made that takes time quadratic in its length.
 pub fn run<R: Read, W: Write, E: Write>(
     alloc: Global,
     keys: HashKeys,
@@ -71,7 +79,7 @@ fn normalise_text<R: Read, W: Write>(
     write_and_flush(out, groups.as_slice(), map.as_slice())
 }
 
-/// Writes the whole output, and sends on what the writer still holds.
+/// Writes the whole output, and flushes the writer.
 fn write_and_flush<W: Write>(out: &mut W, groups: &[GroupAt], map: &[u32]) -> Result<(), Failure>
     ensures written { OnOk result (Appends (W.contents out.old) (W.contents out.new)
         (output_text groups.now map.now)) }
@@ -86,7 +94,7 @@ fn write_and_flush<W: Write>(out: &mut W, groups: &[GroupAt], map: &[u32]) -> Re
     Ok(())
 }
 
-/// Keys that nobody who writes a text can foresee.
+/// Keys that the author of a text can't foresee.
 fn random_keys(source: &impl RandomSource) -> io::Result<HashKeys> {
     let random = RandomState::new(source)?;
     Ok(HashKeys::new(random.hash_one(0u64), random.hash_one(1u64)))

@@ -16,7 +16,7 @@ use std::ops::{Index, IndexMut};
 /// An arena of values with a map from values to ids, so that a value is found again by an equal
 /// one.
 ///
-/// An item may be changed in place, through `[id]`. The map does not follow such a change; so a
+/// An item may be changed in place, through `[id]`. The map does not follow such a change. So a
 /// mapped id is used only while it is live and its item is equal to the value that was asked for.
 ///
 /// A contract sees the slots of the arena, the entries of the map and the keys of its hash.
@@ -66,7 +66,7 @@ impl<T: Clone + Eq + Hash, A: Allocator> ArenaSet<T, A> {
         }
     }
 
-    /// The id that the next new slot gets: the number of slots, dead ones counted too.
+    /// The id that the next new slot gets: the number of slots, including dead ones.
     pub fn next_id(&self) -> Id<T>
         ensures { result ≡ length self.now.slots }
     {
@@ -87,8 +87,8 @@ impl<T: Clone + Eq + Hash, A: Allocator> ArenaSet<T, A> {
         self.arena.contains(id)
     }
 
-    /// The id that the value is mapped to, if that id is live and its item is equal to the value;
-    /// else `None`.
+    /// Returns the id that the value is mapped to, if that id is live and its item is equal to the
+    /// value, and `None` otherwise.
     pub fn find(&self, value: &T) -> Option<Id<T>>
         ensures { result ≡ found_id T.eq self.now value.now }
     {
@@ -99,9 +99,9 @@ impl<T: Clone + Eq + Hash, A: Allocator> ArenaSet<T, A> {
         }
     }
 
-    /// The id that `find` answers, if it answers one. Else the value goes into a new slot, is
-    /// mapped to its id, and this is the answer. After an `AllocError` slots and map are as they
-    /// were.
+    /// Returns the id that `find` returns, if it returns one. Otherwise it puts the value into a
+    /// new slot, maps it to the id of this slot, and returns this id. After an `AllocError` slots
+    /// and map are as they were.
     pub fn insert(&mut self, value: T) -> Result<Id<T>, AllocError>
     where
         A: Clone,
@@ -118,9 +118,9 @@ impl<T: Clone + Eq + Hash, A: Allocator> ArenaSet<T, A> {
         }
     }
 
-    /// Puts the value into a new slot, also where an equal one is there, and maps it to the id of
-    /// this slot, whatever it was mapped to before. After an `AllocError` slots and map are as they
-    /// were.
+    /// Puts the value into a new slot, even where an equal one is there, maps it to the id of this
+    /// slot, whatever it was mapped to before, and returns this id. After an `AllocError` slots and
+    /// map are as they were.
     ///
     /// It is `insert` without a look at what is there, for a value that `find` does not find.
     /// walrus has no such call.
@@ -139,8 +139,8 @@ impl<T: Clone + Eq + Hash, A: Allocator> ArenaSet<T, A> {
         Ok(Id::from_index(at))
     }
 
-    /// Puts the value into a new slot, also where an equal one is there. The map stays. After an
-    /// `AllocError` the set is as it was.
+    /// Puts the value into a new slot, even where an equal one is there, and returns its id. The
+    /// map stays. After an `AllocError` the set is as it was.
     pub fn alloc_unique(&mut self, value: T) -> Result<Id<T>, AllocError>
         ensures id { IfOk result (λ id. id ≡ length self.old.slots) }
         ensures ok { OnOk result
@@ -167,7 +167,7 @@ impl<T: Clone + Eq + Hash, A: Allocator> ArenaSet<T, A> {
         Ok(Id::from_index(dead))
     }
 
-    /// Puts the values into new slots, in order, and answers their ids. The map stays. All or none:
+    /// Puts the values into new slots, in order, and returns their ids. The map stays. All or none:
     /// after an `AllocError` the set is as it was.
     pub fn alloc_all(&mut self, values: Vec<T, A>) -> Result<Vec<Id<T>, A>, AllocError>
     where
@@ -201,7 +201,7 @@ impl<T: Clone + Eq + Hash, A: Allocator> ArenaSet<T, A> {
     }
 
     /// Deletes the item of a live id. The entry of its present value leaves the map if it points at
-    /// this very id; an entry that points elsewhere stays. It takes no memory, and always answers
+    /// this very id. An entry that points elsewhere stays. It takes no memory, and always returns
     /// `Ok`.
     pub fn remove(&mut self, id: Id<T>) -> Result<(), AllocError>
     where
@@ -216,7 +216,7 @@ impl<T: Clone + Eq + Hash, A: Allocator> ArenaSet<T, A> {
     }
 
     /// `remove` of each of these distinct live ids, in order. It takes no memory, and always
-    /// answers `Ok`.
+    /// returns `Ok`.
     pub fn remove_all(&mut self, ids: &[Id<T>]) -> Result<(), AllocError>
     where
         T: Tombstone,

@@ -6,11 +6,11 @@ use std::hash::{BuildHasher, FoldHasher, Hasher};
 use std::marker::Model;
 
 /// What the hash of an [`ArenaSet`](crate::ArenaSet) begins with. The keys change how long a call
-/// takes, and no answer.
+/// takes, and no result.
 ///
-/// Whoever knows the keys can make values whose hashes collide, and a set of such values takes time
-/// with the square of their number. So fixed keys are safe where the values are trusted. For values
-/// from elsewhere take two random numbers that nobody else learns:
+/// An attacker who knows the keys can make values whose hashes collide, and a set of such values
+/// takes time quadratic in their number. So fixed keys are safe only where the values are trusted.
+/// For values from elsewhere take two secret random numbers:
 ///
 /// ```
 /// let random = RandomState::new(&rt)?;
@@ -18,9 +18,9 @@ use std::marker::Model;
 /// let mut set = ArenaSet::with_hash_keys(rt.alloc(), keys);
 /// ```
 ///
-/// The hash is std's `FoldHasher`, which is fast and no cryptographic one. Random keys help where
+/// The hash is std's `FoldHasher`, which is fast and not cryptographic. Random keys help where
 /// `Hash` feeds at most eight bytes at once, as it does for ids, types and all that is made of
-/// numbers. Of long strings some collide whatever the keys are.
+/// numbers. Some long strings collide whatever the keys are.
 #[derive(Clone, Copy)]
 pub struct HashKeys {
     // Has been fed the keys, once for all hashes.

@@ -14,11 +14,11 @@ use std::marker::{Model, PhantomData};
 
 /// The id of an item of an arena of `T`. It holds no `T`, so a `T` may hold ids of its own arena.
 ///
-/// An id does not tell which arena it is of: an id of another arena of the same item type is judged
+/// An id does not show which arena it is of: an id of another arena of the same item type is judged
 /// by its place alone.
 pub type Id<T> = Key<*const T>;
 
-/// A place in an arena, with `P` for what stands there. A contract sees it as its number. See
+/// A place in an arena, with `P` for the type of the items. A contract sees it as its number. See
 /// [`Id`].
 #[derive_where(Clone, Copy)]
 pub struct Key<P> {
@@ -60,7 +60,7 @@ impl<P> Key<P> {
         }
     }
 
-    /// The item's place in its arena: how many slots were there before it.
+    /// The item's place in its arena, counted from 0: the number of slots before it.
     pub fn index(self) -> usize
         ensures { result ≡ self }
     {

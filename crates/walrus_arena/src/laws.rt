@@ -7,7 +7,7 @@ ghost use Rattle.walrus_arena.specs.Set.{Set, found_id, mapped_id, holds};
 
 pub mod calls;
 
-/// No id is answered by two allocations: whatever calls are made on an arena or a set, one after
+/// No two allocations return the same id: whatever calls are made on an arena or a set, one after
 /// another, each new slot has an id of its own, which no slot had before.
 ///
 /// A call is one step by what its contract says; [`calls`] has the calls with this as their clause.
@@ -20,7 +20,7 @@ pub fn iter_gives_the_live_items<T>()
     ensures { (s : Slots T) → IsListing s (items s) }
 {}
 
-/// `find` answers an id exactly where the value is mapped to it, it is live, and its item is equal
+/// `find` returns an id exactly where the value is mapped to it, it is live, and its item is equal
 /// to the value.
 pub fn find_gives_a_live_equal_item<T: Eq>()
     ensures { (s : Set T) (value : T) (id : ℕ) →

@@ -3,13 +3,12 @@
 //! - [`Id`] is the place of an item in its arena. Ids of different item types are different types.
 //! - [`TombstoneArena`] hands out ids for items. A deleted item leaves a dead slot behind, so an id
 //!   is never handed out again.
-//! - [`ArenaSet`] is such an arena with a map from values to ids, so that an equal value is given
-//!   the id that it has already.
-//! - [`HashKeys`] are the keys of its hash, random ones where the values are not trusted.
+//! - [`ArenaSet`] is such an arena with a map from values to ids, so that equal values get one id.
+//! - [`HashKeys`] are the keys of its hash. Use random ones where the values are not trusted.
 //! - [`IdHashMap`] and [`IdHashSet`] are std's map and set with ids as keys.
 //!
-//! Whatever grows answers a `Result`. A refused growth changes nothing, and the deletions take no
-//! memory at all.
+//! Each call that takes memory returns a `Result`. If memory is refused, nothing changes. Deletions
+//! take no memory.
 //!
 //! # An interner of names
 //!
@@ -33,7 +32,7 @@
 //! }
 //! ```
 //!
-//! The tests of this crate, in `walrus_arena_tests`, have it whole.
+//! The tests of this crate, in `walrus_arena_tests`, have the whole example.
 #![tactic(auto)]
 
 mod arena_set;

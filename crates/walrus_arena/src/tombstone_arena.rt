@@ -1,4 +1,4 @@
-//! An arena: items named by ids, of which none is given out twice.
+//! An arena: items named by ids, none of which is given out twice.
 ghost use Rattle.std.specs.Prelude.{◌≡◌, ◌+◌, ◌<◌, ◌↔◌, [], ◌∷◌, ◌++◌, length, IsTrue, IsOk, IsSome, IfOk, OnOk, OnErr, Some, option_copied, All, map, vec_len, nat_eq};
 ghost use Rattle.std.specs.Option.{option_copied_mut};
 ghost use Rattle.std.specs.List.{IsDistinct};
@@ -12,8 +12,8 @@ use std::ops::{Index, IndexMut};
 
 /// What happens to an item when it is deleted.
 pub trait Tombstone {
-    /// Gives back what the item holds, as memory. It runs once for a deletion, when the slot is
-    /// dead already. The item must stay valid, since it is dropped with its arena; no call shows it
+    /// Frees what the item holds, such as memory. It runs once for a deletion, when the slot is
+    /// dead already. The item must stay valid, since it is dropped with its arena. No call shows it
     /// any more.
     fn on_delete(&mut self) {}
 }
@@ -32,7 +32,7 @@ pub struct TombstoneArena<T, A: Allocator = Global> {
 // The item of a dead slot is as `on_delete` left it.
 #[derive(Drop)]
 pub(crate) struct Slot<T> {
-    // It stands first, beside what is read of an item most of the time.
+    // It is first, beside the part of an item that is read most often.
     pub(crate) is_live: bool,
     pub(crate) item: T,
 }
@@ -63,7 +63,7 @@ impl<T, A: Allocator> TombstoneArena<T, A> {
         }
     }
 
-    /// Puts `value` into a new slot at the end, and answers its id. After an `AllocError` the arena
+    /// Puts `value` into a new slot at the end, and returns its id. After an `AllocError` the arena
     /// is as it was, and `value` is dropped.
     pub fn alloc(&mut self, value: T) -> Result<Id<T>, AllocError>
     where
@@ -81,8 +81,8 @@ impl<T, A: Allocator> TombstoneArena<T, A> {
         Ok(id)
     }
 
-    /// Puts the item that `make` makes of its own id into a new slot at the end, and answers the
-    /// id. The room is taken before `make` runs: after an `AllocError` `make` did not run, and the
+    /// Puts the item that `make` makes of its own id into a new slot at the end, and returns the
+    /// id. Memory is taken before `make` runs: after an `AllocError` `make` did not run, and the
     /// arena is as it was.
     pub fn alloc_with_id<F: FnOnce(Id<T>) -> T + Drop>(
         &mut self,
@@ -106,7 +106,7 @@ impl<T, A: Allocator> TombstoneArena<T, A> {
         Ok(Id::from_index(at))
     }
 
-    /// Puts `values` into new slots at the end, in order, and answers their ids. All or none: after
+    /// Puts `values` into new slots at the end, in order, and returns their ids. All or none: after
     /// an `AllocError` the arena is as it was.
     pub fn alloc_all(&mut self, values: Vec<T, A>) -> Result<Vec<Id<T>, A>, AllocError>
     where
@@ -173,7 +173,7 @@ impl<T, A: Allocator> TombstoneArena<T, A> {
         self.live == 0
     }
 
-    /// The id that the next slot gets: the number of slots, dead ones counted too.
+    /// The id that the next slot gets: the number of slots, including dead ones.
     pub fn next_id(&self) -> Id<T>
         ensures { result ≡ length self.now }
     {
@@ -190,7 +190,7 @@ impl<T, A: Allocator> TombstoneArena<T, A> {
         }
     }
 
-    /// The live ids in order. With `get_mut` it goes over the items for writing.
+    /// The live ids in order, for changing the items with `get_mut`.
     pub fn live_ids(&self) -> Result<Vec<Id<T>, A>, AllocError>
     where
         A: Copy,
@@ -203,8 +203,8 @@ impl<T, A: Allocator> TombstoneArena<T, A> {
         Ok(all)
     }
 
-    /// Deletes the item of a live id: its slot dies, and its `on_delete` runs. It takes no memory,
-    /// and always answers `Ok`.
+    /// Deletes the item of a live id: its slot is dead from then on, and its `on_delete` runs. It
+    /// takes no memory, and always returns `Ok`.
     pub fn delete(&mut self, id: Id<T>) -> Result<(), AllocError>
     where
         T: Tombstone,
@@ -218,7 +218,7 @@ impl<T, A: Allocator> TombstoneArena<T, A> {
     }
 
     /// `delete` of each of these distinct live ids, in order. It takes no memory, and always
-    /// answers `Ok`.
+    /// returns `Ok`.
     pub fn delete_all(&mut self, ids: &[Id<T>]) -> Result<(), AllocError>
     where
         T: Tombstone,
@@ -234,7 +234,7 @@ impl<T, A: Allocator> TombstoneArena<T, A> {
         Ok(())
     }
 
-    // Marks the slot of a live id as dead, and tells its item.
+    // Marks the slot of a live id as dead, and runs `on_delete` of its item.
     pub(crate) fn mark_dead(&mut self, at: usize)
     where
         T: Tombstone,

@@ -141,8 +141,8 @@ pub struct Fault {
     pub left: usize,
 }
 
-/// Why a part of a section could not be read. The place of a fault is where the input is left: so an
-/// error is small, and what is read moves past it in few instructions.
+/// Why a part of a section could not be read. The place of a fault is where the input is left: so
+/// an error is small, and what is read moves past it in few instructions.
 #[derive(Clone, Copy, PartialEq, Eq, Debug)]
 pub enum ReadError {
     Reason(Reason),

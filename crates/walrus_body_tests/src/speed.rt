@@ -1,5 +1,6 @@
-//! Bodies of a hundred thousand and of a million instructions, a tenth of them blocks, each block in
-//! the sequence of the one before. `scripts/measure_bodies` tells how the time of these tests grows.
+//! Bodies of a hundred thousand and of a million instructions, a tenth of them blocks, each block
+//! in the sequence of the one before. `scripts/measure_bodies` tells how the time of these tests
+//! grows.
 use crate::assertions::assert_equal;
 use std::alloc::{AllocError, Global};
 use walrus_body::{RenameTypes, dfs_pre_order_mut};
@@ -11,7 +12,8 @@ const SMALL: usize = 10_000;
 
 const LARGE: usize = 100_000;
 
-// A body of so many nested blocks, each behind nine instructions, and an empty sequence in the last.
+// A body of so many nested blocks, each behind nine instructions, and an empty sequence in the
+// last.
 fn deep(alloc: Global, levels: usize) -> Result<LocalFunction, BuildError> {
     let mut builder = FunctionBuilder::without_entry(alloc, Id::from_index(0));
     for level in 0..levels {

@@ -7,14 +7,14 @@ use thiserror::Error;
 
 /// Why an instruction could not be added.
 ///
-/// Closures that fill new sequences answer it too: theirs is passed on as it is.
+/// Closures that fill new sequences return it too: their error is passed on unchanged.
 #[derive(Clone, Copy, PartialEq, Eq, Debug, Error)]
 pub enum BuildError {
-    /// The sequence that the instruction was to go into isn't known. Only calls that take closures
-    /// answer it: a closure can replace the function by one that has no such sequence.
+    /// The sequence for the instruction isn't known. Only calls that take closures return this: a
+    /// closure can replace the function by one that has no such sequence.
     #[error("unknown parent")]
     NoParent,
-    /// The position is past the end of the sequence, as it is after the closures have run.
+    /// The position is past the end of the sequence once the closures have run.
     #[error("position past the end")]
     Position,
     /// Memory was refused.

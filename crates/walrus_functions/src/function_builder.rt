@@ -19,7 +19,7 @@ use std::marker::Model;
 use walrus_ir::{Instr, InstrLocId, InstrSeq, InstrSeqId, InstrSeqType, LocalId};
 use walrus_types::{FunctionId, ModuleTypes, TypeId, ValType};
 
-/// Builds a function: its sequences of instructions by id, which of them is run first, its type and
+/// Builds a function: its sequences of instructions by id, which of them runs first, its type and
 /// its name.
 ///
 /// A contract sees it as `Body`: the list of its sequences, each at the place that is its id, an
@@ -66,12 +66,16 @@ impl FunctionBuilder {
     ghost use Rattle.walrus_functions.specs.Steps.SeqLends.{LendsSeq};
     ghost use Rattle.walrus_functions.specs.contracts.function_builder.FunctionBuilder.{the_row};
 
-    /// A builder of a function that takes `params` and leaves `results`. It has one sequence,
-    /// without instructions, which is run first.
+    /// Returns a builder of a function that takes `params` and leaves `results`. It has one
+    /// sequence, without instructions, which runs first.
     ///
     /// Two types are found in the table or else added: the function type by `ModuleTypes::add`, and
-    /// then by `ModuleTypes::add_entry_ty` the type that stands for the body, which is not written.
-    /// Where memory is refused the table is as it was, or has the function type, or has both types.
+    /// then by `ModuleTypes::add_entry_ty` the type that marks the body, which is not written.
+    ///
+    /// # Errors
+    ///
+    /// `AllocError` comes where memory was refused. Then the table is as it was, or has the
+    /// function type, or has both types.
     pub fn new(
         alloc: Global,
         types: &mut ModuleTypes,
@@ -89,7 +93,8 @@ impl FunctionBuilder {
         Ok(builder)
     }
 
-    /// A builder of a function of this type, without sequences, entry and name. It takes no memory.
+    /// Returns a builder of a function of this type, without sequences, entry and name. It takes no
+    /// memory.
     pub fn without_entry(alloc: Global, ty: TypeId) -> FunctionBuilder
         ensures { result ≡ bare ty }
     {
@@ -101,7 +106,7 @@ impl FunctionBuilder {
         }
     }
 
-    /// The id of the sequence that is run first, if there is one. It is a known id.
+    /// The id of the sequence that runs first, if there is one. It is a known id.
     pub fn entry(&self) -> Option<InstrSeqId>
         ensures value { result ≡ self.now.entry }
         ensures known { IfSome result (Knows self.now) }
@@ -109,7 +114,7 @@ impl FunctionBuilder {
         self.entry
     }
 
-    /// Makes a known sequence the one that is run first.
+    /// Makes a known sequence the one that runs first.
     pub fn set_entry(&mut self, id: InstrSeqId)
         requires { Knows self.old id }
         ensures { self.new ≡ record (self.old) { entry = Some id } }
@@ -127,7 +132,7 @@ impl FunctionBuilder {
         self
     }
 
-    /// The id of the sequence that is run first. It asks for an entry.
+    /// The id of the sequence that runs first. There must be an entry.
     pub fn func_body_id(&self) -> InstrSeqId
         requires { IsSome self.now.entry }
         ensures value { self.now.entry ≡ Some result }
@@ -136,7 +141,8 @@ impl FunctionBuilder {
         self.entry.unwrap()
     }
 
-    /// Adds instructions to the sequence that is run first. It asks for an entry.
+    /// Returns a builder that adds instructions to the sequence that runs first. There must be an
+    /// entry.
     pub fn func_body(&mut self) -> InstrSeqBuilder<'_>
         requires { IsSome self.old.entry }
         ensures same { loan_of result ≡ self.entry.ghost_name }
@@ -155,7 +161,7 @@ impl FunctionBuilder {
         self.seqs.contains(id)
     }
 
-    /// Goes on adding instructions to the sequence of a known id.
+    /// Returns a builder that adds further instructions to the sequence of a known id.
     pub fn instr_seq(&mut self, id: InstrSeqId) -> InstrSeqBuilder<'_>
         requires { Knows self.old id }
         ensures same { loan_of result ≡ self.entry.ghost_name }
@@ -165,9 +171,10 @@ impl FunctionBuilder {
         InstrSeqBuilder { id, builder: self }
     }
 
-    /// Makes a sequence of this type, without instructions, and adds instructions to it. No
-    /// instruction names it yet: it is run only where one such as `Block` with its id is added to a
-    /// sequence that is run. Where memory is refused nothing changes.
+    /// Makes a new sequence of this type, without instructions, and returns a builder that adds
+    /// instructions to it. No instruction names the sequence yet. It runs only where an instruction
+    /// such as `Block` with its id is added to a sequence that runs. Where memory is refused
+    /// nothing changes.
     ///
     /// # Example
     ///
@@ -192,15 +199,16 @@ impl FunctionBuilder {
         Ok(InstrSeqBuilder { id, builder: self })
     }
 
-    /// The function as it is, with these locals as its parameters. It takes no memory.
+    /// Returns the function as it is, with these locals as its parameters. It takes no memory.
     pub fn local_func(self, args: Vec<LocalId>) -> LocalFunction
         ensures { result ≡ record { body = self; args = args.items } }
     {
         LocalFunction::new(self, args)
     }
 
-    /// Adds the function as it is, with these locals as its parameters, to `funcs`, and answers its
-    /// id there. Where memory is refused the function is handed back, and `funcs` is as it was.
+    /// Adds the function as it is, with these locals as its parameters, to `funcs`, and returns its
+    /// id there. Where memory is refused, the error is the function itself, and `funcs` is as it
+    /// was.
     pub fn finish(
         self,
         args: Vec<LocalId>,
@@ -288,7 +296,7 @@ impl FunctionBuilder {
         Ok(())
     }
 
-    // Puts an instruction into a known sequence, behind so many others.
+    // Puts an instruction into a known sequence, at this position.
     #[tactic(auto, using(crate::proofs::BodyLemmas::same_instrs))]
     fn insert(&mut self, id: InstrSeqId, position: usize, instr: Instr) -> Result<(), AllocError>
         requires known { Knows self.old id }

@@ -1,14 +1,14 @@
 //! Function bodies of WebAssembly modules: functions and their builders.
 //!
-//! - [`FunctionBuilder`] builds a function: sequences of instructions by id, one of which is run
+//! - [`FunctionBuilder`] builds a function: sequences of instructions by id, one of which runs
 //!   first.
 //! - [`InstrSeqBuilder`] adds instructions to one of the sequences, with a call for each common
 //!   instruction. Calls such as [`InstrSeqBuilder::block`] make the sequence inside an instruction
 //!   too.
-//! - [`LocalFunction`] is a function that has a body, [`LocalFunctions`] are those of a module.
+//! - [`LocalFunction`] is a function that has a body, and [`LocalFunctions`] are the functions of a
+//!   module that have one.
 //!
-//! Nothing here says what is valid: any instruction may go anywhere, and a body may even contain
-//! itself.
+//! Nothing here validates: any instruction may go anywhere, and a body may even contain itself.
 //!
 //! # A function that adds two numbers in a loop
 //!

@@ -9,7 +9,7 @@ use std::marker::Model;
 use walrus_ir::{InstrSeq, InstrSeqId, LocalId};
 use walrus_types::TypeId;
 
-/// A function that has a body: its sequences of instructions by id, which of them is run first, its
+/// A function that has a body: its sequences of instructions by id, which of them runs first, its
 /// type, its name, and its parameters. [`FunctionBuilder::local_func`] and
 /// [`FunctionBuilder::finish`] make one.
 #[derive(Drop)]
@@ -50,7 +50,7 @@ impl LocalFunction {
         self.builder.name_text()
     }
 
-    /// The id of the sequence that is run first, if there is one. It is a known id.
+    /// The id of the sequence that runs first, if there is one. It is a known id.
     pub fn entry(&self) -> Option<InstrSeqId>
         ensures value { result ≡ self.now.body.entry }
         ensures known { IfSome result (Knows self.now.body) }
@@ -58,7 +58,7 @@ impl LocalFunction {
         self.builder.entry()
     }
 
-    /// The id of the sequence that is run first. It asks for an entry.
+    /// The id of the sequence that runs first. There must be an entry.
     pub fn entry_block(&self) -> InstrSeqId
         requires { IsSome self.now.body.entry }
         ensures value { self.now.body.entry ≡ Some result }
@@ -67,7 +67,7 @@ impl LocalFunction {
         self.builder.func_body_id()
     }
 
-    /// How many sequences it has. Their ids count from 0, so the known ones are those below this
+    /// The number of its sequences. Their ids count from 0, so the known ids are the ids below this
     /// number.
     pub fn block_count(&self) -> usize
         ensures { result ≡ length self.now.body.seqs }
@@ -91,8 +91,8 @@ impl LocalFunction {
     }
 
     /// The sequence of a known id, for writing. Nothing else of the function changes. A whole
-    /// sequence that is written over it takes its place, and answers to this id whatever its own
-    /// `id()` says.
+    /// sequence that is written over it takes its place, and has this id from then on, whatever its
+    /// own `id()` says.
     pub fn block_mut(&mut self, id: InstrSeqId) -> &mut InstrSeq
         requires { Knows self.old.body id }
         ensures* writes_back { sem 𝓛 (LendsBlock self.entry id result) }

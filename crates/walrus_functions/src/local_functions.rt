@@ -46,8 +46,8 @@ impl LocalFunctions {
         }
     }
 
-    /// Adds a function, and answers its id: the number of functions before. Where memory is refused
-    /// the function is handed back, and nothing changes.
+    /// Adds a function, and returns its id: the number of functions before. Where memory is
+    /// refused, the error is the function itself, and nothing changes.
     pub fn add(&mut self, func: LocalFunction) -> Result<FunctionId, LocalFunction>
         ensures id { IfOk result (λ id. id ≡ length self.old) }
         ensures ok { OnOk result (self.new ≡ self.old ++ func ∷ []) }

@@ -10,7 +10,8 @@ ghost use Rattle.walrus_sections.specs.declared.error.ReadError.TheVariants as e
 use crate::ReadError;
 use walrus_ty::{CompAt, EntryAt, FieldAt, ValAt};
 
-/// What is wrong with a group of these entries, where so many entries stand before it.
+/// What is wrong with a group of these entries, if `start` entries come before it. `None` says that
+/// it can be read.
 pub fn first_error(entries: &[EntryAt], start: usize) -> Option<ReadError>
     ensures { result ≡ group_error start (map entry_definition entries.now) }
 {
@@ -20,7 +21,7 @@ pub fn first_error(entries: &[EntryAt], start: usize) -> Option<ReadError>
     }
 }
 
-// One past the last index of a group of so many entries, if a section may be that long.
+// One past the last index of a group of `count` entries, if a section may be that long.
 fn end_of(count: usize, start: usize) -> Option<u32>
     ensures { result ≡ (if nat_le entry_limit (start + count) then None else Some (start + count)) }
 {

@@ -26,9 +26,9 @@ pub fn one_normal_form()
         m ≡ w }
 {}
 
-/// Each well-named section has a normal form, and moves lead down to it: each leaves fewer groups,
-/// or as many groups and fewer pairs of free `Single`s, with no anchor between, that are out of
-/// order.
+/// Each well-named section has a normal form, and moves lead down to it. Each move leaves fewer
+/// groups, or as many groups and fewer pairs of free lone types, with no anchor between, that are
+/// out of order.
 pub fn output_exists()
     ensures { (s : Section) → IsWellNamed s → (n : Section) × IsOutput s n × DescentTo n s }
 {}
@@ -42,7 +42,7 @@ pub fn second_round()
         IsNormalForm n n (identity n) }
 {}
 
-/// A section that is its own normal form has no other: what stands in order already stays as it is.
+/// A section that is its own normal form has no other: what is in order already stays as it is.
 pub fn normal_form_stays()
     ensures section { (s n : Section) (m : List ℕ) → IsWellNamed s → IsNormalForm s s (identity s) →
         IsNormalForm s n m →
@@ -52,7 +52,7 @@ pub fn normal_form_stays()
         m ≡ identity s }
 {}
 
-/// The renumbered swap of two neighbouring `Single`s that name no type keeps the output, and
+/// The renumbered swap of two neighbouring lone types that name no type keeps the output, and
 /// exchanges their two items of the map.
 pub fn swap_keeps_output()
     ensures well_named { (s r : Section) (i : ℕ) → IsWellNamed s → IsRenumberedSwap s r i →
@@ -69,7 +69,7 @@ pub fn equal_outputs_by_moves()
         (((n : Section) × IsOutput a n × IsOutput b n) ↔ AreJoined a b) }
 {}
 
-/// In a table that a well-named section was read into, no `Single` has two candidates to be sent
+/// In a table that a well-named section was read into, no lone type has two candidates to be sent
 /// to.
 pub fn one_candidate()
     ensures { (s : Section) (r : ℕ → ℕ) (i j k : ℕ) → IsWellNamed s → IsSlotMap (index_space s) r →
@@ -79,7 +79,7 @@ pub fn one_candidate()
 {}
 
 /// In a table that a well-named section was read into, what a live type names is live, and in its
-/// own group or in one that stands before it: so emission never lacks a name.
+/// own group or in an earlier one. So emission never lacks an index.
 pub fn names_stand_before()
     ensures { (s : Section) (r : ℕ → ℕ) (g u i k : ℕ) → IsWellNamed s →
         IsSlotMap (index_space s) r →
@@ -97,15 +97,15 @@ pub fn read_then_emitted()
         IsNormalForm s n (map (λ i. m (r i)) (range_with_len 0 (index_space s).count)) }
 {}
 
-/// A section is well-named, or its first group with an error decides what reading it answers; never
-/// both.
+/// A section is well-named, or its first group with an error decides which error reading it
+/// returns. Never are both so.
 pub fn first_error_decides()
     ensures either { (s : Section) → IsWellNamed s ⊎ ((e : ReadError) × IsFirstError s e) }
     ensures not_both { (s : Section) (e : ReadError) → IsFirstError s e → ¬ (IsWellNamed s) }
 {}
 
-/// Three sections with their normal forms: the order of definitions turns two; a `Single` that
-/// repeats an earlier one goes to it, and not to the equal member of a `Rec`; `Single`s that name
+/// Three sections with their normal forms. The order of definitions turns two; a lone type that
+/// repeats an earlier one goes to it, and not to the equal member of a `Rec`; lone types that name
 /// themselves stay apart. And the two that are turned are a renumbered swap.
 pub fn worked_sections()
     ensures turned { IsNormalForm unordered_pair ordered_pair (1 ∷ 0 ∷ []) }

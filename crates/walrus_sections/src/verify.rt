@@ -1,9 +1,9 @@
-//! A plain and slow program that tells whether a section, with a map onto it, is a normal form of
-//! another section.
+//! A simple and slow program that decides whether a section, with a map onto it, is a normal form
+//! of another section.
 //!
 //! It is the definition of the normal form, law by law, tried at every index and every pair of
-//! indices: it takes time in the fourth power of the number of definitions. It is there to try the
-//! definition on examples, and to judge other programs by.
+//! indices. It takes time in the fourth power of the number of definitions. It is there to try the
+//! definition on examples, and to judge other programs.
 ghost use Rattle.std.specs.Prelude.{◌≡◌, IsTrue, IfOk, ◌↔◌, ℕ, ◌<◌, length};
 ghost use Rattle.walrus_sections.specs.NormalForm.{IsNormalForm, IsNormal, image};
 ghost use Rattle.walrus_ty.specs.Records.{section_of};
@@ -27,12 +27,15 @@ use places::{Place, places_of};
 use std::alloc::{AllocError, Global};
 use walrus_ty::GroupAt;
 
-/// Whether `output`, with the map that has for each index of `section` an index of `output`, is a
-/// normal form of `section`.
-/// Where the section is well-named there is one such output and one such map, which `normalise`
-/// answers.
+/// Returns whether `output` is a normal form of `section`, with the map that has an index of
+/// `output` for each index of `section`. Where the section is well-named there is one such output
+/// and one such map, which `normalise` returns.
 ///
-/// walrus has no such call.
+/// It takes time in the fourth power of the number of definitions. walrus has no such call.
+///
+/// # Errors
+///
+/// `AllocError` comes where memory was refused.
 pub fn is_normal_form(
     alloc: Global,
     section: &[GroupAt],

@@ -1,5 +1,5 @@
-//! Laws of texts. Each function does nothing; its clause is a theorem, which a caller gets by calling
-//! it.
+//! Laws of texts. Each function does nothing; its clause is a theorem, which a caller gets by
+//! calling it.
 ghost use Rattle.std.specs.Prelude.{◌≡◌, ◌↔◌, ℕ, List};
 ghost use Rattle.walrus_ty.specs.declared.records.GroupAt.{GroupAt};
 ghost use Rattle.walrus_text.specs.Words.{lines_of, text_of};
@@ -26,8 +26,8 @@ pub fn one_section()
     ensures { (text : List ℕ) (a b : List GroupAt) → IsTextOf text a → IsTextOf text b → a ≡ b }
 {}
 
-/// What [`write_section`](crate::write_section) writes is a text of the groups, if their indices are
-/// below 2^32, and of no others. So reading it gives them back.
+/// What [`write_section`](crate::write_section) writes is a text of the groups, if their indices
+/// are below 2^32, and of no others. So reading it gives them back.
 pub fn written_section_is_read_back()
     ensures { (groups : List GroupAt) → HasSectionIndices groups →
         IsTextOf (text_of (section_lines groups)) groups }

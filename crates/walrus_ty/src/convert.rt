@@ -21,7 +21,7 @@ use crate::{
 use std::alloc::Global;
 
 impl HeapType {
-    /// The heap type of this record. `UnknownIndex` has the index in it that stands for nothing. It
+    /// The heap type of this record. `UnknownIndex` has the index in it that is not in the map. It
     /// takes no memory.
     pub fn from_record(at: &HeapAt, ids: &IndicesToIds) -> Result<HeapType, UnknownIndex>
         ensures renamed { IfOk result
@@ -57,8 +57,8 @@ impl HeapType {
 }
 
 impl RefType {
-    /// The reference type of this record. `UnknownIndex` has the index in it that stands for
-    /// nothing. It takes no memory.
+    /// The reference type of this record. `UnknownIndex` has the index in it that is not in the
+    /// map. It takes no memory.
     pub fn from_record(at: &RefAt, ids: &IndicesToIds) -> Result<RefType, UnknownIndex>
         ensures renamed { IfOk result (λ x.
             x ≡ rename_reference (value_or_zero (type_at ids.now)) at.now) }
@@ -73,7 +73,8 @@ impl RefType {
         })
     }
 
-    /// The record of this reference type. `NoIndex` has the id that lacks an index. It takes no memory.
+    /// The record of this reference type. `NoIndex` has the id that lacks an index. It takes no
+    /// memory.
     pub fn to_record(&self, indices: &IdsToIndices) -> Result<RefAt, NoIndex>
         ensures renamed { IfOk result (λ x.
             x ≡ rename_reference (value_or_zero (type_index indices.now)) self.now) }
@@ -91,8 +92,8 @@ impl RefType {
 }
 
 impl ValType {
-    /// The value type of this record. `UnknownIndex` has the index in it that stands for nothing.
-    /// It takes no memory.
+    /// The value type of this record. `UnknownIndex` has the index in it that is not in the map. It
+    /// takes no memory.
     pub fn from_record(at: &ValAt, ids: &IndicesToIds) -> Result<ValType, UnknownIndex>
         ensures renamed { IfOk result
             (λ x. x ≡ rename_val (value_or_zero (type_at ids.now)) at.now) }
@@ -132,7 +133,7 @@ impl ValType {
 }
 
 impl StorageType {
-    /// The storage type of this record. `UnknownIndex` has the index in it that stands for nothing.
+    /// The storage type of this record. `UnknownIndex` has the index in it that is not in the map.
     /// It takes no memory.
     pub fn from_record(at: &StorageAt, ids: &IndicesToIds) -> Result<StorageType, UnknownIndex>
         ensures renamed { IfOk result (λ x.
@@ -149,7 +150,8 @@ impl StorageType {
         })
     }
 
-    /// The record of this storage type. `NoIndex` has the id that lacks an index. It takes no memory.
+    /// The record of this storage type. `NoIndex` has the id that lacks an index. It takes no
+    /// memory.
     pub fn to_record(&self, indices: &IdsToIndices) -> Result<StorageAt, NoIndex>
         ensures renamed { IfOk result (λ x.
             x ≡ rename_storage (value_or_zero (type_index indices.now)) self.now) }
@@ -168,8 +170,8 @@ impl StorageType {
 }
 
 impl FieldType {
-    /// The field type of this record. `UnknownIndex` has the index in it that stands for nothing.
-    /// It takes no memory.
+    /// The field type of this record. `UnknownIndex` has the index in it that is not in the map. It
+    /// takes no memory.
     pub fn from_record(at: &FieldAt, ids: &IndicesToIds) -> Result<FieldType, UnknownIndex>
         ensures renamed { IfOk result
             (λ x. x ≡ rename_field (value_or_zero (type_at ids.now)) at.now) }
@@ -337,8 +339,8 @@ fn function_to(
 
 impl CompositeType {
     /// The composite type of this record. `UnknownIndex` has the first index in it, from left to
-    /// right, that stands for nothing; `Memory` comes where room for its lists was refused, and so
-    /// never of an array type.
+    /// right, that is not in the map. `Memory` comes where memory for its lists was refused, and so
+    /// never for an array type.
     pub fn from_record(
         alloc: Global,
         at: &CompAt,
@@ -371,8 +373,8 @@ impl CompositeType {
     }
 
     /// The record of this composite type. `NoIndex` has the first id in it, from left to right,
-    /// that has no index; `Memory` comes where room for its lists was refused, and so never of an
-    /// array type.
+    /// that has no index. `Memory` comes where memory for its lists was refused, and so never for
+    /// an array type.
     pub fn to_record(&self, alloc: Global, indices: &IdsToIndices) -> Result<CompAt, ToRecordError>
         ensures renamed { IfOk result (λ x.
             comp_composite x
@@ -412,9 +414,9 @@ pub struct SubType {
 }
 
 impl SubType {
-    /// What this record says. `UnknownIndex` has the first index in it that stands for nothing:
-    /// those of the composite type from left to right, then the supertype. `Memory` comes where
-    /// room for the lists of the composite type was refused, and so never of an array type.
+    /// What this record says. `UnknownIndex` has the first index in it that is not in the map: the
+    /// composite type from left to right, then the supertype. `Memory` comes where memory for the
+    /// lists of the composite type was refused, and so never for an array type.
     #[tactic(auto, using(crate::proofs::Names::Lookups::missing_first, crate::proofs::Names::Lookups::missing_second))]
     pub fn from_record(
         alloc: Global,
@@ -440,9 +442,9 @@ impl SubType {
 }
 
 impl Type {
-    /// The record of this type. `NoIndex` has the first id in it that has no index: those of the
-    /// composite type from left to right, then the supertype. `Memory` comes where room for the
-    /// lists of the composite type was refused, and so never of an array type.
+    /// The record of this type. `NoIndex` has the first id in it that has no index: the composite
+    /// type from left to right, then the supertype. `Memory` comes where memory for the lists of
+    /// the composite type was refused, and so never for an array type.
     #[tactic(auto, using(crate::proofs::Names::Lookups::missing_first, crate::proofs::Names::Lookups::missing_second))]
     pub fn to_record(&self, alloc: Global, indices: &IdsToIndices) -> Result<EntryAt, ToRecordError>
         ensures renamed { IfOk result (λ x.
@@ -465,7 +467,7 @@ impl Type {
     }
 }
 
-// The id that the index of a supertype stands for.
+// The id for the index of a supertype.
 fn supertype_from(
     supertype: Option<u32>,
     ids: &IndicesToIds,

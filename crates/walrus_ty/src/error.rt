@@ -7,7 +7,7 @@ use crate::{FunctionId, GlobalId, TypeId};
 use std::alloc::{AllocError, AllocFailed};
 use thiserror::Error;
 
-/// An index that stands for nothing.
+/// An index that is not in the map.
 #[derive(Clone, Copy, PartialEq, Eq, Debug, Error)]
 #[error("unknown index {0}")]
 pub struct UnknownIndex(pub u32);
@@ -26,7 +26,7 @@ pub enum NoIndex {
 /// Why a record could not be read.
 #[derive(Clone, Copy, PartialEq, Eq, Debug, Error)]
 pub enum FromRecordError {
-    /// An index that stands for nothing.
+    /// An index that is not in the map.
     #[error("{}", UnknownIndex(*.0))]
     UnknownIndex(u32),
     /// Memory was refused.

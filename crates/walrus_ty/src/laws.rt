@@ -1,5 +1,5 @@
-//! Laws of types, of section records and of their texts. Each function does nothing, or answers
-//! what its clause speaks of; its clauses are theorems, which a caller gets by calling it.
+//! Laws of types, of section records and of their texts. Each function does nothing, or returns
+//! what its clause speaks of. Its clauses are theorems, which a caller gets by calling it.
 ghost use Rattle.std.specs.Ordering.{ordering_reverse, ordering_then};
 ghost use Rattle.std.specs.Prelude.{◌<◌, ◌^◌, ◌≡◌, ◌↔◌, IsTrue, List, ℕ};
 ghost use Rattle.std.specs.declared.cmp.Ordering.TheVariants.{Equal, Less};
@@ -103,20 +103,20 @@ pub fn equal_records_are_the_same()
     ensures groups { (g h : GroupAt) → (IsTrue (⟦<GroupAt as PartialEq>⟧.eq g h) ↔ (g ≡ h)) }
 {}
 
-/// Section records with the same contents are the same, so what the laws say of contents they say
-/// of records.
+/// Section records with the same contents are the same. So what the laws say of contents holds of
+/// records.
 pub fn contents_tell_records()
     ensures entry { (d e : EntryAt) → entry_definition d ≡ entry_definition e → d ≡ e }
     ensures section { (gs hs : List GroupAt) → section_of gs ≡ section_of hs → gs ≡ hs }
 {}
 
-/// Two value types with the same text are equal, where what they name are places. The ids of a
+/// Two value types with the same text are equal, where the names in them are places. The ids of a
 /// `ValType` are, so [`same_text`] says it of any two of them.
 pub fn text_tells_value_types()
     ensures { (v w : value.Val ℕ) → HasPlaces v → HasPlaces w → val_text v ≡ val_text w → v ≡ w }
 {}
 
-/// Two value types with the same text are equal: the law above, of two that are at hand.
+/// Two value types with the same text are equal: the law above, for these two.
 pub fn same_text(v: &ValType, w: &ValType)
     ensures { val_text v.now ≡ val_text w.now → v.now ≡ w.now }
 {

@@ -3,11 +3,11 @@
 //! - [`Type`] is a type of a module, which names others by id.
 //! - [`GroupAt`] and [`EntryAt`] are the records of a type section, which name types by index.
 //!   [`IndicesToIds`] and [`IdsToIndices`] lead from one to the other.
-//! - [`laws`] and [`record_laws`] have the theorems: how types and records compare, and that their
-//!   texts and contents tell them.
+//! - [`laws`] and [`record_laws`] have the theorems: how types and records compare, and that two
+//!   with the same text or the same contents are equal.
 //!
-//! A record is read as a type through a map from indices to ids, and written again through one from
-//! ids to indices:
+//! A record is read as a type through a map from indices to ids, and written again through a map
+//! from ids to indices:
 //!
 //! ```
 //! fn both_ways(alloc: Global, comp: &CompAt) -> Result<CompAt, Fail> {

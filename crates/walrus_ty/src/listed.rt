@@ -18,8 +18,7 @@ use std::marker::Model;
 use std::ops::{Index, IndexMut};
 use std::slice::Iter;
 
-/// A `Vec` whose contracts speak of its items alone: two of them are the same where their items
-/// are.
+/// A `Vec` whose contracts speak of its items alone: two lists are the same where their items are.
 ///
 /// ```
 /// let mut list = Listed::from_vec(vec![in alloc; 3, 4]?);
@@ -61,7 +60,7 @@ impl<T> Listed<T> {
         self.items.as_slice()
     }
 
-    /// How many items it has.
+    /// The number of its items.
     pub fn len(&self) -> usize
         ensures { result ≡ length self.now }
     {
@@ -135,7 +134,7 @@ impl<T> IndexMut<usize> for Listed<T> {
 }
 
 impl Listed<TypeId> {
-    /// Takes this id out, wherever it stands.
+    /// Takes this id out, wherever it is in the list.
     pub fn remove_id(&mut self, id: TypeId)
         ensures { self.new ≡ filter (λ i. not (nat_eq i id)) self.old }
     {

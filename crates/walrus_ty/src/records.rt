@@ -46,7 +46,8 @@ pub struct EntryAt {
 /// One recursion group of a section: `rectype` in the WebAssembly specification.
 #[derive(Clone, PartialEq, Eq, Debug, Drop)]
 pub enum GroupAt {
-    /// A definition that stands alone.
+    /// A lone type: a definition outside a group. It is not the same as a `Rec` of that definition,
+    /// although WebAssembly treats the two as equal.
     Single(EntryAt),
     /// Definitions that may name each other.
     Rec(Listed<EntryAt>),

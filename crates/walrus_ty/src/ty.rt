@@ -72,7 +72,7 @@ impl Model for Type {
 
 impl Type {
     /// A type without a name and without the mark of a function entry. It takes no memory: `alloc`
-    /// serves when the type is deleted.
+    /// is needed when the type is deleted.
     pub fn new(
         alloc: Global,
         id: TypeId,
@@ -93,7 +93,7 @@ impl Type {
         }
     }
 
-    /// The function type without parameters that marks what a function body gives back.
+    /// The function type without parameters that marks the results of a function body.
     pub fn for_function_entry(id: TypeId, results: Vec<ValType>) -> Type
         ensures { result ≡ unnamed_type (function [] results.items) true None true id }
     {
@@ -148,7 +148,7 @@ impl Type {
         self.kind.unwrap_function().results()
     }
 
-    /// Whether it stands for the block type of a function body. Such a type is no definition of its
+    /// Whether it marks the block type of a function body. Such a type is not a definition of its
     /// module's section.
     pub fn is_for_function_entry(&self) -> bool
         ensures { result ≡ self.now.is_for_function_entry }
@@ -158,8 +158,8 @@ impl Type {
 }
 
 impl Tombstone for Type {
-    /// Gives back the lists that it holds: whatever it was made of, it is left made of the function
-    /// type without parameters and results.
+    /// Frees the lists that it holds. Whatever it was, it becomes the function type without
+    /// parameters and results.
     fn on_delete(&mut self)
         ensures { self.new ≡ with_kind self.old (function [] []) }
     {

@@ -39,8 +39,8 @@ impl From<DecodeError> for Failure {
     }
 }
 
-/// Writes the line that tells the failure, and answers its exit status, which is 4 where that write
-/// failed.
+/// Writes the line that explains the failure, and returns its exit status, which is 4 where that
+/// write failed.
 #[tactic(auto, using(crate::proofs::Failures::status_range))]
 pub fn report<E: Write>(failure: &Failure, err: &mut E) -> u8
     ensures status { (result ≡ status_of failure.now) ⊎ (result ≡ 4) }

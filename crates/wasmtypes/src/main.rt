@@ -19,16 +19,20 @@ use walrus_binary::module_types;
 use walrus_text::write_section;
 use walrus_ty::GroupAt;
 
-/// Reads a module from `reader`, and writes the text of its type section to `out`: nothing where
-/// it has none.
+/// Reads a module from `reader`, and writes the text of its type section to `out`: nothing where it
+/// has none. What the other sections contain is not checked.
 ///
-/// The answer is the exit status: 0 where that is done; 1 where the bytes are no module, or what
-/// its type section contains is no text of groups, or one of types that no record holds; 3 where
-/// memory was refused; 4 where a read or a write failed. One line on `err` tells each of 1, 3 and
-/// 4, and where that line could not be written the answer is 4. `out` gains nothing at 1 and 3,
-/// since all is read before it writes; at 4 it may have gained the text or a part of it.
+/// It returns the exit status. One line on `err` explains each of 1, 3 and 4. If that line can't be
+/// written, the status is 4.
 ///
-/// What the other sections contain is not judged.
+/// - 0: done.
+/// - 1: the bytes are no module, or the content of its type section is no text of groups, or one
+///   with types that no record holds.
+/// - 3: memory was refused.
+/// - 4: a read or a write failed.
+///
+/// `out` gains nothing at 1 and 3, since all is read before it writes. At 4 it may have gained the
+/// text or a part of it.
 pub fn run<R: Read, W: Write, E: Write>(
     alloc: Global,
     reader: &mut R,
@@ -79,7 +83,7 @@ fn read_bytes<R: Read>(alloc: Global, reader: &mut R) -> Result<Vec<u8>, Failure
     Err(Failure::Stream)
 }
 
-/// Writes the text of the groups, and sends on what the writer still holds.
+/// Writes the text of the groups, and flushes the writer.
 fn write_and_flush<W: Write>(out: &mut W, groups: &[GroupAt]) -> Result<(), Failure>
     ensures written { OnOk result (Appends (W.contents out.old) (W.contents out.new)
         (text_of (section_lines groups.now))) }

@@ -95,7 +95,7 @@ impl Ops {
     }
 }
 
-// The form of its own that this operation has where it stands alone, if it has one.
+// The form of its own that this operation has where it is alone, if it has one.
 pub(super) fn plain_form(
     at: &ConstOpAt,
     ids: &IndicesToIds,

@@ -10,7 +10,8 @@ use walrus_ty::TypeId;
 
 impl ConstExpr {
     /// Puts the types that it names at the end of the list, from left to right, each as often as it
-    /// is named: the types of new structs and arrays, and those in the types of null references.
+    /// is named: the types of new structs and arrays, and the types in the types of null
+    /// references.
     ///
     /// A refusal for memory leaves the list as it was.
     pub fn referenced_types(&self, list: &mut Vec<TypeId>) -> Result<(), AllocError>

@@ -1,4 +1,4 @@
-//! Clones of instructions. Those that hold no list are copied.
+//! Clones of instructions. Instructions that hold no list are copied.
 ghost use Rattle.std.specs.Prelude.{◌≡◌};
 
 use crate::Instr;

@@ -93,7 +93,7 @@ pub fn delete_all<T: Tombstone, A: Allocator>(
     arena.delete_all(ids)
 }
 
-/// `insert` of a set. An id that was found is none of a new slot.
+/// `insert` of a set. An id that was found is not the id of a new slot.
 pub fn insert<T: Clone + Eq + Hash, A: Allocator + Clone>(
     set: &mut ArenaSet<T, A>,
     value: T,

@@ -10,24 +10,24 @@ use walrus_ir::{Instr, InstrLocId, InstrSeqId};
 
 /// Adds instructions to one sequence of a function that is being built.
 ///
-/// An added instruction has the default location. Where memory is refused a call that adds answers
-/// `Memory`, and nothing has changed. All calls but `id`, `builder`, `builder_mut` and those that
-/// take closures ask that the sequence is known. It is from the making on, unless the whole
-/// function is replaced through `builder_mut`.
+/// An added instruction has the default location. Where memory is refused, a call that adds returns
+/// `Memory`, and nothing has changed. All calls except `id`, `builder`, `builder_mut` and the ones
+/// that take closures require that the sequence is known. It is known from the start, unless the
+/// whole function is replaced through `builder_mut`.
 ///
 /// # Instructions that have sequences inside
 ///
 /// `block`, `loop_` and `if_else`, and the same with `_at`, make a new sequence, without
-/// instructions, and have a closure fill it; for `if_else` twice. Then they look up their own
+/// instructions, and have a closure fill it. `if_else` makes two. Then they look up their own
 /// sequence, the parent, as the closures have left it, and add the instruction to it.
 ///
-/// An `Err` of a closure is answered at once. `NoParent` is answered where the parent isn't known
-/// by then, and `Position` where it is known and the position is past its end by then. After a
-/// refusal the parent has gained no instruction by the call, but the new sequences and all that
-/// the closures did stay.
+/// An `Err` of a closure is returned at once. `NoParent` comes where the parent isn't known by
+/// then, and `Position` where it is known and the position is past its end by then. After an error
+/// the call has added no instruction to the parent, but the new sequences and all that the closures
+/// did stay.
 ///
-/// A closure has to accept a builder of the new sequence, and may put no other builder in the
-/// place of the one that it is lent.
+/// A closure has to accept a builder of the new sequence, and may not replace the builder that it
+/// is lent by another one.
 #[derive(Drop)]
 pub struct InstrSeqBuilder<'a> {
     pub(super) id: InstrSeqId,
@@ -52,8 +52,8 @@ impl<'a> InstrSeqBuilder<'a> {
         &*self.builder
     }
 
-    /// The function that the sequence is of, for writing. Another function can be put in its place,
-    /// which may not have the sequence.
+    /// The function with the sequence, for writing. Another function can be put in its place, which
+    /// may not have the sequence.
     pub fn builder_mut(&mut self) -> &mut FunctionBuilder
         ensures* writes_back { sem 𝓛
             (Lends self_row function_row self.entry result (with_function self.old)) }
@@ -104,8 +104,8 @@ impl<'a> InstrSeqBuilder<'a> {
         self.push(instr.into())
     }
 
-    /// Puts an instruction, or a struct of one, into the sequence, behind so many others. It asks
-    /// that there are so many. Where memory is refused nothing changes.
+    /// Puts an instruction, or a struct of one, into the sequence at this position, counted from 0.
+    /// The position may not be past the end. Where memory is refused nothing changes.
     pub fn instr_at<I: Into<Instr>>(&mut self, position: usize, instr: I) -> Result<(), BuildError>
         requires known { IsKnown self.old }
         requires position { position ≤ length (instrs_of (function_of self.old) (seq_id self.old)) }

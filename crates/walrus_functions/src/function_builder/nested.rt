@@ -61,7 +61,7 @@ impl<'a> InstrSeqBuilder<'a> {
         self.attach(Instr::Loop(Loop { seq }))
     }
 
-    /// Adds an `if` over two new sequences of this type: `consequent` fills the first, which is run
+    /// Adds an `if` over two new sequences of this type. `consequent` fills the first, which runs
     /// where the condition is not zero, and then `alternative` the second.
     pub fn if_else<
         F: FnOnce(&mut InstrSeqBuilder<'_>) -> Result<(), BuildError>,
@@ -92,8 +92,8 @@ impl<'a> InstrSeqBuilder<'a> {
         }))
     }
 
-    /// Puts a `block` over a new sequence of this type, which `make_block` fills, behind so many
-    /// instructions.
+    /// Puts a `block` over a new sequence of this type, which `make_block` fills, at this position,
+    /// counted from 0.
     pub fn block_at<F: FnOnce(&mut InstrSeqBuilder<'_>) -> Result<(), BuildError>>(
         &mut self,
         position: usize,
@@ -115,8 +115,8 @@ impl<'a> InstrSeqBuilder<'a> {
         self.attach_at(position, Instr::Block(Block { seq }))
     }
 
-    /// Puts a `loop` over a new sequence of this type, which `make_loop` fills, behind so many
-    /// instructions.
+    /// Puts a `loop` over a new sequence of this type, which `make_loop` fills, at this position,
+    /// counted from 0.
     pub fn loop_at<F: FnOnce(&mut InstrSeqBuilder<'_>) -> Result<(), BuildError>>(
         &mut self,
         position: usize,
@@ -139,7 +139,7 @@ impl<'a> InstrSeqBuilder<'a> {
     }
 
     /// Puts an `if` over two new sequences of this type, which `consequent` and then `alternative`
-    /// fill, behind so many instructions.
+    /// fill, at this position, counted from 0.
     pub fn if_else_at<
         F: FnOnce(&mut InstrSeqBuilder<'_>) -> Result<(), BuildError>,
         G: FnOnce(&mut InstrSeqBuilder<'_>) -> Result<(), BuildError>,
@@ -218,8 +218,8 @@ impl<'a> InstrSeqBuilder<'a> {
         Ok(())
     }
 
-    // Puts an instruction into the sequence behind so many others, if the sequence is known and has
-    // so many.
+    // Puts an instruction into the sequence at this position, if the sequence is known and the
+    // position is not past its end.
     fn attach_at(&mut self, position: usize, instr: Instr) -> Result<(), BuildError>
         ensures same { Stays self.old self.new }
         ensures known { OnOk result (IsKnown self.new) }

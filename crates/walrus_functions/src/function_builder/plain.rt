@@ -151,7 +151,7 @@ impl<'a> InstrSeqBuilder<'a> {
         self.push(Instr::GlobalSet(GlobalSet { global }))
     }
 
-    /// Gives this value: `i32.const` and its kin.
+    /// Gives this value: `i32.const` and similar instructions.
     pub fn const_(&mut self, value: Value) -> Result<(), BuildError>
         requires { IsKnown self.old }
         ensures same { Stays self.old self.new }
@@ -293,7 +293,7 @@ impl<'a> InstrSeqBuilder<'a> {
         self.push(Instr::MemoryGrow(MemoryGrow { memory }))
     }
 
-    /// Reads from a memory: `i32.load` and its kin.
+    /// Reads from a memory: `i32.load` and similar instructions.
     pub fn load(&mut self, memory: MemoryId, kind: LoadKind, arg: MemArg) -> Result<(), BuildError>
         requires { IsKnown self.old }
         ensures same { Stays self.old self.new }
@@ -305,7 +305,7 @@ impl<'a> InstrSeqBuilder<'a> {
         self.push(Instr::Load(Load { memory, kind, arg }))
     }
 
-    /// Writes to a memory: `i32.store` and its kin.
+    /// Writes to a memory: `i32.store` and similar instructions.
     pub fn store(
         &mut self,
         memory: MemoryId,

@@ -26,8 +26,8 @@ fn add_endless_loop(body: &mut InstrSeqBuilder<'_>) -> Result<(), BuildError>
     })
 }
 
-// Adds a `drop`. That the builder stays is said of known sequences alone: a nested form asks no more,
-// as it calls its closure on a new one.
+// Adds a `drop`. That the builder stays is said of known sequences alone: a nested form asks no
+// more, as it calls its closure on a new one.
 fn add_drop(body: &mut InstrSeqBuilder<'_>) -> Result<(), BuildError>
     requires { IsKnown body.old }
     ensures same { IsKnown body.old → Stays body.old body.new }

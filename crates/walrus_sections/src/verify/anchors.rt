@@ -27,7 +27,7 @@ pub(super) fn is_kept(map: &[u32], index: usize) -> bool
     true
 }
 
-/// Whether the index keeps its place: a member of a `Rec`, or a kept `Single` that names another
+/// Whether the index keeps its place: a member of a `Rec`, or a kept lone type that names another
 /// index.
 pub(super) fn is_anchor(section: &[Place<'_>], map: &[u32], index: usize) -> bool
     requires { index < length section.now }

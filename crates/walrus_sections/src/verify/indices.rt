@@ -77,7 +77,7 @@ fn keeps_rec_position(
     }
 }
 
-/// Whether the output has no `Rec` and no member of a `Rec` beyond those of the section.
+/// Whether each `Rec` of the output, and each member of one, is in the section too.
 pub(super) fn takes_recs_from_recs(section: &[Place<'_>], output: &[Place<'_>]) -> bool
     ensures { IsTrue result ↔ ((p : ℕ) (x : ℕ × ℕ) → p < length output.now →
         (index_space_of_places output.now).rec_position p ≡ Some x →
@@ -116,7 +116,7 @@ fn has_rec_position(section: &[Place<'_>], rec: usize, at: usize) -> bool
     false
 }
 
-/// Whether each `Single` goes to a `Single`.
+/// Whether each lone type goes to a lone type.
 pub(super) fn sends_singles_to_singles(
     section: &[Place<'_>],
     output: &[Place<'_>],
@@ -135,7 +135,7 @@ pub(super) fn sends_singles_to_singles(
     true
 }
 
-/// Whether each `Single` that names itself is kept.
+/// Whether each lone type that names itself is kept.
 pub(super) fn keeps_selfs(section: &[Place<'_>], map: &[u32]) -> bool
     ensures { IsTrue result ↔ ((i : ℕ) → i < length section.now →
         IsSingle (index_space_of_places section.now) i →
@@ -162,7 +162,7 @@ fn keeps_self(section: &[Place<'_>], map: &[u32], index: usize) -> bool
     }
 }
 
-/// Whether a member of a `Rec` stands at an index.
+/// Whether a member of a `Rec` is at this index.
 pub(super) fn is_in_rec(places: &[Place<'_>], index: usize) -> bool
     ensures { (result ≡ false) ↔ IsSingle (index_space_of_places places.now) index }
 {

@@ -8,8 +8,7 @@ ghost use Rattle.walrus_ty.specs.Value.{val_names, field_names};
 use std::alloc::{AllocError, Global};
 use walrus_ty::{CompAt, EntryAt, FieldAt, ValAt};
 
-/// The indices that stand in an entry, from left to right: those of its composite, then its
-/// supertype.
+/// The indices in an entry, from left to right: first its composite type, then its supertype.
 pub(super) fn names_of(alloc: Global, entry: &EntryAt) -> Result<Vec<u32>, AllocError>
     ensures { IfOk result (λ v. v.items ≡ all_names (entry_definition entry.now)) }
 {

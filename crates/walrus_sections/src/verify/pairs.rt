@@ -11,7 +11,7 @@ use super::definitions::{are_same, order_of};
 use super::places::Place;
 use std::cmp::Ordering;
 
-/// Whether no `Single` repeats an earlier one.
+/// Whether no lone type repeats an earlier one.
 pub(super) fn singles_differ(output: &[Place<'_>]) -> bool
     ensures { IsTrue result ↔ ((p q : ℕ) → p < q → q < length output.now →
         Differ (index_space_of_places output.now) p q) }
@@ -50,7 +50,7 @@ fn differ(output: &[Place<'_>], earlier: usize, later: usize) -> bool
     }
 }
 
-/// Whether of any two kept indices, one of which is an anchor, the earlier stays the earlier.
+/// Whether for any two kept indices, one of which is an anchor, the earlier stays the earlier.
 pub(super) fn keeps_anchors(section: &[Place<'_>], map: &[u32]) -> bool
     ensures { IsTrue result ↔ ((i j : ℕ) → i < j → j < length section.now →
         KeepsAnchors (index_space_of_places section.now) (image map.now) i j) }

@@ -1,4 +1,4 @@
-//! A section by index, each index with what stands there.
+//! A section by index, each index with its definition and its place.
 ghost use Rattle.std.specs.Prelude.{◌≡◌, ◌+◌, ◌++◌, ◌≤◌, ◌≢◌, ℕ, List, ◌∷◌, length, IfOk, OnOk, IsTrue, ◌↔◌, map};
 ghost use Rattle.walrus_ty.specs.Definition.{Names};
 ghost use Rattle.walrus_ty.specs.Records.{entry_definition, section_of, group_of};
@@ -10,7 +10,7 @@ use std::alloc::{AllocError, Global};
 use std::marker::Model;
 use walrus_ty::{EntryAt, GroupAt};
 
-/// What stands at an index of a section.
+/// What is at an index of a section.
 #[derive(Drop)]
 pub(super) struct Place<'a> {
     entry: &'a EntryAt,
@@ -58,14 +58,14 @@ impl<'a> Place<'a> {
         })
     }
 
-    /// The place of a member in its `Rec`, and none for a `Single`.
+    /// The place of a member in its `Rec`, and none for a lone type.
     pub(super) fn rec_position(&self) -> Option<(usize, usize)>
         ensures { result ≡ self.now.rec_position }
     {
         self.rec_position
     }
 
-    /// The definition that stands there.
+    /// The definition there.
     pub(super) fn entry(&self) -> &EntryAt
         ensures { entry_definition result.now ≡ self.now.definition }
     {
@@ -93,7 +93,7 @@ impl<'a> Place<'a> {
     }
 }
 
-/// The position among the `Rec`s at an index, and none where nothing stands.
+/// The position among the `Rec`s at an index, and none where the section has no such index.
 pub(super) fn rec_position_at(places: &[Place<'_>], index: usize) -> Option<(usize, usize)>
     ensures { result ≡ (index_space_of_places places.now).rec_position index }
 {
@@ -129,8 +129,8 @@ pub(super) fn places_of<'a>(
     Ok(places)
 }
 
-// Adds the places of a group that stands behind so many `Rec`s that aren't empty, and answers how
-// many there are then.
+// Adds the places of a group that comes after `recs` `Rec`s that aren't empty, and returns how many
+// there are then.
 fn add_group<'a>(
     places: &mut Vec<Place<'a>>,
     group: &'a GroupAt,

@@ -88,8 +88,8 @@ fn sequences_are_visited_in_order(rt: HostRuntime) {
     says(&rt, alloc, &func, IN_ORDER);
 }
 
-// Every hook call in turn is refused: the log is that of the whole walk, cut there, and the error is
-// that of the refused call.
+// Every hook call in turn is refused: the log is that of the whole walk, cut there, and the error
+// is that of the refused call.
 #[test]
 fn a_refusing_hook_cuts_the_walk(rt: HostRuntime) {
     let alloc = rt.alloc();

@@ -140,21 +140,21 @@ impl IdsToIndices {
         self.types.push_all(ids)
     }
 
-    /// The index of this type; `NoIndex` where it has none.
+    /// The index of this type, or `NoIndex` where it has none.
     pub fn get_type_index(&self, id: TypeId) -> Result<u32, NoIndex>
         ensures { result ≡ ok_or ((type_indices self.now).index id) (OfType id) }
     {
         self.types.get(id).ok_or(NoIndex::OfType(id))
     }
 
-    /// The index of this function; `NoIndex` where it has none.
+    /// The index of this function, or `NoIndex` where it has none.
     pub fn get_func_index(&self, id: FunctionId) -> Result<u32, NoIndex>
         ensures { result ≡ ok_or ((func_indices self.now).index id) (OfFunc id) }
     {
         self.funcs.get(id).ok_or(NoIndex::OfFunc(id))
     }
 
-    /// The index of this global; `NoIndex` where it has none.
+    /// The index of this global, or `NoIndex` where it has none.
     pub fn get_global_index(&self, id: GlobalId) -> Result<u32, NoIndex>
         ensures { result ≡ ok_or ((global_indices self.now).index id) (OfGlobal id) }
     {

@@ -1,4 +1,4 @@
-//! What the indices of a binary module stand for.
+//! The ids for the indices of a binary module.
 ghost use Rattle.std.specs.Prelude.{◌≡◌, ◌+◌, ◌^◌, ◌<◌, ◌≤◌, take, vec_len, vec_capacity, [], ◌∷◌, ◌++◌, length, OnOk, OnErr, slice_get, slice_set};
 ghost use Rattle.std.specs.List.{range_with_len};
 ghost use Rattle.std.specs.Option.{ok_or};
@@ -7,9 +7,8 @@ use crate::{FunctionId, GlobalId, TypeId, UnknownIndex};
 use std::alloc::{AllocError, Global};
 use std::marker::Model;
 
-/// The ids that the indices of a binary module stand for. Types, functions and globals are numbered
-/// apart, each from 0.
-/// WebAssembly core specification, "Modules", indices.
+/// The ids for the indices of a binary module. Types, functions and globals are numbered apart,
+/// each from 0. WebAssembly core specification, "Modules", indices.
 #[derive(Drop)]
 pub struct IndicesToIds {
     types: Vec<TypeId>,
@@ -30,7 +29,7 @@ impl Model for IndicesToIds {
 }
 
 impl IndicesToIds {
-    /// A map in which no index stands for anything. It takes no memory.
+    /// A map without indices. It takes no memory.
     pub fn new(alloc: Global) -> IndicesToIds
         ensures { result ≡ record { types = []; funcs = []; globals = [] } }
     {
@@ -41,7 +40,7 @@ impl IndicesToIds {
         }
     }
 
-    /// Lets the next type index stand for this type. A refusal changes nothing.
+    /// Gives this type the next type index. A refusal changes nothing.
     pub fn push_type(&mut self, id: TypeId) -> Result<(), AllocError>
         ensures ok { OnOk result
             (self.new ≡ record self.old { types = self.old.types ++ id ∷ [] }) }
@@ -51,7 +50,7 @@ impl IndicesToIds {
         Ok(())
     }
 
-    /// Lets the next function index stand for this function. A refusal changes nothing.
+    /// Gives this function the next function index. A refusal changes nothing.
     pub fn push_func(&mut self, id: FunctionId) -> Result<(), AllocError>
         ensures ok { OnOk result
             (self.new ≡ record self.old { funcs = self.old.funcs ++ id ∷ [] }) }
@@ -61,7 +60,7 @@ impl IndicesToIds {
         Ok(())
     }
 
-    /// Lets the next global index stand for this global. A refusal changes nothing.
+    /// Gives this global the next global index. A refusal changes nothing.
     pub fn push_global(&mut self, id: GlobalId) -> Result<(), AllocError>
         ensures ok { OnOk result
             (self.new ≡ record self.old { globals = self.old.globals ++ id ∷ [] }) }
@@ -71,7 +70,7 @@ impl IndicesToIds {
         Ok(())
     }
 
-    /// The type that this index stands for; `UnknownIndex` where it stands for none.
+    /// The type with this index, or `UnknownIndex` where there is none.
     pub fn get_type(&self, index: u32) -> Result<TypeId, UnknownIndex>
         ensures { result ≡ ok_or (slice_get self.now.types index) (record { 0 = index }) }
     {
@@ -81,7 +80,7 @@ impl IndicesToIds {
         }
     }
 
-    /// The function that this index stands for; `UnknownIndex` where it stands for none.
+    /// The function with this index, or `UnknownIndex` where there is none.
     pub fn get_func(&self, index: u32) -> Result<FunctionId, UnknownIndex>
         ensures { result ≡ ok_or (slice_get self.now.funcs index) (record { 0 = index }) }
     {
@@ -91,7 +90,7 @@ impl IndicesToIds {
         }
     }
 
-    /// The global that this index stands for; `UnknownIndex` where it stands for none.
+    /// The global with this index, or `UnknownIndex` where there is none.
     pub fn get_global(&self, index: u32) -> Result<GlobalId, UnknownIndex>
         ensures { result ≡ ok_or (slice_get self.now.globals index) (record { 0 = index }) }
     {
@@ -101,7 +100,7 @@ impl IndicesToIds {
         }
     }
 
-    /// Lets a type index that stands for some type stand for this one instead.
+    /// Gives a type index that is in the map to this type instead.
     pub fn remap_type(&mut self, index: u32, id: TypeId)
         requires { index < length self.old.types }
         ensures { self.new ≡ record self.old { types = slice_set self.old.types index id } }
@@ -109,15 +108,15 @@ impl IndicesToIds {
         self.types[index as usize] = id;
     }
 
-    /// How many type indices stand for a type.
+    /// The number of type indices in the map.
     pub fn type_count(&self) -> usize
         ensures { result ≡ length self.now.types }
     {
         self.types.len()
     }
 
-    /// Lets the next `count` type indices stand for the types whose ids follow one another from the
-    /// place `first` on. All or none: a refusal changes nothing.
+    /// Gives the next `count` type indices to the types with consecutive ids from the place `first`
+    /// on. All or none: a refusal changes nothing.
     pub fn push_types(&mut self, first: usize, count: usize) -> Result<(), AllocError>
         requires { first + count < 2 ^ 64 }
         ensures ok { OnOk result
@@ -129,15 +128,15 @@ impl IndicesToIds {
         Ok(())
     }
 
-    /// Takes the type indices from `count` on back, as to undo `push_type` or `push_types`. The
-    /// first `count` go on standing for their types. It takes no memory.
+    /// Takes the type indices from `count` on out of the map, such as to undo `push_type` or
+    /// `push_types`. The first `count` keep their types. It takes no memory.
     pub fn truncate_types(&mut self, count: usize)
         ensures { self.new ≡ record self.old { types = take count self.old.types } }
     {
         self.types.truncate(count);
     }
 
-    /// The types that the indices stand for. It takes no memory.
+    /// The types of the indices, in order. It takes no memory.
     pub fn into_types(self) -> Vec<TypeId>
         ensures { result.items ≡ self.types }
     {
@@ -145,7 +144,7 @@ impl IndicesToIds {
     }
 }
 
-// So many ids, from the first on, for which there is room.
+// Pushes `count` ids, from the first on, for which there is room.
 fn push_ids(ids: &mut Vec<TypeId>, first: usize, count: usize)
     requires fits { first + count < 2 ^ 64 }
     requires room { vec_len ids.old + count ≤ vec_capacity ids.old }

@@ -23,9 +23,9 @@ use crate::{
 };
 use std::hash::Hash;
 
-/// `Hash` looks at what `==` looks at: of the types that a program can hold, and of what they are
-/// made of, two feed a hasher the same exactly where every part is the same, a `Type` where four
-/// parts are, without its id and its name.
+/// `Hash` looks at what `==` looks at. Take two of the types that a program can hold, or of their
+/// parts. They feed a hasher the same exactly where every part is the same. For a `Type` these are
+/// four parts, without its id and its name.
 pub fn hashes_agree()
     ensures heap_types { HashesBy (λ (h : Heap ℕ). h) (λ h. Fits 64 (heap_name h))
         ⟦<HeapType as Hash>⟧.hash_input }

@@ -140,7 +140,7 @@ impl fmt::Display for FunctionType {
     }
 }
 
-// The parameters or the results, of which this word tells.
+// The parameters or the results, after this word.
 fn write_part<W: fmt::Write>(
     f: &mut fmt::Formatter<W>,
     word: &str,

@@ -11,7 +11,7 @@ use crate::{FieldType, TypeId, ValType};
 use std::alloc::AllocError;
 
 impl Type {
-    /// Puts the types that it names at the end of the list: its supertype, then those in its
+    /// Puts the types that it names at the end of the list: its supertype, then the types in its
     /// parameters and results or in its fields, from left to right, each as often as it is named.
     ///
     /// A refusal for memory leaves the list as it was.

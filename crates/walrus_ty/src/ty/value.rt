@@ -1,6 +1,5 @@
-//! Value types, heap types and fields, over what stands for a type in them: an id in a module, an
-//! index in a section.
-//! WebAssembly core specification, "Types".
+//! Value types, heap types and fields, generic in the name of a type: an id in a module, an index
+//! in a section. WebAssembly core specification, "Types".
 ghost use Rattle.std.specs.Prelude.{◌≡◌};
 ghost use Rattle.walrus_ty.specs.Definition.{supertype_names};
 ghost use Rattle.walrus_ty.specs.Value.{heap_name, reference_name, val_name, storage_name, field_name};
