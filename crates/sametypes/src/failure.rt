@@ -31,7 +31,7 @@ pub enum Failure {
 pub enum Trouble {
     /// The bytes are no module, or its types can't be read.
     Module(DecodeError),
-    /// The text is not that of a section.
+    /// The text is not the text of a section.
     Text(TextError),
     /// The section has no normal form.
     Section(ReadError),

@@ -28,7 +28,7 @@ fn make_tagged(key: u32, note: u32) -> Tagged {
     Tagged { key, note }
 }
 
-// The index that `find` answers.
+// The index of the id that `find` returns.
 fn index_of(set: &ArenaSet<Tagged>, key: u32) -> Option<usize> {
     Some(set.find(&make_tagged(key, 0))?.index())
 }

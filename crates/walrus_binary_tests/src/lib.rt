@@ -1,6 +1,6 @@
 //! Tests of reading and writing of the binary format through the public calls of `walrus_binary`.
 //!
-//! They stand in a crate of their own, since tests inside a crate have the gate prove that crate a
+//! They are in a crate of their own, since tests inside a crate have the gate prove that crate a
 //! second time.
 #![tactic(auto)]
 

@@ -1,4 +1,4 @@
-//! Texts of the specification's grammar with what they stand for, and what is no text.
+//! Texts of the specification's grammar with their meaning, and what is no text.
 mod changed;
 mod compiled;
 mod encoding;

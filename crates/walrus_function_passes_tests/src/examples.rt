@@ -1,6 +1,6 @@
 //! The examples in the documentation of `walrus_passes` that are about functions: their lines are
-//! those of the tests here. Where an example hands an error on, the test stops instead, which is
-//! proved sooner.
+//! the same as in the tests here. Where an example hands an error on, the test stops instead, which
+//! is proved sooner.
 use crate::assertions::assert_equal;
 use crate::bodies::{SNIPPED, function, text_of};
 use walrus_functions::{FunctionBuilder, LocalFunctions};

@@ -1,4 +1,4 @@
-//! Tests of the passes of `walrus_passes` over functions through its public calls; those of the
+//! Tests of the passes of `walrus_passes` over functions through its public calls; tests of the
 //! passes over types are in `walrus_passes_tests`.
 #![tactic(auto)]
 

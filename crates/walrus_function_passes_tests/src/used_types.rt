@@ -85,7 +85,7 @@ fn enter(f: &mut FunctionBuilder, index: usize) {
 }
 
 // Sequences in one another: a block 1, of a type that leaves a reference to 2, in the entry 0, and
-// a loop 2 of type 3 in that. The sequence 3 stands in none; it is of type 4, and names 5.
+// a loop 2 of type 3 in that. No sequence contains sequence 3; it is of type 4, and names 5.
 fn nested(alloc: Global) -> Result<FunctionBuilder, BuildError> {
     let mut f = FunctionBuilder::without_entry(alloc, ty(7));
     let mut entry = f.dangling_instr_seq(NOTHING)?;

@@ -33,8 +33,8 @@ fn begin(alloc: Global) -> Result<FunctionBuilder, AllocError>
     FunctionBuilder::new(alloc, &mut types, &[], &[])
 }
 
-// What the closure, called on the entry of a new function, answers, and the text of the function
-// as it is then.
+// What the closure returns, called on the entry of a new function, and the text of the function as
+// it is then.
 fn builds<F: FnOnce(&mut InstrSeqBuilder<'_>) -> Result<(), BuildError>>(
     rt: &impl Abort,
     alloc: Global,

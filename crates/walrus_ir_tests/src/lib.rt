@@ -1,6 +1,6 @@
 //! Tests of types, sections and instructions through the public calls of their crates.
 //!
-//! They stand in a crate of their own, since tests inside a crate have the gate prove that crate a
+//! They are in a crate of their own, since tests inside a crate have the gate prove that crate a
 //! second time.
 #![tactic(auto)]
 

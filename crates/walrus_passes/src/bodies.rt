@@ -77,7 +77,7 @@ pub fn replace_with(
     Ok(())
 }
 
-// The builder of a body like that of the function, which is a single `unreachable`.
+// The builder of a body for the function that is a single `unreachable`.
 fn unreachable_body(alloc: Global, func: &LocalFunction) -> Result<FunctionBuilder, AllocError>
     ensures { IfOk result (λ f. f ≡ unreachable_body func.now.body) }
 {

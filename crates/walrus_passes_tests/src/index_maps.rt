@@ -7,7 +7,7 @@ use walrus_types::{
     parse_types,
 };
 
-// A final entry that stands alone.
+// A final lone type.
 fn single(comp: CompAt) -> GroupAt {
     GroupAt::Single(EntryAt {
         comp,

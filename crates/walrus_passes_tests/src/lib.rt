@@ -1,7 +1,7 @@
-//! Tests of the passes of `walrus_passes` over types through its public calls; those of the passes
+//! Tests of the passes of `walrus_passes` over types through its public calls; tests of the passes
 //! over functions are in `walrus_function_passes_tests`.
 //!
-//! They stand in crates of their own, since tests inside a crate have the gate prove that crate a
+//! They are in crates of their own, since tests inside a crate have the gate prove that crate a
 //! second time, and in two, which it proves side by side.
 #![tactic(auto)]
 

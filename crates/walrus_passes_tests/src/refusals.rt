@@ -22,7 +22,7 @@ fn live(types: &ModuleTypes) -> [bool; 7] {
     [0, 1, 2, 3, 4, 5, 6].map(|index| types.contains(TypeId::from_index(index)))
 }
 
-// Whether each group has so many types, and those of the fourth alone were given as a group.
+// Whether each group has this many types, and only the fourth is an explicit group.
 fn has_groups(types: &ModuleTypes, sizes: [usize; 5]) -> bool {
     for (group, (at, size)) in types.rec_groups().iter().zip(sizes.iter().enumerate()) {
         if group.types.len() != *size || group.is_explicit != (at == 3) {

@@ -1,5 +1,5 @@
-//! Large tables of types that die. `scripts/measure_passes` runs these tests, and tells how their
-//! time grows.
+//! Large tables of types that die. `scripts/measure_passes` runs these tests, and measures how
+//! their time grows.
 use crate::assertions::assert_equal;
 use crate::unused_types::{delete_all_but, reference_field, structures};
 use std::alloc::Global;
@@ -9,8 +9,8 @@ const SMALL: usize = 100_000;
 
 const LARGE: usize = 400_000;
 
-// A group of so many types, as many array types that stand alone, each with the name of one of the
-// group, and a function type after them.
+// A group of `count` types, `count` lone array types that each name one of the group, and a
+// function type after them.
 fn table(alloc: Global, count: usize) -> Result<ModuleTypes, AddRecGroupError> {
     let mut types = ModuleTypes::new(alloc);
     types.add_rec_group(count, |_| structures(alloc, count))?;

@@ -69,7 +69,7 @@ pub(crate) fn are(ids: &[TypeId], indices: &[usize]) -> bool {
             .all(|(id, index)| id.index() == *index)
 }
 
-// The live types are those of these indices.
+// The live types are the types of these indices.
 fn live_are(rt: &impl Abort, types: &ModuleTypes, indices: &[usize]) {
     let live = types.live_ids().expect(rt, "memory");
     assert!(rt; are(live.as_slice(), indices));
@@ -198,7 +198,7 @@ fn what_stays_is_found_and_what_died_is_not(rt: HostRuntime) {
     finds_or_adds(&rt, &mut types);
 }
 
-// The function type is 2 still, and the type of a body that died is added anew.
+// The function type is still 2, and the deleted type of a body is added again.
 fn finds_or_adds(rt: &impl Abort, types: &mut ModuleTypes) {
     let function = types.add(&[ValType::I32], &[]).expect(rt, "memory");
     let entry = types.add_entry_ty(&[ValType::I32]).expect(rt, "memory");

@@ -20,7 +20,7 @@ pub(crate) enum Shape {
 /// A group of a section.
 #[derive(Clone, Copy)]
 pub(crate) enum Piece {
-    /// An entry that stands alone.
+    /// A lone type.
     One(Shape),
     /// A `Rec` of these two entries.
     Two(Shape, Shape),
@@ -150,7 +150,7 @@ fn two_namers(
     Ok(vec![in alloc; namer(alloc, ids.get(1))?, namer(alloc, ids.first())?]?)
 }
 
-/// Adds a group of two types, of which each names the other, where so many types are asked for.
+/// Adds a group of two types that name each other, where this many types are wanted.
 pub(crate) fn add_pair(
     alloc: Global,
     types: &mut ModuleTypes,

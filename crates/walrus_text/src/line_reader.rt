@@ -17,7 +17,7 @@ use walrus_ty::GroupAt;
 /// The greatest number of reads without the end.
 const READ_LIMIT: u64 = 1 << 48;
 
-/// How many bytes one read asks for.
+/// The number of bytes that one read asks for.
 const BLOCK: usize = 8192;
 
 /// Returns the groups of the text that a reader gives up to its end, in the grammar of [this
@@ -44,7 +44,7 @@ pub fn read_section<R: Read>(alloc: Global, reader: &mut R) -> Result<Vec<GroupA
         IfSome (R.remaining reader.old) (λ text. lines_of text ≡ section_lines groups.items)) }
     // and their indices are below 2^32.
     ensures fits { IfOk result (λ groups. HasSectionIndices groups.items) }
-    // A text with a bad line is that of no section.
+    // A text with a bad line is not the text of a section.
     ensures refused { IfErr result (λ e. IfSome (R.remaining reader.old) (λ text.
         IfSome (bad_line e) (λ line. ¬ IsSectionText (lines_of text)))) }
 {

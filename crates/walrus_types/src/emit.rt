@@ -32,8 +32,8 @@ impl ModuleTypes {
     /// where they are. The section can be read again
     /// ([`emitted_section_can_be_read`](crate::laws::emitted_section_can_be_read)).
     ///
-    /// Only the groups have the new indices. **Bytes of a module that name types still have the old
-    /// ones**, and have to be written anew with the map.
+    /// Only the groups have the new indices. **The bytes of a module still name the old indices**,
+    /// and have to be written again with the map.
     ///
     /// # Errors
     ///

@@ -21,8 +21,8 @@ use std::alloc::Global;
 ///
 /// # Errors
 ///
-/// Where the first section can't be read, its error is returned, and otherwise that of the second
-/// where that can't be read. `Memory` comes where memory was refused.
+/// Where the first section can't be read, its error is returned. Otherwise, where the second can't
+/// be read, its error is. `Memory` comes where memory was refused.
 pub fn same_up_to_moves(
     alloc: Global,
     keys: HashKeys,

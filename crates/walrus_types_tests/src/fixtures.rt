@@ -18,7 +18,7 @@ pub(crate) enum Shape<'a> {
 /// A group of a section.
 #[derive(Clone, Copy)]
 pub(crate) enum Piece<'a> {
-    /// An entry that stands alone.
+    /// A lone type.
     One(Shape<'a>),
     /// A `Rec` of these entries.
     Many(&'a [Shape<'a>]),

@@ -144,7 +144,7 @@ fn names_follow_their_types(rt: HostRuntime) {
     stays(&rt, rt.alloc(), &sorted, &[0, 1, 2]);
 }
 
-// What comes out where `Single`s are also sent to members of `Rec`s is its own normal form.
+// What comes out where lone types are also sent to members of `Rec`s is its own normal form.
 #[test]
 fn outputs_of_another_rule_stay(rt: HostRuntime) {
     let func = One(Func(&[]));

@@ -6,7 +6,7 @@ use crate::assertions::assert_equal;
 use std::cell::Cell;
 use std::rc::Rc;
 
-// An item that counts how often it was told its deletion.
+// An item that counts the calls of its `on_delete`.
 #[derive(Drop)]
 struct Told {
     count: Rc<Cell<u32>>,
@@ -42,7 +42,7 @@ fn delete_tells_its_item_once(rt: HostRuntime) {
     assert_equal(&rt, count.get(), 1);
 }
 
-// An item that holds on to a value until it is told its deletion.
+// An item that holds a value until its `on_delete` is called.
 #[derive(Drop)]
 struct Holder {
     held: Option<Rc<()>>,
@@ -96,7 +96,7 @@ fn no_ids_delete_nothing(rt: HostRuntime) -> Result<(), Fail> {
     Ok(())
 }
 
-// A value of a set that counts how often it was told its deletion, in a cell that its clones share.
+// A value of a set that counts the calls of its `on_delete`, in a cell that its clones share.
 #[derive(Drop)]
 #[derive_where(PartialEq, Eq, Hash)]
 struct ToldKey {

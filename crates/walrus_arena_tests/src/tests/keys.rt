@@ -1,4 +1,4 @@
-//! That no answer of a set hangs on the keys of its hash.
+//! That no result of a set depends on the keys of its hash.
 use super::*;
 use crate::assertions::assert_equal;
 use std::hash::BuildHasher;

@@ -121,7 +121,7 @@ fn two_values(alloc: Global, key: u32) -> Result<Vec<Tagged>, AllocError> {
     Ok(values)
 }
 
-// Makes the call for a value of this key, and answers the id of the value, or of the last one.
+// Makes the call for a value of this key, and returns the id of the value, or of the last one.
 fn call_set(
     rt: &impl Abort,
     alloc: Global,
@@ -181,7 +181,7 @@ fn three_values_again(alloc: Global) -> Result<ArenaSet<Tagged>, AllocError> {
     }
 }
 
-// Makes the call for the keys 3 to 10. It has to answer these ids, which have this note then, and
+// Makes the call for the keys 3 to 10. It has to return these ids, which have this note then, and
 // each key has to be found by its id or not at all.
 fn makes_eight(
     rt: &impl Abort,
@@ -248,7 +248,7 @@ fn count_run(ran: &Cell<u32>) -> Tagged {
     make_tagged(0, 2)
 }
 
-// Makes the call, and answers the id of the item, or of the last one. It counts the runs of what
+// Makes the call, and returns the id of the item, or of the last one. It counts the runs of what
 // makes an item of its id.
 fn call_arena(
     rt: &impl Abort,
@@ -286,7 +286,7 @@ fn call_arena_again(
     call_arena(rt, alloc, arena, call, ran)
 }
 
-// Makes the call eight times. It has to answer these ids, and to make so many items of their ids.
+// Makes the call eight times. It has to return these ids, and to make this many items of their ids.
 fn adds_eight(
     rt: &impl Abort,
     alloc: Global,

@@ -1,5 +1,5 @@
-//! Where the type section of a module stands, and what is no module.
-//! The bytes are put together by hand from the specification's grammar of modules.
+//! Where the type section of a module is, and what is no module. The bytes are put together by hand
+//! from the specification's grammar of modules.
 use super::*;
 use crate::assertions::assert_equal;
 use std::test::*;

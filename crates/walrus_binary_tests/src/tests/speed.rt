@@ -1,5 +1,5 @@
-//! Sections of a hundred thousand and of a million types. `scripts/measure_binary` tells how fast
-//! they are read and written.
+//! Sections of a hundred thousand and of a million types. `scripts/measure_binary` measures how
+//! fast they are read and written.
 use super::*;
 use crate::assertions::assert_equal;
 use std::test::*;

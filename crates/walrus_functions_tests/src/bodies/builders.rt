@@ -4,7 +4,7 @@ use crate::assertions::assert_equal;
 use walrus_ir::{Block, DropInstr};
 use walrus_types::{CompAt, EntryAt, GroupAt, Listed};
 
-// The section of the function type without parameters and results, standing alone.
+// The section of one lone type: the function type without parameters and results.
 fn one_function(alloc: Global) -> Result<Vec<GroupAt>, AllocError> {
     let comp = CompAt::Function {
         params: Listed::from_vec(Vec::new(alloc)),

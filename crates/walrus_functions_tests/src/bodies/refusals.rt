@@ -36,8 +36,8 @@ fn table_again(alloc: Global) -> Result<ModuleTypes, AllocError> {
     Ok(types)
 }
 
-// Whether the table has so many types, each alone in its group: that of `table_again`, the function
-// type from `i32` to `i64`, and that of its body.
+// Whether the table has this many types, each alone in its group: the type of `table_again`, the
+// function type from `i32` to `i64`, and the type of its body.
 fn has_types(types: &ModuleTypes, count: usize) -> bool {
     let found = [
         types.find(&[ValType::I64], &[]),
@@ -56,7 +56,7 @@ fn has_types(types: &ModuleTypes, count: usize) -> bool {
         && are_alone(types, count)
 }
 
-// Whether there are so many groups, each of the type of its number alone.
+// Whether there are this many groups, each of the type of its number alone.
 fn are_alone(types: &ModuleTypes, count: usize) -> bool {
     for (at, group) in types.rec_groups().iter().enumerate() {
         if group.is_explicit || group.types.as_slice() != [Id::from_index(at)].as_slice() {
@@ -148,7 +148,7 @@ fn fill(body: &mut InstrSeqBuilder<'_>, steps: &Cell<usize>) -> Result<(), Build
     Ok(())
 }
 
-// Makes the call. The steps are those of the first closure, and of the second if there is one.
+// Makes the call. The steps of the first closure, and of the second if there is one.
 fn nest(
     body: &mut InstrSeqBuilder<'_>,
     call: NestedCall,
@@ -189,7 +189,7 @@ fn steps_shown(f: &mut FunctionBuilder, id: InstrSeqId) -> usize {
     seq.instrs().len() + 1
 }
 
-// Whether the instruction is that of the call, over these sequences.
+// Whether the instruction is the one of the call, over these sequences.
 fn is_made_by(call: NestedCall, instr: &Instr, first: InstrSeqId, second: InstrSeqId) -> bool {
     match call {
         NestedCall::Block | NestedCall::BlockAt => match instr {
@@ -215,8 +215,8 @@ fn newest(instrs: &[(Instr, InstrLocId)], call: NestedCall) -> Option<&(Instr, I
     }
 }
 
-// Whether the newest instruction of the entry is that of the call, over new sequences from this id
-// on.
+// Whether the newest instruction of the entry is the one of the call, over new sequences from this
+// id on.
 fn has_added(rt: &impl Abort, f: &mut FunctionBuilder, call: NestedCall, first: usize) -> bool
     requires { first ≤ 1000 }
 {
@@ -235,7 +235,7 @@ fn has_added(rt: &impl Abort, f: &mut FunctionBuilder, call: NestedCall, first: 
     }
 }
 
-// Makes the call for the entry. Whatever it answers, the new sequences must be those that the
+// Makes the call for the entry. Whatever it returns, the new sequences must be the ones that the
 // closures were called for, each with what they put into it.
 fn nest_once(rt: &impl Abort, f: &mut FunctionBuilder, call: NestedCall) -> Result<(), BuildError> {
     let (first, second) = (Cell::new(0), Cell::new(0));

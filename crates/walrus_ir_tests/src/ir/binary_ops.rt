@@ -267,7 +267,7 @@ const WIDE_PRODUCTS: [BinaryOp; 12] = [
     BinaryOp::I64x2ExtMulHighI32x4U,
 ];
 
-// Relaxed operators, whose answer may differ between machines.
+// Relaxed operators, whose result may differ between machines.
 const RELAXED: [BinaryOp; 7] = [
     BinaryOp::I8x16RelaxedSwizzle,
     BinaryOp::F32x4RelaxedMin,

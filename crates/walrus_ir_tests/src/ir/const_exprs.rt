@@ -6,14 +6,14 @@ use walrus_ir::{
     NoIndex, Reference, ToRecordError, Value,
 };
 
-// Global index 0 stands for the global 5.
+// Global index 0 is the global 5.
 fn one_global(alloc: Global) -> Result<IndicesToIds, AllocError> {
     let mut ids = IndicesToIds::new(alloc);
     ids.push_global(Id::from_index(5))?;
     Ok(ids)
 }
 
-// Type indices 0 and 1 stand for the types 0 and 1.
+// Type indices 0 and 1 are the types 0 and 1.
 fn two_types(alloc: Global) -> Result<IndicesToIds, AllocError> {
     let mut ids = IndicesToIds::new(alloc);
     ids.push_type(Id::from_index(0))?;

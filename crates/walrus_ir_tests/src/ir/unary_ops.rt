@@ -199,7 +199,7 @@ const FLOAT_LANE_WIDTHS: [UnaryOp; 2] = [
     UnaryOp::F64x2PromoteLowF32x4,
 ];
 
-// Relaxed operators, whose answer may differ between machines.
+// Relaxed operators, whose result may differ between machines.
 const RELAXED: [UnaryOp; 4] = [
     UnaryOp::I32x4RelaxedTruncF32x4S,
     UnaryOp::I32x4RelaxedTruncF32x4U,

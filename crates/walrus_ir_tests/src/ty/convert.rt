@@ -8,7 +8,7 @@ use walrus_ty::{
     RefType, Reference, Storage, StorageType, SubType, ToRecordError, Val, ValAt, ValType,
 };
 
-// Indices 0, 1 and 2 stand for the types 10, 20 and 30.
+// Indices 0, 1 and 2 are the types 10, 20 and 30.
 fn ids(alloc: Global) -> Result<IndicesToIds, AllocError> {
     let mut ids = IndicesToIds::new(alloc);
     ids.push_type(Id::from_index(10))?;

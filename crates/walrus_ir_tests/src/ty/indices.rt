@@ -1,4 +1,4 @@
-//! That the maps can be filled, and what they then answer.
+//! That the maps can be filled, and what they return then.
 use crate::assertions::assert_equal;
 use walrus_ty::{
     FunctionId, GlobalId, Id, IdsToIndices, IndicesToIds, NoIndex, TypeId, UnknownIndex,

@@ -1,4 +1,4 @@
-//! What a list answers, and that it can grow.
+//! What a list returns, and that it can grow.
 use crate::assertions::assert_equal;
 use std::alloc::{AllocError, Global};
 use std::cmp::Ordering;

@@ -137,7 +137,7 @@ impl Marking {
         Ok(())
     }
 
-    // Those of these ids that have no mark.
+    // The ids of these that have no mark.
     pub(super) fn unmarked_ids(
         &self,
         alloc: Global,

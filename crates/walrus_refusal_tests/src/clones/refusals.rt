@@ -132,7 +132,7 @@ fn push_again(rt: &impl Abort, list: &mut Listed<ValType>, next: usize) -> Resul
     list.push(reference(next))
 }
 
-// Whether the list has references to so many types in order.
+// Whether the list has references to this many types in order.
 fn holds_numbered(list: &Listed<ValType>, count: usize) -> bool {
     for (index, value) in list.as_slice().iter().enumerate() {
         if *value != reference(index) {

@@ -34,7 +34,7 @@ fn two_ids(alloc: Global) -> Result<IndicesToIds, AllocError> {
     Ok(ids)
 }
 
-// Index 0 stands for the type 5, and index 1 for the type 3. The map is made again after a refusal.
+// Index 0 is the type 5, and index 1 the type 3. The map is made again after a refusal.
 fn two_ids_again(alloc: Global) -> Result<IndicesToIds, AllocError> {
     match two_ids(alloc) {
         Ok(ids) => Ok(ids),

@@ -29,7 +29,7 @@ fn has_pair(types: &ModuleTypes, at: usize) -> bool
     is_there && is_namer(types, first, second) && is_namer(types, second, first)
 }
 
-// Whether the table has so many such groups, and nothing else.
+// Whether the table has this many such groups, and nothing else.
 fn has_pairs(types: &ModuleTypes, count: usize) -> bool
     requires { count ≤ 1000 }
 {
@@ -44,7 +44,7 @@ fn has_pairs(types: &ModuleTypes, count: usize) -> bool
         && types.rec_groups().len() == count
 }
 
-// Adds a group where so many types are asked for. After a refusal the table must have what it had,
+// Adds a group where this many types are wanted. After a refusal the table must have what it had,
 // and the call is made again.
 fn add_again(
     rt: &impl Abort,

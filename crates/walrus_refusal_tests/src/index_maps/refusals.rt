@@ -9,7 +9,7 @@ use std::test::Fail;
 use walrus_ty::{FunctionId, GlobalId};
 use walrus_types::{IdsToIndices, IndicesToIds, NoIndex, TypeId, UnknownIndex};
 
-// What an index stands for.
+// The id of an index.
 #[derive(Clone, Copy)]
 enum Kind {
     Ty,
@@ -17,7 +17,7 @@ enum Kind {
     Global,
 }
 
-// Lets the next index of this kind stand for this id.
+// Gives this id the next index of this kind.
 fn push(ids: &mut IndicesToIds, kind: Kind, index: usize) -> Result<(), AllocError> {
     match kind {
         Kind::Ty => ids.push_type(TypeId::from_index(index)),
@@ -26,7 +26,7 @@ fn push(ids: &mut IndicesToIds, kind: Kind, index: usize) -> Result<(), AllocErr
     }
 }
 
-// What the index stands for.
+// The id of the index.
 fn get(ids: &IndicesToIds, kind: Kind, index: u32) -> Result<usize, UnknownIndex> {
     Ok(match kind {
         Kind::Ty => ids.get_type(index)?.index(),
@@ -35,8 +35,8 @@ fn get(ids: &IndicesToIds, kind: Kind, index: u32) -> Result<usize, UnknownIndex
     })
 }
 
-// Whether the indices of this kind up to this one stand for the ids 99, 98 and so on, and no others
-// for any.
+// Whether the indices of this kind up to this one have the ids 99, 98 and so on, and no others have
+// any.
 fn stand(ids: &IndicesToIds, kind: Kind, count: u32) -> bool {
     for index in 0..count {
         if get(ids, kind, index) != Ok(99 - index as usize % 100) {
@@ -46,8 +46,8 @@ fn stand(ids: &IndicesToIds, kind: Kind, count: u32) -> bool {
     get(ids, kind, count) == Err(UnknownIndex(count))
 }
 
-// Lets the next index of this kind stand for an id. After a refusal all must stand for what they
-// stood for, and the call is made again.
+// Gives an id the next index of this kind. After a refusal all indices must have the ids that they
+// had, and the call is made again.
 fn push_again(
     rt: &impl Abort,
     ids: &mut IndicesToIds,
@@ -83,7 +83,7 @@ fn a_refused_index_stands_for_nothing(rt: HostRuntime) {
     assert_equal(&rt, ids.type_count(), 20);
 }
 
-// Whether so many type indices stand for the ids of their own number, and no others for any.
+// Whether this many type indices have the ids of their own number, and no others have any.
 fn are_numbered(ids: &IndicesToIds, count: usize) -> bool {
     for index in 0..50usize {
         let wanted = if index < count {
@@ -98,8 +98,8 @@ fn are_numbered(ids: &IndicesToIds, count: usize) -> bool {
     ids.type_count() == count
 }
 
-// Lets five more type indices stand for the ids of their own number. After a refusal those before
-// must stand for their ids, and no others for any, and the call is made again.
+// Gives the ids of their own number to five more type indices. After a refusal the indices before
+// must have their ids, and no others may have any, and the call is made again.
 fn push_row_again(rt: &impl Abort, ids: &mut IndicesToIds, first: usize) -> Result<(), AllocError>
     requires { first < 100 }
 {
@@ -132,7 +132,8 @@ fn give_again(rt: &impl Abort, indices: &mut IdsToIndices, id: TypeId) -> Result
     indices.push_type(id)
 }
 
-// Whether the types 5, 4 and so on have the first so many indices, and no others have any.
+// Whether the types 5, 4 and so on have this many indices from the first on, and no others have
+// any.
 fn have_indices(indices: &IdsToIndices, count: usize) -> bool {
     for id in 0..7usize {
         let id = TypeId::from_index(id);

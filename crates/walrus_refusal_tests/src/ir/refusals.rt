@@ -12,7 +12,7 @@ use walrus_types::{
     TypeId, Val, ValType,
 };
 
-// Global index 0 stands for the global 5.
+// Global index 0 is the global 5.
 fn one_global(alloc: Global) -> Result<IndicesToIds, AllocError> {
     let mut ids = IndicesToIds::new(alloc);
     if ids.push_global(Id::from_index(5)).is_err() {
@@ -97,7 +97,7 @@ fn a_refused_value_is_written_when_it_is_given_again(rt: HostRuntime) {
     assert!(rt; ops.as_slice() == [ConstOpAt::I64Const(7)].as_slice());
 }
 
-// Whether there are so many locals of type `i64`, and no others.
+// Whether there are this many locals of type `i64`, and no others.
 fn has_locals(locals: &ModuleLocals, count: usize) -> bool {
     for index in 0..count {
         let id: LocalId = Id::from_index(index);
@@ -124,7 +124,7 @@ fn a_refused_local_is_not_added(rt: HostRuntime) {
     }
 }
 
-// The type of sequences that take this and leave nothing. After a refusal the table must have so
+// The type of sequences that take this and leave nothing. After a refusal the table must have this
 // many types and not this one, and the call is made again.
 fn seq_type_again(
     rt: &impl Abort,

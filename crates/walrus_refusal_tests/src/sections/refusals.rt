@@ -21,7 +21,7 @@ fn four_groups(alloc: Global) -> Result<Vec<GroupAt>, AllocError> {
     section_again(alloc, &pieces)
 }
 
-// What was read of the first so many of these groups: the id of each index, and how many groups the
+// What was read of the first `count` of these groups: the id of each index, and how many groups the
 // table has.
 fn first_read(count: usize) -> (&'static [usize], usize) {
     match count {
@@ -33,7 +33,7 @@ fn first_read(count: usize) -> (&'static [usize], usize) {
     }
 }
 
-// Whether this was read of the first so many of these groups, and nothing else.
+// Whether this was read of the first `count` of these groups, and nothing else.
 fn has_read(types: &ModuleTypes, ids: &[TypeId], count: usize) -> bool {
     let (indices, groups) = first_read(count);
     let plain = if count < 1 {
@@ -57,7 +57,7 @@ fn has_read(types: &ModuleTypes, ids: &[TypeId], count: usize) -> bool {
         && types.find(&[reference(1)], &[]) == namer
 }
 
-// Pushes the first so many groups. A push that is refused memory is made again.
+// Pushes the first `count` groups. A push that is refused memory is made again.
 fn push_again(alloc: Global, groups: &[GroupAt], count: usize) -> Result<SectionReader, ReadError> {
     let mut reader = SectionReader::new(alloc);
     for group in groups.iter().take(count) {

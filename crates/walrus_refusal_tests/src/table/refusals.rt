@@ -98,7 +98,7 @@ fn has_type(types: &ModuleTypes, call: AddCall, index: usize) -> bool {
     is_alone && is_added_by(types.get(id), call, index) && find(types, call, index) == found
 }
 
-// Whether the table has so many types, those of the calls, and no others.
+// Whether the table has this many types, the types of the calls, and no others.
 fn has_types(types: &ModuleTypes, call: AddCall, count: usize) -> bool {
     for index in 0..count {
         if !has_type(types, call, index) {
@@ -192,7 +192,7 @@ fn a_refused_list_of_ids_comes_when_it_is_asked_for_again(rt: HostRuntime) {
     );
 }
 
-// Four function entries that stand alone, and two groups of two that name each other.
+// Four lone types of function entries, and two groups of two that name each other.
 fn eight_types(alloc: Global) -> Result<ModuleTypes, AddRecGroupError> {
     let mut types = ModuleTypes::new(alloc);
     for named in 0..4usize {

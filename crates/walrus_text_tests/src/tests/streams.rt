@@ -3,7 +3,7 @@ use std::io;
 use std::io::{Error, ErrorKind, Read, Write};
 use walrus_text::{TextError, read_section, write_output, write_section};
 
-/// Gives one byte at a time, so many times, and then fails.
+/// Gives one byte at a time, this many times, and then fails.
 #[derive(Drop)]
 struct Drip<'a> {
     rest: &'a [u8],
@@ -53,7 +53,7 @@ fn failed_read(rt: HostRuntime) {
     }
 }
 
-/// Takes so many bytes, and then fails.
+/// Takes this many bytes, and then fails.
 #[derive(Drop)]
 struct Sink {
     bytes_left: usize,

@@ -1,4 +1,4 @@
-//! Anchors keep their places: what a program would answer that moves them, or moves something past
+//! Anchors keep their places: the result of a program that moves them, or moves something past
 //! them.
 use super::{FUNC, INT, accepts};
 use crate::fixtures::{Piece, Shape, to};

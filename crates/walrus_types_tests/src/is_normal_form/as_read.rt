@@ -1,5 +1,5 @@
-//! Sections that are not their own normal form: what a program would answer that leaves them as
-//! they are read.
+//! Sections that are not their own normal form: the result of a program that leaves them as they
+//! are read.
 use super::{FUNC, INT, accepts, accepts_one_rec, is_own};
 use crate::fixtures::{Piece, Shape, to};
 use Piece::{Many, One};

@@ -1,5 +1,5 @@
-//! `Single`s that name themselves: what a program would answer that merges them, or sorts them by
-//! the wrong names.
+//! Lone types that name themselves: the result of a program that merges them, or sorts them by the
+//! wrong names.
 use super::accepts;
 use crate::fixtures::{Piece, Shape, to};
 use Piece::One;

@@ -7,7 +7,7 @@ use walrus_types::{
     is_normal_form, normalise,
 };
 
-// Of each entry: which it is, and whether it stands alone, begins a `Rec`, or goes on with the
+// Of each entry: which it is, and whether it is a lone type, begins a `Rec`, or goes on with the
 // `Rec` before it.
 const GROUPINGS: u32 = 3;
 

@@ -1,4 +1,4 @@
-//! Deletions, which take no memory and answer `Ok`.
+//! Deletions, which take no memory and return `Ok`.
 use super::*;
 use crate::assertions::assert_equal;
 

@@ -1,5 +1,5 @@
 //! Every deletion of an arena, a set and a table that are built before: it takes no memory, and
-//! answers `Ok`.
+//! returns `Ok`.
 use super::deleting::{add_namers, delete_group};
 use super::*;
 use crate::assertions::assert_equal;
@@ -32,7 +32,7 @@ fn four_values(alloc: Global) -> Result<ArenaSet<Keyed>, AllocError> {
     Ok(set)
 }
 
-// Two types that stand alone, and two groups of two, of which the first names the second.
+// Two lone types, and two groups of two, of which the first names the second.
 fn six_types(alloc: Global) -> Result<ModuleTypes, AddRecGroupError> {
     let mut types = ModuleTypes::new(alloc);
     types.add(&[], &[])?;

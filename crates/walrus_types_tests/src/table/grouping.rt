@@ -103,7 +103,7 @@ fn a_group_that_was_not_built_uses_up_no_id(rt: HostRuntime) {
     assert_equal(&rt, types.add(&[], &[]).expect(&rt, "memory").index(), 0);
 }
 
-// Why a group of one type is refused where so many are asked for.
+// Why a group of one type is refused where this many are wanted.
 fn refusal(alloc: Global, types: &mut ModuleTypes, count: usize) -> Option<AddRecGroupError> {
     let added = types.add_rec_group(count, |_| Ok(vec![in alloc; member(function(alloc))]?));
     added.err()

@@ -16,7 +16,7 @@ fn a_type_is_rewritten_in_its_place(rt: HostRuntime) {
     assert_equal(&rt, types.find(&[], &[]), None);
 }
 
-// A clone of the type of one id is written over that of another.
+// A clone of the type of one id is written over the type of another.
 fn copy_over(rt: &impl Abort, types: &mut ModuleTypes, from: usize, to: usize) {
     let from = TypeId::from_index(from);
     let to = TypeId::from_index(to);

@@ -110,7 +110,7 @@ fn add_another(
     }
 }
 
-// The entry must print this text so many times, and be the one sequence and the entry still.
+// The entry must print this text this many times, and still be the one sequence and the entry.
 fn shows(
     rt: &impl Abort,
     alloc: Global,
@@ -130,8 +130,8 @@ fn shows(
     Ok(())
 }
 
-// Makes the call for the entry. After a refusal it must have the instructions that it had, so many
-// of this text, and the call is made again.
+// Makes the call for the entry. After a refusal it must have the instructions that it had, this
+// many of this text, and the call is made again.
 fn add_again(
     rt: &impl Abort,
     alloc: Global,
