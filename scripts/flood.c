@@ -1,10 +1,10 @@
-/* flood COUNT BITS [ordinary]: prints so many different structs, a line each, whose hashes under fixed keys have the same low
+/* flood COUNT BITS [ordinary]: prints COUNT different structs, a line each, whose hashes under fixed keys have the same low
    BITS bits, all of them 0. So a map with fixed keys seeks all of them from a few places of its table. With a third word it
-   prints as many that lie as far apart, and takes each 2^BITS-th struct whatever its hash is.
+   prints as many that are as far apart, and takes each 2^BITS-th struct whatever its hash is.
 
-   A type is hashed by std's FoldHasher. `fed` is what that does with a number of so many bytes, and the numbers are those
-   that the derived `Hash` of `walrus_ty::Type` feeds: of an enum the place of its variant in 8 bytes, of a list its length in
-   8 bytes before its items, and of a bool one byte. */
+   A type is hashed by std's FoldHasher. `fed` is what the hasher does with a number of this many bytes. The numbers are the
+   ones that the derived `Hash` of `walrus_ty::Type` feeds: for an enum the place of its variant in 8 bytes, for a list its
+   length in 8 bytes before its items, and for a bool one byte. */
 #include <stdint.h>
 #include <stdio.h>
 #include <stdlib.h>
@@ -26,7 +26,7 @@ static uint64_t with_field(uint64_t hash, unsigned field)
     return fed(fed(fed(hash, 0, 8), field % VALUES, 8), field / VALUES, 1);
 }
 
-/* Final, without supertype, and no type of a function entry. A map goes by the halves of the hash, joined. */
+/* Final, without supertype, and not the type of a function entry. A map uses the halves of the hash, joined. */
 static uint64_t place(uint64_t after_fields)
 {
     uint64_t hash = fed(fed(fed(after_fields, 1, 1), 0, 8), 0, 1);
@@ -41,7 +41,7 @@ static void print(const unsigned *fields)
     printf("\n");
 }
 
-/* Goes on to the next struct, and answers the first field that is another. */
+/* Goes on to the next struct, and returns the first field that has changed. */
 static int advance(unsigned *fields)
 {
     int i = FIELDS - 1;

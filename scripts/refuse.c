@@ -1,6 +1,6 @@
-/* Put in front of the C library by LD_PRELOAD, it refuses requests for memory: the one with the number REFUSE, or with
-   REFUSE_FROM all from that number on. Requests count from 1. With REFUSE_COUNT it refuses none, and writes their number to
-   the file descriptor of that number when the program ends. */
+/* Loaded before the C library by LD_PRELOAD, it refuses requests for memory: the one with the number REFUSE, or with
+   REFUSE_FROM all from that number on. Requests count from 1. With REFUSE_COUNT it refuses none. When the program ends, it
+   writes the number of requests to the file descriptor with the number REFUSE_COUNT. */
 #define _GNU_SOURCE
 #include <errno.h>
 #include <stddef.h>

@@ -1,7 +1,7 @@
-/* Put in front of the C library by LD_PRELOAD, it makes streams fail: the read with the number STREAMS_READ, the write
+/* Loaded before the C library by LD_PRELOAD, it makes streams fail: the read with the number STREAMS_READ, the write
    to the standard output with the number STREAMS_OUT, and the one to the standard error with the number STREAMS_ERR;
    and with STREAMS_READ_FROM, STREAMS_OUT_FROM and STREAMS_ERR_FROM all from that number on. They count from 1, and
-   each fails with EIO. With STREAMS_LITTLE a read or a write moves one byte at most. With STREAMS_DRY there are no
+   each fails with EIO. With STREAMS_LITTLE a read or a write moves at most one byte. With STREAMS_DRY there are no
    random bytes. */
 #define _GNU_SOURCE
 #include <errno.h>
@@ -21,7 +21,7 @@ static long number(const char *name)
     return text ? atol(text) : 0;
 }
 
-/* Counts one more, and says whether it is to fail. */
+/* Counts one more, and returns whether it has to fail. */
 static int is_failed(long *count, const char *one, const char *from)
 {
     long first = number(from);
