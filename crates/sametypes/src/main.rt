@@ -41,8 +41,8 @@ use walrus_types::HashKeys;
 ///
 /// - 0: they are the same.
 /// - 1: they differ.
-/// - 2: it can't be decided. Bytes are no module or no text, an entry names an index that it may
-///   not name, there are too many entries, memory was refused, a read failed, or the result could
+/// - 2: it can't be decided. Bytes are no module or no text, or an entry names an index that it may
+///   not name. There are too many entries. Memory was refused. A read failed, or the result could
 ///   not be written. One line on `err` says which, and in which of the two, `A` or `B`. Where both
 ///   are bad it is `A`.
 ///

@@ -118,9 +118,9 @@ impl<T: Clone + Eq + Hash, A: Allocator> ArenaSet<T, A> {
         }
     }
 
-    /// Puts the value into a new slot, even where an equal one is there, maps it to the id of this
-    /// slot, whatever it was mapped to before, and returns this id. After an `AllocError` slots and
-    /// map are as they were.
+    /// Puts the value into a new slot, even where an equal one is there, and returns the id of this
+    /// slot. The value is mapped to this id, whatever it was mapped to before. After an
+    /// `AllocError` slots and map are as they were.
     ///
     /// It is `insert` without a look at what is there, for a value that `find` does not find.
     /// walrus has no such call.

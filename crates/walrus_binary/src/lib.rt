@@ -7,9 +7,9 @@
 //!   [`module_types`] reads the groups of a module. A [`TypeSectionReader`] reads a section group
 //!   by group, in the memory of one.
 //! - [`encode_types`] writes the shortest text of groups.
-//! - [`laws`] has the theorems: bytes are a text of at most one list of groups, no text is the
-//!   beginning of a longer one, bytes have at most one first bad byte, and they are a module of at
-//!   most one list of sections.
+//! - [`laws`] has the theorems: bytes are a text of at most one list of groups, and have at most
+//!   one first bad byte. No text is the beginning of a longer one. Bytes are a module of at most
+//!   one list of sections.
 //!
 //! Whether the bytes are read as groups that have this text for their shortest:
 //!

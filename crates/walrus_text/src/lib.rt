@@ -4,8 +4,8 @@
 //! - [`read_section`] reads the groups of a text, and says which line is no part of a section.
 //! - [`write_section`] writes groups, and [`write_output`] also the new index of each entry of
 //!   another section.
-//! - [`laws`] has the theorems that nothing but words and lines counts in a text, that a text has
-//!   at most one section, and that what is written is read back.
+//! - [`laws`] has the theorems: nothing but words and lines counts in a text, a text has at most
+//!   one section, and what is written is read back.
 //!
 //! The WebAssembly specification has no text for a type section alone. This one takes the names of
 //! its types from there. Spaces divide words, and no other byte does: a tab or a carriage return is

@@ -62,8 +62,8 @@ pub fn types_in_order()
         (t.is_for_function_entry ≡ u.is_for_function_entry))) }
 {}
 
-/// Value types and fields, of a module and of a section, compare by their cases in the order in
-/// which these are declared, and then by their parts from left to right.
+/// Value types and fields, of a module and of a section, compare by their cases, in the order of
+/// declaration, and then by their parts from left to right.
 pub fn value_types_in_order()
     ensures vals { (v w : value.Val ℕ) → ⟦<ValType as Ord>⟧.cmp v w ≡ val_cmp v w }
     ensures fields { (f g : Field ℕ) → ⟦<FieldType as Ord>⟧.cmp f g ≡ field_cmp f g }

@@ -38,9 +38,9 @@ impl ModuleTypes {
     /// # Errors
     ///
     /// `TooMany` comes where 2^32 types or more would be written, before anything else is looked
-    /// at. `NoIndex` has the first type in the order of the section that names one without an index
-    /// by the end of its own group, and its first such name. `Memory` comes where memory was
-    /// refused. The table is never changed.
+    /// at. `NoIndex` comes where a type names one without an index by the end of its own group. It
+    /// has the first such type in the order of the section, and its first such name. `Memory` comes
+    /// where memory was refused. The table is never changed.
     ///
     /// # A table of one type
     ///

@@ -30,9 +30,10 @@ use std::alloc::{AllocError, Global};
 ///
 /// # Errors
 ///
-/// The first group that can't be read decides. `BadIndex` comes where one of its entries names an
-/// index at or past the group's end, and `TooMany` where the section has 2^32 entries or more by
-/// the group's end. `Memory` comes where memory was refused. No other section is refused.
+/// The first group that can't be read decides. `TooMany` comes where the section has 2^32 entries
+/// or more by the group's end. Otherwise `BadIndex` comes where one of its entries names an index
+/// at or past the group's end. `Memory` comes where memory was refused. No other section is
+/// refused.
 ///
 /// # A struct and a function type change places
 ///

@@ -67,8 +67,8 @@ pub fn record_comparisons_agree()
         ⟦<EntryAt as PartialEq>⟧.eq ⟦<EntryAt as Ord>⟧.cmp }
 {}
 
-/// What a type is made of compares by its cases in the order in which these are declared, and then
-/// by its parts from left to right, lists as words in a dictionary.
+/// The parts of types compare by their cases, in the order of declaration, and then by their own
+/// parts from left to right. Lists compare as words in a dictionary.
 pub fn parts_in_order()
     ensures heap_types { (h g : Heap ℕ) → ⟦<HeapType as Ord>⟧.cmp h g ≡ heap_cmp h g }
     ensures references { (r q : Reference ℕ) → ⟦<RefType as Ord>⟧.cmp r q ≡ reference_cmp r q }
