@@ -41,10 +41,10 @@ use walrus_types::HashKeys;
 ///
 /// - 0: they are the same.
 /// - 1: they differ.
-/// - 2: it can't be decided. Bytes are no module or no text, or an entry names an index that it may
-///   not name. There are too many entries. Memory was refused. A read failed, or the result could
-///   not be written. One line on `err` says which, and in which of the two, `A` or `B`. Where both
-///   are bad it is `A`.
+/// - 2: it can't be decided, for one of these reasons: bytes are no module or no text; an entry
+///   names an index that it may not name; there are too many entries; memory was refused; a read
+///   failed; the result could not be written. One line on `err` says which, and in which of the
+///   two, `A` or `B`. Where both are bad it is `A`.
 ///
 /// At 2 `out` gains nothing, unless the write of the result failed.
 ///
