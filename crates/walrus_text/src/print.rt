@@ -20,7 +20,11 @@ use walrus_ty::{AbstractHeapType, CompAt, EntryAt, FieldAt, GroupAt, HeapAt, Sto
 /// # The text of a section
 ///
 /// ```
+/// let mut reader = b"rec\n end".as_slice();
+/// let groups = read_section(alloc, &mut reader)?;
+/// let mut out: Vec<u8> = Vec::new(alloc);
 /// write_section(&mut out, groups.as_slice())?;
+/// assert_eq!(rt; out.as_slice(), b"rec\nend\n".as_slice());
 /// ```
 pub fn write_section<W: Write>(out: &mut W, groups: &[GroupAt]) -> io::Result<()>
     ensures { OnOk result (Appends (W.contents out.old) (W.contents out.new)

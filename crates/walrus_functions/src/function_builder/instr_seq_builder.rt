@@ -45,7 +45,7 @@ impl<'a> InstrSeqBuilder<'a> {
         self.id
     }
 
-    /// The function that the sequence is of.
+    /// The function with the sequence.
     pub fn builder(&self) -> &FunctionBuilder
         ensures { result.now ≡ function_of self.now }
     {
