@@ -2,7 +2,7 @@
 ghost use Rattle.std.specs.Prelude.{◌≡◌};
 ghost use Rattle.walrus_functions.specs.declared.error.BuildError.TheVariants as build;
 
-use std::alloc::AllocError;
+use std::alloc::{AllocError, AllocFailed};
 use thiserror::Error;
 
 /// Why an instruction could not be added.
@@ -26,6 +26,15 @@ impl From<AllocError> for BuildError {
     ghost from_gives = { λ _ e. e ≡ build.Memory };
 
     fn from(_: AllocError) -> BuildError {
+        BuildError::Memory
+    }
+}
+
+/// What a `push` of std that was refused answers. The item that it hands back is dropped.
+impl<T: Drop> From<AllocFailed<T>> for BuildError {
+    ghost from_gives = { λ _ e. e ≡ build.Memory };
+
+    fn from(_: AllocFailed<T>) -> BuildError {
         BuildError::Memory
     }
 }

@@ -199,6 +199,40 @@ impl FunctionBuilder {
         Ok(InstrSeqBuilder { id, builder: self })
     }
 
+    /// The id of its type.
+    pub fn ty(&self) -> TypeId
+        ensures { result ≡ self.now.ty }
+    {
+        self.ty
+    }
+
+    /// The name that it was given last, if it was given one. [`FunctionBuilder::name`] gives it one.
+    pub fn name_text(&self) -> Option<&str>
+        ensures { option_copied result ≡ self.now.name }
+    {
+        match &self.name {
+            Some(name) => Some(name.as_str()),
+            None => None,
+        }
+    }
+
+    /// How many sequences it has. Their ids count from 0, so the known ids are those below this
+    /// number.
+    pub fn seq_count(&self) -> usize
+        ensures { result ≡ length self.now.seqs }
+    {
+        self.seqs.len()
+    }
+
+    /// The sequence of a known id, as it is so far.
+    pub fn seq(&self, id: InstrSeqId) -> &InstrSeq
+        requires { Knows self.now id }
+        ensures value { slice_get self.now.seqs id ≡ Some result.now }
+        ensures same { result.now ≡ sequence self.now id }
+    {
+        self.seqs.get(id)
+    }
+
     /// Returns the function as it is, with these locals as its parameters. It takes no memory.
     pub fn local_func(self, args: Vec<LocalId>) -> LocalFunction
         ensures { result ≡ record { body = self; args = args.items } }
@@ -221,37 +255,6 @@ impl FunctionBuilder {
         ensures err { OnErr result (funcs.new ≡ funcs.old) }
     {
         funcs.add(self.local_func(args))
-    }
-
-    pub(crate) fn ty(&self) -> TypeId
-        ensures { result ≡ self.now.ty }
-    {
-        self.ty
-    }
-
-    pub(crate) fn name_text(&self) -> Option<&str>
-        ensures { option_copied result ≡ self.now.name }
-    {
-        match &self.name {
-            Some(name) => Some(name.as_str()),
-            None => None,
-        }
-    }
-
-    // The number of sequences.
-    pub(crate) fn seq_count(&self) -> usize
-        ensures { result ≡ length self.now.seqs }
-    {
-        self.seqs.len()
-    }
-
-    // The sequence of a known id.
-    pub(crate) fn seq(&self, id: InstrSeqId) -> &InstrSeq
-        requires { Knows self.now id }
-        ensures value { slice_get self.now.seqs id ≡ Some result.now }
-        ensures same { result.now ≡ sequence self.now id }
-    {
-        self.seqs.get(id)
     }
 
     // The sequence of a known id, for writing.
@@ -307,6 +310,19 @@ impl FunctionBuilder {
         let instrs = self.instrs_mut(id);
         instrs.insert(position, (instr, InstrLocId::default()))?;
         Ok(())
+    }
+}
+
+impl Clone for FunctionBuilder {
+    ghost is_clone = { λ f g. g ≡ f };
+
+    fn clone(&self) -> Result<FunctionBuilder, AllocError> {
+        Ok(FunctionBuilder {
+            seqs: self.seqs.clone()?,
+            ty: self.ty,
+            entry: self.entry,
+            name: self.name.clone()?,
+        })
     }
 }
 

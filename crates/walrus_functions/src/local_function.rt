@@ -5,6 +5,7 @@ ghost use Rattle.std.specs.Borrow.{sem};
 ghost use Rattle.walrus_functions.specs.Body.{Knows};
 
 use crate::FunctionBuilder;
+use std::alloc::AllocError;
 use std::marker::Model;
 use walrus_ir::{InstrSeq, InstrSeqId, LocalId};
 use walrus_types::TypeId;
@@ -99,5 +100,16 @@ impl LocalFunction {
         ensures value { slice_get self.old.body.seqs id ≡ Some result.now }
     {
         self.builder.seq_mut(id)
+    }
+}
+
+impl Clone for LocalFunction {
+    ghost is_clone = { λ f g. g ≡ f };
+
+    fn clone(&self) -> Result<LocalFunction, AllocError> {
+        Ok(LocalFunction {
+            builder: self.builder.clone()?,
+            args: self.args.clone()?,
+        })
     }
 }

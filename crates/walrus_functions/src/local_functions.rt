@@ -2,10 +2,13 @@
 //! WebAssembly core specification, "Functions".
 ghost use Rattle.std.specs.Prelude.{◌≡◌, ◌<◌, ◌↔◌, [], ◌∷◌, ◌++◌, length, IsTrue, IfOk, OnOk, IfErr, OnErr, Some, slice_get};
 ghost use Rattle.std.specs.Borrow.{sem};
+ghost use Rattle.std.specs.Iterator.Adapters.{IterYieldsInOrder};
+ghost use Rattle.std.specs.Slice.Iter.{iter_rest};
 
 use crate::LocalFunction;
 use std::alloc::Global;
 use std::marker::Model;
+use std::slice::Iter;
 use walrus_types::{FunctionId, Id};
 
 /// The functions of a module that have a body. A contract sees the list of them, and an id is a
@@ -44,6 +47,34 @@ impl LocalFunctions {
         LocalFunctions {
             functions: Vec::new(alloc),
         }
+    }
+
+    /// How many functions there are. Their ids count from 0.
+    pub fn len(&self) -> usize
+        ensures { result ≡ length self.now }
+    {
+        self.functions.len()
+    }
+
+    /// Whether there are no functions.
+    pub fn is_empty(&self) -> bool
+        ensures { IsTrue result ↔ (length self.now ≡ 0) }
+    {
+        self.functions.is_empty()
+    }
+
+    /// The functions in the order of their ids.
+    ///
+    /// ```
+    /// for func in funcs.iter() {
+    ///     println!(rt; "{} sequences", func.block_count())?;
+    /// }
+    /// ```
+    pub fn iter(&self) -> Iter<'_, LocalFunction>
+        ensures rest { iter_rest result ≡ self.now }
+        ensures runs { IterYieldsInOrder LocalFunction }
+    {
+        self.functions.iter()
     }
 
     /// Adds a function, and returns its id: the number of functions before. Where memory is

@@ -39,7 +39,7 @@ use walrus_types::{TypeId, ValType};
 ///     return Err(Fail::new("not nested"));
 /// };
 /// init.referenced_types(&mut roots)?;
-/// assert!(rt; roots.iter().all(|id| types.contains(*id)));
+/// assert!(rt; types.contains_all(roots.as_slice()));
 /// let deleted = delete_unused_types(alloc, &mut types, roots.as_slice())?;
 /// ```
 pub fn used_types(

@@ -67,7 +67,7 @@ fn what_a_function_and_a_global_use_is_kept(rt: HostRuntime) {
         panic!(rt; "not nested");
     };
     init.referenced_types(&mut roots).expect(&rt, "memory");
-    assert!(rt; roots.iter().all(|id| types.contains(*id)));
+    assert!(rt; types.contains_all(roots.as_slice()));
     let deleted = delete_unused_types(alloc, &mut types, roots.as_slice()).expect(&rt, "memory");
     assert!(rt; hold_just(roots.as_slice(), &[2, 5, 0, 3]));
     assert!(rt; are(deleted.as_slice(), &[1]));

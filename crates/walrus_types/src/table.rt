@@ -1,5 +1,5 @@
 //! The types of a module, and their recursion groups.
-ghost use Rattle.std.specs.Prelude.{◌≡◌, ◌↔◌, [], IfOk, IsTrue, IsSome, IsSomeAnd, Some, length, option_copied};
+ghost use Rattle.std.specs.Prelude.{◌≡◌, ◌↔◌, All, [], IfOk, IsTrue, IsSome, IsSomeAnd, Some, length, option_copied};
 ghost use Rattle.std.specs.Borrow.{sem};
 ghost use Rattle.walrus_arena.specs.HashKeys.{fixed_hasher};
 ghost use Rattle.walrus_types.specs.TypesById.{live_type, IsLive};
@@ -82,6 +82,13 @@ impl ModuleTypes {
         ensures { IsTrue result ↔ IsLive self.now.types.slots id }
     {
         self.types.contains(id)
+    }
+
+    /// Whether all of these ids are live, as `delete_unused_types` asks of its roots.
+    pub fn contains_all(&self, ids: &[TypeId]) -> bool
+        ensures { IsTrue result ↔ All (IsLive self.now.types.slots) ids.now }
+    {
+        ids.iter().all(|id| self.contains(*id))
     }
 
     /// The type of a live id.

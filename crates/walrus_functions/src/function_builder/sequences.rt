@@ -74,3 +74,13 @@ impl Sequences {
         Ok(id)
     }
 }
+
+impl Clone for Sequences {
+    ghost is_clone = { λ s t. t ≡ s };
+
+    fn clone(&self) -> Result<Sequences, AllocError> {
+        Ok(Sequences {
+            items: self.items.clone()?,
+        })
+    }
+}

@@ -50,3 +50,36 @@ fn a_block_is_written(rt: HostRuntime) {
     assert!(rt; func.contains_block(entry));
     assert_equal(&rt, func.block(entry).instrs.len(), 0);
 }
+
+#[test]
+fn functions_are_listed_in_the_order_of_their_ids(rt: HostRuntime) {
+    let alloc = rt.alloc();
+    let mut funcs = LocalFunctions::new(alloc);
+    assert!(rt; funcs.is_empty());
+    let args = vec![in alloc; Id::from_index(7)].expect(&rt, "memory");
+    let f = begin(alloc).expect(&rt, "memory");
+    assert!(rt; f.finish(args, &mut funcs).is_ok());
+    let f = begin(alloc).expect(&rt, "memory");
+    assert!(rt; f.finish(Vec::new(alloc), &mut funcs).is_ok());
+    assert!(rt; funcs.len() == 2 && !funcs.is_empty());
+    let mut counts = Vec::new(alloc);
+    for func in funcs.iter() {
+        counts.push(func.args.len()).expect(&rt, "memory");
+    }
+    assert_equal(&rt, counts.as_slice(), [1, 0].as_slice());
+}
+
+#[test]
+fn a_builder_is_read(rt: HostRuntime) {
+    let alloc = rt.alloc();
+    let mut f = FunctionBuilder::without_entry(alloc, Id::from_index(3));
+    assert_equal(&rt, f.ty(), Id::from_index(3));
+    assert_equal(&rt, f.name_text(), None);
+    f.name(String::from_str(alloc, "f").expect(&rt, "memory"));
+    assert_equal(&rt, f.name_text(), Some("f"));
+    let mut seq = f.dangling_instr_seq(NOTHING).expect(&rt, "memory");
+    seq.unreachable().expect(&rt, "memory");
+    let id = seq.id();
+    assert_equal(&rt, f.seq_count(), 1);
+    assert_equal(&rt, f.seq(id).instrs.len(), 1);
+}

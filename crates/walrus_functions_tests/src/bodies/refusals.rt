@@ -398,3 +398,20 @@ fn a_refused_add_hands_the_function_back(rt: HostRuntime) {
         is_whole(&rt, alloc, funcs.get(id));
     }
 }
+
+// A copy is whole, and what was copied is, whether or not memory is refused.
+#[test]
+fn a_refused_clone_changes_nothing(rt: HostRuntime) {
+    let alloc = rt.alloc();
+    let f = named_again(alloc).expect(&rt, "memory");
+    let args = args_again(alloc).expect(&rt, "memory");
+    let mut func = f.local_func(args);
+    match func.clone() {
+        Ok(copy) => {
+            func.args.clear();
+            func.block_mut(Id::from_index(0)).instrs.clear();
+            is_whole(&rt, alloc, &copy);
+        }
+        Err(_) => is_whole(&rt, alloc, &func),
+    }
+}

@@ -7,7 +7,7 @@ ghost use Rattle.walrus_types.specs.declared.table.rec_group.AddRecGroupError.Th
 
 use super::ModuleTypes;
 use crate::{CompositeType, Listed, Type, TypeId};
-use std::alloc::AllocError;
+use std::alloc::{AllocError, AllocFailed};
 use thiserror::Error;
 use walrus_arena::Id;
 
@@ -41,6 +41,17 @@ impl From<AllocError> for AddRecGroupError {
     ghost from_gives = { λ _ e. e ≡ Memory };
 
     fn from(_: AllocError) -> AddRecGroupError {
+        AddRecGroupError::Memory
+    }
+}
+
+impl<T: Drop> From<AllocFailed<T>> for AddRecGroupError {
+    ghost use Rattle.std.specs.Prelude.{◌≡◌};
+    ghost use Rattle.walrus_types.specs.declared.table.rec_group.AddRecGroupError.TheVariants.{Memory};
+
+    ghost from_gives = { λ _ e. e ≡ Memory };
+
+    fn from(_: AllocFailed<T>) -> AddRecGroupError {
         AddRecGroupError::Memory
     }
 }
