@@ -12,7 +12,7 @@ use std::alloc::{AllocError, Global};
 use walrus_types::{ModuleTypes, TypeId};
 
 /// Deletes the types that no root needs, and returns their ids in order. Each root has to be the id
-/// of a live type. It may be listed more than once.
+/// of a live type, which [`ModuleTypes::contains_all`] tests. It may be listed more than once.
 ///
 /// A type is needed in three cases: it is a root; a needed type names it, also as supertype; or it
 /// is in one recursion group with a needed type. So a group is kept whole or deleted whole. A type
