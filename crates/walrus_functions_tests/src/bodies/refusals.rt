@@ -399,19 +399,21 @@ fn a_refused_add_hands_the_function_back(rt: HostRuntime) {
     }
 }
 
-// A copy is whole, and what was copied is, whether or not memory is refused.
+// After a refusal the function is whole. A copy is a function of its own.
 #[test]
 fn a_refused_clone_changes_nothing(rt: HostRuntime) {
     let alloc = rt.alloc();
     let f = named_again(alloc).expect(&rt, "memory");
     let args = args_again(alloc).expect(&rt, "memory");
     let mut func = f.local_func(args);
-    match func.clone() {
-        Ok(copy) => {
-            func.args.clear();
-            func.block_mut(Id::from_index(0)).instrs.clear();
-            is_whole(&rt, alloc, &copy);
+    let copy = match func.clone() {
+        Ok(copy) => copy,
+        Err(_) => {
+            is_whole(&rt, alloc, &func);
+            func.clone().expect(&rt, "memory")
         }
-        Err(_) => is_whole(&rt, alloc, &func),
-    }
+    };
+    func.args.clear();
+    func.block_mut(Id::from_index(0)).instrs.clear();
+    is_whole(&rt, alloc, &copy);
 }
