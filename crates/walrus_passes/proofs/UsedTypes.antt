@@ -1,5 +1,5 @@
 -- What is listed is what a function uses.
-use Rattle.std.proofs.Common.{◌≡◌, ℕ, ◌+◌, ◌<◌, inl, inr, List, [], ◌∷◌, ◌++◌, length, take, get_or, sym, ap, subst, ◌∙◌, Option, Some, None, Contains, ◌↔◌}
+use Rattle.std.proofs.Common.{◌≡◌, ℕ, ◌+◌, ◌<◌, inl, inr, List, [], ◌∷◌, ◌++◌, length, take, get_or, refl, sym, ap, subst, ◌∙◌, Option, Some, None, Contains, ◌↔◌}
 use Rattle.std.specs.List.{flat_map, slice_get}
 use Rattle.std.proofs.lemmas.List.{take_more, flat_map_more}
 use Rattle.std.proofs.lemmas.Option.{get_or_from_slice_get}
@@ -12,7 +12,17 @@ use Rattle.walrus_ir.specs.declared.instr_seq_type.InstrSeqType.TheVariants.{Sim
 use Rattle.instr.specs.declared.instr.Instr.{Instr}
 use Rattle.walrus_functions.specs.Body.{Body, sequence}
 use Rattle.walrus_functions.specs.Locals.{FunctionWithArgs}
-use Rattle.walrus_passes.specs.UsedTypes.{IsInBody, UsesType, own, parameter, block, instruction, local_types, instr_types}
+use Rattle.instr.specs.declared.exceptions.LegacyCatch.{LegacyCatch}
+use Rattle.instr.specs.declared.exceptions.LegacyCatch.TheVariants as legacy
+use Rattle.instr.specs.declared.exceptions.Try.{Try}
+use Rattle.instr.specs.declared.exceptions.TryTable.{TryTable}
+use Rattle.instr.specs.declared.exceptions.TryTableCatch.{TryTableCatch}
+use Rattle.instr.specs.declared.exceptions.TryTableCatch.TheVariants as clause
+use Rattle.instr.specs.declared.instr.Instr.TheVariants as instr
+use Rattle.walrus_ir.specs.Calls.{each, reported}
+use Rattle.walrus_ir.specs.Fields.{clause_fields, legacy_fields}
+use Rattle.walrus_ir.proofs.Reported.{reported_put}
+use Rattle.walrus_passes.specs.UsedTypes.{IsInBody, UsesType, own, parameter, block, instruction, local_types, field_types, instr_types}
 use Rattle.walrus_passes.specs.Steps.UsedTypes.{seq_types, function_types}
 use Rattle.walrus_passes.proofs.UnusedTypes.Elements.{contains_none, contains_first, contains_rest, contains_cases}
 
@@ -129,3 +139,35 @@ in_turn locals f ty args seqs shown first more all own_is first_is args_are more
     ∙ ap (λ (xs : List ℕ). xs ++ of_args args) (first_is ∙ ap (λ (n : ℕ). n ∷ []) own_is)
     ∙ ap (λ (xs : List ℕ). f.body.ty ∷ of_args xs) args_are in
     all_is ∙ ap (λ (xs : List ℕ). xs ++ of_seqs shown) head ∙ ap (λ (xs : List ℕ). (f.body.ty ∷ of_args f.args) ++ of_seqs xs) shown_are
+
+-- clauses name tags, and no types
+module _ (locals : List LocalVariable) where
+  clauses-none : (clauses : List TryTableCatch) → flat_map (field_types locals) (reported (each clause_fields clauses)) ≡ []
+  clauses-none [] = refl
+  clauses-none (clause.Catch tag label ∷ rest) =
+      ap (flat_map (field_types locals)) (reported_put (each clause_fields rest) (λ ys. clause.Catch tag label ∷ ys)) ∙ clauses-none rest
+  clauses-none (clause.CatchRef tag label ∷ rest) =
+      ap (flat_map (field_types locals)) (reported_put (each clause_fields rest) (λ ys. clause.CatchRef tag label ∷ ys)) ∙ clauses-none rest
+  clauses-none (clause.CatchAll label ∷ rest) =
+      ap (flat_map (field_types locals)) (reported_put (each clause_fields rest) (λ ys. clause.CatchAll label ∷ ys)) ∙ clauses-none rest
+  clauses-none (clause.CatchAllRef label ∷ rest) =
+      ap (flat_map (field_types locals)) (reported_put (each clause_fields rest) (λ ys. clause.CatchAllRef label ∷ ys)) ∙ clauses-none rest
+
+  legacies-none : (clauses : List LegacyCatch) → flat_map (field_types locals) (reported (each legacy_fields clauses)) ≡ []
+  legacies-none [] = refl
+  legacies-none (legacy.Catch tag handler ∷ rest) =
+      ap (flat_map (field_types locals)) (reported_put (each legacy_fields rest) (λ ys. legacy.Catch tag handler ∷ ys)) ∙ legacies-none rest
+  legacies-none (legacy.CatchAll handler ∷ rest) =
+      ap (flat_map (field_types locals)) (reported_put (each legacy_fields rest) (λ ys. legacy.CatchAll handler ∷ ys)) ∙ legacies-none rest
+  legacies-none (legacy.Delegate depth ∷ rest) =
+      ap (flat_map (field_types locals)) (reported_put (each legacy_fields rest) (λ ys. legacy.Delegate depth ∷ ys)) ∙ legacies-none rest
+
+  pub try_table-none : (x : TryTable) → instr_types locals (instr.TryTable x) ≡ []
+  try_table-none x =
+      ap (λ events. flat_map (field_types locals) events ++ []) (reported_put (each clause_fields x.catches) (λ b. instr.TryTable (record x { catches = b })))
+      ∙ ap (λ types. types ++ []) (clauses-none x.catches)
+
+  pub try-none : (x : Try) → instr_types locals (instr.Try x) ≡ []
+  try-none x =
+      ap (λ events. flat_map (field_types locals) events ++ []) (reported_put (each legacy_fields x.catches) (λ b. instr.Try (record x { catches = b })))
+      ∙ ap (λ types. types ++ []) (legacies-none x.catches)

@@ -4,7 +4,11 @@
 use Rattle.std.specs.Prelude.{◌≡◌, ℕ, List, [], ◌∷◌, ◌++◌, Option, Some, None, Contains, slice_get, option_map}
 use Rattle.walrus_ty.specs.declared.ty.value.Val.{Val}
 use Rattle.walrus_ty.specs.Value.{heap_names, reference_names, val_names}
+use Rattle.std.specs.List.{flat_map}
 use Rattle.walrus_ir.specs.BlockTypes.{block_type_name}
+use Rattle.walrus_ir.specs.Calls.{Event, at, reported}
+use Rattle.walrus_ir.specs.Fields.{fields}
+use Rattle.walrus_ir.specs.Hooks.{visit_type_id, visit_heap_type, visit_local_id}
 use Rattle.instr.specs.Locals.{LocalVariable}
 use Rattle.instr.specs.declared.instr.Instr.{Instr}
 use Rattle.instr.specs.declared.instr.Instr.TheVariants as instr
@@ -29,42 +33,22 @@ types_of (Some v) = val_names v
 abbrev pub local_types : List LocalVariable → ℕ → List ℕ
 local_types locals id = types_of (option_map (λ l. l.ty) (slice_get locals id))
 
--- the types that stand behind an instruction, and those of the local that it reads or writes
+-- the types that a field which walks visit names: its own, or that of a local
+abbrev pub field_types : List LocalVariable → Event → List ℕ
+field_types locals (at visit_type_id id) = id ∷ []
+field_types locals (at visit_heap_type heap) = heap_names heap
+field_types locals (at visit_local_id id) = local_types locals id
+field_types locals (at _ _) = []
+
+-- the types that an instruction names where walks do not look
+abbrev pub unvisited_types : Instr → List ℕ
+unvisited_types (instr.Select x) = types_of x.ty
+unvisited_types (instr.RefNull x) = reference_names x.ty
+unvisited_types _ = []
+
+-- the types that an instruction names, and that of the local that it reads or writes
 abbrev pub instr_types : List LocalVariable → Instr → List ℕ
-instr_types locals (instr.CallIndirect x) = x.ty ∷ []
-instr_types locals (instr.ReturnCallIndirect x) = x.ty ∷ []
-instr_types locals (instr.CallRef x) = x.ty ∷ []
-instr_types locals (instr.ReturnCallRef x) = x.ty ∷ []
-instr_types locals (instr.LocalGet x) = local_types locals x.local
-instr_types locals (instr.LocalSet x) = local_types locals x.local
-instr_types locals (instr.LocalTee x) = local_types locals x.local
-instr_types locals (instr.Select x) = types_of x.ty
-instr_types locals (instr.BrOnCast x) = heap_names x.from_heap_type ++ heap_names x.to_heap_type
-instr_types locals (instr.BrOnCastFail x) =
-    heap_names x.from_heap_type ++ heap_names x.to_heap_type
-instr_types locals (instr.RefNull x) = reference_names x.ty
-instr_types locals (instr.RefTest x) = heap_names x.heap_type
-instr_types locals (instr.RefCast x) = heap_names x.heap_type
-instr_types locals (instr.StructNew x) = x.ty ∷ []
-instr_types locals (instr.StructNewDefault x) = x.ty ∷ []
-instr_types locals (instr.StructGet x) = x.ty ∷ []
-instr_types locals (instr.StructGetS x) = x.ty ∷ []
-instr_types locals (instr.StructGetU x) = x.ty ∷ []
-instr_types locals (instr.StructSet x) = x.ty ∷ []
-instr_types locals (instr.ArrayNew x) = x.ty ∷ []
-instr_types locals (instr.ArrayNewDefault x) = x.ty ∷ []
-instr_types locals (instr.ArrayNewFixed x) = x.ty ∷ []
-instr_types locals (instr.ArrayNewData x) = x.ty ∷ []
-instr_types locals (instr.ArrayNewElem x) = x.ty ∷ []
-instr_types locals (instr.ArrayGet x) = x.ty ∷ []
-instr_types locals (instr.ArrayGetS x) = x.ty ∷ []
-instr_types locals (instr.ArrayGetU x) = x.ty ∷ []
-instr_types locals (instr.ArraySet x) = x.ty ∷ []
-instr_types locals (instr.ArrayFill x) = x.ty ∷ []
-instr_types locals (instr.ArrayCopy x) = x.dst_ty ∷ x.src_ty ∷ []
-instr_types locals (instr.ArrayInitData x) = x.ty ∷ []
-instr_types locals (instr.ArrayInitElem x) = x.ty ∷ []
-instr_types locals _ = []
+instr_types locals i = flat_map (field_types locals) (reported (fields i)) ++ unvisited_types i
 
 -- a function uses its own type, the types of its parameters, and in its body the types that blocks
 -- have and those of instructions
