@@ -53,7 +53,8 @@ module _ {V : Type 0} (step : V → Event → V → Type 0) (f : Body) where
           subst F (sym e) (All-append (IsSound f) ws (leaves f p) s.0 (sound_leaves f p s.1)),
           h.1 ++ reports f p,
           FoldsTo-append step o h.1 v (reports f p) w h.2 k,
-          h.3 ∙ ap (λ l. h.1 ++ l) (next_left f ws new p s.1 e) ∙ sym (append_assoc h.1 (reports f p) (left f new)),
+          h.3 ∙ ap (λ l. h.1 ++ l) (next_left f ws new p s.1 e)
+              ∙ sym (append_assoc h.1 (reports f p) (left f new)),
         )
 
     does_on :
@@ -74,7 +75,8 @@ module _ {V : Type 0} (step : V → Event → V → Type 0) (f : Body) where
     less_left (suc n) v w all new h k =
         let before = less_left n v k.0 all (k.1 ++ k.2 ∷ []) h k.3 in
         let s = next_sound k.0 k.1 k.2 (does_on n v k.0 all (k.1 ++ k.2 ∷ []) h k.3) in
-        let e = ap (length {A = Event}) (next_left f k.1 new k.2 s.1 k.5) ∙ length-append (reports f k.2) (left f new) in
+        let e = ap (length {A = Event}) (next_left f k.1 new k.2 s.1 k.5)
+        ∙ length-append (reports f k.2) (left f new) in
         let long = reports_long f k.2 in
         omega arith
 
@@ -82,7 +84,8 @@ module _ {V : Type 0} (step : V → Event → V → Type 0) (f : Body) where
         (v : V) (all ws : List Work) (p : Work) → all ≡ ws ++ p ∷ [] → Trail step f o es v all →
         Knows f (seq_of p)
     next_knows v all ws p e h =
-        let F : List Work → Type 0 = λ l. Trail step f o es v l in sound_knows f p (next_sound v ws p (subst F e h)).1
+        let F : List Work → Type 0 = λ l. Trail step f o es v l in
+        sound_knows f p (next_sound v ws p (subst F e h)).1
 
     pub turned :
         (v w : V) (all ws new : List Work) (p : Work) → all ≡ ws ++ p ∷ [] →
@@ -133,7 +136,8 @@ module _ {V : Type 0} (step : V → Event → V → Type 0) (f : Body) where
   stops_first v u w ws q h k =
       (suc k.0, k.1, k.2, k.3, one_before k.0 v u k.1 ws (k.2 ++ k.3 ∷ []) (Enter q) h k.4, k.5)
 
-  module _ (n : ℕ) (v u w : V) (all ws : List Work) (q k : ℕ) (so_far : Does step f n v all u (ws ++ Resume q k ∷ [])) where
+  module _ (n : ℕ) (v u w : V) (all ws : List Work) (q k : ℕ)
+      (so_far : Does step f n v all u (ws ++ Resume q k ∷ [])) where
     -- the instruction at a place
     pub passed :
         (new : List Work) (x : Instr × ℕ) → slice_get (sequence f q).instrs k ≡ Some x →

@@ -6,4 +6,5 @@ pub returns-clause-err : goal.returns-clause-err
 returns-clause-err g c =
     rw (← c.seq.view_is)
     (on_err_weaker c.report_type.result
-    (λ k. after_step _ _ _ _ _ _ (rw (← c.seq.view_is) at c.in_ok-start_instr_seq.ensures.ok) k) c.report_type.ensures.err)
+    (λ k. after_step _ _ _ _ _ _ (rw (← c.seq.view_is) at c.in_ok-start_instr_seq.ensures.ok) k)
+    c.report_type.ensures.err)
