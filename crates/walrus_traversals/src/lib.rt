@@ -1,7 +1,7 @@
 //! Walks over function bodies of WebAssembly modules that change nothing.
 //!
 //! - [`dfs_in_order`] calls the hooks of a [`Visitor`] over a nested body, in order.
-//! - [`check_nesting`], of `walrus_nesting`, tells whether a body is nested, and shows why.
+//! - [`check_nesting`], of `walrus_nesting`, says whether a body is nested, and shows why.
 //! - [`UsedIds`] is a visitor that collects the ids that a body names, and [`used_ids`] checks and
 //!   walks in one.
 //! - [`laws`] has the theorems.

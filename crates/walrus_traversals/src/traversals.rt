@@ -1,20 +1,21 @@
 //! The walk in order.
-ghost use Rattle.std.specs.Prelude.{◌≡◌, ◌+◌, ◌<◌, ◌^◌, ◌++◌, slice_get, option_copied, Some, IfSome, OnOk, OnErr};
+ghost use Rattle.std.specs.Prelude.{◌≡◌, ◌+◌, ◌<◌, ◌^◌, ◌++◌, [], ◌∷◌, map, reverse, OnOk, OnErr};
 ghost use Rattle.std.specs.List.{FoldsTo};
 ghost use Rattle.walrus_functions.specs.Body.{Knows, sequence};
-ghost use Rattle.walrus_functions.specs.Nesting.{IsNested};
-ghost use Rattle.walrus_traversals.specs.Events.{own_events, events, AfterFirst};
-ghost use Rattle.walrus_traversals.specs.Steps.Walking.{reports, leaves, after_place, seq_of};
+ghost use Rattle.walrus_functions.specs.Nesting.{children, IsNested};
+ghost use Rattle.walrus_ir.specs.Calls.{at, reported};
+ghost use Rattle.walrus_ir.specs.Fields.{type_fields};
+ghost use Rattle.walrus_ir.specs.Hooks.{start_instr_seq};
+ghost use Rattle.walrus_traversals.specs.Events.{events, AfterFirst};
+ghost use Rattle.walrus_traversals.specs.Steps.Walking.{Goes, Stops, seq_of, has_items};
 ghost use Rattle.walrus_traversals.specs.declared.traversals.stack.Work.TheVariants.{Enter, Resume};
 
-mod hooks;
 mod stack;
 
-use crate::fields::fields_of_type;
+use crate::fields::{report, report_type};
 use crate::{Visitor, WalkError};
-use hooks::{report, report_fields};
 use stack::{Work, leave, push_children};
-use std::alloc::Global;
+use std::alloc::{AllocError, Global};
 use walrus_functions::LocalFunction;
 use walrus_ir::{Instr, InstrLocId, InstrSeq, InstrSeqId};
 
@@ -25,7 +26,7 @@ use walrus_ir::{Instr, InstrLocId, InstrSeq, InstrSeqId};
 /// its fields, the tags of its clauses, then all of each of its children; its end. A sequence that
 /// several name is visited each time.
 ///
-/// The body has to be nested from `start`, which [`check_nesting`] tells; [`used_ids`] is a caller
+/// The body has to be nested from `start`, which [`check_nesting`] says; [`used_ids`] is a caller
 /// that checks and then walks. How deep it is nested is bounded by memory alone: nothing is on the
 /// call stack.
 ///
@@ -74,7 +75,7 @@ pub fn dfs_in_order<V: Visitor>(
     Ok(())
 }
 
-// Does a piece of work.
+// Does a piece of work, and what comes with it before the stack is looked at again.
 fn turn<V: Visitor>(
     visitor: &mut V,
     func: &LocalFunction,
@@ -82,10 +83,10 @@ fn turn<V: Visitor>(
     stack: &mut Vec<Work>,
 ) -> Result<(), WalkError<V::Error>>
     requires { Knows func.now.body (seq_of work) }
-    ensures ok { OnOk result (FoldsTo V.step visitor.old (reports func.now.body work) visitor.new) }
-    ensures left { OnOk result (stack.new.items ≡ stack.old.items ++ leaves func.now.body work) }
+    ensures ok { OnOk result (Goes V.step func.now.body visitor.old (stack.old.items ++ work ∷ [])
+        visitor.new stack.new.items) }
     ensures err { OnErr result
-        (AfterFirst V.step visitor.old (reports func.now.body work) visitor.new) }
+        (Stops V.step func.now.body visitor.old (stack.old.items ++ work ∷ []) visitor.new) }
 {
     match work {
         Work::Enter(id) => enter(visitor, func, id, stack),
@@ -93,7 +94,7 @@ fn turn<V: Visitor>(
     }
 }
 
-// Reports the start of a sequence and its type, and leaves its instructions.
+// Reports a sequence from its start on.
 fn enter<V: Visitor>(
     visitor: &mut V,
     func: &LocalFunction,
@@ -101,84 +102,85 @@ fn enter<V: Visitor>(
     stack: &mut Vec<Work>,
 ) -> Result<(), WalkError<V::Error>>
     requires { Knows func.now.body id }
-    ensures ok { OnOk result
-        (FoldsTo V.step visitor.old (reports func.now.body (Enter id)) visitor.new) }
-    ensures left { OnOk result
-        (stack.new.items ≡ stack.old.items ++ leaves func.now.body (Enter id)) }
+    ensures ok { OnOk result (Goes V.step func.now.body visitor.old
+        (stack.old.items ++ Enter id ∷ []) visitor.new stack.new.items) }
     ensures err { OnErr result
-        (AfterFirst V.step visitor.old (reports func.now.body (Enter id)) visitor.new) }
+        (Stops V.step func.now.body visitor.old (stack.old.items ++ Enter id ∷ []) visitor.new) }
 {
-    let seq = known_block(func, id);
-    if let Err(e) = visitor.start_instr_seq(seq) {
+    if let Err(e) = report_start(visitor, known_block(func, id)) {
         return Err(WalkError::Hook(e));
     }
-    if let Err(e) = report_fields(visitor, fields_of_type(&seq.ty)) {
-        return Err(WalkError::Hook(e));
-    }
-    match stack.push(Work::Resume(id, 0)) {
-        Ok(()) => Ok(()),
-        Err(_) => Err(WalkError::Memory),
-    }
+    resume(visitor, func, id, 0, stack)
 }
 
-// Reports the instruction at a place, and leaves what is inside it and what stands after it. Past
-// the last it reports the end.
+// Reports the start of a sequence and its type.
+fn report_start<V: Visitor>(visitor: &mut V, seq: &InstrSeq) -> Result<(), V::Error>
+    ensures ok { OnOk result (FoldsTo V.step visitor.old
+        (at start_instr_seq seq.now ∷ reported (type_fields seq.now.ty)) visitor.new) }
+    ensures err { OnErr result (AfterFirst V.step visitor.old
+        (at start_instr_seq seq.now ∷ reported (type_fields seq.now.ty)) visitor.new) }
+{
+    visitor.start_instr_seq(seq)?;
+    report_type(visitor, &seq.ty)
+}
+
+// Reports a sequence from a place on, up to an instruction in which sequences stand, and leaves
+// these and what stands after it; or up to its end.
 fn resume<V: Visitor>(
     visitor: &mut V,
     func: &LocalFunction,
     id: InstrSeqId,
-    place: usize,
+    from: usize,
     stack: &mut Vec<Work>,
 ) -> Result<(), WalkError<V::Error>>
     requires { Knows func.now.body id }
-    ensures ok { OnOk result
-        (FoldsTo V.step visitor.old (reports func.now.body (Resume id place)) visitor.new) }
-    ensures left { OnOk result
-        (stack.new.items ≡ stack.old.items ++ leaves func.now.body (Resume id place)) }
-    ensures err { OnErr result
-        (AfterFirst V.step visitor.old (reports func.now.body (Resume id place)) visitor.new) }
+    ensures ok { OnOk result (Goes V.step func.now.body visitor.old
+        (stack.old.items ++ Resume id from ∷ []) visitor.new stack.new.items) }
+    ensures err { OnErr result (Stops V.step func.now.body visitor.old
+        (stack.old.items ++ Resume id from ∷ []) visitor.new) }
 {
-    match entry_at(func, id, place) {
-        Some(entry) => report_and_leave(visitor, id, place, entry, stack),
-        None => match visitor.end_instr_seq(known_block(func, id)) {
-            Ok(()) => Ok(()),
-            Err(e) => Err(WalkError::Hook(e)),
-        },
+    let seq = known_block(func, id);
+    for place in from..seq.instrs.len() {
+        let entry = &seq.instrs[place];
+        if let Err(e) = report(visitor, entry) {
+            return Err(WalkError::Hook(e));
+        }
+        if has_children(&entry.0) {
+            return match leave_at(stack, id, place, &entry.0) {
+                Ok(()) => Ok(()),
+                Err(_) => Err(WalkError::Memory),
+            };
+        }
+    }
+    match visitor.end_instr_seq(seq) {
+        Ok(()) => Ok(()),
+        Err(e) => Err(WalkError::Hook(e)),
     }
 }
 
-fn report_and_leave<V: Visitor>(
-    visitor: &mut V,
+// Leaves what stands after a place of a sequence, and what is inside the instruction there.
+fn leave_at(
+    stack: &mut Vec<Work>,
     id: InstrSeqId,
     place: usize,
-    entry: &(Instr, InstrLocId),
-    stack: &mut Vec<Work>,
-) -> Result<(), WalkError<V::Error>>
+    instr: &Instr,
+) -> Result<(), AllocError>
     requires { place + 1 < 2 ^ 64 }
-    ensures ok { OnOk result (FoldsTo V.step visitor.old (own_events entry.now) visitor.new) }
-    ensures left { OnOk result
-        (stack.new.items ≡ stack.old.items ++ after_place id place (Some entry.now)) }
-    ensures err { OnErr result (AfterFirst V.step visitor.old (own_events entry.now) visitor.new) }
+    ensures { OnOk result (stack.new.items
+        ≡ stack.old.items ++ Resume id (place + 1) ∷ reverse (map Enter (children instr.now))) }
 {
-    if let Err(e) = report(visitor, entry) {
-        return Err(WalkError::Hook(e));
-    }
-    if let Err(_) = stack.push(Work::Resume(id, place + 1)) {
-        return Err(WalkError::Memory);
-    }
-    match push_children(stack, &entry.0) {
-        Ok(()) => Ok(()),
-        Err(_) => Err(WalkError::Memory),
-    }
+    stack.push(Work::Resume(id, place + 1))?;
+    push_children(stack, instr)
 }
 
-// The instruction at a place of a sequence, with its location.
-fn entry_at(func: &LocalFunction, id: InstrSeqId, place: usize) -> Option<&(Instr, InstrLocId)>
-    requires { Knows func.now.body id }
-    ensures entry { option_copied result ≡ slice_get (sequence func.now.body id).instrs place }
-    ensures not_last { IfSome result (λ _. place + 1 < 2 ^ 64) }
+// Whether sequences stand in an instruction.
+fn has_children(instr: &Instr) -> bool
+    ensures { result ≡ has_items (children instr.now) }
 {
-    known_block(func, id).instrs.get(place)
+    matches!(
+        instr,
+        Instr::Block(_) | Instr::Loop(_) | Instr::IfElse(_) | Instr::TryTable(_) | Instr::Try(_)
+    )
 }
 
 fn known_block(func: &LocalFunction, id: InstrSeqId) -> &InstrSeq

@@ -1,25 +1,26 @@
 -- what an in-order walk has left
-use Rattle.std.proofs.Common.{◌≡◌, ℕ, zero, suc, ◌+◌, ◌<◌, List, [], ◌∷◌, ◌++◌, length, reverse, map, drop, refl, sym, ap, ◌∙◌, subst, arith, add-one, append_assoc, append-nil, length-append, slice_get, Option, Some, None}
-use Rattle.std.specs.List.{flat_map, AllByRecursion, FoldsTo}
+use Rattle.std.proofs.Common.{◌≡◌, ℕ, zero, suc, ◌+◌, ◌<◌, List, [], ◌∷◌, ◌++◌, length, reverse, map, drop, refl, sym, ap, ◌∙◌, subst, arith, add-one, append_assoc, append-nil, slice_get, Option, Some, None}
+use Rattle.std.specs.List.{flat_map, AllByRecursion}
 use Rattle.std.proofs.lemmas.List.{reverse-append, reverse-reverse}
 use Rattle.std.proofs.lemmas.List.Concat.{flat_map-append}
 use Rattle.std.proofs.lemmas.List.Folds.{flat_map-map}
 use Rattle.walrus_ir.specs.Sequence.{Sequence}
 use Rattle.instr.specs.declared.instr.Instr.{Instr}
 use Rattle.walrus_functions.specs.Body.{Body, sequence, Knows}
-use Rattle.walrus_traversals.specs.Events.{Event, AfterFirst, StartInstrSeq, EndInstrSeq, own_events, type_of, events_of_instrs, events_to, events}
 use Rattle.walrus_functions.specs.Nesting.{children}
-use Rattle.walrus_functions.specs.Nesting.{IsNested}
+use Rattle.walrus_ir.specs.Calls.{Event, at, reported}
+use Rattle.walrus_ir.specs.Fields.{type_fields}
+use Rattle.walrus_ir.specs.Hooks.{start_instr_seq, end_instr_seq}
+use Rattle.walrus_traversals.specs.Events.{own_events, events_of_instrs, events_to, events}
 use Rattle.walrus_traversals.specs.Steps.Walking.{reports, leaves, at_place, after_place, seq_of}
 use Rattle.walrus_traversals.specs.declared.traversals.stack.Work.{Work}
 use Rattle.walrus_traversals.specs.declared.traversals.stack.Work.TheVariants.{Enter, Resume}
-use Rattle.walrus_traversals.proofs.Walks.Folds.{FoldsTo-append, after_part, after_front}
-use Rattle.walrus_traversals.proofs.Walks.Levels.{Within, levels, All-append, All-front, All-back, All-weaker, All-items, flat_map-same, same_deeper, still_within, within_from_nested}
+use Rattle.walrus_traversals.proofs.Walks.Levels.{Within, levels, All-append, All-weaker, All-items, flat_map-same, same_deeper, still_within}
 
 -- the events that a piece of work gives, all that is inside it too
 abbrev pub work_events : Body → Work → List Event
 work_events f (Enter q) = events f q
-work_events f (Resume q k) = events_of_instrs (events_to f (length f.seqs)) (drop k (sequence f q).instrs) ++ EndInstrSeq (sequence f q) ∷ []
+work_events f (Resume q k) = events_of_instrs (events_to f (length f.seqs)) (drop k (sequence f q).instrs) ++ at end_instr_seq (sequence f q) ∷ []
 
 abbrev pub IsSound : Body → Work → Type 0
 IsSound f w = Within f (levels f) (seq_of w)
@@ -100,10 +101,10 @@ pub resume_parts :
     (f : Body) (q k : ℕ) (o : Option (Instr × ℕ)) →
     drop k (sequence f q).instrs ≡ front o (drop (k + 1) (sequence f q).instrs) → InsideAt f o →
     work_events f (Resume q k) ≡ at_place (sequence f q) o ++ left f (after_place q k o)
-resume_parts f q k None e h = ap (λ l. events_of_instrs (events_to f (length f.seqs)) l ++ EndInstrSeq (sequence f q) ∷ []) e
+resume_parts f q k None e h = ap (λ l. events_of_instrs (events_to f (length f.seqs)) l ++ at end_instr_seq (sequence f q) ∷ []) e
 resume_parts f q k (Some x) e h =
     let go = events_to f (length f.seqs) in
-    let end = EndInstrSeq (sequence f q) ∷ [] in
+    let end = at end_instr_seq (sequence f q) ∷ [] in
     ap (λ l. events_of_instrs go l ++ end) e
     ∙ regroup (own_events x) (flat_map go (children x.0)) (events_of_instrs go (drop (k + 1) (sequence f q).instrs)) end
     ∙ ap (λ l. own_events x ++ l)
@@ -116,9 +117,9 @@ pub work_parts :
     (f : Body) (w : Work) → IsSound f w → work_events f w ≡ reports f w ++ left f (leaves f w)
 unfolding events_to
 work_parts f (Enter q) h =
-    ap (λ l. StartInstrSeq (sequence f q) ∷ l)
-    (append_assoc (type_of (sequence f q).ty) (events_of_instrs (events_to f (length f.seqs)) (sequence f q).instrs) (EndInstrSeq (sequence f q) ∷ [])
-    ∙ ap (λ l. type_of (sequence f q).ty ++ l) (sym (append-nil (work_events f (Resume q 0)))))
+    ap (λ l. at start_instr_seq (sequence f q) ∷ l)
+    (append_assoc (reported (type_fields (sequence f q).ty)) (events_of_instrs (events_to f (length f.seqs)) (sequence f q).instrs) (at end_instr_seq (sequence f q) ∷ [])
+    ∙ ap (λ l. reported (type_fields (sequence f q).ty) ++ l) (sym (append-nil (work_events f (Resume q 0)))))
 work_parts f (Resume q k) h =
     resume_parts f q k (slice_get (sequence f q).instrs k) (rw add-one (drop_front (sequence f q).instrs k)) (inside_at f q k h)
 
@@ -146,57 +147,3 @@ place_long s (Some x) = omega arith
 pub reports_long : (f : Body) (w : Work) → 0 < length (reports f w)
 reports_long f (Enter q) = omega arith
 reports_long f (Resume q k) = place_long (sequence f q) (slice_get (sequence f q).instrs k)
-
--- a walk so far: what it reported, and that this and what is left are all events
-abbrev pub Trail :
-    {V : Type 0} → (V → Event → V → Type 0) → V → List Event → Body → V → List Work → Type 0
-Trail step o es f v ws = AllByRecursion (IsSound f) ws × ((done : List Event) × FoldsTo step o done v × (es ≡ done ++ left f ws))
-
-module _ {V : Type 0} (step : V → Event → V → Type 0) where
-  pub started : (v : V) (f : Body) (q : ℕ) (ws : List Work) → ws ≡ Enter q ∷ [] → IsNested f q → Trail step v (events f q) f v ws
-  started v f q ws e h =
-      let F : List Work → Type 0 = λ l. AllByRecursion (IsSound f) l in
-      (subst F (sym e) (within_from_nested f q h, tt), ([], refl, sym (ap (left f) e ∙ append-nil (events f q))))
-
-  pub next_sound : (o v : V) (es : List Event) (f : Body) (all ws : List Work) (w : Work) → all ≡ ws ++ w ∷ [] → Trail step o es f v all → AllByRecursion (IsSound f) ws × IsSound f w
-  next_sound o v es f all ws w e h =
-      let F : List Work → Type 0 = λ l. AllByRecursion (IsSound f) l in
-      let a = subst F e h.0 in
-      (All-front (IsSound f) ws (w ∷ []) a, (All-back (IsSound f) ws (w ∷ []) a).0)
-
-  pub next_knows : (o v : V) (es : List Event) (f : Body) (all ws : List Work) (w : Work) → all ≡ ws ++ w ∷ [] → Trail step o es f v all → Knows f (seq_of w)
-  next_knows o v es f all ws w e h = sound_knows f w (next_sound o v es f all ws w e h).1
-
-  -- what was left is what the last piece of work reports, then what is left after it
-  pub next_left : (f : Body) (all ws new : List Work) (w : Work) → all ≡ ws ++ w ∷ [] → IsSound f w → new ≡ ws ++ leaves f w → left f all ≡ reports f w ++ left f new
-  next_left f all ws new w e h n =
-      ap (left f) e ∙ left-append f ws (w ∷ [])
-      ∙ ap (λ l. l ++ left f ws) (append-nil (work_events f w) ∙ work_parts f w h)
-      ∙ append_assoc (reports f w) (left f (leaves f w)) (left f ws)
-      ∙ ap (λ l. reports f w ++ l) (sym (ap (left f) n ∙ left-append f ws (leaves f w)))
-
-  pub go_on : (o v u : V) (es : List Event) (f : Body) (all ws new : List Work) (w : Work) → all ≡ ws ++ w ∷ [] → Trail step o es f v all → FoldsTo step v (reports f w) u → new ≡ ws ++ leaves f w → Trail step o es f u new
-  go_on o v u es f all ws new w e h k n =
-      let F : List Work → Type 0 = λ l. AllByRecursion (IsSound f) l in
-      let s = next_sound o v es f all ws w e h in (
-        subst F (sym n) (All-append (IsSound f) ws (leaves f w) s.0 (sound_leaves f w s.1)),
-        (
-          h.1.0 ++ reports f w,
-          FoldsTo-append step o h.1.0 v (reports f w) u h.1.1 k,
-          h.1.2 ∙ ap (λ l. h.1.0 ++ l) (next_left f all ws new w e s.1 n) ∙ sym (append_assoc h.1.0 (reports f w) (left f new)),
-        ),
-      )
-
-  pub less_left : (o v : V) (es : List Event) (f : Body) (all ws new : List Work) (w : Work) → all ≡ ws ++ w ∷ [] → Trail step o es f v all → new ≡ ws ++ leaves f w → length (left f new) < length (left f all)
-  less_left o v es f all ws new w e h n =
-      let s = next_sound o v es f all ws w e h in
-      let k = ap (length {A = Event}) (next_left f all ws new w e s.1 n) ∙ length-append (reports f w) (left f new) in
-      let l = reports_long f w in
-      omega arith
-
-  pub cut_on : (o v u : V) (es : List Event) (f : Body) (all ws : List Work) (w : Work) → all ≡ ws ++ w ∷ [] → Trail step o es f v all → AfterFirst step v (reports f w) u → AfterFirst step o es u
-  cut_on o v u es f all ws w e h k =
-      let F : List Event → Type 0 = λ l. AfterFirst step o l u in
-      let s = next_sound o v es f all ws w e h in
-      subst F (sym (h.1.2 ∙ ap (λ l. h.1.0 ++ l) (next_left f all ws (ws ++ leaves f w) w e s.1 refl)))
-      (after_part step o v u h.1.0 (reports f w ++ left f (ws ++ leaves f w)) h.1.1 (after_front step v u (reports f w) (left f (ws ++ leaves f w)) k))

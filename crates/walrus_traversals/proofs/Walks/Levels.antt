@@ -1,9 +1,12 @@
 -- a nested body has no more levels than sequences
-use Rattle.std.proofs.Common.{◌≡◌, ℕ, zero, suc, ◌+◌, ◌<◌, List, [], ◌∷◌, ◌++◌, length, refl, sym, ap, ◌∙◌, arith}
+use Rattle.std.proofs.Common.{◌≡◌, ℕ, zero, suc, ◌<◌, List, [], ◌∷◌, ◌++◌, length, refl, sym, ap, ◌∙◌, arith}
 use Rattle.std.specs.List.{flat_map, AllByRecursion, Contains}
 use Rattle.instr.specs.declared.instr.Instr.{Instr}
 use Rattle.walrus_functions.specs.Body.{Body, sequence, Knows}
-use Rattle.walrus_traversals.specs.Events.{Event, StartInstrSeq, EndInstrSeq, own_events, type_of, events_of_instrs, events_of, events_to, events}
+use Rattle.walrus_ir.specs.Calls.{Event, at, reported}
+use Rattle.walrus_ir.specs.Fields.{type_fields}
+use Rattle.walrus_ir.specs.Hooks.{start_instr_seq, end_instr_seq}
+use Rattle.walrus_traversals.specs.Events.{own_events, events_of_instrs, events_of, events_to, events}
 use Rattle.walrus_functions.specs.Nesting.{children}
 use Rattle.walrus_functions.specs.Nesting.{children_of, IsReachable, at_start, below, IsNested}
 use Rattle.walrus_nesting.proofs.Ranks.{under, under_le, under_lt}
@@ -92,7 +95,7 @@ pub same_deeper : (f : Body) (n q : ℕ) → Within f n q → events_to f (suc n
 unfolding Within events_to
 same_deeper f zero q h = absurd h
 same_deeper f (suc n) q h =
-    ap (λ l. StartInstrSeq (sequence f q) ∷ type_of (sequence f q).ty ++ l ++ EndInstrSeq (sequence f q) ∷ [])
+    ap (λ l. at start_instr_seq (sequence f q) ∷ reported (type_fields (sequence f q).ty) ++ l ++ at end_instr_seq (sequence f q) ∷ [])
     (same_inside (Within f n) (events_to f (suc n)) (events_to f n) (sequence f q).instrs (same_deeper f n) (All-items (Within f n) (λ x. children x.0) (sequence f q).instrs h.1))
 
 pub still_within : (f : Body) (n q : ℕ) → Within f n q → Within f (suc n) q

@@ -2,23 +2,26 @@ use Rattle.std.proofs.Common.{◌∷◌, ◌++◌, [], List, ap, ◌∙◌}
 use Rattle.std.proofs.lemmas.Result.{err_from_is_err_and}
 use Rattle.walrus_traversals.specs.declared.traversals.stack.Work.{Work}
 use Rattle.walrus_traversals.specs.declared.traversals.stack.Work.TheVariants.{Enter}
-use Rattle.walrus_traversals.proofs.Walks.Left.{started, next_knows, go_on, less_left, cut_on}
+use Rattle.walrus_traversals.proofs.Walks.Turns.{started, next_knows, turned, turned_less, turned_stops}
 use Rattle.walrus_traversals.proofs.traversals.dfs_in_order.Goals as goal
 
 pub loop-work-init : goal.loop-work-init
 loop-work-init g c =
-    started _ _ _ _ _ (c.in_default.ensures.ok ∙ ap (λ (l : List Work). l ++ Enter c.args.start ∷ []) c.new-stack.ensures.items) c.requires.nested
+    started _ _ _ _ _
+    (c.in_default.ensures.ok ∙ ap (λ (l : List Work). l ++ Enter c.args.start ∷ []) c.new-stack.ensures.items) c.requires.nested
 
 pub turn-requires : goal.turn-requires
 turn-requires g c = next_knows _ _ _ _ _ _ _ _ c.in-Some.ensures.items c.loop-work.invariant
 
 pub loop-work-smaller : goal.loop-work-smaller
-loop-work-smaller g c = less_left _ _ _ _ _ _ _ _ _ c.in-Some.ensures.items c.loop-work.invariant c.in_ok-turn.ensures.left
+loop-work-smaller g c =
+    turned_less _ _ _ _ _ _ _ _ _ _ c.in-Some.ensures.items c.loop-work.invariant c.in_ok-turn.ensures.ok
 
 pub loop-work-preserved : goal.loop-work-preserved
-loop-work-preserved g c = go_on _ _ _ _ _ _ _ _ _ _ c.in-Some.ensures.items c.loop-work.invariant c.in_ok-turn.ensures.ok c.in_ok-turn.ensures.left
+loop-work-preserved g c =
+    turned _ _ _ _ _ _ _ _ _ _ c.in-Some.ensures.items c.loop-work.invariant c.in_ok-turn.ensures.ok
 
 pub returns-in_err-turn-clause-err : goal.returns-in_err-turn-clause-err
 returns-in_err-turn-clause-err g c =
     let p = err_from_is_err_and c.from_residual.result c.from_residual.ensures.1 in
-    rw p.1 (cut_on _ _ _ _ _ _ _ _ _ c.in-Some.ensures.items c.loop-work.invariant c.in_err-turn.ensures.err)
+    rw p.1 (turned_stops _ _ _ _ _ _ _ _ _ c.in-Some.ensures.items c.loop-work.invariant c.in_err-turn.ensures.err)
