@@ -1,3 +1,4 @@
+use Rattle.std.proofs.Common.{rules}
 use Rattle.std.proofs.lemmas.Result.{err_from_is_err_and, on_ok_weaker, on_err_weaker}
 use Rattle.instr.specs.declared.instr.Instr.TheVariants as instr
 use Rattle.walrus_ir.specs.Calls.{Full, Partial}
@@ -84,3 +85,11 @@ returns-in_ok-visit_instr_seq_id_mut-in-Try-clause-err g c =
     (c.in_ok-visit_instr_seq_id_mut-in-Try.ensures.ok, c.in_ok-visit_instr_seq_id_mut-in-Try.ensures.nesting)
     k)
     c.visit_legacy_catches.ensures.err)
+
+pub returns-in_ok-visit_memory_id_mut-in-MemoryCopy-clause-ok :
+    goal.returns-in_ok-visit_memory_id_mut-in-MemoryCopy-clause-ok
+returns-in_ok-visit_memory_id_mut-in-MemoryCopy-clause-ok g c = search rules
+
+pub returns-in_ok-visit_memory_id_mut-in-MemoryCopy-clause-err :
+    goal.returns-in_ok-visit_memory_id_mut-in-MemoryCopy-clause-err
+returns-in_ok-visit_memory_id_mut-in-MemoryCopy-clause-err g c = search rules

@@ -40,7 +40,8 @@ returns-clause-ok g c =
     c.args.seq.now s c.visit_type.new.visitor c.visit_instrs.new.visitor c.end_instr_seq_mut.new.self
     c.visit_type.new.ty c.visit_instrs.new.instrs.items c.end_instr_seq_mut.new.seq
     (a, b) c.in_ok-visit_type.ensures.ok c.in_ok-visit_instrs.ensures.ok k)
-    (on_ok_both _ _ c.end_instr_seq_mut.result c.end_instr_seq_mut.ensures.ok c.end_instr_seq_mut.ensures.nesting)
+    (on_ok_both _ _ c.end_instr_seq_mut.result c.end_instr_seq_mut.ensures.ok
+    c.end_instr_seq_mut.ensures.nesting)
 
 pub returns-clause-err : goal.returns-clause-err
 returns-clause-err g c =
