@@ -1,14 +1,15 @@
 -- What the rest of the stack does, after what was done, is the whole walk.
 use Rattle.std.proofs.Common.{◌≡◌, ℕ, suc, ◌⊎◌, inl, inr, List, [], ◌∷◌, ◌++◌, length, refl, sym, ap, subst}
 use Rattle.std.specs.List.{AllByRecursion}
+use Rattle.walrus_ir.specs.Calls.{Extent, Full, Partial, Steps}
+use Rattle.walrus_ir.proofs.Calls.{sequence_whole}
 use Rattle.walrus_functions.specs.Body.{Body, Knows, sequence}
 use Rattle.walrus_functions.specs.Nesting.{IsNested}
-use Rattle.walrus_body.specs.Extents.{Extent, Full, Partial}
-use Rattle.walrus_body.specs.Hooks.{Steps}
-use Rattle.walrus_body.specs.Steps.{SameNesting, Within, depth}
+use Rattle.walrus_body.specs.Steps.{SameNesting, Within, depth, keeping}
 use Rattle.walrus_body.specs.Walks.{VisitsBlock, Walks, WalksAll, goes_on, stops, none, next, stops_in, last_first_of}
 use Rattle.walrus_body.proofs.Bodies.{same_write}
 use Rattle.walrus_body.proofs.Keeping.{nesting_same, nesting_both, nested_after}
+use Rattle.walrus_body.proofs.Kept.{block_visited, block_keeps}
 use Rattle.walrus_body.proofs.Depths.{within_from_nested, within_same, still_within, known_within, below_within}
 use Rattle.walrus_body.proofs.Members.{all_append, all_weaker}
 
@@ -49,7 +50,7 @@ module _ {V : Type 0} (step : Steps V) where
 
   -- nothing is done
   pub none_done : (s : V × Body) (q : ℕ) → VisitsBlock step s q Partial s
-  none_done s q = (sequence s.1 q, inl (refl, refl), sym (same_write s.1 q))
+  none_done s q = (sequence s.1 q, inl (refl, sym (sequence_whole (sequence s.1 q))), sym (same_write s.1 q))
 
   pub all_none_done : (s : V × Body) (qs : List ℕ) → WalksAll step s qs Partial s
   all_none_done s [] = none s Partial
@@ -70,8 +71,11 @@ module _ {V : Type 0} (step : Steps V) where
       same = nesting_same s0.1;
     }
 
-    pub go_on : (s m : V × Body) (q : ℕ) (rest : List ℕ) → Pending s0 start s (q ∷ rest) → VisitsBlock step s q Full m → SameNesting s.1 m.1 → Pending s0 start m (last_first_of m.1 q ++ rest)
-    go_on s m q rest p v same =
+    pub go_on :
+        (s m : V × Body) (q : ℕ) (rest : List ℕ) → Pending s0 start s (q ∷ rest) →
+        VisitsBlock (keeping step) s q Full m → Pending s0 start m (last_first_of m.1 q ++ rest)
+    go_on s m q rest p v =
+        let same = block_keeps step s m q Full v in
         let n : ℕ = length s.1.seqs in
         let size : depth m.1 ≡ depth s.1 = ap suc same.count in
         let F : ℕ → Type 0 = λ k. AllByRecursion (Within m.1 k) (last_first_of m.1 q ++ rest) in
@@ -79,7 +83,8 @@ module _ {V : Type 0} (step : Steps V) where
         let here = all_weaker (Within s.1 n) (Within m.1 (suc n)) (last_first_of s.1 q) (λ c h. within_same s.1 m.1 same (suc n) c (still_within s.1 n c h)) (below_within s.1 n q p.within.0) in
         let there = all_weaker (Within s.1 (suc n)) (Within m.1 (suc n)) rest (within_same s.1 m.1 same (suc n)) p.within.1 in
         record {
-          rest = λ extent t k. p.rest extent t (walk_on s m t extent q rest v k);
+          rest = λ extent t k. p.rest extent t (walk_on s m t extent q rest
+              (block_visited step s m q Full v) k);
           within = subst F (sym size) (all_append (Within m.1 (suc n)) (last_first_of m.1 q) rest (subst G (sym (same.children q)) here) there);
           same = nesting_both s0.1 s.1 m.1 p.same same;
         }
@@ -88,8 +93,11 @@ module _ {V : Type 0} (step : Steps V) where
     pub nested_now : (s : V × Body) (pending : List ℕ) → IsNested s0.1 start → Pending s0 start s pending → IsNested s.1 start
     nested_now s pending h p = nested_after s0.1 s.1 p.same start h
 
-    pub nested_then : (s m : V × Body) (pending : List ℕ) → IsNested s0.1 start → Pending s0 start s pending → SameNesting s.1 m.1 → IsNested m.1 start
-    nested_then s m pending h p same = nested_after s.1 m.1 same start (nested_now s pending h p)
+    pub nested_then :
+        (s m : V × Body) (pending : List ℕ) (q : ℕ) (e : Extent) → IsNested s0.1 start →
+        Pending s0 start s pending → VisitsBlock (keeping step) s q e m → IsNested m.1 start
+    nested_then s m pending q e h p v =
+        nested_after s.1 m.1 (block_keeps step s m q e v) start (nested_now s pending h p)
 
     pub ended : (s : V × Body) → Pending s0 start s [] → Walks step s0 start Full s
     ended s p = p.rest Full s (none s Full)
@@ -99,8 +107,11 @@ module _ {V : Type 0} (step : Steps V) where
     given_up s pending p = p.rest Partial s (all_none_done s pending)
 
     -- a hook refuses
-    pub refused : (s t : V × Body) (q : ℕ) (rest : List ℕ) → Pending s0 start s (q ∷ rest) → VisitsBlock step s q Partial t → Walks step s0 start Partial t
-    refused s t q rest p v = p.rest Partial t (stops_in s t q rest (stops s t q v))
+    pub refused :
+        (s t : V × Body) (q : ℕ) (rest : List ℕ) → Pending s0 start s (q ∷ rest) →
+        VisitsBlock (keeping step) s q Partial t → Walks step s0 start Partial t
+    refused s t q rest p v =
+        p.rest Partial t (stops_in s t q rest (stops s t q (block_visited step s t q Partial v)))
 
     pub at_top : (s : V × Body) (pending : List ℕ) (q : ℕ) (rest : List ℕ) → pending ≡ q ∷ rest → Pending s0 start s pending → Pending s0 start s (q ∷ rest)
     at_top s pending q rest e p = let F : List ℕ → Type 0 = λ l. Pending s0 start s l in subst F e p

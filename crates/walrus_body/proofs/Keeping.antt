@@ -1,7 +1,7 @@
 -- Visits keep the nesting.
 use Rattle.std.proofs.lemmas.List.{reverse-append, append-nil}
 use Rattle.std.proofs.lemmas.List.Concat.{flat_map-append}
-use Rattle.std.proofs.Common.{◌≡◌, ℕ, List, [], ◌∷◌, ◌++◌, map, reverse, refl, sym, ap, ◌∙◌, subst, Result, Ok, Err, OnOk, OnErr}
+use Rattle.std.proofs.Common.{◌≡◌, ℕ, List, [], ◌∷◌, ◌++◌, map, reverse, refl, sym, ap, ◌∙◌, subst}
 use Rattle.std.specs.List.{flat_map}
 use Rattle.walrus_ir.specs.Sequence.{Sequence}
 use Rattle.instr.specs.declared.instr.Instr.{Instr}
@@ -12,11 +12,6 @@ use Rattle.walrus_body.specs.Steps.{SameNesting}
 use Rattle.walrus_body.specs.Walks.{last_first}
 use Rattle.walrus_body.proofs.Bodies.{count_after, last_first_after, still_known}
 use Rattle.walrus_body.proofs.Members.{Member, child_from_last_first, last_first_from_child}
-
--- what holds after `Ok` and after `Err`
-pub either_way : {T E : Type 0} (P : Type 0) (r : Result T E) → OnOk r P → OnErr r P → P
-either_way P (Ok x) h k = h
-either_way P (Err e) h k = k
 
 -- the lists one after another, the last first
 abbrev pub back : List (List ℕ) → List ℕ
@@ -83,10 +78,6 @@ no_child_added is x e =
 
 pub keeps_children_same : (a b : Sequence) → b ≡ a → KeepsChildren a b
 keeps_children_same a b e = (ap (λ s. s.id) e, ap child_lists e)
-
-pub keeps_children_both :
-    (a b c : Sequence) → KeepsChildren a b → KeepsChildren b c → KeepsChildren a c
-keeps_children_both a b c h k = (k.0 ∙ h.0, k.1 ∙ h.1)
 
 pub nesting_same : (f : Body) → SameNesting f f
 nesting_same f = record { count = refl; children = λ q. refl }

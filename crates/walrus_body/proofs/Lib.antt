@@ -1,5 +1,5 @@
 pub mod Bodies
-pub mod Eaches
+pub mod Kept
 pub mod Stacks
 pub mod Sequences
 pub mod Keeping

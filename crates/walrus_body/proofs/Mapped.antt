@@ -5,14 +5,13 @@ use Rattle.std.proofs.lemmas.Map.Keys.{IsDistinct-head, IsDistinct-tail}
 use Rattle.std.proofs.Common.{◌≡◌, ℕ, zero, suc, ◌+◌, inl, inr, cond, nat_eq, false, count_by, List, [], ◌∷◌, ◌++◌, get_or, set, get_or-set_other, zero-add, suc-add, refl, sym, ap, ◌∙◌, subst}
 use Rattle.std.specs.Fn.{iterate}
 use Rattle.std.specs.List.{AllByRecursion, IsDistinct}
+use Rattle.walrus_ir.specs.Calls.{Full, Steps}
 use Rattle.walrus_ir.specs.Sequence.{Sequence, empty_sequence}
 use Rattle.walrus_ir.specs.declared.instr_seq_type.InstrSeqType.TheVariants.{Simple}
 use Rattle.std.specs.Prelude.{None}
 use Rattle.walrus_functions.specs.Body.{Body, sequence, with_sequence}
 use Rattle.walrus_functions.specs.Nesting.{IsReachable}
-use Rattle.walrus_body.specs.Extents.{Full}
 use Rattle.walrus_body.specs.FieldMaps.{FieldMap, MapsFields, IsMapped, mapped_sequence}
-use Rattle.walrus_body.specs.Hooks.{Steps}
 use Rattle.walrus_body.specs.Steps.{SameNesting}
 use Rattle.walrus_body.specs.Unfolding.{Unfolds, UnfoldAll, IsTree, then_below, no_child, then_rest}
 use Rattle.walrus_body.specs.Walks.{Walks, WalksAll, goes_on, none, next, last_first, last_first_of}

@@ -1,16 +1,15 @@
 -- The visitor that renames types maps fields.
-use Rattle.std.proofs.Common.{◌≡◌, ◌∙◌, ℕ, List, refl, sym, ap}
+use Rattle.std.proofs.Common.{◌≡◌, ◌∙◌, ℕ, List, refl, sym, subst}
+use Rattle.walrus_ir.specs.Calls.{Full, Steps}
 use Rattle.walrus_functions.specs.Body.{Body, sequence}
-use Rattle.walrus_functions.specs.Nesting.{IsReachable, children}
+use Rattle.walrus_functions.specs.Nesting.{IsReachable}
 use Rattle.walrus_body.specs.Counting.{IsFunction}
-use Rattle.walrus_body.specs.Extents.{Full}
 use Rattle.walrus_body.specs.FieldMaps.{MapsFields, IsMapped}
-use Rattle.walrus_body.specs.Hooks.{Steps, start_instr_seq, end_instr_seq, visit_instr, visit_instr_seq_id, visit_heap_type, visit_function_id, visit_type_id, visit_table_id, visit_local_id, visit_global_id, visit_value, visit_memory_id, visit_data_id, visit_element_id, visit_tag_id}
-use Rattle.walrus_body.specs.Premises.{KeepsNesting, HasSteps}
+use Rattle.walrus_body.specs.Premises.{Keeps, KeepsNesting, HasSteps}
 use Rattle.walrus_body.specs.Renaming.{rename_at, rename_sequence}
 use Rattle.walrus_body.specs.Unfolding.{Unfolds, IsTree}
 use Rattle.walrus_body.specs.Walks.{Walks}
-use Rattle.walrus_body.proofs.Keeping.{keeps_children_same}
+use Rattle.walrus_body.proofs.Mapping.{maps_keep}
 use Rattle.walrus_body.proofs.Mapped.{walk_maps, once_mapped, others_kept}
 
 -- the step of the visitor
@@ -34,21 +33,8 @@ pub renames_is_function : IsFunction renames
 renames_is_function hook v x w y u z h k = (h.0 ∙ sym k.0, h.1 ∙ sym k.1)
 
 pub renames_keeps_nesting : KeepsNesting renames
-renames_keeps_nesting start_instr_seq v x w y h = keeps_children_same x y h.1
-renames_keeps_nesting end_instr_seq v x w y h = keeps_children_same x y h.1
-renames_keeps_nesting visit_instr v x w y h = ap (λ z. children z.0) h.1
-renames_keeps_nesting visit_instr_seq_id v x w y h = h.1
-renames_keeps_nesting visit_heap_type v x w y h = tt
-renames_keeps_nesting visit_function_id v x w y h = tt
-renames_keeps_nesting visit_type_id v x w y h = tt
-renames_keeps_nesting visit_table_id v x w y h = tt
-renames_keeps_nesting visit_local_id v x w y h = tt
-renames_keeps_nesting visit_global_id v x w y h = tt
-renames_keeps_nesting visit_value v x w y h = tt
-renames_keeps_nesting visit_memory_id v x w y h = tt
-renames_keeps_nesting visit_data_id v x w y h = tt
-renames_keeps_nesting visit_element_id v x w y h = tt
-renames_keeps_nesting visit_tag_id v x w y h = tt
+renames_keeps_nesting hook v x w y h =
+    subst (Keeps hook x) (sym h.1) (maps_keep renames v (rename_at v) (renames_by_map v) hook x)
 
 module _ (names : List ℕ) (s : Body) (t : List ℕ × Body) (start : ℕ) (w : Walks renames (names, s) start Full t) where
   pub names_kept : t.0 ≡ names

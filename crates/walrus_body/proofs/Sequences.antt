@@ -1,24 +1,80 @@
 -- A sequence that is visited, hook by hook.
-use Rattle.std.proofs.Common.{◌≡◌, ℕ, List, inl, inr, refl}
+use Rattle.std.proofs.Common.{◌≡◌, ℕ, List, inl, inr, refl, sym, ◌∙◌, subst, Result, Ok, Err, OnOk}
+use Rattle.instr.specs.declared.instr.Instr.{Instr}
+use Rattle.walrus_ir.specs.Calls.{Calls, leaves, call, and_then, each, Full, Partial, Steps, Visits}
+use Rattle.walrus_ir.specs.Fields.{type_fields, instr_calls, sequence_calls}
+use Rattle.walrus_ir.specs.Hooks.{start_instr_seq, end_instr_seq}
 use Rattle.walrus_ir.specs.Sequence.{Sequence}
 use Rattle.walrus_ir.specs.declared.instr_seq_type.InstrSeqType.{InstrSeqType}
-use Rattle.instr.specs.declared.instr.Instr.{Instr}
-use Rattle.walrus_body.specs.Extents.{Full, Partial, Each}
-use Rattle.walrus_body.specs.Hooks.{Steps, start_instr_seq, end_instr_seq}
-use Rattle.walrus_body.specs.Fields.{VisitsType}
-use Rattle.walrus_body.specs.Sequences.{VisitsInstr, VisitsSequence}
+use Rattle.walrus_ir.proofs.Calls.{visits_then, visits_cut, instrs_whole, sequence_whole}
+
+-- two facts that hold after `Ok`
+pub on_ok_both :
+    {T E : Type 0} (P Q : Type 0) (r : Result T E) → OnOk r P → OnOk r Q → OnOk r (P × Q)
+on_ok_both P Q (Ok x) h k = (h, k)
+on_ok_both P Q (Err e) h k = tt
+
+-- the hook at the start refuses
+pub refused_sequence :
+    {V : Type 0} (step : Steps V) (v w : V) (s t : Sequence) → w ≡ v → t ≡ s →
+    Visits step v (sequence_calls s) Partial w t
+refused_sequence step v w s t h k = inl (h, k ∙ sym (sequence_whole s))
 
 module _ {V : Type 0} (step : Steps V) (v u : V) (s0 s : Sequence) where
-  pub begun_in_type : (w : V) (ty : InstrSeqType) → step start_instr_seq v s0 u s → VisitsType step u s.ty Partial w ty → VisitsSequence step v s0 Partial w (record s { ty = ty })
-  begun_in_type w ty h k = inr (u, s, h, inl (ty, k, refl))
+  -- what comes after the type, and what after the instructions
+  abbrev last : InstrSeqType → List (Instr × ℕ) → Calls Sequence
+  last ty is = call end_instr_seq (record s { ty = ty; instrs = is }) (λ new. leaves new)
 
-  pub begun_in_instrs : (w x : V) (ty : InstrSeqType) (is : List (Instr × ℕ)) → step start_instr_seq v s0 u s → VisitsType step u s.ty Full w ty → Each (VisitsInstr step) w s.instrs Partial x is → VisitsSequence step v s0 Partial x (record s { ty = ty; instrs = is })
-  begun_in_instrs w x ty is h k m = inr (u, s, h, inr (w, record s { ty = ty }, (ty, k, refl), inl (is, m, refl)))
+  abbrev rest : InstrSeqType → Calls Sequence
+  rest ty = and_then (each instr_calls s.instrs) (last ty)
 
-  pub begun_before_end : (w x y : V) (ty : InstrSeqType) (is : List (Instr × ℕ)) (t : Sequence) → step start_instr_seq v s0 u s → VisitsType step u s.ty Full w ty → Each (VisitsInstr step) w s.instrs Full x is → (y ≡ x) × (t ≡ record s { ty = ty; instrs = is }) → VisitsSequence step v s0 Partial y t
+  pub begun_in_type :
+      (w : V) (ty : InstrSeqType) → step start_instr_seq v s0 u s →
+      Visits step u (type_fields s.ty) Partial w ty →
+      Visits step v (sequence_calls s0) Partial w (record s { ty = ty })
+  begun_in_type w ty h k =
+      let F : Sequence → Type 0 = λ t. Visits step u (and_then (type_fields s.ty) rest) Partial w t in
+      inr (u, s, h, subst F (instrs_whole s ty) (visits_cut step (type_fields s.ty) rest u w ty k))
+
+  pub begun_in_instrs :
+      (w x : V) (ty : InstrSeqType) (is : List (Instr × ℕ)) → step start_instr_seq v s0 u s →
+      Visits step u (type_fields s.ty) Full w ty →
+      Visits step w (each instr_calls s.instrs) Partial x is →
+      Visits step v (sequence_calls s0) Partial x (record s { ty = ty; instrs = is })
+  begun_in_instrs w x ty is h k m =
+      inr (
+        u,
+        s,
+        h,
+        visits_then step (type_fields s.ty) rest u w x ty Partial (record s { ty = ty; instrs = is }) k
+            (visits_cut step (each instr_calls s.instrs) (last ty) w x is m),
+      )
+
+  pub begun_before_end :
+      (w x y : V) (ty : InstrSeqType) (is : List (Instr × ℕ)) (t : Sequence) →
+      step start_instr_seq v s0 u s → Visits step u (type_fields s.ty) Full w ty →
+      Visits step w (each instr_calls s.instrs) Full x is →
+      (y ≡ x) × (t ≡ record s { ty = ty; instrs = is }) →
+      Visits step v (sequence_calls s0) Partial y t
   begun_before_end w x y ty is t h k m e =
-      inr (u, s, h, inr (w, record s { ty = ty }, (ty, k, refl), inr (x, record s { ty = ty; instrs = is }, (is, m, refl), e)))
+      inr (
+        u,
+        s,
+        h,
+        visits_then step (type_fields s.ty) rest u w y ty Partial t k
+            (visits_then step (each instr_calls s.instrs) (last ty) w x y is Partial t m (inl e)),
+      )
 
-  pub whole_sequence : (w x y : V) (ty : InstrSeqType) (is : List (Instr × ℕ)) (t : Sequence) → step start_instr_seq v s0 u s → VisitsType step u s.ty Full w ty → Each (VisitsInstr step) w s.instrs Full x is → step end_instr_seq x (record s { ty = ty; instrs = is }) y t → VisitsSequence step v s0 Full y t
-  whole_sequence w x y ty is t h k m e =
-      (u, s, h, (w, record s { ty = ty }, (ty, k, refl), (x, record s { ty = ty; instrs = is }, (is, m, refl), e)))
+  pub whole_sequence :
+      (w x y : V) (ty : InstrSeqType) (is : List (Instr × ℕ)) (t : Sequence) →
+      step start_instr_seq v s0 u s → Visits step u (type_fields s.ty) Full w ty →
+      Visits step w (each instr_calls s.instrs) Full x is →
+      step end_instr_seq x (record s { ty = ty; instrs = is }) y t →
+      Visits step v (sequence_calls s0) Full y t
+  whole_sequence w x y ty is t h k m e = (
+    u,
+    s,
+    h,
+    visits_then step (type_fields s.ty) rest u w y ty Full t k
+        (visits_then step (each instr_calls s.instrs) (last ty) w x y is Full t m (y, t, e, (refl, refl))),
+  )

@@ -1,8 +1,8 @@
 -- Walks whose hook calls are counted.
 use Rattle.std.specs.Prelude.{◌≡◌, ℕ, suc}
+use Rattle.walrus_ir.specs.Calls.{Full, Partial, Steps}
+use Rattle.walrus_ir.specs.Hooks.{Hook, Given}
 use Rattle.walrus_functions.specs.Body.{Body}
-use Rattle.walrus_body.specs.Extents.{Full, Partial}
-use Rattle.walrus_body.specs.Hooks.{Hook, Given, Steps}
 use Rattle.walrus_body.specs.Walks.{Walks}
 
 module _ {V : Type 0} where

@@ -1,10 +1,6 @@
-pub mod Hooks
-pub mod Extents
-pub mod Fields
 pub mod FieldMaps
 pub mod Premises
 pub mod Renaming
-pub mod Sequences
 pub mod Walks
 pub mod Unfolding
 pub mod Counting

@@ -1,9 +1,9 @@
 -- What a visitor that renames types leaves at each hook, and of instructions and sequences.
 use Rattle.std.specs.Prelude.{ℕ, List, slice_index_or}
 use Rattle.walrus_ty.specs.Value.{rename_heap}
+use Rattle.walrus_ir.specs.Hooks.{Hook, Given, visit_heap_type, visit_type_id}
 use Rattle.walrus_ir.specs.Sequence.{Sequence}
 use Rattle.walrus_body.specs.FieldMaps.{mapped_sequence}
-use Rattle.walrus_body.specs.Hooks.{Hook, Given, start_instr_seq, end_instr_seq, visit_instr, visit_instr_seq_id, visit_heap_type, visit_function_id, visit_type_id, visit_table_id, visit_local_id, visit_global_id, visit_value, visit_memory_id, visit_data_id, visit_element_id, visit_tag_id}
 
 -- the new id of a type: what stands at its place in the list, and past the end the id itself
 abbrev pub new_type_id : List ℕ → ℕ → ℕ
@@ -13,19 +13,7 @@ new_type_id names id = slice_index_or names id id
 abbrev pub rename_at : List ℕ → (hook : Hook) → Given hook → Given hook
 rename_at names visit_type_id id = new_type_id names id
 rename_at names visit_heap_type ty = rename_heap (new_type_id names) ty
-rename_at names start_instr_seq x = x
-rename_at names end_instr_seq x = x
-rename_at names visit_instr x = x
-rename_at names visit_instr_seq_id x = x
-rename_at names visit_function_id x = x
-rename_at names visit_table_id x = x
-rename_at names visit_local_id x = x
-rename_at names visit_global_id x = x
-rename_at names visit_value x = x
-rename_at names visit_memory_id x = x
-rename_at names visit_data_id x = x
-rename_at names visit_element_id x = x
-rename_at names visit_tag_id x = x
+rename_at names _ x = x
 
 -- a sequence with its type and the fields of its instructions renamed. Its id, the locations and
 -- its end stay

@@ -1,8 +1,14 @@
 -- What a walk that is under way keeps. No public clause cites this module.
 use Rattle.std.specs.Prelude.{◌≡◌, ◌+◌, ℕ, zero, suc, List, [], ◌∷◌, length}
 use Rattle.std.specs.List.{AllByRecursion}
+use Rattle.walrus_ir.specs.Calls.{Steps}
 use Rattle.walrus_functions.specs.Body.{Body, Knows}
+use Rattle.walrus_body.specs.Premises.{Keeps}
 use Rattle.walrus_body.specs.Walks.{last_first_of}
+
+-- the steps of a visitor, each of which keeps the nesting
+abbrev pub keeping : {V : Type 0} → Steps V → Steps V
+keeping step hook v x w y = step hook v x w y × Keeps hook x y
 
 -- the same ids, with the same children in the same order
 pub record SameNesting (old new : Body) : Type 0 where

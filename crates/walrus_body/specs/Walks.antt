@@ -1,12 +1,12 @@
--- The changing walk: a whole sequence, then its children as they then stand.
+-- The changing walk: a whole sequence, then its children as they then stand. A partial walk is, for
+-- some k, the one that is cut after k hook calls (`CutWalk` in `Counting`).
 use Rattle.std.specs.Prelude.{◌≡◌, ℕ, List, [], ◌∷◌, reverse}
 use Rattle.std.specs.List.{flat_map}
+use Rattle.walrus_ir.specs.Calls.{Extent, Full, Partial, Steps, Visits}
+use Rattle.walrus_ir.specs.Fields.{sequence_calls}
 use Rattle.walrus_ir.specs.Sequence.{Sequence}
 use Rattle.walrus_functions.specs.Body.{Body, sequence, with_sequence}
 use Rattle.walrus_functions.specs.Nesting.{children}
-use Rattle.walrus_body.specs.Extents.{Extent, Full, Partial}
-use Rattle.walrus_body.specs.Hooks.{Steps}
-use Rattle.walrus_body.specs.Sequences.{VisitsSequence}
 
 -- the children in the order in which a changing walk enters them: those of the last instruction
 -- first, within one instruction in written order
@@ -20,7 +20,7 @@ module _ {V : Type 0} where
   -- the sequence of this id is visited, and nothing else of the body changes
   abbrev pub VisitsBlock : Steps V → V × Body → ℕ → Extent → V × Body → Type 0
   VisitsBlock step s id extent t =
-      (new : Sequence) × VisitsSequence step s.0 (sequence s.1 id) extent t.0 new ×
+      (new : Sequence) × Visits step s.0 (sequence_calls (sequence s.1 id)) extent t.0 new ×
       (t.1 ≡ with_sequence s.1 id new)
 
 module _ {V : Type 0} (step : Steps V) where

@@ -1,10 +1,10 @@
 //! Laws of walks that change what they visit. Each function does nothing; its clauses are theorems,
 //! which a caller gets by calling it.
 ghost use Rattle.std.specs.Prelude.{◌≡◌, ◌↔◌, ℕ, List, Contains};
+ghost use Rattle.walrus_ir.specs.Calls.{Full, Partial};
 ghost use Rattle.walrus_functions.specs.Body.{Body, sequence};
 ghost use Rattle.walrus_functions.specs.Nesting.{IsNested, IsReachable};
 ghost use Rattle.walrus_body.specs.Counting.{CutWalk, CountedWalk, IsFunction};
-ghost use Rattle.walrus_body.specs.Extents.{Full, Partial};
 ghost use Rattle.walrus_body.specs.FieldMaps.{FieldMap, MapsFields, IsMapped};
 ghost use Rattle.walrus_body.specs.Premises.{HasSteps, KeepsNesting};
 ghost use Rattle.walrus_body.specs.Renaming.{rename_at, rename_sequence};

@@ -75,7 +75,7 @@ impl RenameTypes {
 impl VisitorMut for RenameTypes {
     type Error = Infallible;
 
-    ghost use Rattle.walrus_body.specs.Hooks.{Hook, Given};
+    ghost use Rattle.walrus_ir.specs.Hooks.{Hook, Given};
 
     ghost step = { λ hook v x w y. (w ≡ v) × (y ≡ rename_at v hook x) };
 

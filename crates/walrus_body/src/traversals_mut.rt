@@ -1,12 +1,11 @@
 //! The walk that changes what it visits.
-ghost use Rattle.std.specs.Prelude.{◌≡◌, ◌∷◌, ◌++◌, OnOk, OnErr, reverse, map};
+ghost use Rattle.std.specs.Prelude.{◌≡◌, ◌∷◌, ◌++◌, OnOk, OnErr, reverse};
 ghost use Rattle.std.specs.List.{flat_map};
+ghost use Rattle.walrus_ir.specs.Calls.{Full, Partial, Visits, each};
+ghost use Rattle.walrus_ir.specs.Fields.{instr_calls, sequence_calls};
 ghost use Rattle.walrus_functions.specs.Body.{Knows};
 ghost use Rattle.walrus_functions.specs.Nesting.{children, handlers, IsNested};
-ghost use Rattle.walrus_body.specs.Extents.{Full, Partial, Each};
-ghost use Rattle.walrus_body.specs.Premises.{KeepsChildren};
-ghost use Rattle.walrus_body.specs.Sequences.{VisitsInstr, VisitsSequence};
-ghost use Rattle.walrus_body.specs.Steps.{SameNesting};
+ghost use Rattle.walrus_body.specs.Steps.{keeping};
 ghost use Rattle.walrus_body.specs.Walks.{VisitsBlock, Walks, last_first};
 
 use crate::VisitorMut;
@@ -69,10 +68,9 @@ fn visit_block<V: VisitorMut>(
     id: InstrSeqId,
 ) -> Result<(), V::Error>
     requires { Knows func.old.body id }
-    ensures ok { OnOk result (VisitsBlock V.step (visitor.old, func.old.body) id Full
+    ensures ok { OnOk result (VisitsBlock (keeping V.step) (visitor.old, func.old.body) id Full
         (visitor.new, func.new.body)) }
-    ensures nesting { SameNesting func.old.body func.new.body }
-    ensures err { OnErr result (VisitsBlock V.step (visitor.old, func.old.body) id Partial
+    ensures err { OnErr result (VisitsBlock (keeping V.step) (visitor.old, func.old.body) id Partial
         (visitor.new, func.new.body)) }
     ensures args { func.new.args ≡ func.old.args }
 {
@@ -81,10 +79,10 @@ fn visit_block<V: VisitorMut>(
 
 // The hooks of a sequence.
 fn visit_seq<V: VisitorMut>(visitor: &mut V, seq: &mut InstrSeq) -> Result<(), V::Error>
-    ensures ok { OnOk result (VisitsSequence V.step visitor.old seq.old Full visitor.new seq.new) }
-    ensures nesting { KeepsChildren seq.old seq.new }
-    ensures err { OnErr result (VisitsSequence V.step visitor.old seq.old Partial
-        visitor.new seq.new) }
+    ensures ok { OnOk result (Visits (keeping V.step) visitor.old (sequence_calls seq.old)
+        Full visitor.new seq.new) }
+    ensures err { OnErr result (Visits (keeping V.step) visitor.old (sequence_calls seq.old)
+        Partial visitor.new seq.new) }
 {
     visitor.start_instr_seq_mut(seq)?;
     visit_type(visitor, &mut seq.ty)?;
@@ -97,12 +95,10 @@ fn visit_instrs<V: VisitorMut>(
     visitor: &mut V,
     instrs: &mut Vec<(Instr, InstrLocId)>,
 ) -> Result<(), V::Error>
-    ensures ok { OnOk result (Each (VisitsInstr V.step)
-        visitor.old instrs.old.items Full visitor.new instrs.new.items) }
-    ensures nesting { map (λ x. children x.0) instrs.new.items
-        ≡ map (λ x. children x.0) instrs.old.items }
-    ensures err { OnErr result (Each (VisitsInstr V.step)
-        visitor.old instrs.old.items Partial visitor.new instrs.new.items) }
+    ensures ok { OnOk result (Visits (keeping V.step)
+        visitor.old (each instr_calls instrs.old.items) Full visitor.new instrs.new.items) }
+    ensures err { OnErr result (Visits (keeping V.step)
+        visitor.old (each instr_calls instrs.old.items) Partial visitor.new instrs.new.items) }
 {
     for i in 0..instrs.len() {
         let (instr, loc) = &mut instrs[i];
@@ -117,11 +113,10 @@ fn visit_instr<V: VisitorMut>(
     instr: &mut Instr,
     loc: &mut InstrLocId,
 ) -> Result<(), V::Error>
-    ensures ok { OnOk result (VisitsInstr V.step
-        visitor.old (instr.old, loc.old) Full visitor.new (instr.new, loc.new)) }
-    ensures nesting { children instr.new ≡ children instr.old }
-    ensures err { OnErr result (VisitsInstr V.step
-        visitor.old (instr.old, loc.old) Partial visitor.new (instr.new, loc.new)) }
+    ensures ok { OnOk result (Visits (keeping V.step) visitor.old
+        (instr_calls (instr.old, loc.old)) Full visitor.new (instr.new, loc.new)) }
+    ensures err { OnErr result (Visits (keeping V.step) visitor.old
+        (instr_calls (instr.old, loc.old)) Partial visitor.new (instr.new, loc.new)) }
 {
     visitor.visit_instr_mut(instr, loc)?;
     visit_fields(visitor, instr)

@@ -76,7 +76,7 @@ fn add_one(value: &mut Value) {
 impl VisitorMut for Adder {
     type Error = Full;
 
-    ghost use Rattle.walrus_body.specs.Hooks.{Hook, Given};
+    ghost use Rattle.walrus_ir.specs.Hooks.{Hook, Given};
 
     ghost step = { λ _ _ _ _ _. Unit {0} };
 

@@ -66,7 +66,7 @@ fn index_of(ty: &HeapType) -> usize {
 impl VisitorMut for Reporter {
     type Error = Infallible;
 
-    ghost use Rattle.walrus_body.specs.Hooks.{Hook, Given};
+    ghost use Rattle.walrus_ir.specs.Hooks.{Hook, Given};
 
     ghost step = { λ _ _ _ _ _. Unit {0} };
 
