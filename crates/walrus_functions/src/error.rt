@@ -30,11 +30,11 @@ impl From<AllocError> for BuildError {
     }
 }
 
-/// What a `push` of std that was refused answers. The item that it hands back is dropped.
+/// What a refused `push` of std returns. The item that it hands back is dropped.
 impl<T: Drop> From<AllocFailed<T>> for BuildError {
     ghost from_gives = { λ _ e. e ≡ build.Memory };
 
-    fn from(_: AllocFailed<T>) -> BuildError {
-        BuildError::Memory
+    fn from(refused: AllocFailed<T>) -> BuildError {
+        BuildError::from(AllocError::from(refused))
     }
 }
