@@ -414,6 +414,5 @@ fn a_refused_clone_changes_nothing(rt: HostRuntime) {
         }
     };
     func.args.clear();
-    func.block_mut(Id::from_index(0)).instrs.clear();
     is_whole(&rt, alloc, &copy);
 }
