@@ -34,11 +34,13 @@ module _ (f g : Renaming) where
   op_both (at.RefNull h) = ap at.RefNull (heap_both g.types f.types h)
   op_both other = refl
 
-  ops_both : (ops : List ConstOpAt) → map (op_written g) (map (op_read f) ops) ≡ map (rename_op (after g f)) ops
+  ops_both : (ops : List ConstOpAt) → map (op_written g) (map (op_read f) ops) ≡ map (rename_op (after g f))
+      ops
   ops_both [] = refl
   ops_both (o ∷ ops) = λ i. op_both o i ∷ ops_both ops i
 
-  pub both_ways : (ops : List ConstOpAt) → map (op_written g) (ops_of (expr_of (map (op_read f) ops))) ≡ map (rename_op (after g f)) ops
+  pub both_ways : (ops : List ConstOpAt) → map (op_written g) (ops_of (expr_of (map (op_read f) ops))) ≡ map
+      (rename_op (after g f)) ops
   both_ways ops = ap (map (op_written g)) (ops_back (map (op_read f) ops)) ∙ ops_both ops
 
 -- what one operation lacks is the first that all of them lack, where those before it lack nothing
@@ -51,10 +53,15 @@ pub missing_here :
 missing_here known ops i o n below is left here =
     let lacks : Name → Bool = λ name. is_none (look_up known name) in
     let rest : List Name = flat_map op_names (drop (i + 1) ops) in
-    let from : drop i ops ≡ o ∷ drop (i + 1) ops = drop_more ops i o below ∙ ap (λ (p : ConstOp). p ∷ drop (i + 1) ops) (sym is) in
-    let split : first_missing known (flat_map op_names (drop i ops)) ≡ option_or (first_missing known (op_names o)) (find lacks rest) = ap (λ ps. first_missing known (flat_map op_names ps)) from ∙ find-append lacks (op_names o) rest in
-    ap (option_map no_index) (sym left ∙ split) ∙ first (first_missing known (op_names o)) (find lacks rest) here
+    let from : drop i ops ≡ o ∷ drop (i + 1) ops = drop_more ops i o below
+    ∙ ap (λ (p : ConstOp). p ∷ drop (i + 1) ops) (sym is) in
+    let split : first_missing known (flat_map op_names (drop i ops)) ≡ option_or
+    (first_missing known (op_names o)) (find lacks rest) =
+    ap (λ ps. first_missing known (flat_map op_names ps)) from ∙ find-append lacks (op_names o) rest in
+    ap (option_map no_index) (sym left ∙ split)
+    ∙ first (first_missing known (op_names o)) (find lacks rest) here
   where
-    first : (p q : Option Name) → option_map no_index p ≡ Some n → option_map no_index (option_or p q) ≡ Some n
+    first : (p q : Option Name) → option_map no_index p ≡ Some n →
+        option_map no_index (option_or p q) ≡ Some n
     first None q h = cc
     first (Some m) q h = h

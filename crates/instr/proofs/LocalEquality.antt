@@ -25,7 +25,8 @@ names_exact :
 names_exact None None h = refl
 names_exact None (Some t) h = cc
 names_exact (Some s) None h = cc
-names_exact (Some s) (Some t) h = ap (λ (bytes : List ℕ). Some bytes) ((bytes_eq-Decides (string_bytes s) (string_bytes t)).0 h)
+names_exact (Some s) (Some t) h = ap (λ (bytes : List ℕ). Some bytes)
+    ((bytes_eq-Decides (string_bytes s) (string_bytes t)).0 h)
 
 names_equal :
     (o p : Name) → option_map string_bytes o ≡ option_map string_bytes p →
@@ -50,12 +51,14 @@ parts_equal i j v w o p h k l = cc
 exact : (l m : LocalVariable) → local_eq l m ≡ true → local_parts l ≡ local_parts m
 exact l m h =
     let rest = and_right _ _ h in
-    parts_equal l.id m.id l.ty m.ty _ _ (eqb-true l.id m.id (and_left _ _ h)) ((val_same l.ty m.ty).0 (and_left _ _ rest)) (names_exact l.name m.name (and_right _ _ rest))
+    parts_equal l.id m.id l.ty m.ty _ _ (eqb-true l.id m.id (and_left _ _ h))
+    ((val_same l.ty m.ty).0 (and_left _ _ rest)) (names_exact l.name m.name (and_right _ _ rest))
 
 equal : (l m : LocalVariable) → local_parts l ≡ local_parts m → local_eq l m ≡ true
 equal l m h =
     both_true _ _ (eq-eqb l.id m.id (ap (λ (p : LocalParts). p.id) h))
-    (both_true _ _ ((val_same l.ty m.ty).1 (ap (λ (p : LocalParts). p.ty) h)) (names_equal l.name m.name (ap (λ (p : LocalParts). p.name) h)))
+    (both_true _ _ ((val_same l.ty m.ty).1 (ap (λ (p : LocalParts). p.ty) h))
+    (names_equal l.name m.name (ap (λ (p : LocalParts). p.name) h)))
 
 pub locals_equal :
     (l m : LocalVariable) → (IsTrue (local_eq l m) ↔ (local_parts l ≡ local_parts m))

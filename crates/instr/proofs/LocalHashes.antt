@@ -69,11 +69,13 @@ parts_back p h ts =
     ap (λ ws. parts_read (fed.usize p.id ++ ws)) (append_assoc (val_input p.ty) name ts)
     ∙ (ap (λ q. bind q after_id) (id_back p.id h.0 (val_input p.ty ++ (name ++ ts)))
     ∙ (ap (λ q. bind q (after_ty p.id)) (val_back p.ty h.1 (name ++ ts))
-    ∙ ap (λ q. bind q (λ o us. Got (parts p.id p.ty o) us)) (option_back (λ t. t ≡ t) fed.str text_read text_back p.name (any_text p.name) ts)))
+    ∙ ap (λ q. bind q (λ o us. Got (parts p.id p.ty o) us))
+    (option_back (λ t. t ≡ t) fed.str text_read text_back p.name (any_text p.name) ts)))
 
 pub locals_hash :
     HashesBy local_parts (λ l. (l.id < 2 ^ 64) × Fits 64 (val_name l.ty)) local_input
 locals_hash = record {
   alike = λ l m e. input_is l ∙ (ap parts_input e ∙ sym (input_is m));
-  apart = λ l m f g e. apart PartsFit parts_input parts_read parts_back (local_parts l) (local_parts m) f g (sym (input_is l) ∙ (e ∙ input_is m));
+  apart = λ l m f g e. apart PartsFit parts_input parts_read parts_back (local_parts l) (local_parts m) f g
+      (sym (input_is l) ∙ (e ∙ input_is m));
 }

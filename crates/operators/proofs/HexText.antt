@@ -11,12 +11,14 @@ abbrev last_digit : ℕ → ℕ
 last_digit n = hex_digit (n % 16)
 
 spelled_last : (k n : ℕ) (acc : List ℕ) → n < 16 → spelled (suc k) n acc ≡ last_digit n ∷ acc
-spelled_last k n acc h = ap (λ t. cond t (last_digit n ∷ acc) (spelled k (n / 16) (last_digit n ∷ acc))) (eq-eqb (n / 16) 0 (omega arith))
+spelled_last k n acc h = ap (λ t. cond t (last_digit n ∷ acc) (spelled k (n / 16) (last_digit n ∷ acc)))
+    (eq-eqb (n / 16) 0 (omega arith))
 
 spelled_next :
     (k n : ℕ) (acc : List ℕ) → 16 ≤ n →
     spelled (suc k) n acc ≡ spelled k (n / 16) (last_digit n ∷ acc)
-spelled_next k n acc h = ap (λ t. cond t (last_digit n ∷ acc) (spelled k (n / 16) (last_digit n ∷ acc))) (ne_eqb (n / 16) 0 (λ e. omega arith))
+spelled_next k n acc h = ap (λ t. cond t (last_digit n ∷ acc) (spelled k (n / 16) (last_digit n ∷ acc)))
+    (ne_eqb (n / 16) 0 (λ e. omega arith))
 
 zero_end : List ℕ
 zero_end = 48 ∷ []
@@ -32,7 +34,8 @@ hex_zero zero n h = refl
 hex_zero (suc k) n h =
     let digit : hex_digit (n % 16) ≡ 48 = ap (λ m. hex_digit (m % 16)) h in
     let front : hex_digits k (n / 16) ≡ replicate k 48 = hex_zero k (n / 16) (omega arith) in
-    ap (λ (zeros : List ℕ). zeros ++ hex_digit (n % 16) ∷ []) front ∙ ap (λ d. replicate k 48 ++ d ∷ []) digit ∙ zeros_end k
+    ap (λ (zeros : List ℕ). zeros ++ hex_digit (n % 16) ∷ []) front ∙ ap (λ d. replicate k 48 ++ d ∷ []) digit
+    ∙ zeros_end k
 
 -- zeros and then the digits: as many as there are places
 record IsFilled (width n : ℕ) (acc text : List ℕ) : Type 0 where
@@ -51,16 +54,20 @@ module _ (width k n : ℕ) (acc : List ℕ) where
       record {
         zeros = width;
         all = ap (λ (text : List ℕ). width + length text) e ∙ omega arith;
-        same = ap (λ (text : List ℕ). replicate width 48 ++ text) e ∙ sym (append_assoc (replicate width 48) end acc) ∙ ap (λ (front : List ℕ). (front ++ end) ++ acc) (sym zeros);
+        same = ap (λ (text : List ℕ). replicate width 48 ++ text) e
+            ∙ sym (append_assoc (replicate width 48) end acc)
+            ∙ ap (λ (front : List ℕ). (front ++ end) ++ acc) (sym zeros);
       }
 
-  filled_next : 16 ≤ n → IsFilled width (n / 16) (last_digit n ∷ acc) (spelled k (n / 16) (last_digit n ∷ acc)) → IsFilled (suc width) n acc (spelled (suc k) n acc)
+  filled_next : 16 ≤ n → IsFilled width (n / 16) (last_digit n ∷ acc)
+      (spelled k (n / 16) (last_digit n ∷ acc)) → IsFilled (suc width) n acc (spelled (suc k) n acc)
   unfolding end
   filled_next l rest = let e = spelled_next k n acc l in
       record {
         zeros = rest.zeros;
         all = ap (λ (text : List ℕ). rest.zeros + length text) e ∙ rest.all ∙ omega arith;
-        same = ap (λ (text : List ℕ). replicate rest.zeros 48 ++ text) e ∙ rest.same ∙ sym (append_assoc (hex_digits width (n / 16)) end acc);
+        same = ap (λ (text : List ℕ). replicate rest.zeros 48 ++ text) e ∙ rest.same
+            ∙ sym (append_assoc (hex_digits width (n / 16)) end acc);
       }
 
 filled :
@@ -71,7 +78,8 @@ filled (suc width) zero n acc h some fits = absurd (omega arith)
 filled (suc zero) (suc k) n acc h some fits = filled_last zero k n acc (omega arith)
 filled (suc (suc width)) (suc k) n acc h some fits = ⊎_elim
     (λ l. filled_last (suc width) k n acc l)
-    (λ l. filled_next (suc width) k n acc l (filled (suc width) k (n / 16) (last_digit n ∷ acc) (omega arith) (omega arith) (omega arith)))
+    (λ l. filled_next (suc width) k n acc l (filled (suc width) k (n / 16) (last_digit n ∷ acc) (omega arith)
+    (omega arith) (omega arith)))
     (cases_lt n 16)
 
 zeros_before :

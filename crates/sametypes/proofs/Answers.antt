@@ -23,11 +23,17 @@ answer_holds :
     (answer ≡ None ↔ (n ≡ p)) → IfSome answer (λ index. IsFirstDifference index n p) →
     IsAnswer answer s t
 answer_holds s t n p h k x y None same first =
-    (same_output s t h k).0 (section_of n, x, subst (λ (gs : List GroupAt). IsOutput t (section_of gs)) (sym (same.0 refl)) y)
+    (same_output s t h k).0 (
+      section_of n,
+      x,
+      subst (λ (gs : List GroupAt). IsOutput t (section_of gs))
+          (sym (same.0 refl)) y,
+    )
 answer_holds s t n p h k x y (Some index) same first = (
   (λ joined.
       let both = (same_output s t h k).1 joined in
-      let equal : n ≡ p = same_section n p (one_output s both.0 n h x both.1 ∙ sym (one_output t both.0 p k y both.2)) in
+      let equal : n ≡ p = same_section n p (one_output s both.0 n h x both.1
+      ∙ sym (one_output t both.0 p k y both.2)) in
       let none : Some index ≡ None = same.1 equal in
       cc),
   record { n = n; p = p; first_normal = x; second_normal = y; differ = first },
@@ -41,7 +47,8 @@ module _ (a b : Option (List ℕ)) (n p : List GroupAt) where
       IfBothKnown a b (HaveSections (IsAnswer answer))
   answer_known x y answer same first = by a b x y
     where
-      by : (a b : Option (List ℕ)) → IfSome a (λ bytes. HasNormalForm bytes n) → IfSome b (λ bytes. HasNormalForm bytes p) → IfBothKnown a b (HaveSections (IsAnswer answer))
+      by : (a b : Option (List ℕ)) → IfSome a (λ bytes. HasNormalForm bytes n) →
+          IfSome b (λ bytes. HasNormalForm bytes p) → IfBothKnown a b (HaveSections (IsAnswer answer))
       by None b x y = tt
       by (Some xs) None x y = tt
       by (Some xs) (Some ys) x y = record {
@@ -51,5 +58,6 @@ module _ (a b : Option (List ℕ)) (n p : List GroupAt) where
         second_has = y.read;
         first_named = x.well_named;
         second_named = y.well_named;
-        holds = answer_holds (section_of x.section) (section_of y.section) n p x.well_named y.well_named x.normal y.normal answer same first;
+        holds = answer_holds (section_of x.section) (section_of y.section) n p x.well_named y.well_named
+            x.normal y.normal answer same first;
       }

@@ -3,7 +3,7 @@ ghost use Rattle.std.specs.Prelude.{◌≡◌};
 
 use std::fmt;
 use std::fmt::Formatter;
-use std::io::Write;
+use std::io::{self, ErrorKind, Write};
 use walrus_binary::DecodeError;
 use walrus_text::TextError;
 use walrus_types::ReadError;
@@ -14,21 +14,21 @@ pub const STATUS: u8 = 2;
 /// What ends a run without a result.
 #[derive(Debug, Drop)]
 pub enum Failure {
-    /// The arguments are not two files.
-    Arguments,
     /// The first has no section.
-    First(Trouble),
+    First(InputError),
     /// The second has no section.
-    Second(Trouble),
-    /// No random keys could be had.
+    Second(InputError),
+    /// Memory for the arguments was refused.
+    Memory,
+    /// The system has no random bytes.
     Keys,
     /// The result could not be written.
-    Output,
+    Output(io::Error),
 }
 
 /// Why a section could not be had.
 #[derive(Debug, Drop)]
-pub enum Trouble {
+pub enum InputError {
     /// The bytes are no module, or its types can't be read.
     Module(DecodeError),
     /// The text is not the text of a section.
@@ -36,58 +36,70 @@ pub enum Trouble {
     /// The section has no normal form.
     Section(ReadError),
     /// A file could not be opened, or a read failed.
-    Input,
+    Input(io::Error),
     /// Memory was refused.
     Memory,
 }
 
+/// The names of the two inputs, as the arguments give them.
+#[derive(Clone, Copy, Debug)]
+pub struct Names<'a> {
+    /// The name of the first.
+    pub a: &'a str,
+    /// The name of the second.
+    pub b: &'a str,
+}
+
 /// Writes the line that explains the failure, and returns [`STATUS`]. A line that can't be written
 /// changes nothing: there is no other place to report it.
-pub fn report<E: Write>(failure: &Failure, err: &mut E) -> u8
+pub fn report<E: Write>(failure: &Failure, names: Names<'_>, err: &mut E) -> u8
     ensures { result ≡ 2 }
 {
-    let _written = writeln!(err, "{failure}");
+    let _written = match failure {
+        Failure::First(trouble) => writeln!(err, "{}: {trouble}", names.a),
+        Failure::Second(trouble) => writeln!(err, "{}: {trouble}", names.b),
+        Failure::Memory => writeln!(err, "out of memory"),
+        Failure::Keys => writeln!(err, "no random keys"),
+        Failure::Output(error) => writeln!(err, "output failed: {error}"),
+    };
     STATUS
 }
 
-impl fmt::Display for Failure {
+impl fmt::Display for InputError {
     fn fmt<W: fmt::Write>(&self, f: &mut Formatter<W>) -> fmt::Result {
         match self {
-            Failure::Arguments => write!(f, "usage: sametypes A B"),
-            Failure::First(trouble) => write!(f, "A: {trouble}"),
-            Failure::Second(trouble) => write!(f, "B: {trouble}"),
-            Failure::Keys => write!(f, "no random keys"),
-            Failure::Output => write!(f, "output failed"),
+            InputError::Module(error) => write!(f, "{error}"),
+            InputError::Text(error) => write!(f, "{error}"),
+            InputError::Section(error) => write!(f, "{error}"),
+            InputError::Input(error) => write!(f, "input failed: {error}"),
+            InputError::Memory => write!(f, "out of memory"),
         }
     }
 }
 
-impl fmt::Display for Trouble {
-    fn fmt<W: fmt::Write>(&self, f: &mut Formatter<W>) -> fmt::Result {
-        match self {
-            Trouble::Module(error) => write!(f, "{error}"),
-            Trouble::Text(error) => write!(f, "{error}"),
-            Trouble::Section(error) => write!(f, "{error}"),
-            Trouble::Input => write!(f, "input failed"),
-            Trouble::Memory => write!(f, "out of memory"),
+impl From<DecodeError> for InputError {
+    fn from(error: DecodeError) -> InputError {
+        InputError::Module(error)
+    }
+}
+
+impl From<TextError> for InputError {
+    fn from(error: TextError) -> InputError {
+        InputError::Text(error)
+    }
+}
+
+impl From<ReadError> for InputError {
+    fn from(error: ReadError) -> InputError {
+        InputError::Section(error)
+    }
+}
+
+impl From<io::Error> for InputError {
+    fn from(error: io::Error) -> InputError {
+        if error.kind() == ErrorKind::OutOfMemory {
+            return InputError::Memory;
         }
-    }
-}
-
-impl From<DecodeError> for Trouble {
-    fn from(error: DecodeError) -> Trouble {
-        Trouble::Module(error)
-    }
-}
-
-impl From<TextError> for Trouble {
-    fn from(error: TextError) -> Trouble {
-        Trouble::Text(error)
-    }
-}
-
-impl From<ReadError> for Trouble {
-    fn from(error: ReadError) -> Trouble {
-        Trouble::Section(error)
+        InputError::Input(error)
     }
 }

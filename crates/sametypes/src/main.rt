@@ -11,17 +11,17 @@ ghost use Rattle.sametypes.specs.Steps.Answers.{IsAnswer, answer_line};
 mod failure;
 pub mod laws;
 mod normal_form;
+mod texts;
 
-use failure::{Failure, Trouble, report};
+use command_line::{
+    Input, Request, open, parse_arguments, random_keys, report_usage, write_version,
+};
+use failure::{Failure, InputError, Names, report};
 use normal_form::{index_of_difference, read_normal_form};
 use std::alloc::Global;
-use std::env::Env;
-use std::hash::{BuildHasher, RandomState};
 use std::io::{self, Read, Write};
 use std::process::ExitCode;
-use std::random::RandomSource;
-use std::rt::Files;
-use std::{env, fs};
+use texts::{HELP, USAGE};
 use walrus_types::HashKeys;
 
 /// Reads a section from each of two readers, and compares their normal forms. It writes `same` to
@@ -43,8 +43,8 @@ use walrus_types::HashKeys;
 /// - 1: they differ.
 /// - 2: it can't be decided, for one of these reasons: bytes are no module or no text; an entry
 ///   names an index that it may not name; there are too many entries; memory was refused; a read
-///   failed; the result could not be written. One line on `err` says which, and in which of the
-///   two, `A` or `B`. Where both are bad it is `A`.
+///   failed; the result could not be written. One line on `err` says which. It begins with the name
+///   of the input where one is bad. Where both are bad it is the first.
 ///
 /// At 2 `out` gains nothing, unless the write of the result failed.
 ///
@@ -53,6 +53,7 @@ use walrus_types::HashKeys;
 pub fn run<A: Read, B: Read, W: Write, E: Write>(
     alloc: Global,
     keys: HashKeys,
+    names: Names<'_>,
     a: &mut A,
     b: &mut B,
     out: &mut W,
@@ -79,7 +80,7 @@ pub fn run<A: Read, B: Read, W: Write, E: Write>(
     match compare(alloc, keys, a, b, out) {
         Ok(None) => 0,
         Ok(Some(_)) => 1,
-        Err(failure) => report(&failure, err),
+        Err(failure) => report(&failure, names, err),
     }
 }
 
@@ -109,7 +110,7 @@ fn compare<A: Read, B: Read, W: Write>(
     let answer = index_of_difference(first.as_slice(), second.as_slice());
     match write_answer(out, answer) {
         Ok(()) => Ok(answer),
-        Err(_) => Err(Failure::Output),
+        Err(error) => Err(Failure::Output(error)),
     }
 }
 
@@ -125,39 +126,68 @@ fn write_answer<W: Write>(out: &mut W, answer: Option<usize>) -> io::Result<()>
     out.flush()
 }
 
-/// Keys that the author of a file can't foresee.
-fn random_keys(source: &impl RandomSource) -> io::Result<HashKeys> {
-    let random = RandomState::new(source)?;
-    Ok(HashKeys::new(random.hash_one(0u64), random.hash_one(1u64)))
-}
-
-/// The two files that the arguments name.
-fn open_files<R: Files + Env + AllocGlobal>(rt: &R) -> Result<(R::File, R::File), Failure> {
-    let Ok(mut names) = env::args(rt) else {
-        return Err(Failure::Arguments);
-    };
-    let _program = names.next();
-    let (Some(a), Some(b), None) = (names.next(), names.next(), names.next()) else {
-        return Err(Failure::Arguments);
-    };
-    let Ok(a) = fs::open(rt, a.as_str()) else {
-        return Err(Failure::First(Trouble::Input));
-    };
-    let Ok(b) = fs::open(rt, b.as_str()) else {
-        return Err(Failure::Second(Trouble::Input));
-    };
-    Ok((a, b))
-}
-
 fn main(rt: HostRuntime) -> ExitCode {
     let mut err = rt.stderr();
-    let (mut a, mut b) = match open_files(&rt) {
-        Ok(files) => files,
-        Err(failure) => return ExitCode::from(report(&failure, &mut err)),
+    ExitCode::from(start(&rt, &mut err))
+}
+
+/// Does what the arguments ask for, and returns the exit status.
+fn start<E: Write>(rt: &HostRuntime, err: &mut E) -> u8 {
+    let no_names = Names { a: "", b: "" };
+    let request = match parse_arguments(rt, None) {
+        Ok(request) => request,
+        Err(_) => return report(&Failure::Memory, no_names, err),
     };
-    let Ok(keys) = random_keys(&rt) else {
-        return ExitCode::from(report(&Failure::Keys, &mut err));
+    let answer = match request {
+        Request::Help => rt.stdout().write_all(HELP.as_bytes()),
+        Request::Version => write_version("sametypes", &mut rt.stdout()),
+        Request::Work { names, .. } => return compare_named(rt, names.as_slice(), err),
+        Request::Usage => return report_usage(USAGE, err),
+    };
+    match answer {
+        Ok(()) => 0,
+        Err(error) => report(&Failure::Output(error), no_names, err),
+    }
+}
+
+fn compare_named<E: Write>(rt: &HostRuntime, names: &[String], err: &mut E) -> u8 {
+    match names {
+        [a, b] if a.as_str() != "-" || b.as_str() != "-" => {
+            let names = Names {
+                a: a.as_str(),
+                b: b.as_str(),
+            };
+            compare_files(rt, names, err)
+        }
+        _ => report_usage(USAGE, err),
+    }
+}
+
+fn compare_files<E: Write>(rt: &HostRuntime, names: Names<'_>, err: &mut E) -> u8 {
+    let (mut a, mut b) = match open_both(rt, names, err) {
+        Ok(inputs) => inputs,
+        Err(failure) => return report(&failure, names, err),
+    };
+    let Ok(keys) = random_keys(rt) else {
+        return report(&Failure::Keys, names, err);
     };
     let mut out = rt.stdout();
-    ExitCode::from(run(rt.alloc(), keys, &mut a, &mut b, &mut out, &mut err))
+    run(rt.alloc(), keys, names, &mut a, &mut b, &mut out, err)
+}
+
+/// The two inputs that the arguments name.
+fn open_both<E: Write>(
+    rt: &HostRuntime,
+    names: Names<'_>,
+    err: &mut E,
+) -> Result<(Input, Input), Failure> {
+    let a = match open(rt, names.a, err) {
+        Ok(a) => a,
+        Err(error) => return Err(Failure::First(InputError::from(error))),
+    };
+    let b = match open(rt, names.b, err) {
+        Ok(b) => b,
+        Err(error) => return Err(Failure::Second(InputError::from(error))),
+    };
+    Ok((a, b))
 }

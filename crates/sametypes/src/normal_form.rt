@@ -5,9 +5,10 @@ ghost use Rattle.walrus_sections.specs.Section.{index_space, IsWellNamed};
 ghost use Rattle.sametypes.specs.Runs.{HasSection, IsFirstDifference};
 ghost use Rattle.sametypes.specs.Steps.Answers.{HasNormalForm};
 
-use crate::failure::Trouble;
+use crate::failure::InputError;
+use command_line::read_bytes;
 use std::alloc::Global;
-use std::io::{ErrorKind, Read};
+use std::io::Read;
 use walrus_binary::module_types;
 use walrus_text::read_section;
 use walrus_types::{GroupAt, HashKeys, entries_before, first_difference, normalise};
@@ -20,7 +21,7 @@ pub fn read_normal_form<R: Read>(
     alloc: Global,
     keys: HashKeys,
     reader: &mut R,
-) -> Result<Vec<GroupAt>, Trouble>
+) -> Result<Vec<GroupAt>, InputError>
     ensures normal { IfOk result (λ form. IfSome (R.remaining reader.old)
         (λ bytes. HasNormalForm bytes form.items)) }
     ensures well_named { IfOk result (λ form. IsWellNamed (section_of form.items)) }
@@ -31,23 +32,8 @@ pub fn read_normal_form<R: Read>(
     Ok(form)
 }
 
-/// All bytes that the reader gives.
-fn read_bytes<R: Read>(alloc: Global, reader: &mut R) -> Result<Vec<u8>, Trouble>
-    ensures { IfOk result (λ read. IfSome (R.remaining reader.old)
-        (λ bytes. read.items ≡ bytes)) }
-{
-    let mut bytes = Vec::new(alloc);
-    let Err(error) = reader.read_to_end(&mut bytes) else {
-        return Ok(bytes);
-    };
-    if error.kind() == ErrorKind::OutOfMemory {
-        return Err(Trouble::Memory);
-    }
-    Err(Trouble::Input)
-}
-
 /// The section of the bytes, as a module or as a text.
-fn section_in(alloc: Global, bytes: &[u8]) -> Result<Vec<GroupAt>, Trouble>
+fn section_in(alloc: Global, bytes: &[u8]) -> Result<Vec<GroupAt>, InputError>
     ensures { IfOk result (λ groups. HasSection bytes.now groups.items) }
 {
     if bytes.starts_with(&MAGIC) {

@@ -18,12 +18,15 @@ use Rattle.typenorm.specs.declared.failure.Failure.TheVariants as failure
 use Rattle.typenorm.specs.Steps.Failures.{Explains, ExplainsReadError, status_of, text_failure}
 
 pub status_range : (f : Failure) → status_of f ≤ 4
-status_range (failure.BadText line) = omega arith
+status_range (failure.BadText bad) = omega arith
 status_range (failure.Refused (read.BadIndex entry index end)) = omega arith
 status_range (failure.Refused read.TooMany) = omega arith
 status_range (failure.Refused read.Memory) = omega arith
 status_range failure.Memory = omega arith
-status_range failure.Stream = omega arith
+status_range failure.Keys = omega arith
+status_range (failure.Open error) = omega arith
+status_range failure.Input = omega arith
+status_range (failure.Output error) = omega arith
 
 pub if_err_and :
     {X E : Type 0} (r : Result X E) (P Q : E → Type 0) → ((e : E) → P e → Q e) → IsErrAnd r P →
@@ -35,7 +38,7 @@ if_err_and (Err e) P Q f h = f e h
 explains_text_error :
     (lines : List (List (List ℕ))) (e : TextError) →
     IfSome (bad_line e) (λ line. ¬ IsSectionText lines) → Explains (text_failure e) lines
-explains_text_error lines (text.BadText line) h = h
+explains_text_error lines (text.BadText bad) h = h
 explains_text_error lines text.Memory h = tt
 explains_text_error lines text.Stream h = tt
 
@@ -44,7 +47,8 @@ pub explains_text :
     IfSome known (λ text. IfSome (bad_line e) (λ line. ¬ IsSectionText (lines_of text))) →
     (s : Failure) → s ≡ text_failure e → IfSome known (λ text. Explains s (lines_of text))
 explains_text None e why s is = tt
-explains_text (Some text) e why s is = subst (λ x. Explains x (lines_of text)) (sym is) (explains_text_error (lines_of text) e why)
+explains_text (Some text) e why s is = subst (λ x. Explains x (lines_of text)) (sym is)
+    (explains_text_error (lines_of text) e why)
 
 -- what the refusal of a section says
 explains_read_error :
@@ -53,9 +57,11 @@ explains_read_error :
     (r ≡ read.Memory) ⊎ IsFirstError (section_of groups) r → ExplainsReadError r lines
 explains_read_error groups lines f e read.Memory h = tt
 explains_read_error groups lines f e read.TooMany (inl k) = absurd cc
-explains_read_error groups lines f e read.TooMany (inr fault) = (groups, f, e, not_both (section_of groups) read.TooMany fault)
+explains_read_error groups lines f e read.TooMany (inr fault) =
+    (groups, f, e, not_both (section_of groups) read.TooMany fault)
 explains_read_error groups lines f e (read.BadIndex i k n) (inl m) = absurd cc
-explains_read_error groups lines f e (read.BadIndex i k n) (inr fault) = (groups, f, e, not_both (section_of groups) (read.BadIndex i k n) fault)
+explains_read_error groups lines f e (read.BadIndex i k n) (inr fault) =
+    (groups, f, e, not_both (section_of groups) (read.BadIndex i k n) fault)
 
 pub explains_refused :
     (known : Option (List ℕ)) (groups : List GroupAt) (r : ReadError) → HasSectionIndices groups →
@@ -63,4 +69,5 @@ pub explains_refused :
     (r ≡ read.Memory) ⊎ IsFirstError (section_of groups) r → (s : Failure) → s ≡ failure.Refused r →
     IfSome known (λ text. Explains s (lines_of text))
 explains_refused None groups r f e why s is = tt
-explains_refused (Some text) groups r f e why s is = subst (λ x. Explains x (lines_of text)) (sym is) (explains_read_error groups (lines_of text) f e r why)
+explains_refused (Some text) groups r f e why s is =
+    subst (λ x. Explains x (lines_of text)) (sym is) (explains_read_error groups (lines_of text) f e r why)

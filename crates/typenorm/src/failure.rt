@@ -3,32 +3,41 @@ ghost use Rattle.std.specs.Prelude.{◌≡◌, ◌≤◌, ◌⊎◌};
 ghost use Rattle.typenorm.specs.Steps.Failures.{status_of};
 
 use crate::ReadError;
+use std::alloc::AllocError;
 use std::fmt;
 use std::fmt::Formatter;
-use std::io::Write;
-use walrus_text::TextError;
+use std::io::{self, Write};
+use walrus_text::{BadLine, TextError};
 
 /// What ends a run without a normal form.
 #[derive(Debug, Drop)]
 pub enum Failure {
-    /// This line, counted from 1, is not part of a section. It is one past the last line where a
-    /// `rec` has no `end`.
-    BadText { line: u64 },
+    /// A line is not part of a section.
+    BadText(BadLine),
     /// The section has no normal form.
     Refused(ReadError),
     /// Memory was refused.
     Memory,
-    /// A read or a write failed, or reading did not come to an end.
-    Stream,
+    /// The system has no random bytes.
+    Keys,
+    /// The input could not be opened.
+    Open(io::Error),
+    /// A read failed, or reading did not come to an end.
+    Input,
+    /// A write of the output failed.
+    Output(io::Error),
 }
 
 impl fmt::Display for Failure {
     fn fmt<W: fmt::Write>(&self, f: &mut Formatter<W>) -> fmt::Result {
         match self {
-            Failure::BadText { line } => write!(f, "line {line}: bad text"),
+            Failure::BadText(bad) => write!(f, "{bad}"),
             Failure::Refused(refused) => write!(f, "{refused}"),
             Failure::Memory => write!(f, "out of memory"),
-            Failure::Stream => write!(f, "input or output failed"),
+            Failure::Keys => write!(f, "no random keys"),
+            Failure::Open(error) => write!(f, "input failed: {error}"),
+            Failure::Input => write!(f, "input failed"),
+            Failure::Output(error) => write!(f, "output failed: {error}"),
         }
     }
 }
@@ -41,9 +50,9 @@ impl From<TextError> for Failure {
 
     fn from(error: TextError) -> Failure {
         match error {
-            TextError::BadText { line } => Failure::BadText { line },
+            TextError::BadText(bad) => Failure::BadText(bad),
             TextError::Memory => Failure::Memory,
-            TextError::Stream => Failure::Stream,
+            TextError::Stream => Failure::Input,
         }
     }
 }
@@ -56,6 +65,17 @@ impl From<ReadError> for Failure {
 
     fn from(refused: ReadError) -> Failure {
         Failure::Refused(refused)
+    }
+}
+
+impl From<AllocError> for Failure {
+    ghost use Rattle.std.specs.Prelude.{◌≡◌};
+    ghost use Rattle.typenorm.specs.declared.failure.Failure.TheVariants.{Memory};
+
+    ghost from_gives = { λ _ e. e ≡ Memory };
+
+    fn from(_: AllocError) -> Failure {
+        Failure::Memory
     }
 }
 
@@ -76,10 +96,10 @@ fn status(failure: &Failure) -> u8
     ensures { result ≡ status_of failure.now }
 {
     match failure {
-        Failure::BadText { .. } => 1,
+        Failure::BadText(_) => 1,
         Failure::Refused(ReadError::Memory) => 3,
         Failure::Refused(_) => 2,
         Failure::Memory => 3,
-        Failure::Stream => 4,
+        Failure::Keys | Failure::Open(_) | Failure::Input | Failure::Output(_) => 4,
     }
 }

@@ -4,23 +4,25 @@
 ghost use Rattle.std.specs.Prelude.{◌≡◌, ◌<◌, ◌≤◌, IfErr, OnOk, IfSome};
 ghost use Rattle.std.specs.Io.KnownBytes.{Appends, Keeps};
 ghost use Rattle.walrus_text.specs.Words.{lines_of};
-ghost use Rattle.walrus_text.specs.Text.{IsSectionText, output_text};
-ghost use Rattle.typenorm.specs.Runs.{IsIllNamedText, IsNormalised};
+ghost use Rattle.walrus_text.specs.Text.{IsSectionText};
+ghost use Rattle.typenorm.specs.Runs.{IsIllNamedText, IsNormalised, printed_text};
 ghost use Rattle.typenorm.specs.Steps.Failures.{Explains, status_of};
 
 mod failure;
+mod texts;
 
+use command_line::{Request, open, parse_arguments, random_keys, report_usage, write_version};
 use failure::{Failure, report};
 use std::alloc::Global;
-use std::hash::{BuildHasher, RandomState};
 use std::io::{self, BufWriter, Read, Write};
 use std::process::ExitCode;
-use std::random::RandomSource;
-use walrus_text::{read_section, write_output};
+use texts::{HELP, USAGE};
+use walrus_text::{read_section, write_output, write_section};
 use walrus_types::{GroupAt, HashKeys, ReadError, normalise};
 
-/// Reads a section from `reader`, and writes its normal form to `out`, with the new index of each
-/// entry.
+/// Reads a section from `reader`, and writes its normal form to `out`. With `has_map` a last line
+/// has the new index of each entry. Without it the output is the text of a section, which this
+/// program reads too.
 ///
 /// Groups keep their order and are never merged, and a `Rec` of one type is not the lone type. The
 /// map of indices is only printed: the rest of a module still names the old indices.
@@ -41,12 +43,13 @@ use walrus_types::{GroupAt, HashKeys, ReadError, normalise};
 pub fn run<R: Read, W: Write, E: Write>(
     alloc: Global,
     keys: HashKeys,
+    has_map: bool,
     reader: &mut R,
     out: &mut W,
     err: &mut E,
 ) -> u8
     ensures done { result ≡ 0 → IfSome (R.remaining reader.old)
-        (λ text. IsNormalised (lines_of text) (W.contents out.old) (W.contents out.new)) }
+        (λ text. IsNormalised has_map (lines_of text) (W.contents out.old) (W.contents out.new)) }
     ensures silent { result ≡ 0 → Keeps (E.contents err.old) (E.contents err.new) }
     ensures bad_text { result ≡ 1 → IfSome (R.remaining reader.old)
         (λ text. ¬ IsSectionText (lines_of text)) }
@@ -55,7 +58,7 @@ pub fn run<R: Read, W: Write, E: Write>(
     ensures range { result ≤ 4 }
     ensures unwritten { 0 < result → result < 4 → Keeps (W.contents out.old) (W.contents out.new) }
 {
-    match normalise_text(alloc, keys, reader, out) {
+    match normalise_text(alloc, keys, has_map, reader, out) {
         Ok(()) => 0,
         Err(failure) => report(&failure, err),
     }
@@ -64,11 +67,12 @@ pub fn run<R: Read, W: Write, E: Write>(
 fn normalise_text<R: Read, W: Write>(
     alloc: Global,
     keys: HashKeys,
+    has_map: bool,
     reader: &mut R,
     out: &mut W,
 ) -> Result<(), Failure>
     ensures done { OnOk result (IfSome (R.remaining reader.old)
-        (λ text. IsNormalised (lines_of text) (W.contents out.old) (W.contents out.new))) }
+        (λ text. IsNormalised has_map (lines_of text) (W.contents out.old) (W.contents out.new))) }
     ensures failed { IfErr result (λ failure.
         IfSome (R.remaining reader.old) (λ text. Explains failure (lines_of text))) }
     ensures unwritten { IfErr result (λ failure. status_of failure < 4 →
@@ -76,39 +80,87 @@ fn normalise_text<R: Read, W: Write>(
 {
     let section = read_section(alloc, reader)?;
     let (groups, map) = normalise(alloc, keys, section.as_slice())?;
-    write_and_flush(out, groups.as_slice(), map.as_slice())
+    match write_and_flush(out, groups.as_slice(), map.as_slice(), has_map) {
+        Ok(()) => Ok(()),
+        Err(error) => Err(Failure::Output(error)),
+    }
 }
 
 /// Writes the whole output, and flushes the writer.
-fn write_and_flush<W: Write>(out: &mut W, groups: &[GroupAt], map: &[u32]) -> Result<(), Failure>
-    ensures written { OnOk result (Appends (W.contents out.old) (W.contents out.new)
-        (output_text groups.now map.now)) }
-    ensures failed { IfErr result (λ failure. status_of failure ≡ 4) }
+fn write_and_flush<W: Write>(
+    out: &mut W,
+    groups: &[GroupAt],
+    map: &[u32],
+    has_map: bool,
+) -> io::Result<()>
+    ensures { OnOk result (Appends (W.contents out.old) (W.contents out.new)
+        (printed_text has_map groups.now map.now)) }
 {
-    let Ok(()) = write_output(out, groups, map) else {
-        return Err(Failure::Stream);
-    };
-    let Ok(()) = out.flush() else {
-        return Err(Failure::Stream);
-    };
-    Ok(())
+    write_text(out, groups, map, has_map)?;
+    out.flush()
 }
 
-/// Keys that the author of a text can't foresee.
-fn random_keys(source: &impl RandomSource) -> io::Result<HashKeys> {
-    let random = RandomState::new(source)?;
-    Ok(HashKeys::new(random.hash_one(0u64), random.hash_one(1u64)))
+fn write_text<W: Write>(
+    out: &mut W,
+    groups: &[GroupAt],
+    map: &[u32],
+    has_map: bool,
+) -> io::Result<()>
+    ensures { OnOk result (Appends (W.contents out.old) (W.contents out.new)
+        (printed_text has_map groups.now map.now)) }
+{
+    if has_map {
+        write_output(out, groups, map)
+    } else {
+        write_section(out, groups)
+    }
 }
 
 fn main(rt: HostRuntime) -> ExitCode {
-    let mut reader = rt.stdin();
     let mut err = rt.stderr();
-    let Ok(keys) = random_keys(&rt) else {
-        return ExitCode::from(report(&Failure::Stream, &mut err));
-    };
-    let status = match BufWriter::new(rt.alloc(), rt.stdout()) {
-        Ok(mut out) => run(rt.alloc(), keys, &mut reader, &mut out, &mut err),
-        Err(_) => report(&Failure::Memory, &mut err),
+    let status = match start(&rt, &mut err) {
+        Ok(status) => status,
+        Err(failure) => report(&failure, &mut err),
     };
     ExitCode::from(status)
+}
+
+/// Does what the arguments ask for, and returns the exit status.
+fn start<E: Write>(rt: &HostRuntime, err: &mut E) -> Result<u8, Failure> {
+    match parse_arguments(rt, Some("--no-map"))? {
+        Request::Help => printed(rt.stdout().write_all(HELP.as_bytes())),
+        Request::Version => printed(write_version("typenorm", &mut rt.stdout())),
+        Request::Work { names, has_option } => match names.as_slice() {
+            [] => normalise_file(rt, "-", !has_option, err),
+            [name] => normalise_file(rt, name.as_str(), !has_option, err),
+            _ => Ok(report_usage(USAGE, err)),
+        },
+        Request::Usage => Ok(report_usage(USAGE, err)),
+    }
+}
+
+fn normalise_file<E: Write>(
+    rt: &HostRuntime,
+    name: &str,
+    has_map: bool,
+    err: &mut E,
+) -> Result<u8, Failure> {
+    let mut input = match open(rt, name, err) {
+        Ok(input) => input,
+        Err(error) => return Err(Failure::Open(error)),
+    };
+    let Ok(keys) = random_keys(rt) else {
+        return Err(Failure::Keys);
+    };
+    let Ok(mut out) = BufWriter::new(rt.alloc(), rt.stdout()) else {
+        return Err(Failure::Memory);
+    };
+    Ok(run(rt.alloc(), keys, has_map, &mut input, &mut out, err))
+}
+
+fn printed(written: io::Result<()>) -> Result<u8, Failure> {
+    match written {
+        Ok(()) => Ok(0),
+        Err(error) => Err(Failure::Output(error)),
+    }
 }

@@ -15,7 +15,8 @@ module _ {T : Type 0} where
     above : first ≤ item.0
     live : get s (item.0 - first) ≡ Some item.1
 
-  later_slot : (slot : Option T) (rest : Slots T) (first : ℕ) (item : ℕ × T) → IsLiveFrom (first + 1) rest item → IsLiveFrom first (slot ∷ rest) item
+  later_slot : (slot : Option T) (rest : Slots T) (first : ℕ) (item : ℕ × T) →
+      IsLiveFrom (first + 1) rest item → IsLiveFrom first (slot ∷ rest) item
   later_slot slot rest first item at =
       let above : first ≤ item.0 = omega (arith, at.above) in
       let place : item.0 - first ≡ suc (item.0 - (first + 1)) = omega (arith, at.above) in
@@ -28,36 +29,53 @@ module _ {T : Type 0} where
 
   live_from : (first : ℕ) (s : Slots T) → All (IsLiveFrom first s) (items_from first s)
   live_from first [] = All-nil (IsLiveFrom first [])
-  live_from first (None ∷ rest) = All-weaker (IsLiveFrom (first + 1) rest) (IsLiveFrom first (None ∷ rest)) (λ item at. later_slot None rest first item at) (items_from (first + 1) rest) (live_from (first + 1) rest)
+  live_from first (None ∷ rest) = All-weaker (IsLiveFrom (first + 1) rest) (IsLiveFrom first (None ∷ rest))
+      (λ item at. later_slot None rest first item at) (items_from (first + 1) rest)
+      (live_from (first + 1) rest)
   live_from first (Some value ∷ rest) =
-      let others = All-weaker (IsLiveFrom (first + 1) rest) (IsLiveFrom first (Some value ∷ rest)) (λ item at. later_slot (Some value) rest first item at) (items_from (first + 1) rest) (live_from (first + 1) rest) in
-      All-cons (IsLiveFrom first (Some value ∷ rest)) (first, value) (items_from (first + 1) rest) (first_slot value rest first) others
+      let others = All-weaker (IsLiveFrom (first + 1) rest) (IsLiveFrom first (Some value ∷ rest)) (λ item at.
+      later_slot (Some value) rest first item at) (items_from (first + 1) rest)
+      (live_from (first + 1) rest) in
+      All-cons (IsLiveFrom first (Some value ∷ rest)) (first, value) (items_from (first + 1) rest)
+      (first_slot value rest first) others
 
-  ascending_from : (first : ℕ) (s : Slots T) → AllPairs (λ (earlier : ℕ × T) (later : ℕ × T). earlier.0 < later.0) (items_from first s)
+  ascending_from : (first : ℕ) (s : Slots T) →
+      AllPairs (λ (earlier : ℕ × T) (later : ℕ × T). earlier.0 < later.0) (items_from first s)
   ascending_from first [] = λ i j d before below. absurd (omega arith)
   ascending_from first (None ∷ rest) = ascending_from (first + 1) rest
   ascending_from first (Some value ∷ rest) =
-      let above = All-weaker (IsLiveFrom (first + 1) rest) (λ (later : ℕ × T). first < later.0) (λ item at. omega (arith, at.above)) (items_from (first + 1) rest) (live_from (first + 1) rest) in
-      AllPairs-cons (λ (earlier : ℕ × T) (later : ℕ × T). earlier.0 < later.0) (first, value) (items_from (first + 1) rest) above (ascending_from (first + 1) rest)
+      let above = All-weaker (IsLiveFrom (first + 1) rest) (λ (later : ℕ × T). first < later.0) (λ item at.
+      omega (arith, at.above)) (items_from (first + 1) rest) (live_from (first + 1) rest) in
+      AllPairs-cons (λ (earlier : ℕ × T) (later : ℕ × T). earlier.0 < later.0) (first, value)
+      (items_from (first + 1) rest) above (ascending_from (first + 1) rest)
 
   moved : (xs : List (ℕ × T)) (a b : ℕ) (value : T) → a ≡ b → Contains xs (a, value) → Contains xs (b, value)
   moved xs a b value same held = subst (λ (k : ℕ). Contains xs (k, value)) same held
 
   same_item : (a b : ℕ) (x y : T) → a ≡ b → x ≡ y → ◌≡◌ {A = ℕ × T} (a, x) (b, y)
-  same_item a b x y same_id same_value = ap {A = ℕ} {B = ℕ × T} (λ k. (k, x)) same_id ∙ ap {A = T} {B = ℕ × T} (λ v. (b, v)) same_value
+  same_item a b x y same_id same_value = ap {A = ℕ} {B = ℕ × T} (λ k. (k, x)) same_id
+      ∙ ap {A = T} {B = ℕ × T} (λ v. (b, v)) same_value
 
-  complete_from : (first : ℕ) (s : Slots T) (k : ℕ) (value : T) → get s k ≡ Some value → Contains (items_from first s) (first + k, value)
+  complete_from : (first : ℕ) (s : Slots T) (k : ℕ) (value : T) → get s k ≡ Some value →
+      Contains (items_from first s) (first + k, value)
   complete_from first [] k value live = let none : ⊥ = cc in absurd none
   complete_from first (None ∷ rest) zero value live = let none : ⊥ = cc in absurd none
-  complete_from first (None ∷ rest) (suc k) value live = moved (items_from (first + 1) rest) (first + 1 + k) (first + suc k) value (omega arith) (complete_from (first + 1) rest k value live)
+  complete_from first (None ∷ rest) (suc k) value live =
+      moved (items_from (first + 1) rest) (first + 1 + k) (first + suc k) value (omega arith)
+      (complete_from (first + 1) rest k value live)
   complete_from first (Some other ∷ rest) zero value live =
       let same : other ≡ value = cc in
       (0, omega arith, same_item first (first + 0) other value (sym (add-zero first)) same)
-  complete_from first (Some other ∷ rest) (suc k) value live = Contains-append_right ((first, other) ∷ []) (items_from (first + 1) rest) (first + suc k, value) (moved (items_from (first + 1) rest) (first + 1 + k) (first + suc k) value (omega arith) (complete_from (first + 1) rest k value live))
+  complete_from first (Some other ∷ rest) (suc k) value live =
+      Contains-append_right ((first, other) ∷ []) (items_from (first + 1) rest) (first + suc k, value)
+      (moved (items_from (first + 1) rest) (first + 1 + k) (first + suc k) value (omega arith)
+      (complete_from (first + 1) rest k value live))
 
   pub items_listing : (s : Slots T) → IsListing s (items s)
   items_listing s = record {
-    live = All-weaker (IsLiveFrom 0 s) (λ (item : ℕ × T). get s item.0 ≡ Some item.1) (λ item at. ap (get s) (sym (from_zero item.0)) ∙ at.live) (items s) (live_from 0 s);
-    complete = λ id value live. moved (items s) (0 + id) id value (zero-add id) (complete_from 0 s id value live);
+    live = All-weaker (IsLiveFrom 0 s) (λ (item : ℕ × T). get s item.0 ≡ Some item.1) (λ item at.
+        ap (get s) (sym (from_zero item.0)) ∙ at.live) (items s) (live_from 0 s);
+    complete = λ id value live. moved (items s) (0 + id) id value (zero-add id)
+        (complete_from 0 s id value live);
     ascending = ascending_from 0 s;
   }

@@ -19,16 +19,22 @@ module _ {T : Type 0} where
   live_value slot live = grind (arith, common_steps)
 
   -- the count of live slots after a write
-  pub count-set : (slots : List (Slot T)) (at : ℕ) (old new : Slot T) → at < length slots → old ≡ get_or slots at old → count_by is_some (map value_of (set slots at new)) + cond (is_some (value_of old)) 1 0 ≡ count_by is_some (map value_of slots) + cond (is_some (value_of new)) 1 0
+  pub count-set : (slots : List (Slot T)) (at : ℕ) (old new : Slot T) → at < length slots →
+      old ≡ get_or slots at old → count_by is_some (map value_of (set slots at new)) + cond
+      (is_some (value_of old)) 1 0 ≡ count_by is_some (map value_of slots) + cond (is_some (value_of new)) 1 0
   count-set slots at old new within read =
-      let shown : get_or (map value_of slots) at None ≡ value_of old = get_or-map value_of slots at old None within ∙ ap value_of (sym read) in
-      let counted = sum_by-set (λ o. cond (is_some o) 1 0) (map value_of slots) at (value_of new) None (omega (arith, length-map slots value_of)) in
+      let shown : get_or (map value_of slots) at None ≡ value_of old =
+      get_or-map value_of slots at old None within ∙ ap value_of (sym read) in
+      let counted = sum_by-set (λ o. cond (is_some o) 1 0) (map value_of slots) at (value_of new) None
+      (omega (arith, length-map slots value_of)) in
       rw (map-set value_of slots at new, ← shown) counted
 
   -- what the slot of a live id shows
-  pub slot_is_live : (slots : List (Slot T)) (at : ℕ) (slot : Slot T) → at < length slots → slot ≡ get_or slots at slot → IsLive (map value_of slots) at → slot.is_live ≡ true
+  pub slot_is_live : (slots : List (Slot T)) (at : ℕ) (slot : Slot T) → at < length slots →
+      slot ≡ get_or slots at slot → IsLive (map value_of slots) at → slot.is_live ≡ true
   slot_is_live slots at slot within read live =
-      let shown : get_or (map value_of slots) at None ≡ value_of slot = get_or-map value_of slots at slot None within ∙ ap value_of (sym read) in
+      let shown : get_or (map value_of slots) at None ≡ value_of slot =
+      get_or-map value_of slots at slot None within ∙ ap value_of (sym read) in
       by_flag slot (rw shown at live)
     where
       by_flag : (slot : Slot T) → IsSome (value_of slot) → slot.is_live ≡ true
@@ -44,18 +50,24 @@ module _ {T : Type 0} where
     pub live : slot.is_live ≡ true
     pub shown : get (map value_of slots) at ≡ Some slot.item
 
-  pub read_live : (slots : List (Slot T)) (at : ℕ) (slot : Slot T) → slot ≡ get_or slots at slot → IsLive (map value_of slots) at → IsReadAt slots at slot
+  pub read_live : (slots : List (Slot T)) (at : ℕ) (slot : Slot T) → slot ≡ get_or slots at slot →
+      IsLive (map value_of slots) at → IsReadAt slots at slot
   read_live slots at slot read live =
       let within = live_within slots at live in
       let is_live = slot_is_live slots at slot within read live in
-      let shown : get_or (map value_of slots) at None ≡ value_of slot = get_or-map value_of slots at slot None within ∙ ap value_of (sym read) in
+      let shown : get_or (map value_of slots) at None ≡ value_of slot =
+      get_or-map value_of slots at slot None within ∙ ap value_of (sym read) in
       record { within = within; live = is_live; shown = shown ∙ value_of-with_item slot slot.item is_live }
 
   -- a write of the item of a live slot
-  pub shows_written : (slots : List (Slot T)) (at : ℕ) (slot : Slot T) (w : T) → IsReadAt slots at slot → map value_of (set slots at (with_item slot w)) ≡ set (map value_of slots) at (Some w)
-  shows_written slots at slot w read = map-set value_of slots at (with_item slot w) ∙ ap (set (map value_of slots) at) (value_of-with_item slot w read.live)
+  pub shows_written : (slots : List (Slot T)) (at : ℕ) (slot : Slot T) (w : T) → IsReadAt slots at slot →
+      map value_of (set slots at (with_item slot w)) ≡ set (map value_of slots) at (Some w)
+  shows_written slots at slot w read = map-set value_of slots at (with_item slot w)
+      ∙ ap (set (map value_of slots) at) (value_of-with_item slot w read.live)
 
-  pub counts_written : (slots : List (Slot T)) (at live : ℕ) (slot : Slot T) (w : T) → slot ≡ get_or slots at slot → IsReadAt slots at slot → IsCounted slots live → IsCounted (set slots at (with_item slot w)) live
+  pub counts_written : (slots : List (Slot T)) (at live : ℕ) (slot : Slot T) (w : T) →
+      slot ≡ get_or slots at slot → IsReadAt slots at slot → IsCounted slots live →
+      IsCounted (set slots at (with_item slot w)) live
   counts_written slots at live slot w same read counted =
       let change = count-set slots at slot (with_item slot w) read.within same in
       let before : value_of slot ≡ Some slot.item = value_of-with_item slot slot.item read.live in
@@ -63,10 +75,13 @@ module _ {T : Type 0} where
       omega (arith, rw (before, after) at change)
 
   -- the slot of a live id after it died
-  pub shows_dead : (slots : List (Slot T)) (at : ℕ) (item : T) → map value_of (set slots at (record { item = item; is_live = false })) ≡ set (map value_of slots) at None
+  pub shows_dead : (slots : List (Slot T)) (at : ℕ) (item : T) →
+      map value_of (set slots at (record { item = item; is_live = false })) ≡ set (map value_of slots) at None
   shows_dead slots at item = map-set value_of slots at _
 
-  pub counts_dead : (slots : List (Slot T)) (at live : ℕ) (slot : Slot T) (item : T) → slot ≡ get_or slots at slot → IsReadAt slots at slot → IsCounted slots live → IsCounted (set slots at (record { item = item; is_live = false })) (live - 1)
+  pub counts_dead : (slots : List (Slot T)) (at live : ℕ) (slot : Slot T) (item : T) →
+      slot ≡ get_or slots at slot → IsReadAt slots at slot → IsCounted slots live →
+      IsCounted (set slots at (record { item = item; is_live = false })) (live - 1)
   counts_dead slots at live slot item same read counted =
       let change = count-set slots at slot (record { item = item; is_live = false }) read.within same in
       let before : value_of slot ≡ Some slot.item = value_of-with_item slot slot.item read.live in

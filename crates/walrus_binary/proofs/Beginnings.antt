@@ -276,7 +276,8 @@ integer_unended end limit (b ∷ bytes) f from room e =
 unended_begun : (end limit : ℕ) (bytes : List ℕ) (f : Fault) → Unended end limit bytes f
     → Begun (IsInteger end limit) bytes f
 unended_begun end limit bytes f u =
-    ends_with (IsInteger end limit) bytes f u.front u.left (0 ∷ []) u.value u.parts u.place u.seen u.is_integer
+    ends_with (IsInteger end limit) bytes f u.front u.left (0 ∷ []) u.value u.parts u.place u.seen
+    u.is_integer
 
 -- an integer has a first byte
 pub integer_starts : (end limit : ℕ) (text : List ℕ) (n : ℕ) → IsInteger end limit text n

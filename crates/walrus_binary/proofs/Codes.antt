@@ -74,6 +74,32 @@ code_from b a e =
 pub outside : (b : ℕ) → (b < 0x69) ⊎ (0x74 < b) → heap_type_of b ≡ None
 unfolding heap_type_of
 outside b (inl low) =
-    rw (ne_eqb b 0x74 (λ q. omega (arith, q, low)), ne_eqb b 0x73 (λ q. omega (arith, q, low)), ne_eqb b 0x72 (λ q. omega (arith, q, low)), ne_eqb b 0x71 (λ q. omega (arith, q, low)), ne_eqb b 0x70 (λ q. omega (arith, q, low)), ne_eqb b 0x6F (λ q. omega (arith, q, low)), ne_eqb b 0x6E (λ q. omega (arith, q, low)), ne_eqb b 0x6D (λ q. omega (arith, q, low)), ne_eqb b 0x6C (λ q. omega (arith, q, low)), ne_eqb b 0x6B (λ q. omega (arith, q, low)), ne_eqb b 0x6A (λ q. omega (arith, q, low)), ne_eqb b 0x69 (λ q. omega (arith, q, low))) refl
+    rw (
+      ne_eqb b 0x74 (λ q. omega (arith, q, low)),
+      ne_eqb b 0x73 (λ q. omega (arith, q, low)),
+      ne_eqb b 0x72 (λ q. omega (arith, q, low)),
+      ne_eqb b 0x71 (λ q. omega (arith, q, low)),
+      ne_eqb b 0x70 (λ q. omega (arith, q, low)),
+      ne_eqb b 0x6F (λ q. omega (arith, q, low)),
+      ne_eqb b 0x6E (λ q. omega (arith, q, low)),
+      ne_eqb b 0x6D (λ q. omega (arith, q, low)),
+      ne_eqb b 0x6C (λ q. omega (arith, q, low)),
+      ne_eqb b 0x6B (λ q. omega (arith, q, low)),
+      ne_eqb b 0x6A (λ q. omega (arith, q, low)),
+      ne_eqb b 0x69 (λ q. omega (arith, q, low)),
+    ) refl
 outside b (inr high) =
-    rw (ne_eqb b 0x74 (λ q. omega (arith, q, high)), ne_eqb b 0x73 (λ q. omega (arith, q, high)), ne_eqb b 0x72 (λ q. omega (arith, q, high)), ne_eqb b 0x71 (λ q. omega (arith, q, high)), ne_eqb b 0x70 (λ q. omega (arith, q, high)), ne_eqb b 0x6F (λ q. omega (arith, q, high)), ne_eqb b 0x6E (λ q. omega (arith, q, high)), ne_eqb b 0x6D (λ q. omega (arith, q, high)), ne_eqb b 0x6C (λ q. omega (arith, q, high)), ne_eqb b 0x6B (λ q. omega (arith, q, high)), ne_eqb b 0x6A (λ q. omega (arith, q, high)), ne_eqb b 0x69 (λ q. omega (arith, q, high))) refl
+    rw (
+      ne_eqb b 0x74 (λ q. omega (arith, q, high)),
+      ne_eqb b 0x73 (λ q. omega (arith, q, high)),
+      ne_eqb b 0x72 (λ q. omega (arith, q, high)),
+      ne_eqb b 0x71 (λ q. omega (arith, q, high)),
+      ne_eqb b 0x70 (λ q. omega (arith, q, high)),
+      ne_eqb b 0x6F (λ q. omega (arith, q, high)),
+      ne_eqb b 0x6E (λ q. omega (arith, q, high)),
+      ne_eqb b 0x6D (λ q. omega (arith, q, high)),
+      ne_eqb b 0x6C (λ q. omega (arith, q, high)),
+      ne_eqb b 0x6B (λ q. omega (arith, q, high)),
+      ne_eqb b 0x6A (λ q. omega (arith, q, high)),
+      ne_eqb b 0x69 (λ q. omega (arith, q, high)),
+    ) refl

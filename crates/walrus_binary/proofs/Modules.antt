@@ -11,3 +11,4 @@ pub mod TypeContents
 pub mod FirstSections
 pub mod Customs
 pub mod BadTypes
+pub mod Around

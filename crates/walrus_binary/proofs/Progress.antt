@@ -3,8 +3,8 @@ use Rattle.std.proofs.Common.{◌≡◌, ℕ, zero, suc, ◌+◌, ◌-◌, ◌<�
 use Rattle.walrus_ty.specs.declared.records.GroupAt.{GroupAt}
 use Rattle.walrus_binary.specs.declared.error.Expected.TheVariants as expected
 use Rattle.walrus_binary.specs.declared.error.Fault.{Fault}
-use Rattle.walrus_binary.specs.declared.error.ReadError.{ReadError}
-use Rattle.walrus_binary.specs.declared.error.ReadError.TheVariants as errors
+use Rattle.walrus_binary.specs.declared.error.RawReadError.{RawReadError}
+use Rattle.walrus_binary.specs.declared.error.RawReadError.TheVariants as errors
 use Rattle.walrus_binary.specs.Leb128.{IsU32}
 use Rattle.walrus_binary.specs.Grammar.{IsRecType, IsTypes}
 use Rattle.walrus_binary.specs.SectionProgress.{BeginsWithGroups}
@@ -26,7 +26,8 @@ no_front : {A : Type 0} (read : Reading (List A)) → with_front [] read ≡ rea
 no_front (Ok xs) = refl
 no_front (Err f) = refl
 
-item_before : {A : Type 0} (at : List ℕ → Reading A) (n m : ℕ) (bytes : List ℕ) (x : A) (behind : List ℕ) (xs : List A) (rest : List ℕ)
+item_before : {A : Type 0} (at : List ℕ → Reading A) (n m : ℕ) (bytes : List ℕ) (x : A) (behind : List ℕ)
+    (xs : List A) (rest : List ℕ)
     → at bytes ≡ Ok (x, behind) → items_at at (n + m) behind ≡ with_front xs (items_at at m rest)
     → items_at at (suc n + m) bytes ≡ with_front (x ∷ xs) (items_at at m rest)
 unfolding items_at
@@ -56,14 +57,17 @@ items_behind {A = A} at (suc n) m bytes xs rest e =
     ∙ ap (λ (left : List ℕ). with_front xs (items_at at m left)) same
 
 -- one more item
-one_more : {A : Type 0} (at : List ℕ → Reading A) (n : ℕ) (bytes : List ℕ) (xs : List A) (rest : List ℕ) (x : A) (after : List ℕ)
-    → items_at at n bytes ≡ Ok (xs, rest) → at rest ≡ Ok (x, after) → items_at at (n + 1) bytes ≡ Ok (xs ++ x ∷ [], after)
+one_more : {A : Type 0} (at : List ℕ → Reading A) (n : ℕ) (bytes : List ℕ) (xs : List A) (rest : List ℕ)
+    (x : A) (after : List ℕ)
+    → items_at at n bytes ≡ Ok (xs, rest) → at rest ≡ Ok (x, after) →
+    items_at at (n + 1) bytes ≡ Ok (xs ++ x ∷ [], after)
 unfolding items_at
 one_more at n bytes xs rest x after e h = items_behind at n 1 bytes xs rest e ∙ rw h refl
 
 -- ---- a reader that begins
 
-front_is : (remaining : ℕ) (bytes : List ℕ) (count : ℕ) (texts : List ℕ) (groups : List GroupAt) (left : List ℕ)
+front_is : (remaining : ℕ) (bytes : List ℕ) (count : ℕ) (texts : List ℕ) (groups : List GroupAt)
+    (left : List ℕ)
     → u32_at bytes ≡ Ok (count, texts) → items_at group_at (count - remaining) texts ≡ Ok (groups, left)
     → groups_before remaining bytes ≡ groups
 unfolding front_at
@@ -96,7 +100,8 @@ no_count : (bytes : List ℕ) (f : Fault) → u32_at bytes ≡ Err f → types_a
 unfolding types_at vec_at
 no_count bytes f h = rw h refl
 
-pub count_fails : (bytes left : List ℕ) (e : ReadError) → Fails left e (u32_at bytes) → Fails left e (types_at bytes)
+pub count_fails : (bytes left : List ℕ) (e : RawReadError) → Fails left e (u32_at bytes) →
+    Fails left e (types_at bytes)
 count_fails bytes left errors.Memory h = tt
 count_fails bytes left (errors.Reason r) h = no_count bytes (record { left = length left; reason = r }) h
 
@@ -126,9 +131,11 @@ pub goes_on : (bytes : List ℕ) (remaining : ℕ) (left : List ℕ) → IsReadT
 unfolding vec_at
 goes_on bytes remaining left r =
     let k : (r.count - remaining) + remaining ≡ r.count = omega (arith, r.within) in
-    let all : items_at group_at r.count r.texts ≡ with_front (groups_before remaining bytes) (items_at group_at remaining left) =
+    let all : items_at group_at r.count r.texts ≡ with_front (groups_before remaining bytes)
+    (items_at group_at remaining left) =
     ap (λ n. items_at group_at n r.texts) (sym k)
-    ∙ items_behind group_at (r.count - remaining) remaining r.texts (groups_before remaining bytes) left r.groups in
+    ∙ items_behind group_at (r.count - remaining) remaining r.texts (groups_before remaining bytes) left
+    r.groups in
     rw r.counts all
 
 -- One more group was read.
@@ -198,7 +205,8 @@ next_fails bytes remaining left f r some h =
     (goes_on bytes remaining left r) (first_fails remaining left f some h)
 
 -- what is wrong with the next group is wrong with the section
-pub fails : (bytes : List ℕ) (remaining : ℕ) (left after : List ℕ) (e : ReadError) → IsReadTo bytes remaining left
+pub fails : (bytes : List ℕ) (remaining : ℕ) (left after : List ℕ) (e : RawReadError) →
+    IsReadTo bytes remaining left
     → 0 < remaining → Fails after e (group_at left) → Fails after e (types_at bytes)
 fails bytes remaining left after errors.Memory r some h = tt
 fails bytes remaining left after (errors.Reason k) r some h =

@@ -42,7 +42,8 @@ tagged b k bytes h = ap (λ c. c ∷ bytes) (eqb-true b k h)
 
 -- ---- heap types
 
-heap_here : (bytes : List ℕ) (e : Expected) (f : Fault) → here {A = Heap ℕ} bytes (reason.Expected e) ≡ failed f
+heap_here : (bytes : List ℕ) (e : Expected) (f : Fault) →
+    here {A = Heap ℕ} bytes (reason.Expected e) ≡ failed f
     → Begun IsHeapType bytes f
 heap_here = at_once IsHeapType (0x70 ∷ []) (heap.Abstract abstract.Func) (abstract_type abstract.Func)
 
@@ -93,7 +94,8 @@ heap_begun (b ∷ bytes) f e =
 
 -- ---- reference types and value types
 
-ref_here : (bytes : List ℕ) (e : Expected) (f : Fault) → here {A = Reference ℕ} bytes (reason.Expected e) ≡ failed f
+ref_here : (bytes : List ℕ) (e : Expected) (f : Fault) →
+    here {A = Reference ℕ} bytes (reason.Expected e) ≡ failed f
     → Begun IsRefType bytes f
 ref_here =
     at_once IsRefType (0x70 ∷ []) (reference true (heap.Abstract abstract.Func)) (abbreviated abstract.Func)
@@ -203,7 +205,8 @@ empty_struct_type = comp.Struct []
 pub empty_struct : IsCompType (0x5F ∷ 0 ∷ []) empty_struct_type
 empty_struct = struct (0 ∷ []) [] (no_items IsFieldType)
 
-comp_here : (bytes : List ℕ) (e : Expected) (f : Fault) → here {A = CompAt} bytes (reason.Expected e) ≡ failed f
+comp_here : (bytes : List ℕ) (e : Expected) (f : Fault) →
+    here {A = CompAt} bytes (reason.Expected e) ≡ failed f
     → Begun IsCompType bytes f
 comp_here = at_once IsCompType (0x5F ∷ 0 ∷ []) (comp.Struct []) empty_struct
 
@@ -334,8 +337,10 @@ supertype_begun bytes f e =
 abbrev pub made_entry : Bool → Option ℕ → CompAt → EntryAt
 made_entry is_final s c = record { comp = c; is_final = is_final; supertype = s }
 
-pub is_sub_entry : (is_final : Bool) → IsSubType (sub_code is_final ∷ 0 ∷ 0x5F ∷ 0 ∷ []) (made_entry is_final None empty_struct_type)
-is_sub_entry is_final = declared (0 ∷ []) (0x5F ∷ 0 ∷ []) is_final None empty_struct_type (no_items IsU32) empty_struct
+pub is_sub_entry : (is_final : Bool) → IsSubType (sub_code is_final ∷ 0 ∷ 0x5F ∷ 0 ∷ [])
+    (made_entry is_final None empty_struct_type)
+is_sub_entry is_final = declared (0 ∷ []) (0x5F ∷ 0 ∷ []) is_final None empty_struct_type (no_items IsU32)
+    empty_struct
 
 -- behind the first byte
 abbrev IsDeclared : Bool → List ℕ → EntryAt → Type 0
@@ -382,7 +387,8 @@ begins_declared is_final b bytes f is (inr (inl c)) =
       left = c.left;
       parts = is ∙ ap (λ (u : List ℕ). sub_code is_final ∷ u) c.parts;
       place = c.place;
-      names = expected_names f.reason (supertypes is_final c.count c.least c.is_count c.several) c.left c.seen;
+      names = expected_names f.reason (supertypes is_final c.count c.least c.is_count c.several) c.left
+          c.seen;
       goes_on = λ text filled. fills_entry text filled;
     }
 begins_declared is_final b bytes f is (inr (inr c)) =

@@ -9,8 +9,8 @@ use Rattle.walrus_binary.specs.declared.error.Reason.TheVariants as reason
 use Rattle.walrus_binary.specs.declared.error.NotHeld.{NotHeld}
 use Rattle.walrus_binary.specs.declared.error.NotHeld.TheVariants as held
 use Rattle.walrus_binary.specs.declared.error.Fault.{Fault}
-use Rattle.walrus_binary.specs.declared.error.ReadError.{ReadError}
-use Rattle.walrus_binary.specs.declared.error.ReadError.TheVariants as errors
+use Rattle.walrus_binary.specs.declared.error.RawReadError.{RawReadError}
+use Rattle.walrus_binary.specs.declared.error.RawReadError.TheVariants as errors
 use Rattle.walrus_binary.specs.Leb128.{IsU32}
 use Rattle.walrus_ty.specs.declared.ty.value.AbstractHeapType.TheVariants as abstract
 use Rattle.walrus_ty.specs.declared.ty.value.Heap.TheVariants as heap
@@ -34,10 +34,13 @@ same_read a b e = cc
 pub one_section : (bytes : List ℕ) (a b : List GroupAt) → IsTypes bytes a → IsTypes bytes b → a ≡ b
 one_section bytes a b h k = same_read a b (sym (types_again bytes a h) ∙ types_again bytes b k)
 
-pub no_longer_text : (bytes more : List ℕ) (a b : List GroupAt) → IsTypes bytes a → IsTypes (bytes ++ more) b → more ≡ []
+pub no_longer_text : (bytes more : List ℕ) (a b : List GroupAt) → IsTypes bytes a →
+    IsTypes (bytes ++ more) b → more ≡ []
 no_longer_text bytes more a b h k =
     let short = vec_complete IsRecType group_at group_complete bytes a more h in
-    let long : vec_at group_at (bytes ++ more) ≡ Ok (b, []) = ap (vec_at group_at) (sym (append-nil (bytes ++ more))) ∙ vec_complete IsRecType group_at group_complete (bytes ++ more) b [] k in
+    let long : vec_at group_at (bytes ++ more) ≡ Ok (b, []) =
+    ap (vec_at group_at) (sym (append-nil (bytes ++ more)))
+    ∙ vec_complete IsRecType group_at group_complete (bytes ++ more) b [] k in
     rest_is a b more [] (sym short ∙ long)
 
 not_both : (x : Result (List GroupAt) Fault) (f : Fault) (gs : List GroupAt) → x ≡ Err f → x ≡ Ok gs → ⊥
@@ -54,19 +57,26 @@ left_fits bytes f e =
 
 -- the byte at which reading stopped
 abbrev Sees : List ℕ → Fault → Type 0
-Sees bytes f = IsSeenAtOnce f.reason → length bytes - f.left < length bytes → BeginsNoText (take (length bytes - f.left + 1) bytes)
+Sees bytes f = IsSeenAtOnce f.reason → length bytes - f.left < length bytes →
+    BeginsNoText (take (length bytes - f.left + 1) bytes)
 
 sees : (bytes front left : List ℕ) (f : Fault) → bytes ≡ front ++ left → f.left ≡ length left
-    → (IsSeenAtOnce f.reason → (b : ℕ) (rest other : List ℕ) (groups : List GroupAt) → left ≡ b ∷ rest → IsTypes (front ++ b ∷ other) groups → ⊥) → Sees bytes f
+    → (IsSeenAtOnce f.reason → (b : ℕ) (rest other : List ℕ) (groups : List GroupAt) → left ≡ b ∷ rest →
+    IsTypes (front ++ b ∷ other) groups → ⊥) → Sees bytes f
 sees bytes front [] f parts place stuck seen lt =
     absurd (let k : f.left ≡ 0 = place in omega (arith, k, lt))
 sees bytes front (b ∷ left) f parts place stuck seen lt =
-    let long : length bytes ≡ length front + length (b ∷ left) = ap (λ (u : List ℕ). length u) parts ∙ length-append front (b ∷ left) in
-    let one : length bytes - f.left + 1 ≡ length (front ++ b ∷ []) = omega (arith, long, place, length-append front (b ∷ [])) in
+    let long : length bytes ≡ length front + length (b ∷ left) = ap (λ (u : List ℕ). length u) parts
+    ∙ length-append front (b ∷ left) in
+    let one : length bytes - f.left + 1 ≡ length (front ++ b ∷ []) =
+    omega (arith, long, place, length-append front (b ∷ [])) in
     let again : bytes ≡ (front ++ b ∷ []) ++ left = parts ∙ sym (append_assoc front (b ∷ []) left) in
     let taken : take (length bytes - f.left + 1) bytes ≡ front ++ b ∷ [] =
-    rw one (ap (λ (u : List ℕ). take (length (front ++ b ∷ [])) u) again ∙ take_at (front ++ b ∷ []) left (length (front ++ b ∷ [])) refl) in
-    subst BeginsNoText (sym taken) (λ more gs t. stuck seen b left more gs refl (subst (λ (u : List ℕ). IsTypes u gs) (append_assoc front (b ∷ []) more) t))
+    rw one (ap (λ (u : List ℕ). take (length (front ++ b ∷ [])) u) again
+    ∙ take_at (front ++ b ∷ []) left (length (front ++ b ∷ [])) refl) in
+    subst BeginsNoText (sym taken) (λ more gs t.
+    stuck seen b left more gs refl (subst (λ (u : List ℕ). IsTypes u gs)
+    (append_assoc front (b ∷ []) more) t))
 
 seen_at_once : (offset : ℕ) (r : Reason) → IsSeenThere (with_reason offset r) → IsSeenAtOnce r
 seen_at_once offset (reason.Expected e) h = tt
@@ -76,26 +86,34 @@ seen_at_once offset (reason.NotHeld held.Continuation) h = tt
 seen_at_once offset (reason.NotHeld held.Descriptor) h = tt
 
 -- what holds of a place, said of an error
-placed : (P : ℕ → Type 0) (offset : ℕ) (r : Reason) → P offset → IfSome (error_offset (with_reason offset r)) P
+placed : (P : ℕ → Type 0) (offset : ℕ) (r : Reason) → P offset →
+    IfSome (error_offset (with_reason offset r)) P
 placed P offset (reason.Expected e) h = h
 placed P offset (reason.NotHeld w) h = h
 
-pub refused : (bytes : List ℕ) (f : Fault) → types_at bytes ≡ Err f → IfSome (error_offset (refusal (length bytes) f)) (λ offset. IsNoText bytes)
+pub refused : (bytes : List ℕ) (f : Fault) → types_at bytes ≡ Err f →
+    IfSome (error_offset (refusal (length bytes) f)) (λ offset. IsNoText bytes)
 refused bytes f e = placed (λ offset. IsNoText bytes) (length bytes - f.left) f.reason (no_text bytes f e)
 
-pub lies_within : (bytes : List ℕ) (f : Fault) → types_at bytes ≡ Err f → IfSome (error_offset (refusal (length bytes) f)) (λ offset. offset ≤ length bytes)
-lies_within bytes f e = placed (λ offset. offset ≤ length bytes) (length bytes - f.left) f.reason (omega arith)
+pub lies_within : (bytes : List ℕ) (f : Fault) → types_at bytes ≡ Err f →
+    IfSome (error_offset (refusal (length bytes) f)) (λ offset. offset ≤ length bytes)
+lies_within bytes f e = placed (λ offset. offset ≤ length bytes) (length bytes - f.left) f.reason
+    (omega arith)
 
 pub stuck_there : (bytes : List ℕ) (f : Fault) → types_at bytes ≡ Err f →
-    IfSome (error_offset (refusal (length bytes) f)) (λ offset. IsSeenThere (refusal (length bytes) f) → offset < length bytes → BeginsNoText (take (offset + 1) bytes))
+    IfSome (error_offset (refusal (length bytes) f)) (λ offset. IsSeenThere (refusal (length bytes) f) →
+    offset < length bytes → BeginsNoText (take (offset + 1) bytes))
 stuck_there bytes f e =
     let s = types_stop bytes f e in
-    placed (λ offset. IsSeenThere (refusal (length bytes) f) → offset < length bytes → BeginsNoText (take (offset + 1) bytes)) (length bytes - f.left) f.reason
-    (λ seen lt. sees bytes s.front s.left f s.parts s.place s.stuck (seen_at_once (length bytes - f.left) f.reason seen) lt)
+    placed (λ offset. IsSeenThere (refusal (length bytes) f) → offset < length bytes →
+    BeginsNoText (take (offset + 1) bytes)) (length bytes - f.left) f.reason
+    (λ seen lt. sees bytes s.front s.left f s.parts s.place s.stuck
+    (seen_at_once (length bytes - f.left) f.reason seen) lt)
 
 -- ---- the bytes before it
 
-begins_shorter : (front some others : List ℕ) → GoesOn IsTypes (front ++ (some ++ others)) → GoesOn IsTypes (front ++ some)
+begins_shorter : (front some others : List ℕ) → GoesOn IsTypes (front ++ (some ++ others)) →
+    GoesOn IsTypes (front ++ some)
 begins_shorter front some others g =
     record {
       more = others ++ g.more;
@@ -106,13 +124,17 @@ begins_shorter front some others g =
           ∙ append_assoc (front ++ some) others g.more) g.is_text;
     }
 
-begins_all : (front : List ℕ) (tail : Tail) → ((more : List ℕ) → Fills tail more → GoesOn IsTypes (front ++ more))
+begins_all : (front : List ℕ) (tail : Tail) →
+    ((more : List ℕ) → Fills tail more → GoesOn IsTypes (front ++ more))
     → IsBegun (front ++ tail_bytes tail)
 begins_all front nothing goes_on = begins_text (front ++ []) (goes_on [] refl)
 begins_all front (sub_of_several is_final) goes_on =
     begins_text (front ++ sub_code is_final ∷ [])
     (begins_shorter front (sub_code is_final ∷ []) (0 ∷ 0x5F ∷ 0 ∷ [])
-    (goes_on (sub_code is_final ∷ 0 ∷ 0x5F ∷ 0 ∷ []) (made_entry is_final None empty_struct_type, is_sub_entry is_final)))
+    (goes_on (sub_code is_final ∷ 0 ∷ 0x5F ∷ 0 ∷ []) (
+      made_entry is_final None empty_struct_type,
+      is_sub_entry is_final,
+    )))
 begins_all front before_comp goes_on =
     begins_text (front ++ [])
     (begins_shorter front [] (0x5F ∷ 0 ∷ []) (goes_on (0x5F ∷ 0 ∷ []) (empty_struct_type, empty_struct)))
@@ -153,10 +175,13 @@ abbrev EndsAtInteger : List ℕ → List ℕ → Type 0
 EndsAtInteger front left =
     (count rest : List ℕ) (n : ℕ) → left ≡ count ++ rest → IsU32 count n → BeginsNoText (front ++ count)
 
-unheld : (front left : List ℕ) (tail : Tail) (what : NotHeld) → Begins what tail left → EndsAtInteger (front ++ tail_bytes tail) left
-    → ((text : List ℕ) → Fills tail text → GoesOn IsTypes (front ++ text)) → IsUnheld what (front ++ tail_bytes tail) left
+unheld : (front left : List ℕ) (tail : Tail) (what : NotHeld) → Begins what tail left →
+    EndsAtInteger (front ++ tail_bytes tail) left
+    → ((text : List ℕ) → Fills tail text → GoesOn IsTypes (front ++ text)) →
+    IsUnheld what (front ++ tail_bytes tail) left
 unheld front _ _ _ (counts_several is_final count others n h le) stuck goes_on =
-    several_supertypes front count others is_final n (λ text e k. goes_on text (e, k)) h le (stuck count others n refl h)
+    several_supertypes front count others is_final n (λ text e k. goes_on text (e, k)) h le
+    (stuck count others n refl h)
 unheld front _ _ _ (comp_code what code others h) stuck goes_on =
     subst (λ (u : List ℕ). IsUnheld what u (code ∷ others)) (sym (append-nil front))
     (comp_type front others what code (λ text c k. goes_on text (c, k)) h)
@@ -167,13 +192,21 @@ unheld front _ _ _ (ref_code what code others h) stuck goes_on =
     subst (λ (u : List ℕ). IsUnheld what u (code ∷ others)) (sym (append-nil front))
     (ref_type front others what code (λ text c k. goes_on text (c, k)) h)
 
-ends_at_integer : (bytes : List ℕ) (f : Fault) → types_at bytes ≡ Err f → (front left : List ℕ) → bytes ≡ front ++ left
+ends_at_integer : (bytes : List ℕ) (f : Fault) → types_at bytes ≡ Err f → (front left : List ℕ) →
+    bytes ≡ front ++ left
     → f.left ≡ length left → EndsAtInteger front left
 ends_at_integer bytes f e front left parts place count rest n is h other groups t =
     let s = types_stop bytes f e in
     let both : s.front ++ s.left ≡ front ++ left = sym s.parts ∙ parts in
     let long : length s.front ≡ length front =
-    omega (arith, place, s.place, ap (λ (u : List ℕ). length u) both, length-append s.front s.left, length-append front left) in
+    omega (
+      arith,
+      place,
+      s.place,
+      ap (λ (u : List ℕ). length u) both,
+      length-append s.front s.left,
+      length-append front left,
+    ) in
     let fronts : s.front ≡ front =
     sym (take_at s.front s.left (length front) long) ∙ ap (λ (u : List ℕ). take (length front) u) both
     ∙ take_at front left (length front) refl in
@@ -188,23 +221,30 @@ ends_at_integer bytes f e front left parts place count rest n is h other groups 
     s.counted k.0 k.1 rest other n groups (lefts ∙ is ∙ ap (λ (u : List ℕ). u ++ rest) k.2) u32
     (subst (λ (u : List ℕ). IsTypes u groups) whole t)
 
-names_unheld : (bytes front left : List ℕ) (offset : ℕ) (r : Reason) (tail : Tail) → take offset bytes ≡ front ++ tail_bytes tail
-    → drop offset bytes ≡ left → Names r tail left → EndsAtInteger (front ++ tail_bytes tail) left → ((text : List ℕ) → Fills tail text → GoesOn IsTypes (front ++ text))
+names_unheld : (bytes front left : List ℕ) (offset : ℕ) (r : Reason) (tail : Tail) →
+    take offset bytes ≡ front ++ tail_bytes tail
+    → drop offset bytes ≡ left → Names r tail left → EndsAtInteger (front ++ tail_bytes tail) left →
+    ((text : List ℕ) → Fills tail text → GoesOn IsTypes (front ++ text))
     → NamesUnheld bytes (with_reason offset r)
 names_unheld bytes front left offset (reason.Expected e) tail first second h stuck goes_on = tt
 names_unheld bytes front left offset (reason.NotHeld what) tail first second h stuck goes_on =
     subst (λ (u : List ℕ). IsUnheld what u (drop offset bytes)) (sym first)
-    (subst (λ (u : List ℕ). IsUnheld what (front ++ tail_bytes tail) u) (sym second) (unheld front left tail what h stuck goes_on))
+    (subst (λ (u : List ℕ). IsUnheld what (front ++ tail_bytes tail) u) (sym second)
+    (unheld front left tail what h stuck goes_on))
 
-pub unheld_there : (bytes : List ℕ) (f : Fault) → types_at bytes ≡ Err f → NamesUnheld bytes (refusal (length bytes) f)
+pub unheld_there : (bytes : List ℕ) (f : Fault) → types_at bytes ≡ Err f →
+    NamesUnheld bytes (refusal (length bytes) f)
 unheld_there bytes f e =
     let b = types_begun bytes f e in
     let before : List ℕ = b.front ++ tail_bytes b.tail in
     let again : bytes ≡ before ++ b.left = b.parts ∙ sym (append_assoc b.front (tail_bytes b.tail) b.left) in
-    let long : length bytes ≡ length before + length b.left = ap (λ (u : List ℕ). length u) again ∙ length-append before b.left in
+    let long : length bytes ≡ length before + length b.left = ap (λ (u : List ℕ). length u) again
+    ∙ length-append before b.left in
     let many : length before ≡ length bytes - f.left = omega (arith, long, b.place) in
-    let first = ap (λ (u : List ℕ). take (length bytes - f.left) u) again ∙ take_at before b.left (length bytes - f.left) many in
-    let second = ap (λ (u : List ℕ). drop (length bytes - f.left) u) again ∙ drop_at before b.left (length bytes - f.left) many in
+    let first = ap (λ (u : List ℕ). take (length bytes - f.left) u) again
+    ∙ take_at before b.left (length bytes - f.left) many in
+    let second = ap (λ (u : List ℕ). drop (length bytes - f.left) u) again
+    ∙ drop_at before b.left (length bytes - f.left) many in
     names_unheld bytes b.front b.left (length bytes - f.left) f.reason b.tail first second b.names
     (ends_at_integer bytes f e before b.left again b.place) b.goes_on
 
@@ -213,34 +253,35 @@ unheld_there bytes f e =
 abbrev fault_at : List ℕ → Reason → Fault
 fault_at left r = record { left = length left; reason = r }
 
-pub error_within : (bytes left : List ℕ) (e : ReadError) → Fails left e (types_at bytes)
+pub error_within : (bytes left : List ℕ) (e : RawReadError) → Fails left e (types_at bytes)
     → IsWithin (length bytes) (length left) e
 error_within bytes left errors.Memory h = tt
 error_within bytes left (errors.Reason r) h = left_fits bytes (fault_at left r) h
 
-pub error_refused : (bytes left : List ℕ) (e : ReadError) → Fails left e (types_at bytes)
+pub error_refused : (bytes left : List ℕ) (e : RawReadError) → Fails left e (types_at bytes)
     → IfSome (error_offset (error_refusal (length bytes) (length left) e)) (λ offset. IsNoText bytes)
 error_refused bytes left errors.Memory h = tt
 error_refused bytes left (errors.Reason r) h = refused bytes (fault_at left r) h
 
-pub error_placed : (bytes left : List ℕ) (e : ReadError) → Fails left e (types_at bytes)
+pub error_placed : (bytes left : List ℕ) (e : RawReadError) → Fails left e (types_at bytes)
     → IfSome (error_offset (error_refusal (length bytes) (length left) e)) (λ offset. offset ≤ length bytes)
 error_placed bytes left errors.Memory h = tt
 error_placed bytes left (errors.Reason r) h = lies_within bytes (fault_at left r) h
 
-pub error_stuck : (bytes left : List ℕ) (e : ReadError) → Fails left e (types_at bytes)
+pub error_stuck : (bytes left : List ℕ) (e : RawReadError) → Fails left e (types_at bytes)
     → IfSome (error_offset (error_refusal (length bytes) (length left) e))
     (λ offset. IsSeenThere (error_refusal (length bytes) (length left) e) → offset < length bytes →
     BeginsNoText (take (offset + 1) bytes))
 error_stuck bytes left errors.Memory h = tt
 error_stuck bytes left (errors.Reason r) h = stuck_there bytes (fault_at left r) h
 
-pub error_begun : (bytes left : List ℕ) (e : ReadError) → Fails left e (types_at bytes)
-    → IfSome (error_offset (error_refusal (length bytes) (length left) e)) (λ offset. IsBegun (take offset bytes))
+pub error_begun : (bytes left : List ℕ) (e : RawReadError) → Fails left e (types_at bytes)
+    → IfSome (error_offset (error_refusal (length bytes) (length left) e)) (λ offset.
+    IsBegun (take offset bytes))
 error_begun bytes left errors.Memory h = tt
 error_begun bytes left (errors.Reason r) h = begun_before bytes (fault_at left r) h
 
-pub error_unheld : (bytes left : List ℕ) (e : ReadError) → Fails left e (types_at bytes)
+pub error_unheld : (bytes left : List ℕ) (e : RawReadError) → Fails left e (types_at bytes)
     → NamesUnheld bytes (error_refusal (length bytes) (length left) e)
 error_unheld bytes left errors.Memory h = tt
 error_unheld bytes left (errors.Reason r) h = unheld_there bytes (fault_at left r) h

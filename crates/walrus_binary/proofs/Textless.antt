@@ -20,26 +20,35 @@ HasText IsText x = (bytes : List ℕ) × IsText bytes x
 abbrev VecParts : {A : Type 0} → (List ℕ → A → Type 0) → List A → Type 0
 VecParts IsText items = (length items < 2 ^ 32) × HasText (AreItems IsText) items
 
-vec_parts : {A : Type 0} (IsText : List ℕ → A → Type 0) (bytes : List ℕ) (items : List A) → IsVec IsText bytes items → VecParts IsText items
-vec_parts IsText _ _ (counted count texts items h hs) = (integer_bound 0x80 (2 ^ 32) count (length items) h, (texts, hs))
+vec_parts : {A : Type 0} (IsText : List ℕ → A → Type 0) (bytes : List ℕ) (items : List A) →
+    IsVec IsText bytes items → VecParts IsText items
+vec_parts IsText _ _ (counted count texts items h hs) =
+    (integer_bound 0x80 (2 ^ 32) count (length items) h, (texts, hs))
 
-pub too_long : {A : Type 0} (IsText : List ℕ → A → Type 0) (items : List A) → (length items < 2 ^ 32 → ⊥) → HasNoText (IsVec IsText) items
+pub too_long : {A : Type 0} (IsText : List ℕ → A → Type 0) (items : List A) → (length items < 2 ^ 32 → ⊥) →
+    HasNoText (IsVec IsText) items
 too_long IsText items long bytes h = long (vec_parts IsText bytes items h).0
 
-pub no_vec : {A : Type 0} (IsText : List ℕ → A → Type 0) (items : List A) → HasNoText (AreItems IsText) items → HasNoText (IsVec IsText) items
+pub no_vec : {A : Type 0} (IsText : List ℕ → A → Type 0) (items : List A) →
+    HasNoText (AreItems IsText) items → HasNoText (IsVec IsText) items
 no_vec IsText items bad bytes h = let k = (vec_parts IsText bytes items h).1 in bad k.0 k.1
 
 abbrev ItemsParts : {A : Type 0} → (List ℕ → A → Type 0) → List A → Type 0
 ItemsParts IsText [] = Unit {0}
 ItemsParts IsText (x ∷ xs) = HasText IsText x × HasText (AreItems IsText) xs
 
-items_parts : {A : Type 0} (IsText : List ℕ → A → Type 0) (bytes : List ℕ) (items : List A) → AreItems IsText bytes items → ItemsParts IsText items
+items_parts : {A : Type 0} (IsText : List ℕ → A → Type 0) (bytes : List ℕ) (items : List A) →
+    AreItems IsText bytes items → ItemsParts IsText items
 items_parts IsText _ _ none = tt
 items_parts IsText _ _ (next text others item items h hs) = ((text, h), (others, hs))
 
-pub no_items : {A : Type 0} (IsText : List ℕ → A → Type 0) (before : List A) (item : A) (after : List A) → HasNoText IsText item → HasNoText (AreItems IsText) (before ++ item ∷ after)
-no_items IsText [] item after bad bytes h = let k = (items_parts IsText bytes (item ∷ after) h).0 in bad k.0 k.1
-no_items IsText (x ∷ before) item after bad bytes h = let k = (items_parts IsText bytes (x ∷ (before ++ item ∷ after)) h).1 in no_items IsText before item after bad k.0 k.1
+pub no_items : {A : Type 0} (IsText : List ℕ → A → Type 0) (before : List A) (item : A) (after : List A) →
+    HasNoText IsText item → HasNoText (AreItems IsText) (before ++ item ∷ after)
+no_items IsText [] item after bad bytes h = let k = (items_parts IsText bytes (item ∷ after) h).0 in
+    bad k.0 k.1
+no_items IsText (x ∷ before) item after bad bytes h = let k =
+    (items_parts IsText bytes (x ∷ (before ++ item ∷ after)) h).1 in
+    no_items IsText before item after bad k.0 k.1
 
 -- ---- composite types, definitions and groups
 
@@ -53,13 +62,16 @@ comp_parts _ _ (array bytes f h) = tt
 comp_parts _ _ (struct bytes fs h) = (bytes, h)
 comp_parts _ _ (function first second ps rs h k) = ((first, h), (second, k))
 
-pub no_struct : (fs : List (Field ℕ)) → HasNoText (IsVec IsFieldType) fs → HasNoText IsCompType (comp.Struct fs)
+pub no_struct : (fs : List (Field ℕ)) → HasNoText (IsVec IsFieldType) fs →
+    HasNoText IsCompType (comp.Struct fs)
 no_struct fs bad bytes h = let k = comp_parts bytes (comp.Struct fs) h in bad k.0 k.1
 
-pub no_params : (ps rs : List (Val ℕ)) → HasNoText (IsVec IsValType) ps → HasNoText IsCompType (comp.Function ps rs)
+pub no_params : (ps rs : List (Val ℕ)) → HasNoText (IsVec IsValType) ps →
+    HasNoText IsCompType (comp.Function ps rs)
 no_params ps rs bad bytes h = let k = comp_parts bytes (comp.Function ps rs) h in bad k.0.0 k.0.1
 
-pub no_results : (ps rs : List (Val ℕ)) → HasNoText (IsVec IsValType) rs → HasNoText IsCompType (comp.Function ps rs)
+pub no_results : (ps rs : List (Val ℕ)) → HasNoText (IsVec IsValType) rs →
+    HasNoText IsCompType (comp.Function ps rs)
 no_results ps rs bad bytes h = let k = comp_parts bytes (comp.Function ps rs) h in bad k.1.0 k.1.1
 
 entry_parts : (bytes : List ℕ) (e : EntryAt) → IsSubType bytes e → HasText IsCompType e.comp

@@ -3,6 +3,7 @@ pub mod Grammar
 pub mod Faults
 pub mod SectionProgress
 pub mod Modules
-pub mod ModuleTypes
+pub mod ModuleSections
+pub mod Sections
 pub mod Replacement
 pub mod Steps

@@ -13,7 +13,7 @@ mod value;
 
 use crate::decode::list::read_vec;
 pub use crate::decode::reader::TypeSectionReader;
-use crate::error::{DecodeError, Expected, ReadError};
+use crate::error::{DecodeError, Expected, RawReadError};
 use std::alloc::Global;
 use walrus_ty::GroupAt;
 
@@ -66,12 +66,12 @@ pub fn decode_types(alloc: Global, bytes: &[u8]) -> Result<Vec<GroupAt>, DecodeE
 
 /// Takes all that there is.
 #[tactic(auto, unfolding(crate::specs::Steps::Reading::types_at))]
-fn read_types(alloc: Global, input: &mut &[u8]) -> Result<Vec<GroupAt>, ReadError>
+fn read_types(alloc: Global, input: &mut &[u8]) -> Result<Vec<GroupAt>, RawReadError>
     ensures { GivesAll (λ groups. groups.items) result input.new.now (types_at input.old.now) }
 {
     let groups = read_vec(alloc, input)?;
     if !input.is_empty() {
-        return Err(ReadError::expected(Expected::End));
+        return Err(RawReadError::expected(Expected::End));
     }
     Ok(groups)
 }

@@ -2,7 +2,7 @@
 ghost use Rattle.std.specs.Prelude.{◌≡◌, ◌≤◌, length};
 ghost use Rattle.walrus_binary.specs.Steps.Refusals.{IsWithin, refusal, error_refusal};
 ghost use Rattle.walrus_binary.specs.declared.error.EncodeError.TheVariants as encode;
-ghost use Rattle.walrus_binary.specs.declared.error.ReadError.TheVariants as errors;
+ghost use Rattle.walrus_binary.specs.declared.error.RawReadError.TheVariants as errors;
 ghost use Rattle.walrus_binary.specs.declared.error.Reason.TheVariants as reason;
 ghost use Rattle.walrus_binary.specs.declared.error.ReplaceError.TheVariants as replace;
 
@@ -144,7 +144,7 @@ pub struct Fault {
 /// Why a part of a section could not be read. The place of a fault is where the input is left: so
 /// an error is small, and what is read moves past it in few instructions.
 #[derive(Clone, Copy, PartialEq, Eq, Debug)]
-pub enum ReadError {
+pub enum RawReadError {
     Reason(Reason),
     /// Memory was refused.
     Memory,
@@ -174,19 +174,19 @@ impl Fault {
     }
 }
 
-impl ReadError {
+impl RawReadError {
     /// What was expected where the input is left.
-    pub fn expected(expected: Expected) -> ReadError
+    pub fn expected(expected: Expected) -> RawReadError
         ensures { result ≡ errors.Reason (reason.Expected expected) }
     {
-        ReadError::Reason(Reason::Expected(expected))
+        RawReadError::Reason(Reason::Expected(expected))
     }
 
     /// What is where the input is left, and no record can hold.
-    pub fn not_held(what: NotHeld) -> ReadError
+    pub fn not_held(what: NotHeld) -> RawReadError
         ensures { result ≡ errors.Reason (reason.NotHeld what) }
     {
-        ReadError::Reason(Reason::NotHeld(what))
+        RawReadError::Reason(Reason::NotHeld(what))
     }
 
     /// The error for callers of the crate, where `left` of `len` bytes are left.
@@ -195,25 +195,25 @@ impl ReadError {
         ensures { result ≡ error_refusal len left self }
     {
         match self {
-            ReadError::Reason(reason) => Fault { reason, left }.refusal(len),
-            ReadError::Memory => DecodeError::Memory,
+            RawReadError::Reason(reason) => Fault { reason, left }.refusal(len),
+            RawReadError::Memory => DecodeError::Memory,
         }
     }
 }
 
-impl From<AllocError> for ReadError {
+impl From<AllocError> for RawReadError {
     ghost from_gives = { λ _ e. e ≡ errors.Memory };
 
-    fn from(_: AllocError) -> ReadError {
-        ReadError::Memory
+    fn from(_: AllocError) -> RawReadError {
+        RawReadError::Memory
     }
 }
 
-impl<T: Drop> From<AllocFailed<T>> for ReadError {
+impl<T: Drop> From<AllocFailed<T>> for RawReadError {
     ghost from_gives = { λ _ e. e ≡ errors.Memory };
 
-    fn from(_: AllocFailed<T>) -> ReadError {
-        ReadError::Memory
+    fn from(_: AllocFailed<T>) -> RawReadError {
+        RawReadError::Memory
     }
 }
 

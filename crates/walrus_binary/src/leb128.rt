@@ -6,14 +6,14 @@ ghost use Rattle.walrus_binary.specs.Steps.Writing.{IsEnough, integer_text, u32_
 ghost use Rattle.walrus_binary.specs.Steps.Reading.{Gives, Finds, integer_at, u32_at, s33_at};
 ghost use Rattle.walrus_binary.specs.Steps.Framing.{Reads};
 
-use crate::error::{Expected, Fault, ReadError};
+use crate::error::{Expected, Fault, RawReadError};
 use std::alloc::AllocError;
 
 const U32_LIMIT: u64 = 1 << 32;
 
 /// Takes a `u32` from the front.
 #[inline(always)]
-pub fn read_u32(input: &mut &[u8]) -> Result<u32, ReadError>
+pub fn read_u32(input: &mut &[u8]) -> Result<u32, RawReadError>
     ensures { Gives (λ n. n) result input.new.now (u32_at input.old.now) }
 {
     read_number(0x80, input)
@@ -21,7 +21,7 @@ pub fn read_u32(input: &mut &[u8]) -> Result<u32, ReadError>
 
 /// Takes a type's index as an `s33` from the front.
 #[inline(always)]
-pub fn read_s33(input: &mut &[u8]) -> Result<u32, ReadError>
+pub fn read_s33(input: &mut &[u8]) -> Result<u32, RawReadError>
     ensures { Gives (λ n. n) result input.new.now (s33_at input.old.now) }
 {
     read_number(0x40, input)
@@ -42,7 +42,7 @@ pub fn read_size(bytes: &[u8]) -> Result<(u32, &[u8]), Fault>
 /// into the caller.
 #[inline(always)]
 #[tactic(auto, unfolding(crate::specs::Steps::Reading::integer_at))]
-fn read_number(end: u8, input: &mut &[u8]) -> Result<u32, ReadError>
+fn read_number(end: u8, input: &mut &[u8]) -> Result<u32, RawReadError>
     requires { end ≤ 0x80 }
     ensures { Gives (λ n. n) result input.new.now (integer_at end (2 ^ 32) input.old.now) }
 {
@@ -57,7 +57,7 @@ fn read_number(end: u8, input: &mut &[u8]) -> Result<u32, ReadError>
 
 /// The same for a number of two bytes, as most others have, or of any length.
 #[tactic(auto, unfolding(crate::specs::Steps::Reading::integer_at))]
-fn read_long_number(end: u8, input: &mut &[u8]) -> Result<u32, ReadError>
+fn read_long_number(end: u8, input: &mut &[u8]) -> Result<u32, RawReadError>
     requires { end ≤ 0x80 }
     ensures { Gives (λ n. n) result input.new.now (integer_at end (2 ^ 32) input.old.now) }
 {
@@ -68,7 +68,7 @@ fn read_long_number(end: u8, input: &mut &[u8]) -> Result<u32, ReadError>
         }
         _ => match read_integer(end, U32_LIMIT, input) {
             Some(number) => Ok(number as u32),
-            None => Err(ReadError::expected(Expected::Integer)),
+            None => Err(RawReadError::expected(Expected::Integer)),
         },
     }
 }

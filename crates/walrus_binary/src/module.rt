@@ -7,12 +7,14 @@ ghost use Rattle.walrus_binary.specs.Replacement.{IsNoModuleBy};
 ghost use Rattle.walrus_binary.specs.Steps.Framing.{IsTypeSectionFrom};
 ghost use Rattle.walrus_binary.specs.Modules.{IsTypeSectionAt, HasNoTypeSection, IsModule, IsNoModule, BeginsNoModule};
 
+mod around;
 mod replace;
 mod section;
 mod types;
 
 use crate::error::{DecodeError, Fault};
 use crate::module::section::{TYPE, place_after, read_header, read_section};
+pub use around::{SectionPlace, section_around};
 pub use replace::replace_type_section;
 use std::ops::Range;
 pub use types::module_types;

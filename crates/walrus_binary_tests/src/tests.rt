@@ -1,4 +1,5 @@
 //! Texts of the specification's grammar with their meaning, and what is no text.
+mod around;
 mod changed;
 mod compiled;
 mod encoding;

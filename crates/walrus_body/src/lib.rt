@@ -1,44 +1,29 @@
-//! Function bodies of WebAssembly modules: walks that change them.
+//! Function bodies of WebAssembly modules: all public names of `walrus_functions`, `walrus_nesting`,
+//! `walrus_traversals` and `walrus_traversals_mut`.
 //!
-//! - [`dfs_pre_order_mut`] calls the hooks of a [`VisitorMut`] over a nested body.
-//! - [`RenameTypes`] is a visitor that renames types.
-//! - [`laws`] has the theorems, such as what a walk with [`RenameTypes`] leaves of a whole body.
+//! - [`FunctionBuilder`] builds a function, and [`LocalFunction`] is a function that has a body.
+//! - [`check_nesting`] says whether a body is nested.
+//! - [`dfs_in_order`] walks over a nested body in order, and calls the hooks of a [`Visitor`].
+//! - [`dfs_pre_order_mut`] walks over a nested body and changes it by the hooks of a
+//!   [`VisitorMut`].
 //!
-//! Renames the types of a body by the list of their new ids, and tells whether all was walked:
-//!
-//! ```
-//! fn is_renamed(
-//!     alloc: Global,
-//!     func: &mut LocalFunction,
-//!     names: Vec<TypeId>,
-//! ) -> Result<bool, AllocError> {
-//!     let start = id(0);
-//!     let mut visitor = RenameTypes::new(names);
-//!     match check_nesting(alloc, func, start)? {
-//!         Nesting::Nested(_) => Ok(dfs_pre_order_mut(alloc, &mut visitor, func, start).is_ok()),
-//!         Nesting::Cycle { .. } | Nesting::Unknown(_) => Ok(false),
-//!     }
-//! }
-//! ```
-//!
-//! What goes into such a walk stands here too, from the crates below: functions and their builders,
-//! the nesting check, and the names that hooks are given.
+//! Contracts find the definitions of these crates in `Rattle.walrus_body.specs`.
 #![tactic(auto)]
 
-mod fields_mut;
-pub mod laws;
-mod rename_types;
-mod traversals_mut;
-mod visitor_mut;
-
-pub use rename_types::RenameTypes;
-pub use traversals_mut::dfs_pre_order_mut;
-pub use visitor_mut::VisitorMut;
+// Functions and builders.
 pub use walrus_functions::{
     BuildError, FunctionBuilder, InstrSeqBuilder, LocalFunction, LocalFunctions,
 };
-pub use walrus_ir::{
-    DataId, ElementId, FunctionId, GlobalId, HeapType, Id, Instr, InstrLocId, InstrSeq, InstrSeqId,
-    InstrSeqType, LocalId, MemoryId, TableId, TagId, TypeId, Value,
+
+// The nesting check, and why a walk ends early.
+pub use walrus_nesting::{Nesting, WalkError, check_nesting, laws as nesting_laws, push_children};
+
+// The in-order walk.
+pub use walrus_traversals::{
+    InstrVisitor, OnlyInstrs, UsedIds, Visitor, dfs_in_order, laws as traversals_laws, used_ids,
 };
-pub use walrus_nesting::{Nesting, WalkError, check_nesting};
+
+// The walk that changes bodies.
+pub use walrus_traversals_mut::{
+    RenameTypes, VisitorMut, dfs_pre_order_mut, laws as traversals_mut_laws,
+};

@@ -21,7 +21,8 @@ live_pushed :
     (s new : TypeSlots) (y : Option ModuleType) (id : ℕ) (P : ModuleType → Type 0) →
     new ≡ s ++ y ∷ [] → IsSomeAnd (live_type s id) P → IsSomeAnd (live_type new id) P
 live_pushed s new y id P e some =
-    let read : live_type new id ≡ live_type s id = ap (λ (t : TypeSlots). live_type t id) e ∙ get_or_append_left s (y ∷ []) None id (live_below s id P some) in
+    let read : live_type new id ≡ live_type s id = ap (λ (t : TypeSlots). live_type t id) e
+    ∙ get_or_append_left s (y ∷ []) None id (live_below s id P some) in
     let Q : Option ModuleType → Type 0 = λ o. IsSomeAnd o P in
     subst Q (sym read) some
 
@@ -30,14 +31,21 @@ pub answer_stays :
     FindsOrAdds between new y other → IsAnswer new x id
 answer_stays between new x y id other answer step = go (found_id between.types y) step
   where
-    go : (o : Option ℕ) → MatchOption o (AddsType between new y other) (λ known. (other ≡ known) × IsSameTable between new) → IsAnswer new x id
+    go : (o : Option ℕ) → MatchOption o (AddsType between new y other) (λ known. (other ≡ known)
+        × IsSameTable between new) → IsAnswer new x id
     go None adds =
         let InGroups : List RecGroup → Type 0 = λ g. Contains g (own_group id) in
         record {
-          same = live_pushed between.types.slots new.types.slots (Some y) id (IsSameType x) adds.types.slots answer.same;
-          alone = subst InGroups (sym adds.groups) (Contains-append_left between.groups (own_group other ∷ []) (own_group id) answer.alone);
+          same = live_pushed between.types.slots new.types.slots (Some y) id (IsSameType x) adds.types.slots
+              answer.same;
+          alone = subst InGroups (sym adds.groups)
+              (Contains-append_left between.groups (own_group other ∷ []) (own_group id) answer.alone);
         }
     go (Some known) same =
         let InGroups : List RecGroup → Type 0 = λ g. Contains g (own_group id) in
         let InSlots : TypeSlots → Type 0 = λ s. IsSomeAnd (live_type s id) (IsSameType x) in
-        record { same = subst InSlots (sym same.1.types.slots) answer.same; alone = subst InGroups (sym same.1.groups) answer.alone }
+        record {
+          same = subst InSlots (sym same.1.types.slots) answer.same;
+          alone =
+              subst InGroups (sym same.1.groups) answer.alone;
+        }

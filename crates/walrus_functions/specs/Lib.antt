@@ -1,8 +1,9 @@
 pub mod Beginning
 pub mod Body
 pub mod Building
+pub mod Functions
 pub mod LocalLends
-pub mod Locals
+pub mod FunctionWithArgs
 pub mod NestedForms
 pub mod Nesting
 pub mod Rows

@@ -1,5 +1,5 @@
 -- Adding an instruction whose sequences are made by closures.
-use Rattle.std.specs.Prelude.{◌≡◌, ℕ, ◌⊎◌, ◌<◌, ◌≤◌, length, Result, Ok, Err}
+use Rattle.std.specs.Prelude.{◌≡◌, ℕ, ◌⊎◌, ◌<◌, ◌≤◌, length, Option, Some, None, Result, Ok, Err}
 use Rattle.std.specs.Borrow.{MutBor}
 use Rattle.walrus_ir.specs.declared.instr_seq_type.InstrSeqType.{InstrSeqType}
 use Rattle.instr.specs.declared.instr.Instr.{Instr}
@@ -47,50 +47,39 @@ pub record Fills (post : Post) (ty : InstrSeqType) (old : Body)
 abbrev pub FailsToFill : Post → InstrSeqType → Body → BuildError → Body → Type 0
 FailsToFill post ty old e new = ((e ≡ Memory) × (new ≡ old)) ⊎ Fills post ty old (Err e) new
 
--- the parent is known, and the instruction was added at its end
-abbrev pub Attaches : Body → ℕ → Instr → Body → Type 0
-Attaches old parent i new = Knows old parent × (new ≡ with_instr old parent i)
+-- The place of an instruction in its parent: at the end, or behind so many others.
 
--- the parent is not known, or memory was refused
-abbrev pub FailsToAttach : Body → ℕ → BuildError → Type 0
-FailsToAttach f parent e = ((e ≡ NoParent) × ¬ Knows f parent) ⊎ ((e ≡ Memory) × Knows f parent)
-
--- the parent is known and has so many instructions, and the instruction was put behind them
-abbrev pub AttachesAt : Body → ℕ → ℕ → Instr → Body → Type 0
-AttachesAt old parent position i new =
+-- the parent is known and has the place, and the instruction was put there
+abbrev pub Attaches : Body → ℕ → Option ℕ → Instr → Body → Type 0
+Attaches old parent None i new = Knows old parent × (new ≡ with_instr old parent i)
+Attaches old parent (Some position) i new =
     Knows old parent × (position ≤ length (instrs_of old parent))
     × (new ≡ with_instr_at old parent position i)
 
 -- the parent is not known, or it has fewer instructions, or memory was refused
-abbrev pub FailsToAttachAt : Body → ℕ → ℕ → BuildError → Type 0
-FailsToAttachAt f parent position e =
+abbrev pub FailsToAttach : Body → ℕ → Option ℕ → BuildError → Type 0
+FailsToAttach f parent None e =
+    ((e ≡ NoParent) × ¬ Knows f parent) ⊎ ((e ≡ Memory) × Knows f parent)
+FailsToAttach f parent (Some position) e =
     ((e ≡ NoParent) × ¬ Knows f parent)
     ⊎ (((e ≡ Position) × Knows f parent × (length (instrs_of f parent) < position))
     ⊎ ((e ≡ Memory) × Knows f parent × (position ≤ length (instrs_of f parent))))
 
 -- The forms over one new sequence: a closure fills it, and then the parent of this id, as it is by
--- then, gains the instruction that `make` gives for the sequence's id. After a refusal what was
--- made stays, and the parent gains nothing.
+-- then, gains at the place the instruction that `make` gives for the sequence's id. After a refusal
+-- what was made stays, and the parent gains nothing.
 
-abbrev pub Nests : Post → InstrSeqType → ℕ → (ℕ → Instr) → Body → Body → Type 0
-Nests post ty parent make old new =
+abbrev pub Nests :
+    Post → InstrSeqType → ℕ → Option ℕ → (ℕ → Instr) → Body → Body → Type 0
+Nests post ty parent place make old new =
     (mid : Body) × Fills post ty old (Ok tt) mid
-    × Attaches mid parent (make (next_seq old)) new
+    × Attaches mid parent place (make (next_seq old)) new
 
-abbrev pub FailsToNest : Post → InstrSeqType → ℕ → Body → BuildError → Body → Type 0
-FailsToNest post ty parent old e new =
+abbrev pub FailsToNest :
+    Post → InstrSeqType → ℕ → Option ℕ → Body → BuildError → Body → Type 0
+FailsToNest post ty parent place old e new =
     FailsToFill post ty old e new
-    ⊎ (Fills post ty old (Ok tt) new × FailsToAttach new parent e)
-
-abbrev pub NestsAt : Post → InstrSeqType → ℕ → ℕ → (ℕ → Instr) → Body → Body → Type 0
-NestsAt post ty parent position make old new =
-    (mid : Body) × Fills post ty old (Ok tt) mid
-    × AttachesAt mid parent position (make (next_seq old)) new
-
-abbrev pub FailsToNestAt : Post → InstrSeqType → ℕ → ℕ → Body → BuildError → Body → Type 0
-FailsToNestAt post ty parent position old e new =
-    FailsToFill post ty old e new
-    ⊎ (Fills post ty old (Ok tt) new × FailsToAttachAt new parent position e)
+    ⊎ (Fills post ty old (Ok tt) new × FailsToAttach new parent place e)
 
 -- The forms over two new sequences: the second is made and filled after the first.
 
@@ -104,27 +93,16 @@ abbrev pub KeepsSecond : Post → Post → Body → InstrSeqType → Type 0
 KeepsSecond first second f ty =
     (mid : Body) → Fills first ty f (Ok tt) mid → KeepsFunction second mid ty
 
-abbrev pub NestsBoth : Post → Post → InstrSeqType → ℕ → (ℕ → ℕ → Instr) → Body → Body → Type 0
-NestsBoth first second ty parent make old new =
+abbrev pub NestsBoth :
+    Post → Post → InstrSeqType → ℕ → Option ℕ → (ℕ → ℕ → Instr) → Body → Body → Type 0
+NestsBoth first second ty parent place make old new =
     (mid : Body) × (last : Body) × Fills first ty old (Ok tt) mid × Fills second ty mid (Ok tt) last
-    × Attaches last parent (make (next_seq old) (next_seq mid)) new
+    × Attaches last parent place (make (next_seq old) (next_seq mid)) new
 
-abbrev pub FailsToNestBoth : Post → Post → InstrSeqType → ℕ → Body → BuildError → Body → Type 0
-FailsToNestBoth first second ty parent old e new =
+abbrev pub FailsToNestBoth :
+    Post → Post → InstrSeqType → ℕ → Option ℕ → Body → BuildError → Body → Type 0
+FailsToNestBoth first second ty parent place old e new =
     FailsToFill first ty old e new
     ⊎ ((mid : Body) × Fills first ty old (Ok tt) mid
     × (FailsToFill second ty mid e new
-    ⊎ (Fills second ty mid (Ok tt) new × FailsToAttach new parent e)))
-
-abbrev pub NestsBothAt : Post → Post → InstrSeqType → ℕ → ℕ → (ℕ → ℕ → Instr) → Body → Body → Type 0
-NestsBothAt first second ty parent position make old new =
-    (mid : Body) × (last : Body) × Fills first ty old (Ok tt) mid × Fills second ty mid (Ok tt) last
-    × AttachesAt last parent position (make (next_seq old) (next_seq mid)) new
-
-abbrev pub FailsToNestBothAt : Post → Post → InstrSeqType → ℕ → ℕ → Body → BuildError → Body
-    → Type 0
-FailsToNestBothAt first second ty parent position old e new =
-    FailsToFill first ty old e new
-    ⊎ ((mid : Body) × Fills first ty old (Ok tt) mid
-    × (FailsToFill second ty mid e new
-    ⊎ (Fills second ty mid (Ok tt) new × FailsToAttachAt new parent position e)))
+    ⊎ (Fills second ty mid (Ok tt) new × FailsToAttach new parent place e)))

@@ -1,10 +1,11 @@
 //! Building functions.
 //! WebAssembly core specification, "Functions" and "Expressions".
-ghost use Rattle.std.specs.Prelude.{◌≡◌, ◌↔◌, ◌≤◌, [], ◌∷◌, ◌++◌, length, IsTrue, IfOk, OnOk, OnErr, Some, None, IsSome, IfSome, IfErr, slice_get, option_copied};
+ghost use Rattle.std.specs.Prelude.{◌≡◌, ◌↔◌, ◌≤◌, length, IsTrue, IfOk, OnOk, OnErr, Some, None, IsSome, IfSome, IfErr, slice_get, option_copied};
 ghost use Rattle.std.specs.Borrow.{sem, Lends, RestsIfErr};
 ghost use Rattle.std.specs.String.{string_bytes};
 ghost use Rattle.walrus_functions.specs.Beginning.{Begins, FailsToBegin};
 ghost use Rattle.walrus_functions.specs.Body.{bare, Knows, sequence, instrs_of, next_seq, with_new, with_instrs, with_instr, with_instr_at};
+ghost use Rattle.walrus_functions.specs.Functions.{next_function, with_new_function};
 
 mod instr_seq_builder;
 mod nested;
@@ -241,16 +242,16 @@ impl FunctionBuilder {
     }
 
     /// Adds the function as it is, with these locals as its parameters, to `funcs`, and returns its
-    /// id there. Where memory is refused, the error is the function itself, and `funcs` is as it
-    /// was.
+    /// id there. Where memory is refused or no id is left, the error is the function itself, and
+    /// `funcs` is as it was.
     pub fn finish(
         self,
         args: Vec<LocalId>,
         funcs: &mut LocalFunctions,
     ) -> Result<FunctionId, LocalFunction>
-        ensures id { IfOk result (λ id. id ≡ length funcs.old) }
-        ensures ok { OnOk result
-            (funcs.new ≡ funcs.old ++ (record { body = self; args = args.items }) ∷ []) }
+        ensures id { IfOk result (λ id. id ≡ next_function funcs.old) }
+        ensures ok { OnOk result (funcs.new ≡
+            with_new_function funcs.old (record { body = self; args = args.items })) }
         ensures back { IfErr result (λ func. func ≡ record { body = self; args = args.items }) }
         ensures err { OnErr result (funcs.new ≡ funcs.old) }
     {

@@ -21,7 +21,7 @@ pub struct LocalFunction {
 }
 
 impl Model for LocalFunction {
-    ghost use Rattle.walrus_functions.specs.Locals.{FunctionWithArgs};
+    ghost use Rattle.walrus_functions.specs.FunctionWithArgs.{FunctionWithArgs};
 
     ghost Value = { FunctionWithArgs };
 

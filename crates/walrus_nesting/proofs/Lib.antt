@@ -1,3 +1,4 @@
 pub mod Lists
 pub mod Nested
+pub mod Pushed
 pub mod Ranks

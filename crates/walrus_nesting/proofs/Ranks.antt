@@ -10,7 +10,8 @@ under r t (suc n) = cond (ltb (r n) t) 1 0 + under r t n
 
 pub under_le : (r : ℕ → ℕ) (t n : ℕ) → under r t n ≤ n
 under_le r t zero = omega arith
-under_le r t (suc n) = let h = under_le r t n in elim (ltb (r n) t) as (λ b. cond b 1 0 + under r t n ≤ suc n) [ true ↦ omega arith | false ↦ omega arith ]
+under_le r t (suc n) = let h = under_le r t n in
+    elim (ltb (r n) t) as (λ b. cond b 1 0 + under r t n ≤ suc n) [ true ↦ omega arith | false ↦ omega arith ]
 
 one_le : (r : ℕ → ℕ) (s t i : ℕ) → s ≤ t → cond (ltb (r i) s) 1 0 ≤ cond (ltb (r i) t) 1 0
 one_le r s t i h = grind arith
@@ -32,4 +33,8 @@ pub under_lt : (r : ℕ → ℕ) (t i n : ℕ) → i < n → r i < t → under r
 under_lt r t i zero l h = absurd (omega arith)
 under_lt r t i (suc n) l h =
     let b = one_le r (r i) t n (omega arith) in
-    elim (cases_lt i n) [ inl k ↦ (let a = under_lt r t i n k h in omega arith) | inr k ↦ last r t i n (omega arith) h ]
+    elim (cases_lt i n) [
+      | inl k ↦ (let a = under_lt r t i n k h in omega arith)
+      | inr k ↦
+          last r t i n (omega arith) h
+    ]

@@ -1,5 +1,5 @@
 -- What the nesting check answers, and what shows that it is so.
-use Rattle.std.specs.Prelude.{◌≡◌, ℕ, suc, ◌<◌, ◌↔◌, ⊤, List, All, Contains, Some, slice_get, length, nat_eq}
+use Rattle.std.specs.Prelude.{◌≡◌, ℕ, suc, ◌-◌, ◌<◌, ◌↔◌, ⊤, List, All, Contains, Some, slice_get, length, nat_eq}
 use Rattle.std.specs.List.{IsDistinct}
 use Rattle.walrus_functions.specs.Body.{Body, Knows}
 use Rattle.walrus_functions.specs.Nesting.{IsChild, IsReachable}
@@ -33,9 +33,9 @@ pub record ShowsCycle (f : Body) (start : ℕ) (path : List ℕ) (back_to : ℕ)
   pub is_path : IsPath f start path
   pub known : All (Knows f) path
   pub within : back_to < length path
-  pub back : (i last first : ℕ) →
-      length path ≡ suc i → slice_get path i ≡ Some last →
-      slice_get path back_to ≡ Some first → IsChild f last first
+  pub back : (last first : ℕ) →
+      slice_get path (length path - 1) ≡ Some last → slice_get path back_to ≡ Some first →
+      IsChild f last first
 
 -- a path whose last id alone is not known
 pub record ShowsUnknown (f : Body) (start : ℕ) (path : List ℕ) : Type 0 where

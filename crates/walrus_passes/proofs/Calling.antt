@@ -20,9 +20,12 @@ more_instrs :
     with_instr (with_instrs f id xs) id i ≡ with_instrs f id (xs ++ (i, no_location) ∷ [])
 more_instrs f id xs i known =
     let one : Sequence = record (sequence f id) { instrs = xs } in
-    let there : sequence (with_instrs f id xs) id ≡ one = get_or-set_same f.seqs id one (empty_sequence id (Simple None)) known in
-    ap (λ (s : Sequence). with_sequence (with_instrs f id xs) id (record s { instrs = s.instrs ++ (i, no_location) ∷ [] })) there
-    ∙ ap (λ (seqs : List Sequence). record f { seqs = seqs }) (set-set f.seqs id one (record one { instrs = xs ++ (i, no_location) ∷ [] }))
+    let there : sequence (with_instrs f id xs) id ≡ one =
+    get_or-set_same f.seqs id one (empty_sequence id (Simple None)) known in
+    ap (λ (s : Sequence). with_sequence (with_instrs f id xs) id
+    (record s { instrs = s.instrs ++ (i, no_location) ∷ [] })) there
+    ∙ ap (λ (seqs : List Sequence). record f { seqs = seqs })
+    (set-set f.seqs id one (record one { instrs = xs ++ (i, no_location) ∷ [] }))
 
 -- the body that adding leaves, by its parts
 pub record Added (f now new : Body) (id at : ℕ) (xs : List (Instr × ℕ)) (i : Instr) : Type 0 where
@@ -35,7 +38,8 @@ pub added_is :
     (f now new : Body) (id at : ℕ) (xs : List (Instr × ℕ)) (i : Instr) →
     Added f now new id at xs i → new ≡ with_instrs f id (xs ++ (i, no_location) ∷ [])
 added_is f now new id at xs i a =
-    a.added ∙ ap (λ (n : ℕ). with_instr now n i) a.place ∙ ap (λ (b : Body). with_instr b id i) a.before ∙ more_instrs f id xs i a.known
+    a.added ∙ ap (λ (n : ℕ). with_instr now n i) a.place ∙ ap (λ (b : Body). with_instr b id i) a.before
+    ∙ more_instrs f id xs i a.known
 
 -- one local more is read
 pub gets_more :
@@ -43,7 +47,8 @@ pub gets_more :
     (base ++ map get_of (take k args)) ++ get_of arg ∷ [] ≡ base ++ map get_of (take (k + 1) args)
 gets_more base args k arg below is =
     append_assoc base (map get_of (take k args)) (get_of arg ∷ [])
-    ∙ ap (λ (xs : List (Instr × ℕ)). base ++ xs) (ap (λ (n : ℕ). map get_of (take k args) ++ get_of n ∷ []) is ∙ sym (map_more get_of args k arg below))
+    ∙ ap (λ (xs : List (Instr × ℕ)). base ++ xs) (ap (λ (n : ℕ). map get_of (take k args) ++ get_of n ∷ []) is
+    ∙ sym (map_more get_of args k arg below))
 
 -- all are read, and then the function is called
 pub then_call :
@@ -51,7 +56,8 @@ pub then_call :
     (base ++ map get_of (take k args)) ++ (Call (record { func = func }), no_location) ∷ [] ≡
     base ++ call_with args func
 then_call base args k func all =
-    ap (λ (xs : List ℕ). (base ++ map get_of xs) ++ (Call (record { func = func }), no_location) ∷ []) (take_all k args all)
+    ap (λ (xs : List ℕ). (base ++ map get_of xs) ++ (Call (record { func = func }), no_location) ∷ [])
+    (take_all k args all)
     ∙ append_assoc base (map get_of args) ((Call (record { func = func }), no_location) ∷ [])
 
 -- the ids of new locals follow one another
@@ -69,4 +75,5 @@ pub args_are :
     ids ≡ map (λ l. l.id) (unnamed_locals n types) →
     IsSomeAnd o (λ f. args ≡ range_with_len n (length f.params))
 args_are None n types args ids h is new = h
-args_are (Some f) n types args ids h is new = is ∙ new ∙ new_ids n types ∙ ap (λ (ts : List (Val ℕ)). range_with_len n (length ts)) h
+args_are (Some f) n types args ids h is new = is ∙ new ∙ new_ids n types
+    ∙ ap (λ (ts : List (Val ℕ)). range_with_len n (length ts)) h

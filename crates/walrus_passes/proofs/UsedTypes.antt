@@ -11,7 +11,7 @@ use Rattle.walrus_ir.specs.Sequence.{Sequence, empty_sequence}
 use Rattle.walrus_ir.specs.declared.instr_seq_type.InstrSeqType.TheVariants.{Simple}
 use Rattle.instr.specs.declared.instr.Instr.{Instr}
 use Rattle.walrus_functions.specs.Body.{Body, sequence}
-use Rattle.walrus_functions.specs.Locals.{FunctionWithArgs}
+use Rattle.walrus_functions.specs.FunctionWithArgs.{FunctionWithArgs}
 use Rattle.instr.specs.declared.exceptions.LegacyCatch.{LegacyCatch}
 use Rattle.instr.specs.declared.exceptions.LegacyCatch.TheVariants as legacy
 use Rattle.instr.specs.declared.exceptions.Try.{Try}
@@ -36,8 +36,10 @@ pub seqs_more :
     new ≡ old ++ flat_map (λ q. seq_types locals (sequence f q)) (take (k + 1) ids)
 seqs_more locals f ids k id s old now new below is there before after =
     let g : ℕ → List ℕ = λ q. seq_types locals (sequence f q) in
-    let here : sequence f id ≡ s = get_or_from_slice_get f.seqs id s (empty_sequence id (Simple None)) there in
-    let more : take (k + 1) ids ≡ take k ids ++ id ∷ [] = take_more ids k id below ∙ ap (λ (n : ℕ). take k ids ++ n ∷ []) (sym is) in
+    let here : sequence f id ≡ s = get_or_from_slice_get f.seqs id s (empty_sequence id (Simple None)) there
+    in
+    let more : take (k + 1) ids ≡ take k ids ++ id ∷ [] = take_more ids k id below
+    ∙ ap (λ (n : ℕ). take k ids ++ n ∷ []) (sym is) in
     after
     ∙ ap (λ (xs : List ℕ). xs ++ seq_types locals s) before
     ∙ ap (λ (q : Sequence). (old ++ flat_map g (take k ids)) ++ seq_types locals q) (sym here)
@@ -89,30 +91,40 @@ module _ (locals : List LocalVariable) (f : FunctionWithArgs) where
 
   module _ (seqs : List ℕ) (all : (seq : ℕ) → Contains seqs seq ↔ IsInBody f.body seq) where
     listed_used : (id : ℕ) → Contains (function_types locals f seqs) id → UsesType locals f id
-    listed_used id c = elim (Contains-append_cases (f.body.ty ∷ flat_map (local_types locals) f.args) (flat_map types_at seqs) id c) [
-      | inl k ↦ elim (contains_cases f.body.ty (flat_map (local_types locals) f.args) id k) [
-        | inl e ↦ own (sym e)
-        | inr arg ↦ (let r = in_flat (local_types locals) f.args id arg in parameter r.0 r.1 r.2)
-      ]
-      | inr k ↦ (let r = in_flat types_at seqs id k in seq_uses r.0 id ((all r.0).0 r.1) r.2)
-    ]
+    listed_used id c = elim (Contains-append_cases (f.body.ty ∷ flat_map (local_types locals) f.args)
+        (flat_map types_at seqs) id c) [
+          | inl k ↦ elim (contains_cases f.body.ty (flat_map (local_types locals) f.args) id k) [
+            | inl e ↦ own (sym e)
+            | inr arg ↦ (let r = in_flat (local_types locals) f.args id arg in parameter r.0 r.1 r.2)
+          ]
+          | inr k ↦ (let r = in_flat types_at seqs id k in seq_uses r.0 id ((all r.0).0 r.1) r.2)
+        ]
 
-    in_seqs : (seq id : ℕ) → IsInBody f.body seq → Contains (types_at seq) id → Contains (function_types locals f seqs) id
+    in_seqs : (seq id : ℕ) → IsInBody f.body seq → Contains (types_at seq) id →
+        Contains (function_types locals f seqs) id
     in_seqs seq id there c =
-        Contains-append_right (f.body.ty ∷ flat_map (local_types locals) f.args) (flat_map types_at seqs) id (flat_in types_at seqs seq id ((all seq).1 there) c)
+        Contains-append_right (f.body.ty ∷ flat_map (local_types locals) f.args) (flat_map types_at seqs) id
+        (flat_in types_at seqs seq id ((all seq).1 there) c)
 
-    in_head : (id : ℕ) → Contains (f.body.ty ∷ flat_map (local_types locals) f.args) id → Contains (function_types locals f seqs) id
-    in_head id c = Contains-append_left (f.body.ty ∷ flat_map (local_types locals) f.args) (flat_map types_at seqs) id c
+    in_head : (id : ℕ) → Contains (f.body.ty ∷ flat_map (local_types locals) f.args) id →
+        Contains (function_types locals f seqs) id
+    in_head id c = Contains-append_left (f.body.ty ∷ flat_map (local_types locals) f.args)
+        (flat_map types_at seqs) id c
 
     used_listed : (id : ℕ) → UsesType locals f id → Contains (function_types locals f seqs) id
-    used_listed id (own e) = in_head id (subst (Contains (f.body.ty ∷ flat_map (local_types locals) f.args)) e (contains_first f.body.ty (flat_map (local_types locals) f.args)))
-    used_listed id (parameter local c k) = in_head id (contains_rest f.body.ty (flat_map (local_types locals) f.args) id (flat_in (local_types locals) f.args local id c k))
+    used_listed id (own e) = in_head id (subst (Contains (f.body.ty ∷ flat_map (local_types locals) f.args)) e
+        (contains_first f.body.ty (flat_map (local_types locals) f.args)))
+    used_listed id (parameter local c k) = in_head id
+        (contains_rest f.body.ty (flat_map (local_types locals) f.args) id (flat_in
+        (local_types locals) f.args local id c k))
     used_listed id (block seq there e) =
         let s = sequence f.body seq in
-        in_seqs seq id there (Contains-append_left (supertype_names (block_type_name s.ty)) (flat_map types_in s.instrs) id (name_in (block_type_name s.ty) id e))
+        in_seqs seq id there (Contains-append_left (supertype_names (block_type_name s.ty)) (flat_map types_in
+        s.instrs) id (name_in (block_type_name s.ty) id e))
     used_listed id (instruction seq i there c k) =
         let s = sequence f.body seq in
-        in_seqs seq id there (Contains-append_right (supertype_names (block_type_name s.ty)) (flat_map types_in s.instrs) id (flat_in types_in s.instrs i id c k))
+        in_seqs seq id there (Contains-append_right (supertype_names (block_type_name s.ty))
+        (flat_map types_in s.instrs) id (flat_in types_in s.instrs i id c k))
 
 -- what is listed is used, and what is used is listed
 pub uses_listed :
@@ -138,36 +150,48 @@ in_turn locals f ty args seqs shown first more all own_is first_is args_are more
     more_is
     ∙ ap (λ (xs : List ℕ). xs ++ of_args args) (first_is ∙ ap (λ (n : ℕ). n ∷ []) own_is)
     ∙ ap (λ (xs : List ℕ). f.body.ty ∷ of_args xs) args_are in
-    all_is ∙ ap (λ (xs : List ℕ). xs ++ of_seqs shown) head ∙ ap (λ (xs : List ℕ). (f.body.ty ∷ of_args f.args) ++ of_seqs xs) shown_are
+    all_is ∙ ap (λ (xs : List ℕ). xs ++ of_seqs shown) head
+    ∙ ap (λ (xs : List ℕ). (f.body.ty ∷ of_args f.args) ++ of_seqs xs) shown_are
 
 -- clauses name tags, and no types
 module _ (locals : List LocalVariable) where
-  clauses-none : (clauses : List TryTableCatch) → flat_map (field_types locals) (reported (each clause_fields clauses)) ≡ []
+  clauses-none : (clauses : List TryTableCatch) →
+      flat_map (field_types locals) (reported (each clause_fields clauses)) ≡ []
   clauses-none [] = refl
   clauses-none (clause.Catch tag label ∷ rest) =
-      ap (flat_map (field_types locals)) (reported_put (each clause_fields rest) (λ ys. clause.Catch tag label ∷ ys)) ∙ clauses-none rest
+      ap (flat_map (field_types locals)) (reported_put (each clause_fields rest) (λ ys.
+      clause.Catch tag label ∷ ys)) ∙ clauses-none rest
   clauses-none (clause.CatchRef tag label ∷ rest) =
-      ap (flat_map (field_types locals)) (reported_put (each clause_fields rest) (λ ys. clause.CatchRef tag label ∷ ys)) ∙ clauses-none rest
+      ap (flat_map (field_types locals)) (reported_put (each clause_fields rest) (λ ys.
+      clause.CatchRef tag label ∷ ys)) ∙ clauses-none rest
   clauses-none (clause.CatchAll label ∷ rest) =
-      ap (flat_map (field_types locals)) (reported_put (each clause_fields rest) (λ ys. clause.CatchAll label ∷ ys)) ∙ clauses-none rest
+      ap (flat_map (field_types locals)) (reported_put (each clause_fields rest) (λ ys.
+      clause.CatchAll label ∷ ys)) ∙ clauses-none rest
   clauses-none (clause.CatchAllRef label ∷ rest) =
-      ap (flat_map (field_types locals)) (reported_put (each clause_fields rest) (λ ys. clause.CatchAllRef label ∷ ys)) ∙ clauses-none rest
+      ap (flat_map (field_types locals)) (reported_put (each clause_fields rest) (λ ys.
+      clause.CatchAllRef label ∷ ys)) ∙ clauses-none rest
 
-  legacies-none : (clauses : List LegacyCatch) → flat_map (field_types locals) (reported (each legacy_fields clauses)) ≡ []
+  legacies-none : (clauses : List LegacyCatch) →
+      flat_map (field_types locals) (reported (each legacy_fields clauses)) ≡ []
   legacies-none [] = refl
   legacies-none (legacy.Catch tag handler ∷ rest) =
-      ap (flat_map (field_types locals)) (reported_put (each legacy_fields rest) (λ ys. legacy.Catch tag handler ∷ ys)) ∙ legacies-none rest
+      ap (flat_map (field_types locals)) (reported_put (each legacy_fields rest) (λ ys.
+      legacy.Catch tag handler ∷ ys)) ∙ legacies-none rest
   legacies-none (legacy.CatchAll handler ∷ rest) =
-      ap (flat_map (field_types locals)) (reported_put (each legacy_fields rest) (λ ys. legacy.CatchAll handler ∷ ys)) ∙ legacies-none rest
+      ap (flat_map (field_types locals)) (reported_put (each legacy_fields rest) (λ ys.
+      legacy.CatchAll handler ∷ ys)) ∙ legacies-none rest
   legacies-none (legacy.Delegate depth ∷ rest) =
-      ap (flat_map (field_types locals)) (reported_put (each legacy_fields rest) (λ ys. legacy.Delegate depth ∷ ys)) ∙ legacies-none rest
+      ap (flat_map (field_types locals)) (reported_put (each legacy_fields rest) (λ ys.
+      legacy.Delegate depth ∷ ys)) ∙ legacies-none rest
 
   pub try_table-none : (x : TryTable) → instr_types locals (instr.TryTable x) ≡ []
   try_table-none x =
-      ap (λ events. flat_map (field_types locals) events ++ []) (reported_put (each clause_fields x.catches) (λ b. instr.TryTable (record x { catches = b })))
+      ap (λ events. flat_map (field_types locals) events ++ [])
+      (reported_put (each clause_fields x.catches) (λ b. instr.TryTable (record x { catches = b })))
       ∙ ap (λ types. types ++ []) (clauses-none x.catches)
 
   pub try-none : (x : Try) → instr_types locals (instr.Try x) ≡ []
   try-none x =
-      ap (λ events. flat_map (field_types locals) events ++ []) (reported_put (each legacy_fields x.catches) (λ b. instr.Try (record x { catches = b })))
+      ap (λ events. flat_map (field_types locals) events ++ [])
+      (reported_put (each legacy_fields x.catches) (λ b. instr.Try (record x { catches = b })))
       ∙ ap (λ types. types ++ []) (legacies-none x.catches)

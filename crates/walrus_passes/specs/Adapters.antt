@@ -11,7 +11,7 @@ use Rattle.instr.specs.declared.instr.Instr.{Instr}
 use Rattle.instr.specs.declared.instr.Instr.TheVariants.{LocalGet, Call}
 use Rattle.walrus_functions.specs.Beginning.{new_entry_type}
 use Rattle.walrus_functions.specs.Body.{Body}
-use Rattle.walrus_functions.specs.Locals.{FunctionWithArgs}
+use Rattle.walrus_functions.specs.FunctionWithArgs.{FunctionWithArgs}
 
 abbrev pub get_of : ℕ → Instr × ℕ
 get_of local = (LocalGet (record { local = local }), no_location)

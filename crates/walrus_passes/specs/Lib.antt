@@ -1,5 +1,5 @@
 pub mod NeededTypes
-pub mod WellNamed
+pub mod AllIndices
 pub mod UsedTypes
 pub mod IndexMaps
 pub mod SnippedFunctions

@@ -1,13 +1,14 @@
 -- What is left of a function whose body is replaced.
 -- WebAssembly core specification, "Functions"; "Control Instructions", `unreachable`. That a body
 -- is replaced is of this crate's own.
-use Rattle.std.specs.Prelude.{◌≡◌, ℕ, List, [], ◌∷◌, Option, Some, None, slice_get, slice_set, IsSomeAnd}
+use Rattle.std.specs.Prelude.{◌≡◌, ℕ, List, [], ◌∷◌, Option, Some, None, IsSomeAnd}
 use Rattle.instr.specs.Locations.{no_location}
 use Rattle.walrus_ir.specs.declared.instr_seq_type.InstrSeqType.{InstrSeqType}
 use Rattle.walrus_ir.specs.declared.instr_seq_type.InstrSeqType.TheVariants.{Simple}
 use Rattle.instr.specs.declared.instr.Instr.TheVariants.{Unreachable}
 use Rattle.walrus_functions.specs.Body.{Body, sequence}
-use Rattle.walrus_functions.specs.Locals.{FunctionWithArgs}
+use Rattle.walrus_functions.specs.Functions.{Functions, function_at, with_function}
+use Rattle.walrus_functions.specs.FunctionWithArgs.{FunctionWithArgs}
 
 -- the name, or else the other one
 abbrev pub name_or : Option (List ℕ) → Option (List ℕ) → Option (List ℕ)
@@ -16,8 +17,8 @@ name_or (Some name) other = Some name
 
 -- the function with this body: it keeps its parameters, and its name if it has one
 abbrev pub with_body : Body → FunctionWithArgs → FunctionWithArgs
-with_body body f =
-    record { body = record body { name = name_or f.body.name body.name }; args = f.args }
+with_body body func =
+    record { body = record body { name = name_or func.body.name body.name }; args = func.args }
 
 abbrev pub type_of_entry : Body → Option ℕ → InstrSeqType
 type_of_entry f None = Simple None
@@ -39,11 +40,10 @@ unreachable_body f = record {
 
 -- the function whose body is a single `unreachable`
 abbrev pub unreachable_function : FunctionWithArgs → FunctionWithArgs
-unreachable_function f = with_body (unreachable_body f.body) f
+unreachable_function func = with_body (unreachable_body func.body) func
 
 -- the function of the id is what `change` makes of it, and all others are as they were
 abbrev pub Changes :
-    List FunctionWithArgs → List FunctionWithArgs → ℕ →
-    (FunctionWithArgs → FunctionWithArgs) → Type 0
+    Functions → Functions → ℕ → (FunctionWithArgs → FunctionWithArgs) → Type 0
 Changes old new id change =
-    IsSomeAnd (slice_get old id) (λ f. new ≡ slice_set old id (change f))
+    IsSomeAnd (function_at old id) (λ f. new ≡ with_function old id (change f))

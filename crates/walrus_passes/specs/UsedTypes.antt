@@ -13,7 +13,7 @@ use Rattle.instr.specs.Locals.{LocalVariable}
 use Rattle.instr.specs.declared.instr.Instr.{Instr}
 use Rattle.instr.specs.declared.instr.Instr.TheVariants as instr
 use Rattle.walrus_functions.specs.Body.{Body, sequence, instrs_of}
-use Rattle.walrus_functions.specs.Locals.{FunctionWithArgs}
+use Rattle.walrus_functions.specs.FunctionWithArgs.{FunctionWithArgs}
 use Rattle.walrus_functions.specs.Nesting.{IsNested, IsReachable}
 
 -- the body is nested from its entry, if it has one
@@ -52,13 +52,13 @@ instr_types locals i = flat_map (field_types locals) (reported (fields i)) ++ un
 
 -- a function uses its own type, the types of its parameters, and in its body the types that blocks
 -- have and those of instructions
-pub data UsesType (locals : List LocalVariable) (f : FunctionWithArgs) (id : ℕ) : Type 0 where
-  own : f.body.ty ≡ id → UsesType locals f id
+pub data UsesType (locals : List LocalVariable) (func : FunctionWithArgs) (id : ℕ) : Type 0 where
+  own : func.body.ty ≡ id → UsesType locals func id
   parameter : (local : ℕ) →
-      Contains f.args local → Contains (local_types locals local) id → UsesType locals f id
+      Contains func.args local → Contains (local_types locals local) id → UsesType locals func id
   block : (seq : ℕ) →
-      IsInBody f.body seq → block_type_name (sequence f.body seq).ty ≡ Some id →
-      UsesType locals f id
-  instruction : (seq : ℕ) (i : Instr × ℕ) →
-      IsInBody f.body seq → Contains (instrs_of f.body seq) i →
-      Contains (instr_types locals i.0) id → UsesType locals f id
+      IsInBody func.body seq → block_type_name (sequence func.body seq).ty ≡ Some id →
+      UsesType locals func id
+  instruction : (seq : ℕ) (item : Instr × ℕ) →
+      IsInBody func.body seq → Contains (instrs_of func.body seq) item →
+      Contains (instr_types locals item.0) id → UsesType locals func id

@@ -1,5 +1,6 @@
 //! Passes that replace the bodies of functions.
-ghost use Rattle.std.specs.Prelude.{◌≡◌, ◌<◌, length, IfOk, OnOk, OnErr};
+ghost use Rattle.std.specs.Prelude.{◌≡◌, IfOk, OnOk, OnErr};
+ghost use Rattle.walrus_functions.specs.Functions.{IsLocal};
 ghost use Rattle.walrus_passes.specs.SnippedFunctions.{with_body, unreachable_body, unreachable_function, type_of_entry, name_or, Changes};
 
 use std::alloc::{AllocError, Global};
@@ -28,7 +29,7 @@ use walrus_types::FunctionId;
 /// snip(alloc, &mut funcs, id)?;
 /// ```
 pub fn snip(alloc: Global, funcs: &mut LocalFunctions, id: FunctionId) -> Result<(), AllocError>
-    requires { id < length funcs.old }
+    requires { IsLocal funcs.old id }
     ensures ok { OnOk result (Changes funcs.old funcs.new id unreachable_function) }
     ensures err { OnErr result (funcs.new ≡ funcs.old) }
 {
@@ -63,7 +64,7 @@ pub fn replace_with(
     id: FunctionId,
     body: FunctionBuilder,
 ) -> Result<(), AllocError>
-    requires { id < length funcs.old }
+    requires { IsLocal funcs.old id }
     ensures ok { OnOk result (Changes funcs.old funcs.new id (with_body body)) }
     ensures err { OnErr result (funcs.new ≡ funcs.old) }
 {

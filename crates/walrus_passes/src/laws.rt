@@ -3,7 +3,7 @@
 ghost use Rattle.std.specs.Prelude.{◌≡◌, ℕ, List, Option, Contains, map};
 ghost use Rattle.walrus_types.specs.Table.{Table};
 ghost use Rattle.walrus_types.specs.TypesById.{live_type};
-ghost use Rattle.walrus_functions.specs.Locals.{FunctionWithArgs};
+ghost use Rattle.walrus_functions.specs.FunctionWithArgs.{FunctionWithArgs};
 ghost use Rattle.const_expr.specs.ConstExpr.{referenced_ids};
 ghost use Rattle.instr.specs.Locals.{LocalVariable};
 ghost use Rattle.const_expr.specs.declared.const_expr.ConstExpr.{ConstExpr};

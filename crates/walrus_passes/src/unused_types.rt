@@ -1,9 +1,9 @@
 //! The pass that deletes unused types.
-ghost use Rattle.std.specs.Prelude.{◌≡◌, ◌↔◌, ◌≤◌, ℕ, All, IfOk, OnOk, OnErr};
+ghost use Rattle.std.specs.Prelude.{◌≡◌, ◌↔◌, ℕ, All, IfOk, OnOk, OnErr};
 ghost use Rattle.walrus_types.specs.TypesById.{IsLive};
 ghost use Rattle.walrus_types.specs.Table.{IsTable, DeletesAll};
 ghost use Rattle.walrus_passes.specs.NeededTypes.{IsNeeded, AreUnused, Keeps};
-ghost use Rattle.walrus_passes.specs.WellNamed.{IsWellNamed};
+ghost use Rattle.walrus_passes.specs.AllIndices.{HasAllIndices};
 
 mod marking;
 
@@ -51,7 +51,7 @@ pub fn delete_unused_types(
     ensures live { OnOk result
         ((id : ℕ) → IsLive types.new.types.slots id ↔ IsNeeded types.old roots.now id) }
     ensures kept { OnOk result (Keeps (IsNeeded types.old roots.now) types.old types.new) }
-    ensures well_named { OnOk result (IsWellNamed types.old → IsWellNamed types.new) }
+    ensures all_indices { OnOk result (HasAllIndices types.old → HasAllIndices types.new) }
     ensures err { OnErr result (types.new ≡ types.old) }
 {
     let unused = unused_types(alloc, types, roots)?;
@@ -71,20 +71,7 @@ fn unused_types(
 {
     let live = types.live_ids()?;
     let groups = types.rec_groups();
-    let mut marking = Marking::new(alloc, greatest(live.as_slice()), groups.len())?;
+    let mut marking = Marking::new(alloc, types.next_id().index(), groups.len())?;
     marking.mark_needed(alloc, types, roots)?;
     marking.unmarked_ids(alloc, live.as_slice())
-}
-
-// The greatest of these ids, as a number, or 0 where there are none.
-fn greatest(ids: &[TypeId]) -> usize
-    ensures { All (λ id. id ≤ result) ids.now }
-{
-    let mut greatest = 0;
-    for id in ids {
-        if id.index() > greatest {
-            greatest = id.index();
-        }
-    }
-    greatest
 }

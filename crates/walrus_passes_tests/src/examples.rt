@@ -22,8 +22,8 @@ fn only_used_types_are_written(rt: HostRuntime) -> Result<(), Fail> {
     let used = types.add(&[ValType::I32], &[])?;
     delete_unused_types(rt.alloc(), &mut types, &[used])?;
     let (groups, _) = types.emit()?;
-    let section = encode_types(rt.alloc(), groups.as_slice())?;
-    assert_equal(&rt, section.as_slice(), [1, 0x60, 1, 0x7F, 0].as_slice());
+    let content = encode_types(rt.alloc(), groups.as_slice())?;
+    assert_equal(&rt, content.as_slice(), [1, 0x60, 1, 0x7F, 0].as_slice());
     Ok(())
 }
 

@@ -1,4 +1,4 @@
-//! Large tables of types that die. `scripts/measure_passes` runs these tests, and measures how
+//! Large tables of types that die. `scripts/measure/passes` runs these tests, and measures how
 //! their time grows.
 use crate::assertions::assert_equal;
 use crate::unused_types::{delete_all_but, reference_field, structures};

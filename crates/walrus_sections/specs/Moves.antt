@@ -86,23 +86,23 @@ AreJoined a b = ChainTo b a
 
 -- i and j are out of order: from i to j there are only `Single`s that name no index but their own,
 -- and j is less than i
-pub record AreOutOfOrder (s : IndexSpace) (i j : ℕ) : Type 0 where
+pub record AreOutOfOrder (space : IndexSpace) (i j : ℕ) : Type 0 where
   pub earlier : i < j
-  pub inside : j < s.count
-  pub singles : (a : ℕ) → i ≤ a → a ≤ j → IsSingle s a
-  pub own : (a : ℕ) → i ≤ a → a ≤ j → (k : ℕ) → Names (s.definition a) k → k ≡ a
-  pub less : definition_cmp (s.definition j) (s.definition i) ≡ Less
+  pub inside : j < space.count
+  pub singles : (a : ℕ) → i ≤ a → a ≤ j → IsSingle space a
+  pub own : (a : ℕ) → i ≤ a → a ≤ j → (k : ℕ) → Names (space.definition a) k → k ≡ a
+  pub less : definition_cmp (space.definition j) (space.definition i) ≡ Less
 
--- r has fewer pairs out of order than s: each pair of r is sent to one of s, no two to one, and
--- some pair of s is left
-pub record HasFewerOutOfOrder (s r : IndexSpace) : Type 0 where
+-- `new` has fewer pairs out of order than `old`: each pair of `new` is sent to one of `old`, no two
+-- to one, and some pair of `old` is left
+pub record HasFewerOutOfOrder (old new : IndexSpace) : Type 0 where
   pub embed : ℕ → ℕ
   pub injective : (i j : ℕ) → embed i ≡ embed j → i ≡ j
-  pub preserves : (i j : ℕ) → AreOutOfOrder r i j → AreOutOfOrder s (embed i) (embed j)
+  pub preserves : (i j : ℕ) → AreOutOfOrder new i j → AreOutOfOrder old (embed i) (embed j)
   pub first : ℕ
   pub second : ℕ
-  pub extra : AreOutOfOrder s first second
-  pub unreached : (i j : ℕ) → AreOutOfOrder r i j → embed i ≡ first → ¬ (embed j ≡ second)
+  pub extra : AreOutOfOrder old first second
+  pub unreached : (i j : ℕ) → AreOutOfOrder new i j → embed i ≡ first → ¬ (embed j ≡ second)
 
 -- r has fewer groups than s, or as many groups and fewer pairs out of order
 abbrev pub IsLower : Section → Section → Type 0

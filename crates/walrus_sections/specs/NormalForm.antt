@@ -1,5 +1,6 @@
--- `IsNormalForm s n m`: the section n, with a map m that sends each index of the section s to an
--- index of n, is a normal form of s. `IsNormal` has its laws by index.
+-- `IsNormalForm section normal numbers`: the section `normal`, with a map that sends each index of
+-- `section` to an index of it, is a normal form of `section`. `IsNormal` has its laws by index.
+-- There s and n are the two by index, and m is the map.
 -- WebAssembly core specification, "Validation", defined types: two definitions are one type where
 -- they stand at the same place of groups that are the same once all names are resolved. The
 -- specification has no normal form of a section. This one merges `Single`s that the map makes the
@@ -61,18 +62,18 @@ pub record IsNormal (s n : IndexSpace) (m : ℕ → ℕ) : Type 0 where
 
 -- the number that a list of numbers has for i
 abbrev pub image : List ℕ → ℕ → ℕ
-image m i = slice_index_or m i 0
+image numbers i = slice_index_or numbers i 0
 
--- (n, m) is a normal form of s; m has one number for each index of s
-pub record IsNormalForm (s n : Section) (m : List ℕ) : Type 0 where
-  pub one_each : length m ≡ (index_space s).count
-  pub filled : IsFilled n
-  pub laws : IsNormal (index_space s) (index_space n) (image m)
+-- `normal` with `numbers` is a normal form of the section; there is one number for each index of it
+pub record IsNormalForm (section normal : Section) (numbers : List ℕ) : Type 0 where
+  pub one_each : length numbers ≡ (index_space section).count
+  pub filled : IsFilled normal
+  pub laws : IsNormal (index_space section) (index_space normal) (image numbers)
 
--- sends each index of n to itself
+-- sends each index of the section to itself
 abbrev pub identity : Section → List ℕ
-identity n = range_with_len 0 (index_space n).count
+identity section = range_with_len 0 (index_space section).count
 
--- n is the section of a normal form of s
+-- `normal` is the section of a normal form of `section`
 abbrev pub IsOutput : Section → Section → Type 0
-IsOutput s n = (m : List ℕ) × IsNormalForm s n m
+IsOutput section normal = (numbers : List ℕ) × IsNormalForm section normal numbers

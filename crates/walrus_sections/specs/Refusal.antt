@@ -28,8 +28,8 @@ module _ (gs : List TypeGroup) (definition : ℕ → Definition) (is_entry : ℕ
 
   -- of two names, each by its group, its member's place there and its position in the member's
   -- definition, the one is written before the other
-  abbrev pub Precedes : ℕ → ℕ → ℕ → ℕ → ℕ → ℕ → Type 0
-  Precedes group place position other_group other_place other_position =
+  abbrev pub NamePrecedes : ℕ → ℕ → ℕ → ℕ → ℕ → ℕ → Type 0
+  NamePrecedes group place position other_group other_place other_position =
       IsWrittenBefore gs definition group other_group ⊎ ((group ≡ other_group) ×
       ((place < other_place) ⊎ ((place ≡ other_place) × (position < other_position))))
 
@@ -42,7 +42,7 @@ module _ (gs : List TypeGroup) (definition : ℕ → Definition) (is_entry : ℕ
     pub first :
         (other_group other_place other_name other_id other_named : ℕ) →
         IsMissing other_group other_place other_name other_id other_named →
-        ¬ (Precedes other_group other_place other_name group place name)
+        ¬ (NamePrecedes other_group other_place other_name group place name)
 
 -- how many members the written groups have
 abbrev pub written_count : (ℕ → Bool) → List TypeGroup → ℕ

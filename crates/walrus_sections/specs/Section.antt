@@ -61,7 +61,7 @@ index_space_of_places ps = record {
 }
 
 abbrev pub index_space : Section → IndexSpace
-index_space s = index_space_of_places (places_from 0 0 s)
+index_space section = index_space_of_places (places_from 0 0 section)
 
 -- what stands at i is a `Single`
 abbrev pub IsSingle : IndexSpace → ℕ → Type 0
@@ -77,9 +77,9 @@ NamesBelowEnds s = (i : ℕ) → i < s.count → (k : ℕ) → Names (s.definiti
 
 -- the section can be read: 32 bits count its entries, and no name points past its own group. That
 -- it is valid is not asked: a supertype may be final, come later in its group, or not match
-pub record IsWellNamed (s : Section) : Type 0 where
-  pub few : (index_space s).count < 2 ^ 32
-  pub below_ends : NamesBelowEnds (index_space s)
+pub record IsWellNamed (section : Section) : Type 0 where
+  pub few : (index_space section).count < 2 ^ 32
+  pub below_ends : NamesBelowEnds (index_space section)
 
 -- no `Rec` is empty
 abbrev pub IsFilled : Section → Type 0

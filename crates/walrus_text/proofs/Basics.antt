@@ -56,11 +56,15 @@ pub all_more :
     AllByRecursion P (flat_map f xs) → AllByRecursion P (f x) →
     AllByRecursion P (flat_map f (xs ++ x ∷ []))
 all_more P f [] x h k = all_both P (f x) [] k tt
-all_more P f (y ∷ ys) x h k = all_both P (f y) (flat_map f (ys ++ x ∷ [])) (all_left P (f y) (flat_map f ys) h) (all_more P f ys x (all_right P (f y) (flat_map f ys) h) k)
+all_more P f (y ∷ ys) x h k = all_both P (f y) (flat_map f (ys ++ x ∷ []))
+    (all_left P (f y) (flat_map f ys) h) (all_more P f ys x (all_right P (f y) (flat_map f ys) h) k)
 
 -- each x has what all that f makes of xs has
 pub all_each :
     {X Y : Type 0} (P : Y → Type 0) (f : X → List Y) (xs : List X) →
     AllByRecursion P (flat_map f xs) → AllByRecursion (λ x. AllByRecursion P (f x)) xs
 all_each P f [] h = tt
-all_each P f (x ∷ xs) h = (all_left P (f x) (flat_map f xs) h, all_each P f xs (all_right P (f x) (flat_map f xs) h))
+all_each P f (x ∷ xs) h = (
+  all_left P (f x) (flat_map f xs) h,
+  all_each P f xs (all_right P (f x) (flat_map f xs) h),
+)

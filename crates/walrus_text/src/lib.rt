@@ -1,7 +1,7 @@
 //! The text of type sections: a line for each definition, read as records of
 //! [`walrus_ty`](walrus_ty::GroupAt) and written from them.
 //!
-//! - [`read_section`] reads the groups of a text, and says which line is no part of a section.
+//! - [`read_section`] reads the groups of a text, and says where a line is no part of a section.
 //! - [`write_section`] writes groups, and [`write_output`] also the new index of each entry of
 //!   another section.
 //! - [`laws`] has the theorems: nothing but words and lines counts in a text, a text has at most
@@ -50,6 +50,6 @@ mod print;
 mod section_builder;
 mod words;
 
-pub use error::TextError;
+pub use error::{BadLine, Expected, TextError};
 pub use line_reader::read_section;
 pub use print::{write_output, write_section};

@@ -7,8 +7,8 @@ ghost use Rattle.walrus_text.specs.Errors.{bad_line};
 ghost use Rattle.walrus_text.specs.Steps.Builder.{BeginsNoSection, HasBuilderIndices, builder_lines};
 ghost use Rattle.walrus_text.specs.Steps.Bytes.{HasReadBytes, HasChecked};
 
-use crate::error::TextError;
-use crate::parse::read_line;
+use crate::error::{BadLine, Expected, TextError};
+use crate::parse::{find_fault, read_line};
 use crate::section_builder::SectionBuilder;
 use std::alloc::{AllocError, Global};
 use std::io::Read;
@@ -26,10 +26,10 @@ const BLOCK: usize = 8192;
 ///
 /// # Errors
 ///
-/// [`TextError::BadText`] has the first bad line, counted from 1. The text is read to its end even
-/// after it. [`TextError::Stream`] comes where a read fails, or where 2^48 reads did not come to
-/// the end, and [`TextError::Memory`] where memory was refused. After these two some of the text
-/// may be unread. After an error there are no groups.
+/// [`TextError::BadText`] has the first bad line, the column of its first bad word, and what has to
+/// be there. The text is read to its end even after it. [`TextError::Stream`] comes where a read
+/// fails, or where 2^48 reads did not come to the end, and [`TextError::Memory`] where memory was
+/// refused. After these two some of the text may be unread. After an error there are no groups.
 ///
 /// # A group of two types
 ///
@@ -71,8 +71,8 @@ struct LineReader {
     line: Vec<u8>,
     /// How many lines have ended.
     lines: u64,
-    /// The first bad line, counted from 1.
-    bad: Option<u64>,
+    /// The first bad line.
+    bad: Option<BadLine>,
     alloc: Global,
 }
 
@@ -136,9 +136,19 @@ impl LineReader {
             return Ok(());
         }
         if !self.add_line()? {
-            self.bad = Some(self.lines);
+            self.bad = Some(self.bad_line());
         }
         Ok(())
+    }
+
+    /// What is wrong with the line, which is bad.
+    fn bad_line(&self) -> BadLine {
+        let (expected, column) = find_fault(self.line.as_slice(), self.section.is_in_group());
+        BadLine {
+            line: self.lines,
+            column,
+            expected,
+        }
     }
 
     /// Adds the line to the section. `false` says that no text of a section has it here.
@@ -182,14 +192,16 @@ impl LineReader {
             IfSome (bad_line e) (λ line. ¬ IsSectionText (lines_of bytes))) }
     {
         self.end_last_line()?;
-        if let Some(line) = self.bad {
-            return Err(TextError::BadText { line });
+        if let Some(bad) = self.bad {
+            return Err(TextError::BadText(bad));
         }
         match self.section.finish() {
             Some(groups) => Ok(groups),
-            None => Err(TextError::BadText {
+            None => Err(TextError::BadText(BadLine {
                 line: self.lines.saturating_add(1),
-            }),
+                column: 1,
+                expected: Expected::End,
+            })),
         }
     }
 }

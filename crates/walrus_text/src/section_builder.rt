@@ -31,6 +31,11 @@ impl SectionBuilder {
         }
     }
 
+    /// Whether a recursion group is open.
+    pub fn is_in_group(&self) -> bool {
+        self.open.is_some()
+    }
+
     /// Takes one more line. `false` says that it may not be here: no text of a section begins so.
     pub fn add(&mut self, line: Line) -> Result<bool, AllocError>
         ensures taken { IfOk result (λ taken. IsTrue taken →

@@ -1,6 +1,7 @@
 //! Walks over function bodies of WebAssembly modules that change nothing.
 //!
 //! - [`dfs_in_order`] calls the hooks of a [`Visitor`] over a nested body, in order.
+//! - [`OnlyInstrs`] makes a visitor of an [`InstrVisitor`], which has one hook.
 //! - [`check_nesting`], of `walrus_nesting`, says whether a body is nested, and shows why.
 //! - [`UsedIds`] is a visitor that collects the ids that a body names, and [`used_ids`] checks and
 //!   walks in one.
@@ -25,11 +26,13 @@
 
 mod fields;
 mod ids;
+mod instr_visitor;
 pub mod laws;
 mod traversals;
 mod visitor;
 
 pub use ids::{UsedIds, used_ids};
+pub use instr_visitor::{InstrVisitor, OnlyInstrs};
 pub use traversals::dfs_in_order;
 pub use visitor::Visitor;
 pub use walrus_nesting::{Nesting, WalkError, check_nesting};

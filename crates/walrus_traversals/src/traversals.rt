@@ -14,10 +14,11 @@ mod stack;
 
 use crate::fields::{report, report_type};
 use crate::{Visitor, WalkError};
-use stack::{Work, leave, push_children};
+use stack::{Work, push_enter};
 use std::alloc::{AllocError, Global};
 use walrus_functions::LocalFunction;
 use walrus_ir::{Instr, InstrLocId, InstrSeq, InstrSeqId};
+use walrus_nesting::push_children;
 
 /// Calls the hooks of the visitor in order over what is reached from `start`.
 ///
@@ -66,17 +67,17 @@ pub fn dfs_in_order<V: Visitor>(
         (AfterFirst V.step visitor.old (events func.now.body start) visitor.new) }
 {
     let mut stack = Vec::new(alloc);
-    if let Err(_) = leave(&mut stack, start) {
+    if let Err(_) = push_enter(&mut stack, start) {
         return Err(WalkError::Memory);
     }
     while let Some(work) = stack.pop() {
-        turn(visitor, func, work, &mut stack)?;
+        do_work(visitor, func, work, &mut stack)?;
     }
     Ok(())
 }
 
 // Does a piece of work, and what comes with it before the stack is looked at again.
-fn turn<V: Visitor>(
+fn do_work<V: Visitor>(
     visitor: &mut V,
     func: &LocalFunction,
     work: Work,

@@ -46,11 +46,16 @@ pub slice_get-right :
     (xs ys : List ℕ) (j x : ℕ) → slice_get ys j ≡ Some x →
     slice_get (xs ++ ys) (length xs + j) ≡ Some x
 slice_get-right [] ys j x h = let place : 0 + j ≡ j = omega arith in ap (slice_get ys) place ∙ h
-slice_get-right (y ∷ xs) ys j x h = let place : suc (length xs) + j ≡ suc (length xs + j) = omega arith in ap (slice_get (y ∷ xs ++ ys)) place ∙ slice_get-right xs ys j x h
+slice_get-right (y ∷ xs) ys j x h = let place : suc (length xs) + j ≡ suc (length xs + j) = omega arith in
+    ap (slice_get (y ∷ xs ++ ys)) place ∙ slice_get-right xs ys j x h
 
 pub slice_get-parts :
     (xs ys : List ℕ) (k x : ℕ) → slice_get (xs ++ ys) k ≡ Some x →
     (slice_get xs k ≡ Some x) ⊎ ((j : ℕ) × (k ≡ length xs + j) × (slice_get ys j ≡ Some x))
 slice_get-parts [] ys k x h = inr (k, omega arith, h)
 slice_get-parts (y ∷ xs) ys zero x h = inl h
-slice_get-parts (y ∷ xs) ys (suc k) x h = elim (slice_get-parts xs ys k x h) [ inl w ↦ inl w | inr w ↦ inr (w.0, omega (arith, w.1), w.2) ]
+slice_get-parts (y ∷ xs) ys (suc k) x h = elim (slice_get-parts xs ys k x h) [
+  | inl w ↦ inl w
+  | inr w ↦
+      inr (w.0, omega (arith, w.1), w.2)
+]

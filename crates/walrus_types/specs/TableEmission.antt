@@ -50,7 +50,7 @@ IfNameMissing emit.Memory P = Unit {0}
 
 -- the id stands in a written group
 abbrev pub IsWrittenId : List TypeGroup → (ℕ → Bool) → ℕ → Type 0
-IsWrittenId gs is_entry id = (x : WrittenMember gs is_entry) × (x.id ≡ id)
+IsWrittenId gs is_entry id = (member : WrittenMember gs is_entry) × (member.id ≡ id)
 
 -- how many types the written groups of the table have
 abbrev pub written_types : Table → ℕ

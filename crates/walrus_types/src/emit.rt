@@ -6,7 +6,7 @@ ghost use Rattle.walrus_types.specs.TableEmission.{type_groups, is_entry_at, wri
 ghost use Rattle.walrus_ty.specs.Indices.{IsEmpty, type_indices, func_indices, global_indices};
 ghost use Rattle.walrus_types.specs.declared.error.EmitError.TheVariants.{TooMany};
 ghost use Rattle.walrus_sections.specs.Refusal.{written_count};
-ghost use Rattle.walrus_types.specs.Steps.WrittenGroups.{FailsBy};
+ghost use Rattle.walrus_types.specs.Steps.WrittenGroups.{IsMemoryOrMissing};
 
 mod free;
 mod order;
@@ -99,7 +99,7 @@ fn write_table(
     requires { written_types table.now < 2 ^ 32 }
     ensures written { IfOk result (λ r. IsEmitted table.now r.0.items (type_indices r.1)) }
     ensures others { IfOk result (λ r. IsEmpty (func_indices r.1) × IsEmpty (global_indices r.1)) }
-    ensures missing { IfErr result (λ e. FailsBy e (MissesFirst table.now)) }
+    ensures missing { IfErr result (λ e. IsMemoryOrMissing e (MissesFirst table.now)) }
 {
     let pending = writing_order(alloc, table)?;
     write_groups(alloc, table, table.rec_groups(), pending.as_slice())

@@ -178,7 +178,7 @@ fn read_single(
     let alloc = types.allocator();
     let sub = SubType::from_record(alloc, entry, ids)?;
     let ty = Type::new(alloc, id, sub.kind, sub.is_final, sub.supertype);
-    Ok(types.read_single(ty)?)
+    Ok(types.add_single(ty)?)
 }
 
 // Puts the entries of a `Rec` into the table, with an id for each index.

@@ -3,7 +3,7 @@ ghost use Rattle.std.specs.Prelude.{◌≡◌, ◌↔◌, All, [], IfOk, IsTrue,
 ghost use Rattle.std.specs.Borrow.{sem};
 ghost use Rattle.walrus_arena.specs.HashKeys.{fixed_hasher};
 ghost use Rattle.walrus_types.specs.TypesById.{live_type, IsLive};
-ghost use Rattle.walrus_types.specs.Table.{IsTable, empty_table, group_with, live_ids, live_types, signature_at};
+ghost use Rattle.walrus_types.specs.Table.{IsTable, empty_table, group_with, live_ids, live_types, next_id, signature_at};
 ghost use Rattle.walrus_types.specs.TableLends.{LendsType};
 
 mod add;
@@ -118,6 +118,19 @@ impl ModuleTypes {
             all.push(id)?;
         }
         Ok(all)
+    }
+
+    /// The id that the next new type will have. All ids so far are below it, those of deleted types
+    /// too.
+    ///
+    /// ```
+    /// let next = types.next_id();
+    /// assert_eq!(rt; types.add(&[ValType::I64], &[])?, next);
+    /// ```
+    pub fn next_id(&self) -> TypeId
+        ensures { result ≡ next_id self.now }
+    {
+        self.types.next_id()
     }
 
     /// All recursion groups in the order in which they came, those without types too.

@@ -51,7 +51,7 @@ fn push_again(reader: &mut SectionReader, group: &GroupAt) -> Result<(), ReadErr
     }
 }
 
-// `scripts/refuse` refuses each request for memory in turn.
+// `scripts/check/refuse` refuses each request for memory in turn.
 #[test]
 fn a_group_is_read_as_if_it_had_not_been_refused(rt: HostRuntime) {
     let alone = group_again(rt.alloc(), One(Func(&[]))).expect(&rt, "memory");

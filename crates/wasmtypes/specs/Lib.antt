@@ -1,2 +1,4 @@
+pub mod Lookalikes
+pub mod Contexts
 pub mod Runs
 pub mod Steps

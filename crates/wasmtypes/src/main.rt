@@ -1,20 +1,25 @@
 //! Reads a WebAssembly module and writes its type section as text.
 #![tactic(auto)]
 
-ghost use Rattle.std.specs.Prelude.{◌≡◌, ◌⊎◌, ◌<◌, IfErr, IfOk, OnOk, IfSome};
+ghost use Rattle.std.specs.Prelude.{◌≡◌, ◌⊎◌, ◌<◌, IfErr, OnOk, IfSome};
 ghost use Rattle.std.specs.Io.KnownBytes.{Appends, Keeps};
 ghost use Rattle.walrus_text.specs.Words.{text_of};
 ghost use Rattle.walrus_text.specs.Text.{section_lines};
-ghost use Rattle.walrus_binary.specs.ModuleTypes.{HasBadTypes};
+ghost use Rattle.walrus_binary.specs.ModuleSections.{HasBadTypes};
 ghost use Rattle.wasmtypes.specs.Runs.{IsPrinted};
 ghost use Rattle.wasmtypes.specs.Steps.Failures.{Explains, status_of};
 
+mod context;
 mod failure;
+mod lookalike;
+mod texts;
 
-use failure::{Failure, report};
+use command_line::{Request, open, parse_arguments, read_bytes, report_usage, write_version};
+use failure::{Failure, failed_input, refusal, report};
 use std::alloc::Global;
-use std::io::{BufWriter, ErrorKind, Read, Write};
+use std::io::{self, BufWriter, Read, Write};
 use std::process::ExitCode;
+use texts::{HELP, USAGE};
 use walrus_binary::module_types;
 use walrus_text::write_section;
 use walrus_ty::GroupAt;
@@ -33,6 +38,7 @@ use walrus_ty::GroupAt;
 ///
 /// `out` gains nothing at 1 and 3, since all is read before it writes. At 4 it may have gained the
 /// text or a part of it.
+#[tactic(auto, using(crate::proofs::Failures::known_bad_types))]
 pub fn run<R: Read, W: Write, E: Write>(
     alloc: Global,
     reader: &mut R,
@@ -61,49 +67,66 @@ fn print_types<R: Read, W: Write>(alloc: Global, reader: &mut R, out: &mut W) ->
     ensures unwritten { IfErr result (λ failure. status_of failure < 4 →
         Keeps (W.contents out.old) (W.contents out.new)) }
 {
-    let bytes = read_bytes(alloc, reader)?;
-    let groups = module_types(alloc, bytes.as_slice())?;
-    write_and_flush(out, groups.as_slice())
-}
-
-/// All bytes that the reader gives.
-fn read_bytes<R: Read>(alloc: Global, reader: &mut R) -> Result<Vec<u8>, Failure>
-    ensures read { IfOk result (λ read. IfSome (R.remaining reader.old)
-        (λ bytes. read.items ≡ bytes)) }
-    ensures failed { IfErr result (λ failure.
-        IfSome (R.remaining reader.old) (λ bytes. Explains failure bytes)) }
-{
-    let mut bytes = Vec::new(alloc);
-    let Err(error) = reader.read_to_end(&mut bytes) else {
-        return Ok(bytes);
+    let bytes = match read_bytes(alloc, reader) {
+        Ok(bytes) => bytes,
+        Err(error) => return Err(failed_input(error)),
     };
-    if error.kind() == ErrorKind::OutOfMemory {
-        return Err(Failure::Memory);
+    let groups = match module_types(alloc, bytes.as_slice()) {
+        Ok(groups) => groups,
+        Err(error) => return Err(refusal(bytes.as_slice(), error)),
+    };
+    match write_and_flush(out, groups.as_slice()) {
+        Ok(()) => Ok(()),
+        Err(error) => Err(Failure::Output(error)),
     }
-    Err(Failure::Stream)
 }
 
 /// Writes the text of the groups, and flushes the writer.
-fn write_and_flush<W: Write>(out: &mut W, groups: &[GroupAt]) -> Result<(), Failure>
-    ensures written { OnOk result (Appends (W.contents out.old) (W.contents out.new)
+fn write_and_flush<W: Write>(out: &mut W, groups: &[GroupAt]) -> io::Result<()>
+    ensures { OnOk result (Appends (W.contents out.old) (W.contents out.new)
         (text_of (section_lines groups.now))) }
-    ensures failed { IfErr result (λ failure. status_of failure ≡ 4) }
 {
-    let Ok(()) = write_section(out, groups) else {
-        return Err(Failure::Stream);
-    };
-    let Ok(()) = out.flush() else {
-        return Err(Failure::Stream);
-    };
-    Ok(())
+    write_section(out, groups)?;
+    out.flush()
 }
 
 fn main(rt: HostRuntime) -> ExitCode {
-    let mut reader = rt.stdin();
     let mut err = rt.stderr();
-    let status = match BufWriter::new(rt.alloc(), rt.stdout()) {
-        Ok(mut out) => run(rt.alloc(), &mut reader, &mut out, &mut err),
-        Err(_) => report(&Failure::Memory, &mut err),
+    let status = match start(&rt, &mut err) {
+        Ok(status) => status,
+        Err(failure) => report(&failure, &mut err),
     };
     ExitCode::from(status)
+}
+
+/// Does what the arguments ask for, and returns the exit status.
+fn start<E: Write>(rt: &HostRuntime, err: &mut E) -> Result<u8, Failure> {
+    match parse_arguments(rt, None)? {
+        Request::Help => printed(rt.stdout().write_all(HELP.as_bytes())),
+        Request::Version => printed(write_version("wasmtypes", &mut rt.stdout())),
+        Request::Work { names, .. } => match names.as_slice() {
+            [] => print_types_of(rt, "-", err),
+            [name] => print_types_of(rt, name.as_str(), err),
+            _ => Ok(report_usage(USAGE, err)),
+        },
+        Request::Usage => Ok(report_usage(USAGE, err)),
+    }
+}
+
+fn print_types_of<E: Write>(rt: &HostRuntime, name: &str, err: &mut E) -> Result<u8, Failure> {
+    let mut input = match open(rt, name, err) {
+        Ok(input) => input,
+        Err(error) => return Err(failed_input(error)),
+    };
+    let Ok(mut out) = BufWriter::new(rt.alloc(), rt.stdout()) else {
+        return Err(Failure::Memory);
+    };
+    Ok(run(rt.alloc(), &mut input, &mut out, err))
+}
+
+fn printed(written: io::Result<()>) -> Result<u8, Failure> {
+    match written {
+        Ok(()) => Ok(0),
+        Err(error) => Err(Failure::Output(error)),
+    }
 }

@@ -1,6 +1,6 @@
 //! Refused growth: a refused call leaves the set as it was, and goes through when it is made again.
-//! `scripts/refuse` refuses each request for memory in turn, and for deletions all requests from
-//! one on.
+//! `scripts/check/refuse` refuses each request for memory in turn, and for deletions all requests
+//! from one on.
 ghost use Rattle.std.specs.Prelude.{◌≡◌};
 
 use super::*;

@@ -12,14 +12,15 @@ use Rattle.walrus_binary.specs.declared.error.NotHeld.TheVariants as held
 use Rattle.walrus_binary.specs.Grammar.{IsTypes}
 use Rattle.walrus_binary.specs.Faults.{IsNoText, BeginsNoText, GoesOn, IsBegun, IsSeenThere, error_offset, NamesUnheld}
 use Rattle.walrus_binary.specs.Modules.{Section, section, IsModule, IsNoModule, BeginsNoModule, IsTypeSectionAt}
-use Rattle.walrus_binary.specs.ModuleTypes.{HasTypes, in_section, without_section, BeginsNoTypes, HasBadTypes, no_module, bad_section, behind, HasBadTypesBy, no_module_by, bad_section_by}
+use Rattle.walrus_binary.specs.ModuleSections.{HasTypes, in_section, without_section, BeginsNoTypes, HasBadTypes, no_module, bad_section, shifted, HasBadTypesBy, no_module_by, bad_section_by}
 use Rattle.walrus_binary.proofs.Modules.Uniqueness.{located_types}
 use Rattle.walrus_binary.proofs.Modules.TypeContents.{content_is, content_within}
 use Rattle.walrus_binary.proofs.Modules.FirstSections.{contents, front_of}
 
 -- ---- bytes that are no module
 
-module_of : (bytes : List ℕ) (groups : List GroupAt) → HasTypes bytes groups → (sections : List Section) × IsModule bytes sections
+module_of : (bytes : List ℕ) (groups : List GroupAt) → HasTypes bytes groups → (sections : List Section)
+    × IsModule bytes sections
 module_of bytes _ (in_section start stop groups t text) =
     let m = located_types bytes start stop t in (m.0 ++ section 1 t.content ∷ m.1, m.2)
 module_of bytes _ (without_section n) = (n.sections, n.is_module)
@@ -30,9 +31,11 @@ no_types front bad more groups h = let m = module_of (front ++ more) groups h in
 -- ---- the content of the type section is no text
 
 -- with the byte at this place of the content
-stuck_in_content : (bytes : List ℕ) (start stop offset : ℕ) → IsTypeSectionAt bytes start stop → IsNoText (slice_range bytes start stop)
+stuck_in_content : (bytes : List ℕ) (start stop offset : ℕ) → IsTypeSectionAt bytes start stop →
+    IsNoText (slice_range bytes start stop)
     → offset ≤ length (slice_range bytes start stop)
-    → (offset < length (slice_range bytes start stop) → BeginsNoText (take (offset + 1) (slice_range bytes start stop)))
+    → (offset < length (slice_range bytes start stop) →
+    BeginsNoText (take (offset + 1) (slice_range bytes start stop)))
     → BeginsNoTypes (take (start + offset + 1) bytes)
 stuck_in_content bytes start stop offset t bad place stuck more groups h =
     let content : List ℕ = t.content in
@@ -45,32 +48,42 @@ stuck_in_content bytes start stop offset t bad place stuck more groups h =
     ∙ take-append-add front (content ++ t.back) (offset + 1) in
     let whole : take (start + offset + 1) bytes ++ more ≡ front ++ (taken ++ more) =
     ap (λ (u : List ℕ). u ++ more) part ∙ append_assoc front taken more in
-    let k = contents t.front t.back t.size (taken ++ more) (length content) groups (take (start + offset + 1) bytes ++ more) t.around_it t.sized whole h in
+    let k = contents t.front t.back t.size (taken ++ more) (length content) groups
+    (take (start + offset + 1) bytes ++ more) t.around_it t.sized whole h in
     elim (cases_lt offset (length content)) [
       | inl lt ↦
           let u : List ℕ = take (offset + 1) content in
           let first : taken ≡ u = take-append-le (offset + 1) content t.back (omega (arith, lt)) in
           let long : length u ≡ offset + 1 = length-take-le (offset + 1) content (omega (arith, lt)) in
           let both : u ++ more ≡ k.content ++ k.rest = sym (ap (λ (w : List ℕ). w ++ more) first) ∙ k.parts in
-          let begins : k.content ≡ u ++ drop (length u) k.content = front_of u more k.content k.rest both (omega (arith, lt, long, k.long)) in
-          let inner : offset < length (slice_range bytes start stop) = subst (λ (w : List ℕ). offset < length w) (sym is) lt in
-          let none : BeginsNoText u = subst (λ (w : List ℕ). BeginsNoText (take (offset + 1) w)) is (stuck inner) in
+          let begins : k.content ≡ u ++ drop (length u) k.content =
+          front_of u more k.content k.rest both (omega (arith, lt, long, k.long)) in
+          let inner : offset < length (slice_range bytes start stop) =
+          subst (λ (w : List ℕ). offset < length w) (sym is) lt in
+          let none : BeginsNoText u = subst (λ (w : List ℕ). BeginsNoText (take (offset + 1) w)) is
+          (stuck inner) in
           none (drop (length u) k.content) groups (subst (λ (w : List ℕ). IsTypes w groups) begins k.is_text)
       | inr le ↦
-          let last : offset ≡ length content = let p : offset ≤ length content = subst (λ (w : List ℕ). offset ≤ length w) is place in omega (arith, le, p) in
-          let first : taken ≡ content ++ take 1 t.back = ap (λ n. take (n + 1) (content ++ t.back)) last ∙ take-append-add content t.back 1 in
+          let last : offset ≡ length content = let p : offset ≤ length content =
+          subst (λ (w : List ℕ). offset ≤ length w) is place in omega (arith, le, p) in
+          let first : taken ≡ content ++ take 1 t.back = ap (λ n. take (n + 1) (content ++ t.back)) last
+          ∙ take-append-add content t.back 1 in
           let both : content ++ (take 1 t.back ++ more) ≡ k.content ++ k.rest =
-          sym (append_assoc content (take 1 t.back) more) ∙ sym (ap (λ (w : List ℕ). w ++ more) first) ∙ k.parts in
+          sym (append_assoc content (take 1 t.back) more) ∙ sym (ap (λ (w : List ℕ). w ++ more) first)
+          ∙ k.parts in
           let begins : k.content ≡ content ++ drop (length content) k.content =
           front_of content (take 1 t.back ++ more) k.content k.rest both (omega (arith, k.long)) in
-          let nothing : drop (length content) k.content ≡ [] = ap (λ n. drop n k.content) (sym k.long) ∙ drop-length k.content in
-          let same : k.content ≡ content = begins ∙ ap (λ (w : List ℕ). content ++ w) nothing ∙ append-nil content in
+          let nothing : drop (length content) k.content ≡ [] = ap (λ n. drop n k.content) (sym k.long)
+          ∙ drop-length k.content in
+          let same : k.content ≡ content = begins ∙ ap (λ (w : List ℕ). content ++ w) nothing
+          ∙ append-nil content in
           bad groups (subst (λ (w : List ℕ). IsTypes w groups) (same ∙ sym is) k.is_text)
     ]
 
 -- ---- what follows
 
-same_seen : (a b : ℕ) (what : NotHeld) → IsSeenThere (decode.NotHeld a what) → IsSeenThere (decode.NotHeld b what)
+same_seen : (a b : ℕ) (what : NotHeld) → IsSeenThere (decode.NotHeld a what) →
+    IsSeenThere (decode.NotHeld b what)
 same_seen a b held.Supertypes h = h
 same_seen a b held.Shared h = tt
 same_seen a b held.Continuation h = tt
@@ -80,33 +93,42 @@ pub bad_refused : (bytes : List ℕ) (e : DecodeError) → HasBadTypesBy bytes e
 bad_refused bytes _ (no_module_by e n) = no_module n.no_module
 bad_refused bytes _ (bad_section_by start stop e t n) = bad_section start stop t n.no_text
 
-within : (bytes : List ℕ) (start stop offset : ℕ) → IsTypeSectionAt bytes start stop → offset ≤ length (slice_range bytes start stop) → start + offset ≤ length bytes
+within : (bytes : List ℕ) (start stop offset : ℕ) → IsTypeSectionAt bytes start stop →
+    offset ≤ length (slice_range bytes start stop) → start + offset ≤ length bytes
 within bytes start stop offset t le =
-    let p : offset ≤ length t.content = subst (λ (w : List ℕ). offset ≤ length w) (content_is bytes start stop t) le in
+    let p : offset ≤ length t.content = subst (λ (w : List ℕ). offset ≤ length w)
+    (content_is bytes start stop t) le in
     omega (arith, p, content_within bytes start stop t)
 
-pub bad_place : (bytes : List ℕ) (e : DecodeError) → HasBadTypesBy bytes e → IfSome (error_offset e) (λ offset. offset ≤ length bytes)
+pub bad_place : (bytes : List ℕ) (e : DecodeError) → HasBadTypesBy bytes e →
+    IfSome (error_offset e) (λ offset. offset ≤ length bytes)
 bad_place bytes _ (no_module_by e n) = n.place
-bad_place bytes _ (bad_section_by start stop (decode.Malformed offset x) t n) = within bytes start stop offset t n.place
-bad_place bytes _ (bad_section_by start stop (decode.NotHeld offset x) t n) = within bytes start stop offset t n.place
+bad_place bytes _ (bad_section_by start stop (decode.Malformed offset x) t n) = within
+    bytes start stop offset t n.place
+bad_place bytes _ (bad_section_by start stop (decode.NotHeld offset x) t n) = within
+    bytes start stop offset t n.place
 bad_place bytes _ (bad_section_by start stop decode.Memory t n) = tt
 
 abbrev IsStuck : List ℕ → DecodeError → Type 0
-IsStuck bytes e = IfSome (error_offset e) (λ offset. IsSeenThere e → offset < length bytes → BeginsNoTypes (take (offset + 1) bytes))
+IsStuck bytes e = IfSome (error_offset e) (λ offset. IsSeenThere e → offset < length bytes →
+    BeginsNoTypes (take (offset + 1) bytes))
 
 pub stuck_framing : (bytes : List ℕ) (e : DecodeError)
-    → IfSome (error_offset e) (λ offset. offset < length bytes → BeginsNoModule (take (offset + 1) bytes)) → IsStuck bytes e
+    → IfSome (error_offset e) (λ offset. offset < length bytes → BeginsNoModule (take (offset + 1) bytes)) →
+    IsStuck bytes e
 stuck_framing bytes (decode.Malformed offset x) h = λ seen lt. no_types (take (offset + 1) bytes) (h lt)
 stuck_framing bytes (decode.NotHeld offset x) h = λ seen lt. no_types (take (offset + 1) bytes) (h lt)
 stuck_framing bytes decode.Memory h = tt
 
 pub bad_stuck : (bytes : List ℕ) (e : DecodeError) → HasBadTypesBy bytes e
-    → IfSome (error_offset e) (λ offset. IsSeenThere e → offset < length bytes → BeginsNoTypes (take (offset + 1) bytes))
+    → IfSome (error_offset e) (λ offset. IsSeenThere e → offset < length bytes →
+    BeginsNoTypes (take (offset + 1) bytes))
 bad_stuck bytes _ (no_module_by e n) = stuck_framing bytes e n.stuck
 bad_stuck bytes _ (bad_section_by start stop (decode.Malformed offset x) t n) =
     λ seen lt. stuck_in_content bytes start stop offset t n.no_text n.place (λ inner. n.stuck tt inner)
 bad_stuck bytes _ (bad_section_by start stop (decode.NotHeld offset x) t n) =
-    λ seen lt. stuck_in_content bytes start stop offset t n.no_text n.place (λ inner. n.stuck (same_seen (start + offset) offset x seen) inner)
+    λ seen lt. stuck_in_content bytes start stop offset t n.no_text n.place (λ inner.
+    n.stuck (same_seen (start + offset) offset x seen) inner)
 bad_stuck bytes _ (bad_section_by start stop decode.Memory t n) = tt
 
 -- ---- of an error with a place
@@ -133,9 +155,10 @@ pub content_bad : (bytes : List ℕ) (start stop : ℕ) (e : DecodeError) → Is
     → IfSome (error_offset e) (λ offset. IsNoText (slice_range bytes start stop))
     → IfSome (error_offset e) (λ offset. offset ≤ length (slice_range bytes start stop))
     → IfSome (error_offset e)
-    (λ offset. IsSeenThere e → offset < length (slice_range bytes start stop) → BeginsNoText (take (offset + 1) (slice_range bytes start stop)))
+    (λ offset. IsSeenThere e → offset < length (slice_range bytes start stop) →
+    BeginsNoText (take (offset + 1) (slice_range bytes start stop)))
     → IfSome (error_offset e) (λ offset. IsBegun (take offset (slice_range bytes start stop)))
-    → NamesUnheld (slice_range bytes start stop) e → IsBadBy bytes (behind start e)
+    → NamesUnheld (slice_range bytes start stop) e → IsBadBy bytes (shifted start e)
 content_bad bytes start stop (decode.Malformed offset x) t none place stuck begun unheld =
     bad_section_by start stop (decode.Malformed offset x) t
     (record { no_text = none; place = place; stuck = stuck; begun = begun; unheld = unheld })
@@ -144,12 +167,14 @@ content_bad bytes start stop (decode.NotHeld offset x) t none place stuck begun 
     (record { no_text = none; place = place; stuck = stuck; begun = begun; unheld = unheld })
 content_bad bytes start stop decode.Memory t none place stuck begun unheld = tt
 
-pub refused_if : (bytes : List ℕ) (e : DecodeError) → IsBadBy bytes e → IfSome (error_offset e) (λ offset. HasBadTypes bytes)
+pub refused_if : (bytes : List ℕ) (e : DecodeError) → IsBadBy bytes e →
+    IfSome (error_offset e) (λ offset. HasBadTypes bytes)
 refused_if bytes (decode.Malformed offset x) h = bad_refused bytes (decode.Malformed offset x) h
 refused_if bytes (decode.NotHeld offset x) h = bad_refused bytes (decode.NotHeld offset x) h
 refused_if bytes decode.Memory h = tt
 
-pub place_if : (bytes : List ℕ) (e : DecodeError) → IsBadBy bytes e → IfSome (error_offset e) (λ offset. offset ≤ length bytes)
+pub place_if : (bytes : List ℕ) (e : DecodeError) → IsBadBy bytes e →
+    IfSome (error_offset e) (λ offset. offset ≤ length bytes)
 place_if bytes (decode.Malformed offset x) h = bad_place bytes (decode.Malformed offset x) h
 place_if bytes (decode.NotHeld offset x) h = bad_place bytes (decode.NotHeld offset x) h
 place_if bytes decode.Memory h = tt
@@ -162,11 +187,13 @@ stuck_if bytes decode.Memory h = tt
 fits : (bytes : List ℕ) (start stop offset : ℕ) → IsTypeSectionAt bytes start stop → stop < 2 ^ 64
     → offset ≤ length (slice_range bytes start stop) → start + offset < 2 ^ 64
 fits bytes start stop offset t lt le =
-    let p : offset ≤ length t.content = subst (λ (w : List ℕ). offset ≤ length w) (content_is bytes start stop t) le in
+    let p : offset ≤ length t.content = subst (λ (w : List ℕ). offset ≤ length w)
+    (content_is bytes start stop t) le in
     omega (arith, p, lt, t.stops)
 
 -- the place of an error in the content fits where the end of the content does
-pub place_fits : (bytes : List ℕ) (start stop : ℕ) (e : DecodeError) → IsTypeSectionAt bytes start stop → stop < 2 ^ 64
+pub place_fits : (bytes : List ℕ) (start stop : ℕ) (e : DecodeError) → IsTypeSectionAt bytes start stop →
+    stop < 2 ^ 64
     → IfSome (error_offset e) (λ offset. offset ≤ length (slice_range bytes start stop))
     → IfSome (error_offset e) (λ offset. start + offset < 2 ^ 64)
 place_fits bytes start stop (decode.Malformed offset x) t lt le = fits bytes start stop offset t lt le

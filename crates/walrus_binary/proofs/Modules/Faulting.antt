@@ -21,26 +21,37 @@ pub record IsFaulty (bytes : List ℕ) (f : Fault) : Type 0 where
   pub begun : GoesOn IsModule (take (length bytes - f.left) bytes)
 
 sees : (bytes pre front left : List ℕ) (n : ℕ) → bytes ≡ pre ++ (front ++ left) → n ≡ length left
-    → ((b : ℕ) (rest other : List ℕ) → left ≡ b ∷ rest → IsNoModule (pre ++ (front ++ b ∷ other))) → 0 < n → BeginsNoModule (take (length bytes - n + 1) bytes)
+    → ((b : ℕ) (rest other : List ℕ) → left ≡ b ∷ rest → IsNoModule (pre ++ (front ++ b ∷ other))) → 0 < n →
+    BeginsNoModule (take (length bytes - n + 1) bytes)
 sees bytes pre front [] n whole is none lt = absurd (let k : n ≡ 0 = is in omega (arith, k, lt))
 sees bytes pre front (b ∷ left) n whole is none lt =
     let part : List ℕ = pre ++ (front ++ b ∷ []) in
     let long : length bytes ≡ length pre + (length front + length (b ∷ left)) =
-    ap (λ (u : List ℕ). length u) whole ∙ length-append pre (front ++ b ∷ left) ∙ ap (λ k. length pre + k) (length-append front (b ∷ left)) in
-    let part-long : length part ≡ length pre + (length front + 1) = length-append pre (front ++ b ∷ []) ∙ ap (λ k. length pre + k) (length-append front (b ∷ [])) in
+    ap (λ (u : List ℕ). length u) whole ∙ length-append pre (front ++ b ∷ left)
+    ∙ ap (λ k. length pre + k) (length-append front (b ∷ left)) in
+    let part-long : length part ≡ length pre + (length front + 1) = length-append pre (front ++ b ∷ [])
+    ∙ ap (λ k. length pre + k) (length-append front (b ∷ [])) in
     let one : length bytes - n + 1 ≡ length part = omega (arith, long, part-long, is) in
-    let again : bytes ≡ part ++ left = whole ∙ ap (λ (u : List ℕ). pre ++ u) (sym (append_assoc front (b ∷ []) left)) ∙ sym (append_assoc pre (front ++ b ∷ []) left) in
+    let again : bytes ≡ part ++ left = whole ∙ ap (λ (u : List ℕ). pre ++ u)
+    (sym (append_assoc front (b ∷ []) left)) ∙ sym (append_assoc pre (front ++ b ∷ []) left) in
     let taken : take (length bytes - n + 1) bytes ≡ part =
-    ap (λ k. take k bytes) one ∙ ap (λ (u : List ℕ). take (length part) u) again ∙ take_at part left (length part) refl in
+    ap (λ k. take k bytes) one ∙ ap (λ (u : List ℕ). take (length part) u) again
+    ∙ take_at part left (length part) refl in
     subst BeginsNoModule (sym taken)
-    (λ more. subst IsNoModule (ap (λ (u : List ℕ). pre ++ u) (sym (append_assoc front (b ∷ []) more)) ∙ sym (append_assoc pre (front ++ b ∷ []) more)) (none b left more refl))
+    (λ more. subst IsNoModule (ap (λ (u : List ℕ). pre ++ u) (sym (append_assoc front (b ∷ []) more))
+    ∙ sym (append_assoc pre (front ++ b ∷ []) more)) (none b left more refl))
 
 -- in a part behind `pre`
-faulty : {A : Type 0} (reads : List ℕ → Reading A) (bytes pre region : List ℕ) (f : Fault) → bytes ≡ pre ++ region → Stops reads region f → IsSeenAtOnce f.reason → IsNoModule bytes → StopsBehind IsModule bytes f
-    → ((b : ℕ) (front other : List ℕ) → DoesNotRead reads (front ++ b ∷ other) → IsNoModule (pre ++ (front ++ b ∷ other))) → IsFaulty bytes f
+faulty : {A : Type 0} (reads : List ℕ → Reading A) (bytes pre region : List ℕ) (f : Fault) →
+    bytes ≡ pre ++ region → Stops reads region f → IsSeenAtOnce f.reason → IsNoModule bytes →
+    StopsBehind IsModule bytes f
+    → ((b : ℕ) (front other : List ℕ) → DoesNotRead reads (front ++ b ∷ other) →
+    IsNoModule (pre ++ (front ++ b ∷ other))) → IsFaulty bytes f
 faulty reads bytes pre region f whole s seen refuted begun none =
-    let long : length bytes ≡ length pre + length region = ap (λ (u : List ℕ). length u) whole ∙ length-append pre region in
-    let region-long : length region ≡ length s.front + length s.left = ap (λ (u : List ℕ). length u) s.parts ∙ length-append s.front s.left in
+    let long : length bytes ≡ length pre + length region = ap (λ (u : List ℕ). length u) whole
+    ∙ length-append pre region in
+    let region-long : length region ≡ length s.front + length s.left = ap (λ (u : List ℕ). length u) s.parts
+    ∙ length-append s.front s.left in
     record {
       refused = refuted;
       place = omega (arith, long, region-long, s.place);
@@ -58,7 +69,8 @@ not_both x f y e h = absurd cc
 abbrev pub ModuleParts : List ℕ → List Section → Type 0
 ModuleParts bytes sections = (texts : List ℕ) × (bytes ≡ header ++ texts) × AreBehind 0 texts sections
 
-pub module_parts : (bytes : List ℕ) (sections : List Section) → IsModule bytes sections → ModuleParts bytes sections
+pub module_parts : (bytes : List ℕ) (sections : List Section) → IsModule bytes sections →
+    ModuleParts bytes sections
 module_parts _ _ (framed texts sections h o) = (texts, refl, (h, o))
 
 no_header : (bytes : List ℕ) → DoesNotRead header_at bytes → IsNoModule bytes
@@ -68,11 +80,14 @@ no_header bytes n sections h =
 
 pub header_faulty : (bytes : List ℕ) (f : Fault) → header_at bytes ≡ Err f → IsFaulty bytes f
 header_faulty bytes f e =
-    faulty header_at bytes [] bytes f refl (header_stuck bytes f e) (header_seen bytes f e) (no_header bytes (f, e)) (header_goes_on bytes f e) (λ b front other n. no_header (front ++ b ∷ other) n)
+    faulty header_at bytes [] bytes f refl (header_stuck bytes f e) (header_seen bytes f e)
+    (no_header bytes (f, e)) (header_goes_on bytes f e) (λ b front other n.
+    no_header (front ++ b ∷ other) n)
 
 -- ---- sections
 
-no_section : {R : Type 0} (opening start stop : R → ℕ) (bytes rest : List ℕ) (last : ℕ) (found : Option R) (state : State opening start stop bytes rest last found) (xs : List ℕ)
+no_section : {R : Type 0} (opening start stop : R → ℕ) (bytes rest : List ℕ) (last : ℕ) (found : Option R)
+    (state : State opening start stop bytes rest last found) (xs : List ℕ)
     → (xs ≡ [] → ⊥) → DoesNotRead (section_at last) xs → IsNoModule (header ++ (state.texts ++ xs))
 no_section opening start stop bytes rest last found state xs some n sections h =
     let m = module_parts (header ++ (state.texts ++ xs)) sections h in
@@ -91,14 +106,17 @@ not_empty : (front other : List ℕ) (b : ℕ) → front ++ b ∷ other ≡ [] �
 not_empty [] other b e = absurd cc
 not_empty (x ∷ front) other b e = absurd cc
 
-pub section_faulty : {R : Type 0} (opening start stop : R → ℕ) (bytes rest : List ℕ) (last : ℕ) (found : Option R) (f : Fault) → State opening start stop bytes rest last found
+pub section_faulty : {R : Type 0} (opening start stop : R → ℕ) (bytes rest : List ℕ) (last : ℕ)
+    (found : Option R) (f : Fault) → State opening start stop bytes rest last found
     → false ≡ nat_eq (length rest) 0 → section_at last rest ≡ Err f → IsFaulty bytes f
 section_faulty opening start stop bytes rest last found f state more e =
     let some = not_nothing rest more in
     let pre : List ℕ = header ++ state.texts in
     let whole : bytes ≡ pre ++ rest = state.whole ∙ sym (append_assoc header state.texts rest) in
     faulty (section_at last) bytes pre rest f whole (section_stuck last rest f e) (section_seen last rest f e)
-    (subst IsNoModule (sym state.whole) (no_section opening start stop bytes rest last found state rest some (f, e)))
+    (subst IsNoModule (sym state.whole) (no_section opening start stop bytes rest last found state rest some
+    (f, e)))
     (section_goes_on opening start stop bytes rest last found f state e)
     (λ b front other n. subst IsNoModule (sym (append_assoc header state.texts (front ++ b ∷ other)))
-    (no_section opening start stop bytes rest last found state (front ++ b ∷ other) (not_empty front other b) n))
+    (no_section opening start stop bytes rest last found state (front ++ b ∷ other) (not_empty front other b)
+    n))

@@ -7,7 +7,7 @@ use Rattle.walrus_ty.specs.declared.records.GroupAt.{GroupAt}
 use Rattle.walrus_binary.specs.Leb128.{IsU32}
 use Rattle.walrus_binary.specs.Grammar.{AreItems, none, next, IsTypes}
 use Rattle.walrus_binary.specs.Modules.{Section, ids, IsSection, sized, AreInOrder, header, AreAroundTypes, around, IsTypeSectionAt, HasNoTypeSection}
-use Rattle.walrus_binary.specs.ModuleTypes.{HasTypes, in_section, without_section}
+use Rattle.walrus_binary.specs.ModuleSections.{HasTypes, in_section, without_section}
 use Rattle.walrus_binary.specs.Steps.Reading.{u32_at}
 use Rattle.walrus_binary.specs.Steps.Framing.{place_of, place_after, section_at}
 use Rattle.walrus_binary.proofs.Basics.{value_is, rest_is}
@@ -37,7 +37,8 @@ not_behind before (k ∷ ks) ms o =
     let less : place_after before k < 1 = not_behind (place_after before k) ks ms parts.1 in
     elim parts.0 [
       | inl e ↦ subst (λ j. place_after before j < 1) e less
-      | inr f ↦ let is : place_after before k ≡ f.0 = after_is before k f.0 f.1 in omega (arith, is, f.2, less)
+      | inr f ↦ let is : place_after before k ≡ f.0 = after_is before k f.0 f.1 in
+          omega (arith, is, f.2, less)
     ]
 
 pub customs_before : (ks ms : List ℕ) → AreInOrder 0 (ks ++ 1 ∷ ms) → AreCustoms ks
@@ -69,8 +70,10 @@ starts_with _ _ (sized id size content h) = (size ++ content, refl)
 
 -- Behind custom sections is what begins with a type section. So it is where other sections end that
 -- no custom one follows.
-pub same_behind : (texts : List ℕ) (before : List Section) → AreItems IsSection texts before → AreCustoms (ids before)
-    → (others : List ℕ) (sections : List Section) → AreItems IsSection others sections → AreOthers (ids sections)
+pub same_behind : (texts : List ℕ) (before : List Section) → AreItems IsSection texts before →
+    AreCustoms (ids before)
+    → (others : List ℕ) (sections : List Section) → AreItems IsSection others sections →
+    AreOthers (ids sections)
     → (a b : List ℕ) → ((xs : List ℕ) → b ≡ 0 ∷ xs → ⊥) → texts ++ 1 ∷ a ≡ others ++ b → 1 ∷ a ≡ b
 same_behind _ _ none c _ _ none o a b n e = e
 same_behind _ _ none c _ _ (next text rest s sections h hs) o a b n e =
@@ -86,11 +89,14 @@ same_behind _ _ (next text rest s before h hs) c _ _ (next other left t sections
     let l = starts_with other t k in
     let bytes : s.id ∷ ((m.0 ++ rest) ++ 1 ∷ a) ≡ t.id ∷ ((l.0 ++ left) ++ b) =
     sym (ap (λ (u : List ℕ). (u ++ rest) ++ 1 ∷ a) m.1) ∙ e ∙ ap (λ (u : List ℕ). (u ++ left) ++ b) l.1 in
-    let custom : t.id ≡ 0 = sym (first_is s.id t.id ((m.0 ++ rest) ++ 1 ∷ a) ((l.0 ++ left) ++ b) bytes) ∙ c.0 in
+    let custom : t.id ≡ 0 = sym (first_is s.id t.id ((m.0 ++ rest) ++ 1 ∷ a) ((l.0 ++ left) ++ b) bytes)
+    ∙ c.0 in
     let first = section_complete 0 text s (rest ++ 1 ∷ a) (h, inl c.0) in
     let second = section_complete 0 other t (left ++ b) (k, inl custom) in
-    let whole : text ++ (rest ++ 1 ∷ a) ≡ other ++ (left ++ b) = sym (append_assoc text rest (1 ∷ a)) ∙ e ∙ append_assoc other left b in
-    let tails : rest ++ 1 ∷ a ≡ left ++ b = rest_is s t (rest ++ 1 ∷ a) (left ++ b) (sym first ∙ ap (section_at 0) whole ∙ second) in
+    let whole : text ++ (rest ++ 1 ∷ a) ≡ other ++ (left ++ b) = sym (append_assoc text rest (1 ∷ a)) ∙ e
+    ∙ append_assoc other left b in
+    let tails : rest ++ 1 ∷ a ≡ left ++ b = rest_is s t (rest ++ 1 ∷ a) (left ++ b) (sym first
+    ∙ ap (section_at 0) whole ∙ second) in
     same_behind rest before hs c.1 left sections ks o.1 a b n tails
 
 -- ---- the content of a type section
@@ -105,7 +111,8 @@ pub record Contains (bytes : List ℕ) (n : ℕ) (groups : List GroupAt) : Type 
 
 abbrev AroundParts : List ℕ → List ℕ → Type 0
 AroundParts front back =
-    (texts : List ℕ) × (before after : List Section) × (front ≡ header ++ texts) × AreItems IsSection texts before
+    (texts : List ℕ) × (before after : List Section) × (front ≡ header ++ texts)
+    × AreItems IsSection texts before
     × AreCustoms (ids before)
 
 around_parts : (front back : List ℕ) → AreAroundTypes front back → AroundParts front back
@@ -119,18 +126,22 @@ behind_header front texts size rest is =
     append_assoc front (1 ∷ size) rest ∙ ap (λ (u : List ℕ). u ++ 1 ∷ (size ++ rest)) is
     ∙ append_assoc header texts (1 ∷ (size ++ rest))
 
-there : (front back size rest : List ℕ) (n : ℕ) (groups : List GroupAt) (start stop : ℕ) → AroundParts front back → IsU32 size n
-    → (t : IsTypeSectionAt ((front ++ 1 ∷ size) ++ rest) start stop) → IsTypes t.content groups → Contains rest n groups
+there : (front back size rest : List ℕ) (n : ℕ) (groups : List GroupAt) (start stop : ℕ) →
+    AroundParts front back → IsU32 size n
+    → (t : IsTypeSectionAt ((front ++ 1 ∷ size) ++ rest) start stop) → IsTypes t.content groups →
+    Contains rest n groups
 there front back size rest n groups start stop p h t text =
     let q = around_parts t.front t.back t.around_it in
     let behind : List ℕ = t.content ++ t.back in
     let both : header ++ (p.0 ++ 1 ∷ (size ++ rest)) ≡ header ++ (q.0 ++ 1 ∷ (t.size ++ behind)) =
     sym (behind_header front p.0 size rest p.3) ∙ t.parts ∙ behind_header t.front q.0 t.size behind q.3 in
     let same = append_cancel_left header (p.0 ++ 1 ∷ (size ++ rest)) (q.0 ++ 1 ∷ (t.size ++ behind)) both in
-    let here = same_behind p.0 p.1 p.4 p.5 q.0 q.1 q.4 (customs_are_others (ids q.1) q.5) (size ++ rest) (1 ∷ (t.size ++ behind))
+    let here = same_behind p.0 p.1 p.4 p.5 q.0 q.1 q.4 (customs_are_others (ids q.1) q.5) (size ++ rest)
+    (1 ∷ (t.size ++ behind))
     (λ xs e. absurd cc) same in
     let tails : size ++ rest ≡ t.size ++ behind = others_are 1 1 (size ++ rest) (t.size ++ behind) here in
-    let read = sym (u32_complete size n rest h) ∙ ap u32_at tails ∙ u32_complete t.size (length t.content) behind t.sized in
+    let read = sym (u32_complete size n rest h) ∙ ap u32_at tails
+    ∙ u32_complete t.size (length t.content) behind t.sized in
     record {
       content = t.content;
       rest = t.back;
@@ -139,29 +150,37 @@ there front back size rest n groups start stop p h t text =
       is_text = text;
     }
 
-not_without : (front back size rest : List ℕ) → AroundParts front back → HasNoTypeSection ((front ++ 1 ∷ size) ++ rest) → ⊥
+not_without : (front back size rest : List ℕ) → AroundParts front back →
+    HasNoTypeSection ((front ++ 1 ∷ size) ++ rest) → ⊥
 not_without front back size rest p n =
     let m = module_parts ((front ++ 1 ∷ size) ++ rest) n.sections n.is_module in
-    let whole : header ++ (p.0 ++ 1 ∷ (size ++ rest)) ≡ header ++ m.0 = sym (behind_header front p.0 size rest p.3) ∙ m.1 in
+    let whole : header ++ (p.0 ++ 1 ∷ (size ++ rest)) ≡ header ++ m.0 =
+    sym (behind_header front p.0 size rest p.3) ∙ m.1 in
     let same : p.0 ++ 1 ∷ (size ++ rest) ≡ m.0 ++ [] =
     append_cancel_left header (p.0 ++ 1 ∷ (size ++ rest)) m.0 whole ∙ sym (append-nil m.0) in
     let none-left : 1 ∷ (size ++ rest) ≡ [] =
-    same_behind p.0 p.1 p.4 p.5 m.0 n.sections m.2.0 (are_others n.sections n.others) (size ++ rest) [] (λ xs e. absurd cc) same in
+    same_behind p.0 p.1 p.4 p.5 m.0 n.sections m.2.0 (are_others n.sections n.others) (size ++ rest) []
+    (λ xs e. absurd cc) same in
     absurd cc
 
-pub contents : (front back size rest : List ℕ) (n : ℕ) (groups : List GroupAt) (bytes : List ℕ) → AreAroundTypes front back → IsU32 size n
+pub contents : (front back size rest : List ℕ) (n : ℕ) (groups : List GroupAt) (bytes : List ℕ) →
+    AreAroundTypes front back → IsU32 size n
     → bytes ≡ (front ++ 1 ∷ size) ++ rest → HasTypes bytes groups → Contains rest n groups
 contents front back size rest n groups bytes a h is (in_section start stop gs t text) =
-    let u : IsTypeSectionAt ((front ++ 1 ∷ size) ++ rest) start stop = subst (λ (b : List ℕ). IsTypeSectionAt b start stop) is t in
-    let k : IsTypes (slice_range ((front ++ 1 ∷ size) ++ rest) start stop) gs = subst (λ (b : List ℕ). IsTypes (slice_range b start stop) gs) is text in
+    let u : IsTypeSectionAt ((front ++ 1 ∷ size) ++ rest) start stop =
+    subst (λ (b : List ℕ). IsTypeSectionAt b start stop) is t in
+    let k : IsTypes (slice_range ((front ++ 1 ∷ size) ++ rest) start stop) gs =
+    subst (λ (b : List ℕ). IsTypes (slice_range b start stop) gs) is text in
     there front back size rest n gs start stop (around_parts front back a) h u
     (subst (λ (b : List ℕ). IsTypes b gs) (content_is ((front ++ 1 ∷ size) ++ rest) start stop u) k)
 contents front back size rest n groups bytes a h is (without_section none-there) =
-    absurd (not_without front back size rest (around_parts front back a) (subst HasNoTypeSection is none-there))
+    absurd (not_without front back size rest (around_parts front back a)
+    (subst HasNoTypeSection is none-there))
 
 -- what begins both
 pub front_of : (u v x y : List ℕ) → u ++ v ≡ x ++ y → length u ≤ length x → x ≡ u ++ drop (length u) x
 front_of u v x y e le =
     let first : u ≡ take (length u) x =
-    sym (take-append_seam u v) ∙ ap (λ (w : List ℕ). take (length u) w) e ∙ take-append-le (length u) x y le in
+    sym (take-append_seam u v) ∙ ap (λ (w : List ℕ). take (length u) w) e
+    ∙ take-append-le (length u) x y le in
     sym (take-append-drop (length u) x) ∙ ap (λ (w : List ℕ). w ++ drop (length u) x) (sym first)

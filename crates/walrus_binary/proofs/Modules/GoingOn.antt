@@ -156,7 +156,12 @@ cut_content : (size rest : List ℕ) (n : ℕ) → IsU32 size n → length rest 
     → IsContent ((size ++ rest) ++ replicate (n - length rest) 0) (rest ++ replicate (n - length rest) 0)
 cut_content size rest n h le =
     let zeros : List ℕ = replicate (n - length rest) 0 in
-    let long : length (rest ++ zeros) ≡ n = omega (arith, length-append rest zeros, length-replicate {A = ℕ} (n - length rest) 0, le) in
+    let long : length (rest ++ zeros) ≡ n = omega (
+      arith,
+      length-append rest zeros,
+      length-replicate {A = ℕ} (n - length rest) 0,
+      le,
+    ) in
     (size, subst (λ k. IsU32 size k) (sym long) h, append_assoc size rest zeros)
 
 content_stops : StopsWhole IsContent content_at
@@ -174,7 +179,8 @@ content_stops bytes f e =
         more = 0 ∷ replicate u.value 0;
         value = replicate u.value 0;
         is_text =
-            subst (λ (v : List ℕ). IsContent v (replicate u.value 0)) (append_assoc u.front (0 ∷ []) (replicate u.value 0))
+            subst (λ (v : List ℕ). IsContent v (replicate u.value 0))
+            (append_assoc u.front (0 ∷ []) (replicate u.value 0))
             (zeros_content (u.front ++ 0 ∷ []) u.value u.is_integer);
       };
     })
@@ -190,7 +196,8 @@ content_stops bytes f e =
         more = replicate (n - length rest) 0;
         value = rest ++ replicate (n - length rest) 0;
         is_text =
-            subst (λ (v : List ℕ). IsContent (v ++ replicate (n - length rest) 0) (rest ++ replicate (n - length rest) 0))
+            subst (λ (v : List ℕ). IsContent (v ++ replicate (n - length rest) 0)
+            (rest ++ replicate (n - length rest) 0))
             (sym t.parts) (cut_content t.text rest n t.is_text le);
       };
     }))
@@ -201,20 +208,25 @@ empty_content = (0 ∷ [], last (2 ^ 32) 0 (omega arith) (omega arith) (omega ar
 section_stops : (before : ℕ) → StopsWhole (IsNextSection before) (section_at before)
 unfolding section_at
 section_stops before bytes f e =
-    pair_stops (IsNextId before) IsContent (IsNextSection before) (id_at before) content_at section (id_sound before)
+    pair_stops (IsNextId before) IsContent (IsNextSection before) (id_at before) content_at section
+    (id_sound before)
     (id_stops before) content_stops (0 ∷ []) [] empty_content (next_section before) bytes f e
 
 -- behind those that were read
-pub section_goes_on : {R : Type 0} (opening start stop : R → ℕ) (bytes rest : List ℕ) (before : ℕ) (found : Option R) (f : Fault)
-    → State opening start stop bytes rest before found → section_at before rest ≡ failed f → StopsBehind IsModule bytes f
+pub section_goes_on : {R : Type 0} (opening start stop : R → ℕ) (bytes rest : List ℕ) (before : ℕ)
+    (found : Option R) (f : Fault)
+    → State opening start stop bytes rest before found → section_at before rest ≡ failed f →
+    StopsBehind IsModule bytes f
 section_goes_on opening start stop bytes rest before found f state e =
     let s = section_stops before rest f e in
     let g = s.goes_on in
     let v : Section = g.value in
     let last-text : List ℕ = s.front ++ g.more in
-    let ids-are : ids (state.before ++ v ∷ []) ≡ ids state.before ++ v.id ∷ [] = map-append (λ (k : Section). k.id) state.before (v ∷ []) in
+    let ids-are : ids (state.before ++ v ∷ []) ≡ ids state.before ++ v.id ∷ [] =
+    map-append (λ (k : Section). k.id) state.before (v ∷ []) in
     let order : AreInOrder 0 (ids (state.before ++ v ∷ [])) =
-    subst (AreInOrder 0) (sym ids-are) (state.joins (v.id ∷ []) (order_on before v.id [] g.is_text.1 (no_more (place_after before v.id)))) in
+    subst (AreInOrder 0) (sym ids-are) (state.joins (v.id ∷ [])
+    (order_on before v.id [] g.is_text.1 (no_more (place_after before v.id)))) in
     let whole : IsModule (header ++ (state.texts ++ last-text)) (state.before ++ v ∷ []) =
     framed (state.texts ++ last-text) (state.before ++ v ∷ [])
     (joined state.texts last-text state.before (v ∷ []) state.are (one_text last-text v g.is_text.0)) order in
@@ -238,10 +250,13 @@ section_goes_on opening start stop bytes rest before found f state e =
     }
 
 -- where a fault is
-pub goes_on_before : (bytes : List ℕ) (f : Fault) → StopsBehind IsModule bytes f → GoesOn IsModule (take (length bytes - f.left) bytes)
+pub goes_on_before : (bytes : List ℕ) (f : Fault) → StopsBehind IsModule bytes f →
+    GoesOn IsModule (take (length bytes - f.left) bytes)
 goes_on_before bytes f s =
-    let long : length bytes ≡ length s.front + length s.left = ap (λ (u : List ℕ). length u) s.parts ∙ length-append s.front s.left in
+    let long : length bytes ≡ length s.front + length s.left = ap (λ (u : List ℕ). length u) s.parts
+    ∙ length-append s.front s.left in
     let many : length s.front ≡ length bytes - f.left = omega (arith, long, s.place) in
     let taken : take (length bytes - f.left) bytes ≡ s.front =
-    ap (λ (u : List ℕ). take (length bytes - f.left) u) s.parts ∙ take_at s.front s.left (length bytes - f.left) many in
+    ap (λ (u : List ℕ). take (length bytes - f.left) u) s.parts
+    ∙ take_at s.front s.left (length bytes - f.left) many in
     subst (GoesOn IsModule) (sym taken) s.goes_on

@@ -61,9 +61,11 @@ not_custom _ _ data_section = refl
 pub after_is : (last id place : ℕ) → IsPlace id place → place_after last id ≡ place
 after_is last id place is = rw (not_custom id place is) (place_is id place is)
 
-pub order_on : (last id : ℕ) (ids : List ℕ) → Follows last id → AreInOrder (place_after last id) ids → AreInOrder last (id ∷ ids)
+pub order_on : (last id : ℕ) (ids : List ℕ) → Follows last id → AreInOrder (place_after last id) ids →
+    AreInOrder last (id ∷ ids)
 order_on last id ids (inl e) h =
-    subst (λ k. AreInOrder (place_after last k) ids → AreInOrder last (k ∷ ids)) (sym e) (λ g. custom last ids g) h
+    subst (λ k. AreInOrder (place_after last k) ids → AreInOrder last (k ∷ ids)) (sym e) (λ g.
+    custom last ids g) h
 order_on last id ids (inr f) h =
     later last id f.0 ids f.1 f.2 (subst (λ p. AreInOrder p ids) (after_is last id f.0 f.1) h)
 

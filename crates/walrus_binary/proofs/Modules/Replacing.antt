@@ -14,36 +14,60 @@ use Rattle.walrus_binary.proofs.Least.{u32_least}
 abbrev pub types_text : List ℕ → List ℕ
 types_text content = 1 ∷ (u32_text (length content) ++ content)
 
-no_shorter : (others : List ℕ) (s : Section) → IsSection others s → suc (length (u32_text (length s.content)) + length s.content) ≤ length others
-no_shorter _ _ (sized id size content h) = omega (arith, u32_least size (length content) h, length-append size content)
+no_shorter : (others : List ℕ) (s : Section) → IsSection others s →
+    suc (length (u32_text (length s.content)) + length s.content) ≤ length others
+no_shorter _ _ (sized id size content h) = omega (
+  arith,
+  u32_least size (length content) h,
+  length-append size content,
+)
 
-pub shortest : (content : List ℕ) → IsU32 (u32_text (length content)) (length content) → IsShortestTypes (types_text content) content
+pub shortest : (content : List ℕ) → IsU32 (u32_text (length content)) (length content) →
+    IsShortestTypes (types_text content) content
 shortest content h =
     record {
       is_section = sized 1 (u32_text (length content)) content h;
-      least = λ others k. omega (arith, no_shorter others (section 1 content) k, length-append (u32_text (length content)) content);
+      least = λ others k. omega (
+        arith,
+        no_shorter others (section 1 content) k,
+        length-append (u32_text (length content)) content,
+      );
     }
 
 -- ---- in the place of another
 
-replaced_parts : (bytes front size before back content new : List ℕ) (opening stop : ℕ) → AreAroundTypes front back → IsU32 size (length before) → bytes ≡ (front ++ 1 ∷ size) ++ (before ++ back)
-    → opening ≡ length front → stop ≡ length (front ++ 1 ∷ size) + length before → IsU32 (u32_text (length content)) (length content)
+replaced_parts : (bytes front size before back content new : List ℕ) (opening stop : ℕ) →
+    AreAroundTypes front back → IsU32 size (length before) → bytes ≡ (front ++ 1 ∷ size) ++ (before ++ back)
+    → opening ≡ length front → stop ≡ length (front ++ 1 ∷ size) + length before →
+    IsU32 (u32_text (length content)) (length content)
     → new ≡ (take opening bytes ++ types_text content) ++ drop stop bytes → IsReplaced content bytes new
 replaced_parts bytes front size before back content new opening stop a h parts opens stops text is =
-    let first : take opening bytes ≡ front = ap (λ (u : List ℕ). take opening u) (parts ∙ append_assoc front (1 ∷ size) (before ++ back)) ∙ take_at front ((1 ∷ size) ++ (before ++ back)) opening (sym opens) in
-    let long : length ((front ++ 1 ∷ size) ++ before) ≡ stop = length-append (front ++ 1 ∷ size) before ∙ sym stops in
-    let second : drop stop bytes ≡ back = ap (λ (u : List ℕ). drop stop u) (parts ∙ sym (append_assoc (front ++ 1 ∷ size) before back)) ∙ drop_at ((front ++ 1 ∷ size) ++ before) back stop long in
+    let first : take opening bytes ≡ front = ap (λ (u : List ℕ). take opening u) (parts
+    ∙ append_assoc front (1 ∷ size) (before ++ back))
+    ∙ take_at front ((1 ∷ size) ++ (before ++ back)) opening (sym opens) in
+    let long : length ((front ++ 1 ∷ size) ++ before) ≡ stop = length-append (front ++ 1 ∷ size) before
+    ∙ sym stops in
+    let second : drop stop bytes ≡ back = ap (λ (u : List ℕ). drop stop u) (parts
+    ∙ sym (append_assoc (front ++ 1 ∷ size) before back))
+    ∙ drop_at ((front ++ 1 ∷ size) ++ before) back stop long in
     let new-is : new ≡ front ++ (types_text content ++ back) =
-    is ∙ ap (λ (u : List ℕ). (u ++ types_text content) ++ drop stop bytes) first ∙ ap (λ (u : List ℕ). (front ++ types_text content) ++ u) second ∙ append_assoc front (types_text content) back in
+    is ∙ ap (λ (u : List ℕ). (u ++ types_text content) ++ drop stop bytes) first
+    ∙ ap (λ (u : List ℕ). (front ++ types_text content) ++ u) second
+    ∙ append_assoc front (types_text content) back in
     subst (λ (u : List ℕ). IsReplaced content bytes u) (sym new-is)
-    (subst (λ (u : List ℕ). IsReplaced content u (front ++ (types_text content ++ back))) (sym parts) (replaced front size before back (types_text content) a h (shortest content text)))
+    (subst (λ (u : List ℕ). IsReplaced content u (front ++ (types_text content ++ back))) (sym parts)
+    (replaced front size before back (types_text content) a h (shortest content text)))
 
-pub replaces : (bytes content new : List ℕ) (opening start stop : ℕ) → IsTypeSectionFrom bytes opening start stop → IsU32 (u32_text (length content)) (length content)
-    → new ≡ (take opening bytes ++ types_text content) ++ take (length bytes - stop) (drop stop bytes) → IsReplaced content bytes new
+pub replaces : (bytes content new : List ℕ) (opening start stop : ℕ) →
+    IsTypeSectionFrom bytes opening start stop → IsU32 (u32_text (length content)) (length content)
+    → new ≡ (take opening bytes ++ types_text content) ++ take (length bytes - stop) (drop stop bytes) →
+    IsReplaced content bytes new
 replaces bytes content new opening start stop f text is =
     let t = f.there in
-    let stops : stop ≡ length (t.front ++ 1 ∷ t.size) + length t.content = t.stops ∙ ap (λ k. k + length t.content) t.starts in
-    replaced_parts bytes t.front t.size t.content t.back content new opening stop t.around_it t.sized t.parts f.opens stops text
+    let stops : stop ≡ length (t.front ++ 1 ∷ t.size) + length t.content = t.stops
+    ∙ ap (λ k. k + length t.content) t.starts in
+    replaced_parts bytes t.front t.size t.content t.back content new opening stop t.around_it t.sized t.parts
+    f.opens stops text
     (is ∙ ap (λ (u : List ℕ). (take opening bytes ++ types_text content) ++ u) (take_rest bytes stop))
 
 -- ---- the content is there
@@ -70,35 +94,56 @@ AreOthers (id ∷ ks) = (id ≡ 1 → ⊥) × AreOthers ks
 
 pub are_others : (sections : List Section) → All IsOther sections → AreOthers (ids sections)
 are_others [] h = tt
-are_others (s ∷ sections) h = (h 0 s (omega arith), are_others sections (λ k d lt. h (suc k) d (suc-le-suc lt)))
+are_others (s ∷ sections) h = (
+  h 0 s (omega arith),
+  are_others sections (λ k d lt. h (suc k) d (suc-le-suc lt)),
+)
 
 pub later_all : (ks : List ℕ) → AreInOrder 0 ks → AreOthers ks → AreInOrder 1 ks
 later_all _ (no_more last) others = no_more 1
 later_all _ (custom last ks h) others = custom 1 ks (later_all ks h others.1)
-later_all _ (later last id place ks is lt h) others = later 1 id place ks is (not_first id place is others.0) h
+later_all _ (later last id place ks is lt h) others =
+    later 1 id place ks is (not_first id place is others.0) h
 
-section_parts : (text : List ℕ) (s : Section) → IsSection text s → (size : List ℕ) × IsU32 size (length s.content) × (text ≡ s.id ∷ (size ++ s.content))
+section_parts : (text : List ℕ) (s : Section) → IsSection text s → (size : List ℕ)
+    × IsU32 size (length s.content) × (text ≡ s.id ∷ (size ++ s.content))
 section_parts _ _ (sized id size content h) = (size, h, refl)
 
-has_types : (front text content back : List ℕ) → AreAroundTypes front back → IsSection text (section 1 content) → HasTypes (front ++ (text ++ back)) content
+has_types : (front text content back : List ℕ) → AreAroundTypes front back →
+    IsSection text (section 1 content) → HasTypes (front ++ (text ++ back)) content
 has_types front text content back a h =
     let p = section_parts text (section 1 content) h in
     let whole : front ++ (text ++ back) ≡ (front ++ 1 ∷ p.0) ++ (content ++ back) =
-    ap (λ (u : List ℕ). front ++ (u ++ back)) p.2 ∙ ap (λ (u : List ℕ). front ++ 1 ∷ u) (append_assoc p.0 content back) ∙ sym (append_assoc front (1 ∷ p.0) (content ++ back)) in
+    ap (λ (u : List ℕ). front ++ (u ++ back)) p.2
+    ∙ ap (λ (u : List ℕ). front ++ 1 ∷ u) (append_assoc p.0 content back)
+    ∙ sym (append_assoc front (1 ∷ p.0) (content ++ back)) in
     record {
       start = length (front ++ 1 ∷ p.0);
       stop = length (front ++ 1 ∷ p.0) + length content;
-      there = record { front = front; size = p.0; content = content; back = back; around_it = a; sized = p.1; parts = whole; starts = refl; stops = refl };
+      there = record {
+        front = front;
+        size = p.0;
+        content = content;
+        back = back;
+        around_it = a;
+        sized = p.1;
+        parts = whole;
+        starts = refl;
+        stops = refl;
+      };
       same = refl;
     }
 
 pub types_there : (content old new : List ℕ) → IsReplaced content old new → HasTypes new content
-types_there content _ _ (replaced front size before back text a h t) = has_types front text content back a t.is_section
-types_there content _ _ (inserted customs others text h c first a t) = has_types (header ++ customs) text content others a t.is_section
+types_there content _ _ (replaced front size before back text a h t) =
+    has_types front text content back a t.is_section
+types_there content _ _ (inserted customs others text h c first a t) =
+    has_types (header ++ customs) text content others a t.is_section
 
 -- ---- what an answer says
 
-pub both_ok : {V E : Type 0} (r : Result V E) (P : V → Type 0) (Q : Type 0) (S : V → Type 0) → IfOk r P → OnOk r Q → ((v : V) → P v → Q → S v) → IfOk r S
+pub both_ok : {V E : Type 0} (r : Result V E) (P : V → Type 0) (Q : Type 0) (S : V → Type 0) → IfOk r P →
+    OnOk r Q → ((v : V) → P v → Q → S v) → IfOk r S
 both_ok (Ok v) P Q S p q f = f v p q
 both_ok (Err e) P Q S p q f = tt
 

@@ -3,7 +3,8 @@ use Rattle.std.proofs.Common.{◌≡◌, ℕ, ◌+◌, ◌-◌, ◌≤◌, List,
 use Rattle.std.specs.Prelude.{slice_range}
 use Rattle.walrus_binary.specs.Modules.{IsTypeSectionAt}
 
-pub content_is : (bytes : List ℕ) (start stop : ℕ) (t : IsTypeSectionAt bytes start stop) → slice_range bytes start stop ≡ t.content
+pub content_is : (bytes : List ℕ) (start stop : ℕ) (t : IsTypeSectionAt bytes start stop) →
+    slice_range bytes start stop ≡ t.content
 content_is bytes start stop t =
     let front : List ℕ = t.front ++ 1 ∷ t.size in
     let long : length t.content ≡ stop - start = omega (arith, t.stops) in
@@ -12,7 +13,8 @@ content_is bytes start stop t =
     ∙ take_at t.content t.back (stop - start) long
 
 -- it ends in the bytes
-pub content_within : (bytes : List ℕ) (start stop : ℕ) (t : IsTypeSectionAt bytes start stop) → start + length t.content ≤ length bytes
+pub content_within : (bytes : List ℕ) (start stop : ℕ) (t : IsTypeSectionAt bytes start stop) →
+    start + length t.content ≤ length bytes
 content_within bytes start stop t =
     let front : List ℕ = t.front ++ 1 ∷ t.size in
     let long : length bytes ≡ length front + length (t.content ++ t.back) =

@@ -6,7 +6,7 @@ use Rattle.walrus_binary.specs.declared.error.Expected.TheVariants as expected
 use Rattle.walrus_binary.specs.declared.error.Fault.{Fault}
 use Rattle.std.specs.List.{All}
 use Rattle.walrus_binary.specs.Grammar.{AreItems}
-use Rattle.walrus_binary.specs.Modules.{Section, section, IsSection, magic, version, header, IsTypeSectionAt}
+use Rattle.walrus_binary.specs.Modules.{Section, section, ids, IsSection, AreInOrder, magic, version, header, IsTypeSectionAt}
 use Rattle.walrus_binary.specs.Replacement.{IsCustom, BeginsWithNoCustom}
 use Rattle.walrus_binary.specs.Steps.Reading.{◌>>=◌, expected_error, u32_at}
 
@@ -15,6 +15,15 @@ use Rattle.walrus_binary.specs.Steps.Reading.{◌>>=◌, expected_error, u32_at}
 pub record IsTypeSectionFrom (bytes : List ℕ) (opening start stop : ℕ) : Type 0 where
   pub there : IsTypeSectionAt bytes start stop
   pub opens : opening ≡ length there.front
+
+-- Some sections of a module were passed, the last of which that isn't custom has the place `last`,
+-- and these bytes are left.
+pub record HasPassed (bytes rest : List ℕ) (last : ℕ) : Type 0 where
+  pub texts : List ℕ
+  pub before : List Section
+  pub whole : bytes ≡ header ++ (texts ++ rest)
+  pub are : AreItems IsSection texts before
+  pub joins : (after : List ℕ) → AreInOrder last after → AreInOrder 0 (ids before ++ after)
 
 -- the bytes behind the custom sections with which a module begins
 pub record IsBehindCustoms (bytes rest : List ℕ) : Type 0 where

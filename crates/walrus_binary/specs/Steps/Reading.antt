@@ -22,8 +22,8 @@ use Rattle.walrus_binary.specs.declared.error.NotHeld.TheVariants as held
 use Rattle.walrus_binary.specs.declared.error.Reason.{Reason}
 use Rattle.walrus_binary.specs.declared.error.Reason.TheVariants as reason
 use Rattle.walrus_binary.specs.declared.error.Fault.{Fault}
-use Rattle.walrus_binary.specs.declared.error.ReadError.{ReadError}
-use Rattle.walrus_binary.specs.declared.error.ReadError.TheVariants as errors
+use Rattle.walrus_binary.specs.declared.error.RawReadError.{RawReadError}
+use Rattle.walrus_binary.specs.declared.error.RawReadError.TheVariants as errors
 use Rattle.walrus_binary.specs.declared.decode.composite.Form.{Form}
 use Rattle.walrus_binary.specs.declared.decode.composite.Form.TheVariants as form
 use Rattle.walrus_binary.specs.declared.decode.group.Head.{Head}
@@ -39,23 +39,23 @@ expected_error bytes e = Err (record { left = length bytes; reason = reason.Expe
 
 -- The error, where so much is left of the input, is the fault that reading ends with, unless memory
 -- was refused.
-abbrev pub Fails : {Y : Type 0} → List ℕ → ReadError → Result Y Fault → Type 0
+abbrev pub Fails : {Y : Type 0} → List ℕ → RawReadError → Result Y Fault → Type 0
 Fails left errors.Memory read = Unit {0}
 Fails left (errors.Reason r) read = read ≡ Err (record { left = length left; reason = r })
 
 -- What a function answered, seen by view, and what it left of the input are what reading gives,
 -- unless memory was refused.
-abbrev pub Gives : {X Y : Type 0} → (X → Y) → Result X ReadError → List ℕ → Result (Y × List ℕ) Fault → Type 0
+abbrev pub Gives : {X Y : Type 0} → (X → Y) → Result X RawReadError → List ℕ → Result (Y × List ℕ) Fault → Type 0
 Gives view (Ok x) left read = read ≡ Ok (view x, left)
 Gives view (Err e) left read = Fails left e read
 
 -- What a function answered says how reading goes on with what it left of the input.
-abbrev pub Leads : {X Y : Type 0} → (X → List ℕ → Result (Y × List ℕ) Fault) → Result X ReadError → List ℕ → Result (Y × List ℕ) Fault → Type 0
+abbrev pub Leads : {X Y : Type 0} → (X → List ℕ → Result (Y × List ℕ) Fault) → Result X RawReadError → List ℕ → Result (Y × List ℕ) Fault → Type 0
 Leads on (Ok x) left read = read ≡ on x left
 Leads on (Err e) left read = Fails left e read
 
 -- `Gives` where reading says nothing of what is left
-abbrev pub GivesAll : {X Y : Type 0} → (X → Y) → Result X ReadError → List ℕ → Result Y Fault → Type 0
+abbrev pub GivesAll : {X Y : Type 0} → (X → Y) → Result X RawReadError → List ℕ → Result Y Fault → Type 0
 GivesAll view (Ok x) left read = read ≡ Ok (view x)
 GivesAll view (Err e) left read = Fails left e read
 

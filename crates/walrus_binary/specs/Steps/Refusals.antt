@@ -5,8 +5,8 @@ use Rattle.walrus_binary.specs.declared.error.DecodeError.TheVariants as decode
 use Rattle.walrus_binary.specs.declared.error.Reason.{Reason}
 use Rattle.walrus_binary.specs.declared.error.Reason.TheVariants as reason
 use Rattle.walrus_binary.specs.declared.error.Fault.{Fault}
-use Rattle.walrus_binary.specs.declared.error.ReadError.{ReadError}
-use Rattle.walrus_binary.specs.declared.error.ReadError.TheVariants as errors
+use Rattle.walrus_binary.specs.declared.error.RawReadError.{RawReadError}
+use Rattle.walrus_binary.specs.declared.error.RawReadError.TheVariants as errors
 
 abbrev pub with_reason : ℕ → Reason → DecodeError
 with_reason offset (reason.Expected expected) = decode.Malformed offset expected
@@ -16,10 +16,10 @@ abbrev pub refusal : ℕ → Fault → DecodeError
 refusal len fault = with_reason (len - fault.left) fault.reason
 
 -- no more bytes are left at a fault than these
-abbrev pub IsWithin : ℕ → ℕ → ReadError → Type 0
+abbrev pub IsWithin : ℕ → ℕ → RawReadError → Type 0
 IsWithin len left (errors.Reason r) = left ≤ len
 IsWithin len left errors.Memory = Unit {0}
 
-abbrev pub error_refusal : ℕ → ℕ → ReadError → DecodeError
+abbrev pub error_refusal : ℕ → ℕ → RawReadError → DecodeError
 error_refusal len left (errors.Reason r) = refusal len (record { left = left; reason = r })
 error_refusal len left errors.Memory = decode.Memory

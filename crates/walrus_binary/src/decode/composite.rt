@@ -8,7 +8,7 @@ ghost use Rattle.walrus_binary.specs.Steps.Reading.{comp_behind, comp_at};
 
 use crate::decode::list::{Decode, read_vec};
 use crate::decode::value::read_val;
-use crate::error::{Expected, NotHeld, ReadError};
+use crate::error::{Expected, NotHeld, RawReadError};
 use std::alloc::Global;
 use walrus_ty::{CompAt, FieldAt, Listed, StorageAt, ValAt};
 
@@ -23,11 +23,11 @@ pub enum Form {
 /// Takes the first byte of a composite type from the front.
 #[inline(always)]
 #[tactic(auto, unfolding(crate::specs::Steps::Reading::comp_at))]
-pub fn read_form(input: &mut &[u8]) -> Result<Form, ReadError>
+pub fn read_form(input: &mut &[u8]) -> Result<Form, RawReadError>
     ensures { Leads comp_behind result input.new.now (comp_at input.old.now) }
 {
     match *input {
-        [] => Err(ReadError::expected(Expected::CompType)),
+        [] => Err(RawReadError::expected(Expected::CompType)),
         [0x60, rest @ ..] => {
             *input = rest;
             Ok(Form::Function)
@@ -40,16 +40,16 @@ pub fn read_form(input: &mut &[u8]) -> Result<Form, ReadError>
             *input = rest;
             Ok(Form::Array)
         }
-        [0x5D, ..] => Err(ReadError::not_held(NotHeld::Continuation)),
-        [0x65, ..] => Err(ReadError::not_held(NotHeld::Shared)),
-        [0x4C, ..] => Err(ReadError::not_held(NotHeld::Descriptor)),
-        [0x4D, ..] => Err(ReadError::not_held(NotHeld::Descriptor)),
-        [_, ..] => Err(ReadError::expected(Expected::CompType)),
+        [0x5D, ..] => Err(RawReadError::not_held(NotHeld::Continuation)),
+        [0x65, ..] => Err(RawReadError::not_held(NotHeld::Shared)),
+        [0x4C, ..] => Err(RawReadError::not_held(NotHeld::Descriptor)),
+        [0x4D, ..] => Err(RawReadError::not_held(NotHeld::Descriptor)),
+        [_, ..] => Err(RawReadError::expected(Expected::CompType)),
     }
 }
 
 /// Takes what a composite type has behind its first byte.
-pub fn read_comp(alloc: Global, form: Form, input: &mut &[u8]) -> Result<CompAt, ReadError>
+pub fn read_comp(alloc: Global, form: Form, input: &mut &[u8]) -> Result<CompAt, RawReadError>
     ensures { Gives (λ c. c) result input.new.now (comp_behind form input.old.now) }
 {
     match form {
@@ -62,7 +62,7 @@ pub fn read_comp(alloc: Global, form: Form, input: &mut &[u8]) -> Result<CompAt,
 /// Takes what a function type has behind its first byte.
 #[inline(always)]
 #[tactic(auto, unfolding(crate::specs::Steps::Reading::function_at))]
-pub fn read_function(alloc: Global, input: &mut &[u8]) -> Result<CompAt, ReadError>
+pub fn read_function(alloc: Global, input: &mut &[u8]) -> Result<CompAt, RawReadError>
     ensures { Gives (λ c. c) result input.new.now (function_at input.old.now) }
 {
     let params = Listed::from_vec(read_vec(alloc, input)?);
@@ -72,7 +72,7 @@ pub fn read_function(alloc: Global, input: &mut &[u8]) -> Result<CompAt, ReadErr
 
 /// Takes what a struct type has behind its first byte.
 #[inline(always)]
-pub fn read_struct(alloc: Global, input: &mut &[u8]) -> Result<CompAt, ReadError>
+pub fn read_struct(alloc: Global, input: &mut &[u8]) -> Result<CompAt, RawReadError>
     ensures { Gives (λ c. c) result input.new.now (struct_at input.old.now) }
 {
     let fields = Listed::from_vec(read_vec(alloc, input)?);
@@ -81,7 +81,7 @@ pub fn read_struct(alloc: Global, input: &mut &[u8]) -> Result<CompAt, ReadError
 
 /// Takes what an array type has behind its first byte.
 #[inline(always)]
-pub fn read_array(input: &mut &[u8]) -> Result<CompAt, ReadError>
+pub fn read_array(input: &mut &[u8]) -> Result<CompAt, RawReadError>
     ensures { Gives (λ c. c) result input.new.now (array_at input.old.now) }
 {
     let field = read_field(input)?;
@@ -90,7 +90,7 @@ pub fn read_array(input: &mut &[u8]) -> Result<CompAt, ReadError>
 
 #[inline(always)]
 #[tactic(auto, unfolding(crate::specs::Steps::Reading::field_at))]
-fn read_field(input: &mut &[u8]) -> Result<FieldAt, ReadError>
+fn read_field(input: &mut &[u8]) -> Result<FieldAt, RawReadError>
     ensures { Gives (λ f. f) result input.new.now (field_at input.old.now) }
 {
     let element_type = read_storage(input)?;
@@ -103,11 +103,11 @@ fn read_field(input: &mut &[u8]) -> Result<FieldAt, ReadError>
 
 #[inline(always)]
 #[tactic(auto, unfolding(crate::specs::Steps::Reading::storage_at))]
-fn read_storage(input: &mut &[u8]) -> Result<StorageAt, ReadError>
+fn read_storage(input: &mut &[u8]) -> Result<StorageAt, RawReadError>
     ensures { Gives (λ s. s) result input.new.now (storage_at input.old.now) }
 {
     match *input {
-        [] => Err(ReadError::expected(Expected::StorageType)),
+        [] => Err(RawReadError::expected(Expected::StorageType)),
         [0x78, rest @ ..] => {
             *input = rest;
             Ok(StorageAt::I8)
@@ -125,7 +125,7 @@ fn read_storage(input: &mut &[u8]) -> Result<StorageAt, ReadError>
 
 #[inline(always)]
 #[tactic(auto, unfolding(crate::specs::Steps::Reading::mutability_at))]
-fn read_mutability(input: &mut &[u8]) -> Result<bool, ReadError>
+fn read_mutability(input: &mut &[u8]) -> Result<bool, RawReadError>
     ensures { Gives (λ m. m) result input.new.now (mutability_at input.old.now) }
 {
     match *input {
@@ -137,14 +137,14 @@ fn read_mutability(input: &mut &[u8]) -> Result<bool, ReadError>
             *input = rest;
             Ok(true)
         }
-        _ => Err(ReadError::expected(Expected::Mutability)),
+        _ => Err(RawReadError::expected(Expected::Mutability)),
     }
 }
 
 impl Decode for ValAt {
     ghost reading = { val_at };
 
-    fn read(_alloc: Global, input: &mut &[u8]) -> Result<ValAt, ReadError> {
+    fn read(_alloc: Global, input: &mut &[u8]) -> Result<ValAt, RawReadError> {
         read_val(input)
     }
 }
@@ -152,7 +152,7 @@ impl Decode for ValAt {
 impl Decode for FieldAt {
     ghost reading = { field_at };
 
-    fn read(_alloc: Global, input: &mut &[u8]) -> Result<FieldAt, ReadError> {
+    fn read(_alloc: Global, input: &mut &[u8]) -> Result<FieldAt, RawReadError> {
         read_field(input)
     }
 }

@@ -9,7 +9,7 @@ use crate::decode::composite::{
     Form, read_array, read_comp, read_form, read_function, read_struct,
 };
 use crate::decode::list::{Decode, read_vec};
-use crate::error::{Expected, NotHeld, ReadError};
+use crate::error::{Expected, NotHeld, RawReadError};
 use crate::leb128::read_u32;
 use std::alloc::Global;
 use walrus_ty::{CompAt, EntryAt, GroupAt, Listed};
@@ -20,11 +20,11 @@ use walrus_ty::{CompAt, EntryAt, GroupAt, Listed};
 /// function alone, from parts that are small. Whatever would return a whole group to it is inlined.
 #[inline(never)]
 #[tactic(auto, unfolding(crate::specs::Steps::Reading::group_at))]
-pub fn read_group(alloc: Global, input: &mut &[u8]) -> Result<GroupAt, ReadError>
+pub fn read_group(alloc: Global, input: &mut &[u8]) -> Result<GroupAt, RawReadError>
     ensures { Gives (λ g. g) result input.new.now (group_at input.old.now) }
 {
     match *input {
-        [] => Err(ReadError::expected(Expected::RecType)),
+        [] => Err(RawReadError::expected(Expected::RecType)),
         [0x4E, rest @ ..] => {
             *input = rest;
             read_rec(alloc, input)
@@ -34,7 +34,7 @@ pub fn read_group(alloc: Global, input: &mut &[u8]) -> Result<GroupAt, ReadError
 }
 
 #[inline(always)]
-fn read_rec(alloc: Global, input: &mut &[u8]) -> Result<GroupAt, ReadError>
+fn read_rec(alloc: Global, input: &mut &[u8]) -> Result<GroupAt, RawReadError>
     ensures { Gives (λ g. g) result input.new.now (rec_at input.old.now) }
 {
     let entries = Listed::from_vec(read_vec(alloc, input)?);
@@ -42,7 +42,7 @@ fn read_rec(alloc: Global, input: &mut &[u8]) -> Result<GroupAt, ReadError>
 }
 
 #[inline(always)]
-fn read_single(alloc: Global, input: &mut &[u8]) -> Result<GroupAt, ReadError>
+fn read_single(alloc: Global, input: &mut &[u8]) -> Result<GroupAt, RawReadError>
     ensures { Gives (λ g. g) result input.new.now (single_at input.old.now) }
 {
     let head = read_head(input)?;
@@ -63,7 +63,7 @@ fn read_single(alloc: Global, input: &mut &[u8]) -> Result<GroupAt, ReadError>
 }
 
 /// Takes a definition from the front.
-fn read_entry(alloc: Global, input: &mut &[u8]) -> Result<EntryAt, ReadError>
+fn read_entry(alloc: Global, input: &mut &[u8]) -> Result<EntryAt, RawReadError>
     ensures { Gives (λ e. e) result input.new.now (entry_at input.old.now) }
 {
     let head = read_head(input)?;
@@ -96,11 +96,11 @@ impl Head {
 /// Takes the head of a definition from the front.
 #[inline(always)]
 #[tactic(auto, unfolding(crate::specs::Steps::Reading::entry_at))]
-fn read_head(input: &mut &[u8]) -> Result<Head, ReadError>
+fn read_head(input: &mut &[u8]) -> Result<Head, RawReadError>
     ensures { Leads entry_behind result input.new.now (entry_at input.old.now) }
 {
     match *input {
-        [] => Err(ReadError::expected(Expected::RecType)),
+        [] => Err(RawReadError::expected(Expected::RecType)),
         [0x50, rest @ ..] => {
             *input = rest;
             read_declared(false, input)
@@ -123,7 +123,7 @@ fn read_head(input: &mut &[u8]) -> Result<Head, ReadError>
 /// The head behind `sub` or `sub final`, which fewer definitions have.
 #[inline(never)]
 #[tactic(auto, unfolding(crate::specs::Steps::Reading::declared_at))]
-fn read_declared(is_final: bool, input: &mut &[u8]) -> Result<Head, ReadError>
+fn read_declared(is_final: bool, input: &mut &[u8]) -> Result<Head, RawReadError>
     ensures { Leads entry_behind result input.new.now (declared_at is_final input.old.now) }
 {
     let supertype = read_supertype(input)?;
@@ -139,7 +139,7 @@ fn read_declared(is_final: bool, input: &mut &[u8]) -> Result<Head, ReadError>
 /// begins.
 #[inline(always)]
 #[tactic(auto, unfolding(crate::specs::Steps::Reading::supertype_at))]
-fn read_supertype(input: &mut &[u8]) -> Result<Option<u32>, ReadError>
+fn read_supertype(input: &mut &[u8]) -> Result<Option<u32>, RawReadError>
     ensures { Gives (λ s. s) result input.new.now (supertype_at input.old.now) }
 {
     let start = *input;
@@ -151,7 +151,7 @@ fn read_supertype(input: &mut &[u8]) -> Result<Option<u32>, ReadError>
         }
         _ => {
             *input = start;
-            Err(ReadError::not_held(NotHeld::Supertypes))
+            Err(RawReadError::not_held(NotHeld::Supertypes))
         }
     }
 }
@@ -159,7 +159,7 @@ fn read_supertype(input: &mut &[u8]) -> Result<Option<u32>, ReadError>
 impl Decode for EntryAt {
     ghost reading = { entry_at };
 
-    fn read(alloc: Global, input: &mut &[u8]) -> Result<EntryAt, ReadError> {
+    fn read(alloc: Global, input: &mut &[u8]) -> Result<EntryAt, RawReadError> {
         read_entry(alloc, input)
     }
 }
@@ -167,7 +167,7 @@ impl Decode for EntryAt {
 impl Decode for GroupAt {
     ghost reading = { group_at };
 
-    fn read(alloc: Global, input: &mut &[u8]) -> Result<GroupAt, ReadError> {
+    fn read(alloc: Global, input: &mut &[u8]) -> Result<GroupAt, RawReadError> {
         read_group(alloc, input)
     }
 }

@@ -4,7 +4,7 @@ ghost use Rattle.std.specs.Prelude.{◌≡◌, ℕ, List, Result};
 ghost use Rattle.walrus_binary.specs.Steps.Reading.{Gives, items_at, vec_at};
 ghost use Rattle.walrus_binary.specs.declared.error.Fault.{Fault};
 
-use crate::error::ReadError;
+use crate::error::RawReadError;
 use crate::leb128::read_u32;
 use std::alloc::Global;
 
@@ -14,7 +14,7 @@ pub trait Decode: Sized {
     ghost reading: { List ℕ → Result (Self × List ℕ) Fault };
 
     /// Takes the value from the front. With an error the input is left at the fault.
-    fn read(alloc: Global, input: &mut &[u8]) -> Result<Self, ReadError>
+    fn read(alloc: Global, input: &mut &[u8]) -> Result<Self, RawReadError>
         ensures { Gives (λ x. x) result input.new.now (reading input.old.now) };
 }
 
@@ -25,7 +25,7 @@ const MOST_RESERVED: usize = 1000;
 /// list, as the results often are, costs no call.
 #[inline(always)]
 #[tactic(auto, unfolding(crate::specs::Steps::Reading::vec_at, crate::specs::Steps::Reading::items_at))]
-pub fn read_vec<T: Decode + Drop>(alloc: Global, input: &mut &[u8]) -> Result<Vec<T>, ReadError>
+pub fn read_vec<T: Decode + Drop>(alloc: Global, input: &mut &[u8]) -> Result<Vec<T>, RawReadError>
     ensures { Gives (λ xs. xs.items) result input.new.now (vec_at T.reading input.old.now) }
 {
     let count = read_u32(input)?;
@@ -41,10 +41,10 @@ fn read_items<T: Decode + Drop>(
     alloc: Global,
     count: u32,
     input: &mut &[u8],
-) -> Result<Vec<T>, ReadError>
+) -> Result<Vec<T>, RawReadError>
     ensures { Gives (λ xs. xs.items) result input.new.now (items_at T.reading count input.old.now) }
 {
-    let mut items = Vec::with_capacity(alloc, room(count, input.len()))?;
+    let mut items = Vec::with_capacity(alloc, initial_capacity(count, input.len()))?;
     for _ in 0..count {
         let item = T::read(alloc, input)?;
         items.push(item)?;
@@ -54,7 +54,7 @@ fn read_items<T: Decode + Drop>(
 
 /// The number of items for which memory is taken before they are read, where `left` bytes are left.
 /// It is 0 where there are fewer bytes than items, since the last items are then missing.
-fn room(count: u32, left: usize) -> usize {
+fn initial_capacity(count: u32, left: usize) -> usize {
     let count = count as usize;
     if count > left {
         return 0;

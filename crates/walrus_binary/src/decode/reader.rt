@@ -5,7 +5,7 @@ ghost use Rattle.walrus_binary.specs.Faults.{IsNoText, BeginsNoText, IsBegun};
 ghost use Rattle.walrus_binary.specs.Faults.{IsSeenThere, NamesUnheld, error_offset};
 
 use crate::decode::group::read_group;
-use crate::error::{DecodeError, Expected, ReadError};
+use crate::error::{DecodeError, Expected, RawReadError};
 use crate::leb128::read_u32;
 use std::alloc::Global;
 use std::marker::Model;
@@ -155,7 +155,7 @@ impl<'a> TypeSectionReader<'a> {
             if rest.is_empty() {
                 return Ok(None);
             }
-            let error = ReadError::expected(Expected::End);
+            let error = RawReadError::expected(Expected::End);
             return Err(error.refusal(self.bytes.len(), rest.len()));
         }
         match read_group(self.alloc, &mut rest) {

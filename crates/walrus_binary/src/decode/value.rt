@@ -3,18 +3,18 @@
 ghost use Rattle.std.specs.Prelude.{◌≡◌};
 ghost use Rattle.walrus_binary.specs.Steps.Reading.{Gives, heap_type_of, index_at, heap_at, reference_at, val_at};
 
-use crate::error::{Expected, NotHeld, ReadError};
+use crate::error::{Expected, NotHeld, RawReadError};
 use crate::leb128::{read_s33, read_u32};
 use walrus_ty::{AbstractHeapType, HeapAt, RefAt, ValAt};
 
 /// Takes a value type from the front.
 #[inline(always)]
 #[tactic(auto, unfolding(crate::specs::Steps::Reading::val_at))]
-pub fn read_val(input: &mut &[u8]) -> Result<ValAt, ReadError>
+pub fn read_val(input: &mut &[u8]) -> Result<ValAt, RawReadError>
     ensures { Gives (λ v. v) result input.new.now (val_at input.old.now) }
 {
     match *input {
-        [] => Err(ReadError::expected(Expected::ValType)),
+        [] => Err(RawReadError::expected(Expected::ValType)),
         [0x7F, rest @ ..] => {
             *input = rest;
             Ok(ValAt::I32)
@@ -43,11 +43,11 @@ pub fn read_val(input: &mut &[u8]) -> Result<ValAt, ReadError>
 }
 
 #[tactic(auto, unfolding(crate::specs::Steps::Reading::reference_at))]
-fn read_reference(input: &mut &[u8]) -> Result<RefAt, ReadError>
+fn read_reference(input: &mut &[u8]) -> Result<RefAt, RawReadError>
     ensures { Gives (λ r. r) result input.new.now (reference_at input.old.now) }
 {
     let [byte, rest @ ..] = *input else {
-        return Err(ReadError::expected(Expected::ValType));
+        return Err(RawReadError::expected(Expected::ValType));
     };
     let byte = *byte;
     if byte == 0x63 || byte == 0x64 {
@@ -68,19 +68,19 @@ fn read_reference(input: &mut &[u8]) -> Result<RefAt, ReadError>
                 heap_type,
             })
         }
-        None if byte == 0x65 => Err(ReadError::not_held(NotHeld::Shared)),
-        None if byte == 0x68 || byte == 0x75 => Err(ReadError::not_held(NotHeld::Continuation)),
-        None => Err(ReadError::expected(Expected::ValType)),
+        None if byte == 0x65 => Err(RawReadError::not_held(NotHeld::Shared)),
+        None if byte == 0x68 || byte == 0x75 => Err(RawReadError::not_held(NotHeld::Continuation)),
+        None => Err(RawReadError::expected(Expected::ValType)),
     }
 }
 
 #[inline(always)]
 #[tactic(auto, unfolding(crate::specs::Steps::Reading::heap_at))]
-fn read_heap(input: &mut &[u8]) -> Result<HeapAt, ReadError>
+fn read_heap(input: &mut &[u8]) -> Result<HeapAt, RawReadError>
     ensures { Gives (λ h. h) result input.new.now (heap_at input.old.now) }
 {
     let [byte, rest @ ..] = *input else {
-        return Err(ReadError::expected(Expected::HeapType));
+        return Err(RawReadError::expected(Expected::HeapType));
     };
     let byte = *byte;
     if byte == 0x62 {
@@ -100,7 +100,7 @@ fn read_heap(input: &mut &[u8]) -> Result<HeapAt, ReadError>
 /// A heap type whose first byte is not the code of an abstract one.
 #[inline(always)]
 #[tactic(auto, unfolding(crate::specs::Steps::Reading::index_at))]
-fn read_index(byte: u8, input: &mut &[u8]) -> Result<HeapAt, ReadError>
+fn read_index(byte: u8, input: &mut &[u8]) -> Result<HeapAt, RawReadError>
     ensures { Gives (λ h. h) result input.new.now (index_at byte input.old.now) }
 {
     if byte < 0x40 || byte >= 0x80 {
@@ -108,10 +108,10 @@ fn read_index(byte: u8, input: &mut &[u8]) -> Result<HeapAt, ReadError>
         return Ok(HeapAt::Concrete(index));
     }
     match byte {
-        0x65 => Err(ReadError::not_held(NotHeld::Shared)),
-        0x68 => Err(ReadError::not_held(NotHeld::Continuation)),
-        0x75 => Err(ReadError::not_held(NotHeld::Continuation)),
-        _ => Err(ReadError::expected(Expected::HeapType)),
+        0x65 => Err(RawReadError::not_held(NotHeld::Shared)),
+        0x68 => Err(RawReadError::not_held(NotHeld::Continuation)),
+        0x75 => Err(RawReadError::not_held(NotHeld::Continuation)),
+        _ => Err(RawReadError::expected(Expected::HeapType)),
     }
 }
 

@@ -2,7 +2,7 @@
 //! WebAssembly core specification, "Binary Format", "Type Section" and modules.
 ghost use Rattle.std.specs.Prelude.{◌≡◌, ◌+◌, ◌<◌, ◌≤◌, ◌^◌, length, take, IfErr, IfOk, IfSome};
 ghost use Rattle.walrus_binary.specs.Faults.{IsSeenThere, error_offset};
-ghost use Rattle.walrus_binary.specs.ModuleTypes.{HasTypes, HasBadTypes, BeginsNoTypes, HasBadTypesBy, behind};
+ghost use Rattle.walrus_binary.specs.ModuleSections.{HasTypes, HasBadTypes, BeginsNoTypes, HasBadTypesBy, shifted};
 
 use crate::{DecodeError, decode_types, type_section};
 use std::alloc::Global;
@@ -50,14 +50,14 @@ pub fn module_types(alloc: Global, bytes: &[u8]) -> Result<Vec<GroupAt>, DecodeE
     let start = range.start;
     match decode_types(alloc, &bytes[start..range.end]) {
         Ok(groups) => Ok(groups),
-        Err(error) => Err(behind(start, error)),
+        Err(error) => Err(shift_offset(start, error)),
     }
 }
 
 /// The same error in bytes that follow `start` others.
-fn behind(start: usize, error: DecodeError) -> DecodeError
+fn shift_offset(start: usize, error: DecodeError) -> DecodeError
     requires { IfSome (error_offset error) (λ offset. start + offset < 2 ^ 64) }
-    ensures { result ≡ behind start error }
+    ensures { result ≡ shifted start error }
 {
     match error {
         DecodeError::Malformed { offset, expected } => DecodeError::Malformed {

@@ -1,4 +1,4 @@
-//! Sections of a hundred thousand and of a million types. `scripts/measure_binary` measures how
+//! Sections of a hundred thousand and of a million types. `scripts/measure/binary` measures how
 //! fast they are read and written.
 use super::*;
 use crate::assertions::assert_equal;

@@ -1,6 +1,6 @@
 //! Instructions that have sequences inside.
 //! WebAssembly core specification, "Control Instructions" and "Structured Control Flow".
-ghost use Rattle.std.specs.Prelude.{◌≡◌, ◌⊎◌, OnOk, IfOk, IfErr, Ok, Err};
+ghost use Rattle.std.specs.Prelude.{◌≡◌, ◌⊎◌, OnOk, IfOk, IfErr, Ok, Err, Some, None};
 ghost use Rattle.instr.specs.declared.instr.Instr.TheVariants as instr;
 
 use super::InstrSeqBuilder;
@@ -10,7 +10,7 @@ use walrus_ir::{Block, IfElse, Instr, InstrSeqId, InstrSeqType, Loop};
 impl<'a> InstrSeqBuilder<'a> {
     ghost use Rattle.walrus_functions.specs.Body.{next_seq};
     ghost use Rattle.walrus_functions.specs.Building.{seq_id, function_of, IsKnown, Stays};
-    ghost use Rattle.walrus_functions.specs.NestedForms.{TakesNew, TakesSecond, KeepsFunction, KeepsSecond, Fills, FailsToFill, Attaches, FailsToAttach, AttachesAt, FailsToAttachAt, Nests, FailsToNest, NestsAt, FailsToNestAt, NestsBoth, FailsToNestBoth, NestsBothAt, FailsToNestBothAt};
+    ghost use Rattle.walrus_functions.specs.NestedForms.{TakesNew, TakesSecond, KeepsFunction, KeepsSecond, Fills, FailsToFill, Attaches, FailsToAttach, Nests, FailsToNest, NestsBoth, FailsToNestBoth};
 
     /// Adds a `block` over a new sequence of this type, which `make_block` fills.
     ///
@@ -31,10 +31,10 @@ impl<'a> InstrSeqBuilder<'a> {
         requires keeps { KeepsFunction (F.post make_block) (function_of self.old) ty }
         ensures same { Stays self.old self.new }
         ensures known { OnOk result (IsKnown self.new) }
-        ensures ok { OnOk result (Nests (F.post make_block) ty (seq_id self.old)
+        ensures ok { OnOk result (Nests (F.post make_block) ty (seq_id self.old) None
             (λ seq. instr.Block (record { seq = seq }))
             (function_of self.old) (function_of self.new)) }
-        ensures err { IfErr result (λ e. FailsToNest (F.post make_block) ty (seq_id self.old)
+        ensures err { IfErr result (λ e. FailsToNest (F.post make_block) ty (seq_id self.old) None
             (function_of self.old) e (function_of self.new)) }
     {
         let seq = self.fill_new(ty, make_block)?;
@@ -51,10 +51,10 @@ impl<'a> InstrSeqBuilder<'a> {
         requires keeps { KeepsFunction (F.post make_loop) (function_of self.old) ty }
         ensures same { Stays self.old self.new }
         ensures known { OnOk result (IsKnown self.new) }
-        ensures ok { OnOk result (Nests (F.post make_loop) ty (seq_id self.old)
+        ensures ok { OnOk result (Nests (F.post make_loop) ty (seq_id self.old) None
             (λ seq. instr.Loop (record { seq = seq }))
             (function_of self.old) (function_of self.new)) }
-        ensures err { IfErr result (λ e. FailsToNest (F.post make_loop) ty (seq_id self.old)
+        ensures err { IfErr result (λ e. FailsToNest (F.post make_loop) ty (seq_id self.old) None
             (function_of self.old) e (function_of self.new)) }
     {
         let seq = self.fill_new(ty, make_loop)?;
@@ -76,11 +76,11 @@ impl<'a> InstrSeqBuilder<'a> {
         ensures same { Stays self.old self.new }
         ensures known { OnOk result (IsKnown self.new) }
         ensures ok { OnOk result
-            (NestsBoth (F.post consequent) (G.post alternative) ty (seq_id self.old)
+            (NestsBoth (F.post consequent) (G.post alternative) ty (seq_id self.old) None
             (λ first second. instr.IfElse (record { consequent = first; alternative = second }))
             (function_of self.old) (function_of self.new)) }
         ensures err { IfErr result (λ e.
-            FailsToNestBoth (F.post consequent) (G.post alternative) ty (seq_id self.old)
+            FailsToNestBoth (F.post consequent) (G.post alternative) ty (seq_id self.old) None
             (function_of self.old) e (function_of self.new)) }
     {
         let same_ty = ty;
@@ -104,11 +104,11 @@ impl<'a> InstrSeqBuilder<'a> {
         requires keeps { KeepsFunction (F.post make_block) (function_of self.old) ty }
         ensures same { Stays self.old self.new }
         ensures known { OnOk result (IsKnown self.new) }
-        ensures ok { OnOk result (NestsAt (F.post make_block) ty (seq_id self.old) position
+        ensures ok { OnOk result (Nests (F.post make_block) ty (seq_id self.old) (Some position)
             (λ seq. instr.Block (record { seq = seq }))
             (function_of self.old) (function_of self.new)) }
         ensures err { IfErr result (λ e.
-            FailsToNestAt (F.post make_block) ty (seq_id self.old) position
+            FailsToNest (F.post make_block) ty (seq_id self.old) (Some position)
             (function_of self.old) e (function_of self.new)) }
     {
         let seq = self.fill_new(ty, make_block)?;
@@ -127,11 +127,11 @@ impl<'a> InstrSeqBuilder<'a> {
         requires keeps { KeepsFunction (F.post make_loop) (function_of self.old) ty }
         ensures same { Stays self.old self.new }
         ensures known { OnOk result (IsKnown self.new) }
-        ensures ok { OnOk result (NestsAt (F.post make_loop) ty (seq_id self.old) position
+        ensures ok { OnOk result (Nests (F.post make_loop) ty (seq_id self.old) (Some position)
             (λ seq. instr.Loop (record { seq = seq }))
             (function_of self.old) (function_of self.new)) }
         ensures err { IfErr result (λ e.
-            FailsToNestAt (F.post make_loop) ty (seq_id self.old) position
+            FailsToNest (F.post make_loop) ty (seq_id self.old) (Some position)
             (function_of self.old) e (function_of self.new)) }
     {
         let seq = self.fill_new(ty, make_loop)?;
@@ -159,11 +159,13 @@ impl<'a> InstrSeqBuilder<'a> {
         ensures same { Stays self.old self.new }
         ensures known { OnOk result (IsKnown self.new) }
         ensures ok { OnOk result
-            (NestsBothAt (F.post consequent) (G.post alternative) ty (seq_id self.old) position
+            (NestsBoth (F.post consequent) (G.post alternative) ty (seq_id self.old)
+            (Some position)
             (λ first second. instr.IfElse (record { consequent = first; alternative = second }))
             (function_of self.old) (function_of self.new)) }
         ensures err { IfErr result (λ e.
-            FailsToNestBothAt (F.post consequent) (G.post alternative) ty (seq_id self.old) position
+            FailsToNestBoth (F.post consequent) (G.post alternative) ty (seq_id self.old)
+            (Some position)
             (function_of self.old) e (function_of self.new)) }
     {
         let same_ty = ty;
@@ -207,9 +209,10 @@ impl<'a> InstrSeqBuilder<'a> {
         ensures same { Stays self.old self.new }
         ensures known { OnOk result (IsKnown self.new) }
         ensures ok { OnOk result
-            (Attaches (function_of self.old) (seq_id self.old) instr (function_of self.new)) }
+            (Attaches (function_of self.old) (seq_id self.old) None instr
+            (function_of self.new)) }
         ensures err { IfErr result (λ e. (function_of self.new ≡ function_of self.old)
-            × FailsToAttach (function_of self.old) (seq_id self.old) e) }
+            × FailsToAttach (function_of self.old) (seq_id self.old) None e) }
     {
         if !self.builder.contains_seq(self.id) {
             return Err(BuildError::NoParent);
@@ -224,10 +227,10 @@ impl<'a> InstrSeqBuilder<'a> {
         ensures same { Stays self.old self.new }
         ensures known { OnOk result (IsKnown self.new) }
         ensures ok { OnOk result
-            (AttachesAt (function_of self.old) (seq_id self.old) position instr
+            (Attaches (function_of self.old) (seq_id self.old) (Some position) instr
             (function_of self.new)) }
         ensures err { IfErr result (λ e. (function_of self.new ≡ function_of self.old)
-            × FailsToAttachAt (function_of self.old) (seq_id self.old) position e) }
+            × FailsToAttach (function_of self.old) (seq_id self.old) (Some position) e) }
     {
         if !self.builder.contains_seq(self.id) {
             return Err(BuildError::NoParent);

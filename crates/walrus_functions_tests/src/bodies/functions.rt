@@ -83,3 +83,29 @@ fn a_builder_is_read(rt: HostRuntime) {
     assert_equal(&rt, f.seq_count(), 1);
     assert_equal(&rt, f.seq(id).instrs.len(), 1);
 }
+
+#[test]
+fn ids_come_after_those_of_imported_functions(rt: HostRuntime) {
+    let alloc = rt.alloc();
+    let mut funcs = LocalFunctions::new_after(alloc, 2);
+    let f = begin(alloc).expect(&rt, "memory");
+    let added = f.finish(Vec::new(alloc), &mut funcs);
+    let id = Id::from_index(2);
+    assert_equal(&rt, added.ok(), Some(id));
+    assert!(rt; !funcs.contains(Id::from_index(1)) && !funcs.contains(Id::from_index(3)));
+    assert!(rt; funcs.contains(id));
+    assert_equal(&rt, funcs.get(id).block_count(), 1);
+    assert_equal(&rt, funcs.len(), 1);
+}
+
+#[test]
+fn no_id_comes_after_the_last(rt: HostRuntime) {
+    let alloc = rt.alloc();
+    let mut funcs = LocalFunctions::new_after(alloc, usize::MAX);
+    let f = begin(alloc).expect(&rt, "memory");
+    let added = f.finish(Vec::new(alloc), &mut funcs);
+    assert_equal(&rt, added.ok(), Some(Id::from_index(usize::MAX)));
+    let f = begin(alloc).expect(&rt, "memory");
+    assert!(rt; f.finish(Vec::new(alloc), &mut funcs).is_err());
+    assert_equal(&rt, funcs.len(), 1);
+}

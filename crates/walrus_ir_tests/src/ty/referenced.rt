@@ -100,7 +100,7 @@ fn put_again(rt: &impl Abort, ty: &Type, list: &mut Vec<TypeId>) -> Result<(), A
     ty.referenced_types(list)
 }
 
-// `scripts/refuse` refuses each request for memory in turn.
+// `scripts/check/refuse` refuses each request for memory in turn.
 #[test]
 fn refused_ids_come_when_they_are_asked_for_again(rt: HostRuntime) {
     let made = namer(rt.alloc()).expect(&rt, "memory");

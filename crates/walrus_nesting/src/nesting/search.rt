@@ -1,18 +1,17 @@
 //! The search in depth that the nesting check makes.
 ghost use Rattle.std.specs.Prelude.{◌≡◌, ◌<◌, ◌++◌, [], ◌∷◌, length, slice_get, map, reverse, false, IfOk, OnOk, Some, MatchOption};
-ghost use Rattle.std.specs.List.{flat_map};
 ghost use Rattle.walrus_functions.specs.Body.{Body, Knows};
-ghost use Rattle.walrus_functions.specs.Nesting.{handlers, children};
 ghost use Rattle.walrus_nesting.specs.Certificates.{Shows};
 ghost use Rattle.walrus_nesting.specs.Steps.Searching.{children_in, with_work, after_enter, after_leave, IsSound, Finds, steps_left};
 ghost use Rattle.walrus_nesting.specs.declared.nesting.search.Found.TheVariants.{Nothing};
 ghost use Rattle.walrus_nesting.specs.declared.nesting.search.Work.TheVariants.{Enter};
 
 use super::Nesting;
+use crate::push_children;
 use std::alloc::{AllocError, Global};
 use std::marker::Model;
 use walrus_functions::LocalFunction;
-use walrus_ir::{Instr, InstrLocId, InstrSeqId, LegacyCatch};
+use walrus_ir::{Instr, InstrLocId, InstrSeqId};
 
 // What is known of a sequence: nothing yet, its place on the path, or that it is done.
 #[derive(Clone, Copy)]
@@ -26,6 +25,14 @@ enum Mark {
 enum Work {
     Enter(InstrSeqId),
     Leave(InstrSeqId),
+}
+
+impl From<InstrSeqId> for Work {
+    ghost from_gives = { λ id work. work ≡ Enter id };
+
+    fn from(id: InstrSeqId) -> Work {
+        Work::Enter(id)
+    }
 }
 
 // What a step found: nothing wrong, a child on the path, or a child that isn't known.
@@ -168,7 +175,7 @@ impl Search {
         self.marks[id.index()] = Mark::Open(self.path.len());
         self.path.push(id)?;
         self.work.push(Work::Leave(id))?;
-        push_children(&mut self.work, func.block(id).instrs.as_slice())
+        push_all(&mut self.work, func.block(id).instrs.as_slice())
     }
 
     // Leaves the last sequence on the path.
@@ -212,68 +219,16 @@ impl Found {
     }
 }
 
-// Puts the sequences that stand in these instructions on the work, the first at its end.
-fn push_children(work: &mut Vec<Work>, instrs: &[(Instr, InstrLocId)]) -> Result<(), AllocError>
+// Pushes the children of these instructions onto the work, so that the first comes next.
+#[tactic(auto, using(crate::proofs::Pushed::pushed_work))]
+fn push_all(work: &mut Vec<Work>, instrs: &[(Instr, InstrLocId)]) -> Result<(), AllocError>
     ensures { OnOk result
         (reverse work.new.items ≡ map Enter (children_in instrs.now) ++ reverse work.old.items) }
 {
     let mut i = instrs.len();
     while i > 0 {
         i -= 1;
-        push_children_of(work, &instrs[i].0)?;
+        push_children(work, &instrs[i].0)?;
     }
-    Ok(())
-}
-
-// The same for one instruction.
-fn push_children_of(work: &mut Vec<Work>, instr: &Instr) -> Result<(), AllocError>
-    ensures { OnOk result
-        (reverse work.new.items ≡ map Enter (children instr.now) ++ reverse work.old.items) }
-{
-    match instr {
-        Instr::Block(x) => push_one(work, x.seq),
-        Instr::Loop(x) => push_one(work, x.seq),
-        Instr::TryTable(x) => push_one(work, x.seq),
-        Instr::IfElse(x) => {
-            push_one(work, x.alternative)?;
-            push_one(work, x.consequent)
-        }
-        Instr::Try(x) => {
-            push_handlers(work, x.catches.as_slice())?;
-            push_one(work, x.seq)
-        }
-        _ => Ok(()),
-    }
-}
-
-fn push_handlers(work: &mut Vec<Work>, catches: &[LegacyCatch]) -> Result<(), AllocError>
-    ensures { OnOk result
-        (reverse work.new.items ≡
-        map Enter (flat_map handlers catches.now) ++ reverse work.old.items) }
-{
-    let mut i = catches.len();
-    while i > 0 {
-        i -= 1;
-        push_handler(work, catches[i])?;
-    }
-    Ok(())
-}
-
-fn push_handler(work: &mut Vec<Work>, catch: LegacyCatch) -> Result<(), AllocError>
-    ensures { OnOk result
-        (reverse work.new.items ≡ map Enter (handlers catch) ++ reverse work.old.items) }
-{
-    match catch {
-        LegacyCatch::Catch { handler, .. } => push_one(work, handler),
-        LegacyCatch::CatchAll { handler } => push_one(work, handler),
-        LegacyCatch::Delegate { .. } => Ok(()),
-    }
-}
-
-fn push_one(work: &mut Vec<Work>, id: InstrSeqId) -> Result<(), AllocError>
-    ensures { OnOk result
-        (reverse work.new.items ≡ Enter id ∷ reverse work.old.items) }
-{
-    work.push(Work::Enter(id))?;
     Ok(())
 }

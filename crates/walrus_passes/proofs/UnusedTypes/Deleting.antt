@@ -30,7 +30,8 @@ pub record Leaves (old new : Table) (ids : List ℕ) : Type 0 where
 
 module _ (old new : Table) (id : ℕ) (del : Deletes old new id) where
   one_stays : (x : ℕ) → x ≢ id → live_type new.types.slots x ≡ live_type old.types.slots x
-  one_stays x differ = ap (λ (s : TypeSlots). live_type s x) del.types.slots ∙ get_or-set_other old.types.slots id x None None differ
+  one_stays x differ = ap (λ (s : TypeSlots). live_type s x) del.types.slots
+      ∙ get_or-set_other old.types.slots id x None None differ
 
   one_dies : live_type new.types.slots id ≡ None
   one_dies = ap (λ (s : TypeSlots). live_type s id) del.types.slots ∙ set_none old.types.slots id
@@ -62,7 +63,9 @@ leaves old new [] all = subst (λ (t : Table). Leaves old t []) (sym all) (recor
 leaves old new (id ∷ ids) (mid, rest, last) =
     let r = leaves old mid ids rest in
     record {
-      stays = λ x none. one_stays mid new id last x (λ e. none (subst (Contains (id ∷ ids)) (sym e) (contains_first id ids))) ∙ r.stays x (λ c. none (contains_rest id ids x c));
+      stays = λ x none. one_stays mid new id last x (λ e.
+          none (subst (Contains (id ∷ ids)) (sym e) (contains_first id ids)))
+          ∙ r.stays x (λ c. none (contains_rest id ids x c));
       dies = λ x c. elim (contains_cases id ids x c) [
         | inl e ↦ (ap (live_type new.types.slots) e ∙ one_dies mid new id last)
         | inr k ↦ one_dead mid new id last x (r.dies x k)
@@ -75,10 +78,13 @@ leaves old new (id ∷ ids) (mid, rest, last) =
 -- a group none of whose members goes is the same
 filter_all : (id : ℕ) (xs : List ℕ) → (Contains xs id → ⊥) → filter (λ i. not (nat_eq i id)) xs ≡ xs
 filter_all id [] none = refl
-filter_all id (x ∷ xs) none = by_test (nat_eq x id) refl (filter_all id xs (λ c. none (contains_rest x xs id c)))
+filter_all id (x ∷ xs) none = by_test (nat_eq x id) refl
+    (filter_all id xs (λ c. none (contains_rest x xs id c)))
   where
-    by_test : (b : Bool) → b ≡ nat_eq x id → filter (λ i. not (nat_eq i id)) xs ≡ xs → cond (not b) (x ∷ filter (λ i. not (nat_eq i id)) xs) (filter (λ i. not (nat_eq i id)) xs) ≡ x ∷ xs
-    by_test true e rest = absurd (none (subst (Contains (x ∷ xs)) (eqb-true x id (sym e)) (contains_first x xs)))
+    by_test : (b : Bool) → b ≡ nat_eq x id → filter (λ i. not (nat_eq i id)) xs ≡ xs →
+        cond (not b) (x ∷ filter (λ i. not (nat_eq i id)) xs) (filter (λ i. not (nat_eq i id)) xs) ≡ x ∷ xs
+    by_test true e rest = absurd (none (subst (Contains (x ∷ xs)) (eqb-true x id (sym e))
+        (contains_first x xs)))
     by_test false e rest = ap (λ (t : List ℕ). x ∷ t) rest
 
 pub group_stays :
@@ -87,7 +93,8 @@ pub group_stays :
 group_stays [] g none = refl
 group_stays (id ∷ ids) g none =
     let made : List ℕ → RecGroup = λ t. record { types = t; is_explicit = g.is_explicit } in
-    let one : group_without id g ≡ g = ap made (filter_all id g.types (λ c. none id (contains_first id ids) c)) in
+    let one : group_without id g ≡ g = ap made (filter_all id g.types (λ c.
+    none id (contains_first id ids) c)) in
     ap (group_without id) (group_stays ids g (λ x c m. none x (contains_rest id ids x c) m)) ∙ one
 
 -- what stays of a group stood in it, and isn't one of the ids
@@ -111,4 +118,5 @@ none_left (x ∷ xs) none = absurd (none x (contains_first x xs))
 pub group_goes :
     (ids : List ℕ) (g : RecGroup) → ((x : ℕ) → Contains g.types x → Contains ids x) →
     (group_less ids g).types ≡ []
-group_goes ids g all = none_left (group_less ids g).types (λ x c. let r = less_keeps ids g x c in r.1 (all x r.0))
+group_goes ids g all = none_left (group_less ids g).types (λ x c. let r = less_keeps ids g x c in
+    r.1 (all x r.0))

@@ -60,7 +60,8 @@ unmarked_set [] id below none = absurd (omega (arith, below))
 unmarked_set (true ∷ marks) zero below none = absurd (cc)
 unmarked_set (false ∷ marks) zero below none = omega arith
 unmarked_set (true ∷ marks) (suc id) below none = unmarked_set marks id (omega (arith, below)) none
-unmarked_set (false ∷ marks) (suc id) below none = let rest = unmarked_set marks id (omega (arith, below)) none in omega (arith, rest)
+unmarked_set (false ∷ marks) (suc id) below none = let rest =
+    unmarked_set marks id (omega (arith, below)) none in omega (arith, rest)
 
 module _ (s : State) (id : ℕ) (below : id < length s.marks) where
   abbrev grown : State
@@ -82,7 +83,8 @@ module _ (s : State) (id : ℕ) (below : id < length s.marks) where
   mark_grows : is_marked s id ≡ false → Grows (λ x. x ≡ id) s grown
   mark_grows none = record {
     size = length-set s.marks id true;
-    kept = λ x h. by_id (IsMarked grown x) x (λ e. subst (IsMarked grown) (sym e) mark_here) (λ differ. mark_there x differ ∙ h);
+    kept = λ x h. by_id (IsMarked grown x) x (λ e. subst (IsMarked grown) (sym e) mark_here) (λ differ.
+        mark_there x differ ∙ h);
     fresh = λ x h. by_id (IsMarked s x ⊎ ((x ≡ id) × Contains grown.work x)) x
         (λ e. inr (e, subst (Contains grown.work) (sym e) (contains_first id s.work)))
         (λ differ. inl (sym (mark_there x differ) ∙ h));
@@ -124,15 +126,19 @@ all_grow s (id ∷ ids) all =
     let first = marked_grows s id (all_first (λ x. x < length s.marks) id ids all) in
     let rest = all_grow (with_mark id s) ids (still_below s id ids all) in
     grows_both (Contains (id ∷ ids)) s (with_mark id s) (with_marks ids (with_mark id s))
-    (grows_more (λ x. x ≡ id) (Contains (id ∷ ids)) s (with_mark id s) (λ x e. subst (Contains (id ∷ ids)) (sym e) (contains_first id ids)) first)
-    (grows_more (Contains ids) (Contains (id ∷ ids)) (with_mark id s) (with_marks ids (with_mark id s)) (λ x c. contains_rest id ids x c) rest)
+    (grows_more (λ x. x ≡ id) (Contains (id ∷ ids)) s (with_mark id s) (λ x e.
+    subst (Contains (id ∷ ids)) (sym e) (contains_first id ids)) first)
+    (grows_more (Contains ids) (Contains (id ∷ ids)) (with_mark id s) (with_marks ids (with_mark id s))
+    (λ x c. contains_rest id ids x c) rest)
 
 pub all_here :
     (s : State) (ids : List ℕ) → All (λ x. x < length s.marks) ids → (x : ℕ) → Contains ids x →
     IsMarked (with_marks ids s) x
 all_here s [] all x c = absurd (contains_none x c)
 all_here s (id ∷ ids) all x c = elim (contains_cases id ids x c) [
-  | inl e ↦ (let rest = all_grow (with_mark id s) ids (still_below s id ids all) in subst (IsMarked (with_marks ids (with_mark id s))) (sym e) (rest.kept id (marked_here s id (all_first (λ x. x < length s.marks) id ids all))))
+  | inl e ↦ (let rest = all_grow (with_mark id s) ids (still_below s id ids all) in
+      subst (IsMarked (with_marks ids (with_mark id s))) (sym e)
+      (rest.kept id (marked_here s id (all_first (λ x. x < length s.marks) id ids all))))
   | inr k ↦ all_here (with_mark id s) ids (still_below s id ids all) x k
 ]
 
@@ -142,6 +148,7 @@ pub marks_stay :
 marks_stay s [] = refl
 marks_stay s (id ∷ ids) = marks_stay (with_mark id s) ids ∙ one (is_marked s id)
   where
-    one : (b : Bool) → length (cond b s (record { marks = set s.marks id true; work = id ∷ s.work })).marks ≡ length s.marks
+    one : (b : Bool) → length (cond b s (record { marks = set s.marks id true; work = id ∷ s.work })).marks ≡
+        length s.marks
     one true = refl
     one false = length-set s.marks id true

@@ -30,14 +30,16 @@ covers_grown t P s new c g = record {
 pub members_below :
     (t : Table) (s : State) (id : ℕ) → Covers t s → All (λ x. x < length s.marks) (members t id)
 members_below t s id c = λ k d b.
-    c.size (get_or (members t id) k d) (mates_live t c.grouping id (get_or (members t id) k d) (mates_from t id (get_or (members t id) k d) (Contains-get_or (members t id) k d b)))
+    c.size (get_or (members t id) k d) (mates_live t c.grouping id (get_or (members t id) k d)
+    (mates_from t id (get_or (members t id) k d) (Contains-get_or (members t id) k d b)))
 
 module _ (t : Table) (s : State) (id : ℕ) (c : Covers t s) where
   abbrev grown : State
   grown = with_marks (members t id) s
 
   group_grows : Grows (AreInOneGroup t id) s grown
-  group_grows = grows_more (Contains (members t id)) (AreInOneGroup t id) s grown (mates_from t id) (all_grow s (members t id) (members_below t s id c))
+  group_grows = grows_more (Contains (members t id)) (AreInOneGroup t id) s grown (mates_from t id)
+      (all_grow s (members t id) (members_below t s id c))
 
   pub reached_grows : Grows (AreInOneGroup t id) s (with_group_marks t id s)
   reached_grows = by_test (is_marked s id)
@@ -75,10 +77,15 @@ pub all_reached_grow :
 all_reached_grow t s [] c = grows_none (IsMateOf t []) s
 all_reached_grow t s (id ∷ ids) c =
     let first = reached_grows t s id c in
-    let rest = all_reached_grow t (with_group_marks t id s) ids (covers_grown t (AreInOneGroup t id) s (with_group_marks t id s) c first) in
-    grows_both (IsMateOf t (id ∷ ids)) s (with_group_marks t id s) (with_all_group_marks t ids (with_group_marks t id s))
-    (grows_more (AreInOneGroup t id) (IsMateOf t (id ∷ ids)) s (with_group_marks t id s) (λ x m. (id, contains_first id ids, m)) first)
-    (grows_more (IsMateOf t ids) (IsMateOf t (id ∷ ids)) (with_group_marks t id s) (with_all_group_marks t ids (with_group_marks t id s)) (λ x m. (m.0, contains_rest id ids m.0 m.1, m.2)) rest)
+    let rest = all_reached_grow t (with_group_marks t id s) ids
+    (covers_grown t (AreInOneGroup t id) s (with_group_marks t id s) c first) in
+    grows_both (IsMateOf t (id ∷ ids)) s (with_group_marks t id s)
+    (with_all_group_marks t ids (with_group_marks t id s))
+    (grows_more (AreInOneGroup t id) (IsMateOf t (id ∷ ids)) s (with_group_marks t id s) (λ x m.
+    (id, contains_first id ids, m)) first)
+    (grows_more (IsMateOf t ids) (IsMateOf t (id ∷ ids)) (with_group_marks t id s)
+    (with_all_group_marks t ids (with_group_marks t id s)) (λ x m.
+    (m.0, contains_rest id ids m.0 m.1, m.2)) rest)
 
 pub all_reached_here :
     (t : Table) (s : State) (ids : List ℕ) → Covers t s → (x : ℕ) → Contains ids x →
@@ -90,45 +97,61 @@ all_reached_here t s (id ∷ ids) c x h live =
     elim (contains_cases id ids x h) [
       | inl e ↦
           let rest = all_reached_grow t (with_group_marks t id s) ids covers in
-          rest.kept x (subst (IsMarked (with_group_marks t id s)) (sym e) (reached_here t s id c (subst (IsLive t.types.slots) e live)))
+          rest.kept x (subst (IsMarked (with_group_marks t id s)) (sym e)
+          (reached_here t s id c (subst (IsLive t.types.slots) e live)))
       | inr k ↦ all_reached_here t (with_group_marks t id s) ids covers x k live
     ]
 
 pub all_reached_whole :
-    (t : Table) (s : State) (ids : List ℕ) → Covers t s → IsWhole t s → IsWhole t (with_all_group_marks t ids s)
+    (t : Table) (s : State) (ids : List ℕ) → Covers t s → IsWhole t s →
+    IsWhole t (with_all_group_marks t ids s)
 all_reached_whole t s [] c whole = whole
 all_reached_whole t s (id ∷ ids) c whole =
-    all_reached_whole t (with_group_marks t id s) ids (covers_grown t (AreInOneGroup t id) s (with_group_marks t id s) c (reached_grows t s id c)) (reached_whole t s id c whole)
+    all_reached_whole t (with_group_marks t id s) ids
+    (covers_grown t (AreInOneGroup t id) s (with_group_marks t id s) c (reached_grows t s id c))
+    (reached_whole t s id c whole)
 
 -- what a type names is what it is made with
 named_listed :
     (ty : ModuleType) (id : ℕ) → Names (type_definition ty) id →
     Contains (supertype_names ty.supertype ++ composite_names (kind_composite ty.kind)) id
-named_listed ty id n = elim (Contains-append_cases (composite_names (kind_composite ty.kind)) (supertype_names ty.supertype) id n) [
-  | inl k ↦ Contains-append_right (supertype_names ty.supertype) (composite_names (kind_composite ty.kind)) id k
-  | inr k ↦ Contains-append_left (supertype_names ty.supertype) (composite_names (kind_composite ty.kind)) id k
-]
+named_listed ty id n = elim (Contains-append_cases (composite_names (kind_composite ty.kind))
+    (supertype_names ty.supertype) id n) [
+      | inl k ↦ Contains-append_right (supertype_names ty.supertype)
+          (composite_names (kind_composite ty.kind)) id
+          k
+      | inr k ↦ Contains-append_left (supertype_names ty.supertype) (composite_names (kind_composite ty.kind))
+          id
+          k
+    ]
 
 listed_named :
     (ty : ModuleType) (id : ℕ) →
     Contains (supertype_names ty.supertype ++ composite_names (kind_composite ty.kind)) id →
     Names (type_definition ty) id
-listed_named ty id n = elim (Contains-append_cases (supertype_names ty.supertype) (composite_names (kind_composite ty.kind)) id n) [
-  | inl k ↦ Contains-append_right (composite_names (kind_composite ty.kind)) (supertype_names ty.supertype) id k
-  | inr k ↦ Contains-append_left (composite_names (kind_composite ty.kind)) (supertype_names ty.supertype) id k
-]
+listed_named ty id n = elim (Contains-append_cases (supertype_names ty.supertype)
+    (composite_names (kind_composite ty.kind)) id n) [
+      | inl k ↦ Contains-append_right (composite_names (kind_composite ty.kind))
+          (supertype_names ty.supertype) id
+          k
+      | inr k ↦ Contains-append_left (composite_names (kind_composite ty.kind)) (supertype_names ty.supertype)
+          id
+          k
+    ]
 
 pub named_in : (t : Table) (user id : ℕ) → IsNamedBy t user id → Contains (named_ids t user) id
 named_in t user id n = by_type (live_type t.types.slots user) n
   where
-    by_type : (o : Option ModuleType) → IsSomeAnd o (λ ty. Names (type_definition ty) id) → Contains (ids_in o) id
+    by_type : (o : Option ModuleType) → IsSomeAnd o (λ ty. Names (type_definition ty) id) →
+        Contains (ids_in o) id
     by_type None h = absurd h
     by_type (Some ty) h = named_listed ty id h
 
 pub named_from : (t : Table) (user id : ℕ) → Contains (named_ids t user) id → IsNamedBy t user id
 named_from t user id c = by_type (live_type t.types.slots user) c
   where
-    by_type : (o : Option ModuleType) → Contains (ids_in o) id → IsSomeAnd o (λ ty. Names (type_definition ty) id)
+    by_type : (o : Option ModuleType) → Contains (ids_in o) id →
+        IsSomeAnd o (λ ty. Names (type_definition ty) id)
     by_type None h = contains_none id h
     by_type (Some ty) h = listed_named ty id h
 
@@ -156,7 +179,9 @@ pub marking_begins :
 marking_begins t roots s live c none =
     let grows = all_reached_grow t s roots c in
     let none_yet : (id : ℕ) → IsMarked s id → ⊥ = λ id h. no_mark (is_marked s id) (none.1 id) h in
-    let new : (id : ℕ) → IsMarked (with_all_group_marks t roots s) id → IsMateOf t roots id × Contains (with_all_group_marks t roots s).work id = λ id h. elim (grows.fresh id h) [ inl k ↦ absurd (none_yet id k) | inr k ↦ k ] in
+    let new : (id : ℕ) → IsMarked (with_all_group_marks t roots s) id → IsMateOf t roots id
+    × Contains (with_all_group_marks t roots s).work id = λ id h.
+    elim (grows.fresh id h) [ inl k ↦ absurd (none_yet id k) | inr k ↦ k ] in
     record {
       covers = covers_grown t (IsMateOf t roots) s (with_all_group_marks t roots s) c grows;
       whole = all_reached_whole t s roots c (λ a b m h. absurd (none_yet a h));
@@ -188,17 +213,26 @@ marking_goes_on t roots s id m =
     let grows = all_reached_grow t s (named_ids t id) c in
     let here : IsMarked s id = m.work id (contains_first id s.work) in
     let is_needed : (x : ℕ) → IsMateOf t (named_ids t id) x → IsNeeded t roots x = λ x k.
-    grouped k.0 x (named id k.0 (m.needed id here) (named_from t id k.0 k.1) (mates_live t c.grouping k.0 k.0 (mates_own t k.0 x k.2))) k.2 in
+    grouped k.0 x (named id k.0 (m.needed id here) (named_from t id k.0 k.1)
+    (mates_live t c.grouping k.0 k.0 (mates_own t k.0 x k.2))) k.2 in
     record {
       covers = covers_grown t (IsMateOf t (named_ids t id)) s new c grows;
       whole = all_reached_whole t s (named_ids t id) c m.whole;
       needed = λ x h. elim (grows.fresh x h) [ inl k ↦ m.needed x k | inr k ↦ is_needed x k.0 ];
-      live = λ x h. elim (grows.fresh x h) [ inl k ↦ m.live x k | inr k ↦ mates_live t c.grouping k.0.0 x k.0.2 ];
-      work = λ x h. elim (grows.back x h) [ inl k ↦ grows.kept x (m.work x (contains_rest id s.work x k)) | inr k ↦ k ];
+      live = λ x h. elim (grows.fresh x h) [
+        | inl k ↦ m.live x k
+        | inr k ↦
+            mates_live t c.grouping k.0.0 x k.0.2
+      ];
+      work = λ x h. elim (grows.back x h) [
+        | inl k ↦ grows.kept x (m.work x (contains_rest id s.work x k))
+        | inr k ↦ k
+      ];
       followed = λ a b h n l. elim (grows.fresh a h) [
         | inl k ↦ elim (m.followed a b k n l) [
           | inl w ↦ elim (contains_cases id s.work a w) [
-            | inl e ↦ inr (all_reached_here t s (named_ids t id) c b (named_in t id b (subst (λ (u : ℕ). IsNamedBy t u b) e n)) l)
+            | inl e ↦ inr (all_reached_here t s (named_ids t id) c b (named_in
+                t id b (subst (λ (u : ℕ). IsNamedBy t u b) e n)) l)
             | inr later ↦ inl (grows.work a later)
           ]
           | inr w ↦ inr (grows.kept b w)
@@ -220,11 +254,13 @@ all_marked_needed :
     (t : Table) (roots : List ℕ) (s : State) → IsMarking t roots s → s.work ≡ [] → (id : ℕ) →
     IsNeeded t roots id → IsMarked s id
 all_marked_needed t roots s m e id (root x h) = m.begun x h
-all_marked_needed t roots s m e id (named user x u n l) = elim (m.followed user x (all_marked_needed t roots s m e user u) n l) [
-  | inl w ↦ absurd (no_work s user e w)
-  | inr k ↦ k
-]
-all_marked_needed t roots s m e id (grouped mate x k g) = m.whole mate x g (all_marked_needed t roots s m e mate k)
+all_marked_needed t roots s m e id (named user x u n l) =
+    elim (m.followed user x (all_marked_needed t roots s m e user u) n l) [
+      | inl w ↦ absurd (no_work s user e w)
+      | inr k ↦ k
+    ]
+all_marked_needed t roots s m e id (grouped mate x k g) =
+    m.whole mate x g (all_marked_needed t roots s m e mate k)
 
 pub marking_ends :
     (t : Table) (roots : List ℕ) (s : State) → IsMarking t roots s → s.work ≡ [] →

@@ -1,17 +1,10 @@
 -- The steps of the loops that mark types.
-use Rattle.std.proofs.Common.{◌≡◌, ℕ, ◌+◌, ◌<◌, ◌≤◌, List, length, take, sym, ap, subst, arith, All, Some, Option, get_or}
-use Rattle.std.proofs.lemmas.List.Elements.{All-more}
+use Rattle.std.proofs.Common.{◌≡◌, ℕ, ◌<◌, List, length, take, sym, ap, subst, arith, All, Some, Option, get_or}
 use Rattle.walrus_types.specs.declared.table.rec_group.RecGroup.{RecGroup}
 use Rattle.walrus_types.specs.Table.{Table, group_with}
 use Rattle.walrus_passes.specs.Steps.Marking.{State, with_marks, with_all_group_marks, members_of, Covers}
 use Rattle.walrus_passes.proofs.UnusedTypes.Growing.{marks_stay}
 use Rattle.walrus_passes.proofs.UnusedTypes.Reaching.{IsMateOf, covers_grown, all_reached_grow, members_below}
-
-pub greatest_more :
-    (ids : List ℕ) (k x old new : ℕ) → k < length ids → x ≡ get_or ids k x →
-    All (λ id. id ≤ old) (take k ids) → old ≤ new → x ≤ new → All (λ id. id ≤ new) (take (k + 1) ids)
-greatest_more ids k x old new below is all more here =
-    All-more (λ id. id ≤ new) ids k x below (λ j d b. (let low = all j d b in omega (arith, low, more))) (omega (arith, is, here))
 
 pub next_below :
     (s self : State) (ids : List ℕ) (k x : ℕ) → self ≡ with_marks (take k ids) s →
@@ -27,12 +20,14 @@ pub next_covered :
     (t : Table) (s self : State) (ids : List ℕ) (k : ℕ) → self ≡ with_all_group_marks t (take k ids) s →
     Covers t s → Covers t self
 next_covered t s self ids k is c =
-    subst (Covers t) (sym is) (covers_grown t (IsMateOf t (take k ids)) s (with_all_group_marks t (take k ids) s) c (all_reached_grow t s (take k ids) c))
+    subst (Covers t) (sym is) (covers_grown t (IsMateOf t (take k ids)) s
+    (with_all_group_marks t (take k ids) s) c (all_reached_grow t s (take k ids) c))
 
 pub group_below :
     (t : Table) (s : State) (id : ℕ) (g : RecGroup) (xs : List ℕ) → Covers t s →
     Some g ≡ group_with t.groups id → xs ≡ g.types → All (λ x. x < length s.marks) xs
 group_below t s id g xs c is same =
     let all = members_below t s id c in
-    let group : All (λ x. x < length s.marks) g.types = subst (λ (o : Option RecGroup). All (λ x. x < length s.marks) (members_of o)) (sym is) all in
+    let group : All (λ x. x < length s.marks) g.types =
+    subst (λ (o : Option RecGroup). All (λ x. x < length s.marks) (members_of o)) (sym is) all in
     subst (All (λ x. x < length s.marks)) (sym same) group

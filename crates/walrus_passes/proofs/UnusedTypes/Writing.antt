@@ -12,7 +12,7 @@ use Rattle.walrus_types.specs.Table.{Table, IsTable, IsIdAt, rec_group_at, Delet
 use Rattle.walrus_types.specs.TableEmission.{type_groups, slot_definition, definition_at, slot_is_entry, is_entry_at}
 use Rattle.walrus_types.proofs.Emission.PairsOfGroups.{at_member, to_member}
 use Rattle.walrus_passes.specs.NeededTypes.{IsNeeded, named, grouped, AreUnused, Keeps}
-use Rattle.walrus_passes.specs.WellNamed.{IsWellNamed}
+use Rattle.walrus_passes.specs.AllIndices.{HasAllIndices}
 use Rattle.walrus_passes.proofs.UnusedTypes.Elements.{contains_from_get}
 use Rattle.walrus_passes.proofs.UnusedTypes.Keeping.{needed_kept}
 
@@ -24,11 +24,13 @@ ids_at (x ∷ gs) (suc g) = ids_at gs g
 
 in_table :
     (t : Table) (g u i : ℕ) → IsMember (type_groups t.groups) g u i → IsIdAt t.groups g u i
-in_table t g u i m = ap (λ (ids : List ℕ). slice_get ids u) (sym (ids_at t.groups g)) ∙ at_member (type_groups t.groups) g u i m
+in_table t g u i m = ap (λ (ids : List ℕ). slice_get ids u) (sym (ids_at t.groups g))
+    ∙ at_member (type_groups t.groups) g u i m
 
 from_table :
     (t : Table) (g u i : ℕ) → IsIdAt t.groups g u i → IsMember (type_groups t.groups) g u i
-from_table t g u i m = to_member (type_groups t.groups) g u i (ap (λ (ids : List ℕ). slice_get ids u) (ids_at t.groups g) ∙ m)
+from_table t g u i m = to_member (type_groups t.groups) g u i
+    (ap (λ (ids : List ℕ). slice_get ids u) (ids_at t.groups g) ∙ m)
 
 -- a name of a live type
 names_at :
@@ -36,25 +38,33 @@ names_at :
     IsSomeAnd (live_type slots i) (λ ty. Names (type_definition ty) k)
 names_at slots i k live n = by_type (live_type slots i) live n
   where
-    by_type : (o : Option ModuleType) → IsSome o → Names (slot_definition o) k → IsSomeAnd o (λ ty. Names (type_definition ty) k)
+    by_type : (o : Option ModuleType) → IsSome o → Names (slot_definition o) k →
+        IsSomeAnd o (λ ty. Names (type_definition ty) k)
     by_type None l n = absurd (cc)
     by_type (Some ty) l n = n
 
-module _ (old new : Table) (roots ids : List ℕ) (is : IsTable old) (live : All (IsLive old.types.slots) roots) (unused : AreUnused old roots ids) (all : DeletesAll old ids new) where
+module _ (old new : Table) (roots ids : List ℕ) (is : IsTable old) (live : All (IsLive old.types.slots) roots)
+    (unused : AreUnused old roots ids) (all : DeletesAll old ids new) where
   kept : Keeps (IsNeeded old roots) old new
   kept = needed_kept old new roots ids is live unused all
 
-  same_group : (g u i : ℕ) → IsIdAt old.groups g u i → IsNeeded old roots i → (v j : ℕ) → IsIdAt new.groups g v j → IsIdAt old.groups g v j
-  same_group g u i m n v j h = subst (λ (x : RecGroup). slice_get x.types v ≡ Some j) (kept.groups g u i m n) h
+  same_group : (g u i : ℕ) → IsIdAt old.groups g u i → IsNeeded old roots i → (v j : ℕ) →
+      IsIdAt new.groups g v j → IsIdAt old.groups g v j
+  same_group g u i m n v j h = subst (λ (x : RecGroup). slice_get x.types v ≡ Some j) (kept.groups g u i m n)
+      h
 
-  still_there : (g u i : ℕ) → IsIdAt old.groups g u i → IsNeeded old roots i → (v j : ℕ) → IsIdAt old.groups g v j → IsIdAt new.groups g v j
-  still_there g u i m n v j h = subst (λ (x : RecGroup). slice_get x.types v ≡ Some j) (sym (kept.groups g u i m n)) h
+  still_there : (g u i : ℕ) → IsIdAt old.groups g u i → IsNeeded old roots i → (v j : ℕ) →
+      IsIdAt old.groups g v j → IsIdAt new.groups g v j
+  still_there g u i m n v j h = subst (λ (x : RecGroup). slice_get x.types v ≡ Some j)
+      (sym (kept.groups g u i m n)) h
 
-module _ (old new : Table) (roots ids : List ℕ) (is : IsTable old) (live : All (IsLive old.types.slots) roots) (unused : AreUnused old roots ids) (all : DeletesAll old ids new) where
+module _ (old new : Table) (roots ids : List ℕ) (is : IsTable old) (live : All (IsLive old.types.slots) roots)
+    (unused : AreUnused old roots ids) (all : DeletesAll old ids new) where
   keeps : Keeps (IsNeeded old roots) old new
   keeps = kept old new roots ids is live unused all
 
-  same_definition : (i : ℕ) → IsNeeded old roots i → definition_at new.types.slots i ≡ definition_at old.types.slots i
+  same_definition : (i : ℕ) → IsNeeded old roots i →
+      definition_at new.types.slots i ≡ definition_at old.types.slots i
   same_definition i n = ap slot_definition (keeps.types i n)
 
   -- a needed id of a group, of which more is said
@@ -62,15 +72,21 @@ module _ (old new : Table) (roots ids : List ℕ) (is : IsTable old) (live : All
     mate : (v j : ℕ) → IsIdAt old.groups g v j → IsNeeded old roots j
     mate v j h = grouped i j n (g, u, v, m, h)
 
-    written_before : IsWritten (type_groups new.groups) (is_entry_at new.types.slots) g → IsWritten (type_groups old.groups) (is_entry_at old.types.slots) g
+    written_before : IsWritten (type_groups new.groups) (is_entry_at new.types.slots) g →
+        IsWritten (type_groups old.groups) (is_entry_at old.types.slots) g
     written_before (v, j, h, e) =
         let there = same_group old new roots ids is live unused all g u i m n v j (in_table new g v j h) in
         (v, j, from_table old g v j there, sym (ap slot_is_entry (keeps.types j (mate v j there))) ∙ e)
 
-    written_after : IsWritten (type_groups old.groups) (is_entry_at old.types.slots) g → IsWritten (type_groups new.groups) (is_entry_at new.types.slots) g
+    written_after : IsWritten (type_groups old.groups) (is_entry_at old.types.slots) g →
+        IsWritten (type_groups new.groups) (is_entry_at new.types.slots) g
     written_after (v, j, h, e) =
-        let there = in_table old g v j h in
-        (v, j, from_table new g v j (still_there old new roots ids is live unused all g u i m n v j there), ap slot_is_entry (keeps.types j (mate v j there)) ∙ e)
+        let there = in_table old g v j h in (
+          v,
+          j,
+          from_table new g v j (still_there old new roots ids is live unused all g u i m n v j there),
+          ap slot_is_entry (keeps.types j (mate v j there)) ∙ e,
+        )
 
 nothing_stands : (g : RecGroup) (u i : ℕ) → g.types ≡ [] → slice_get g.types u ≡ Some i → ⊥
 nothing_stands g u i e h = none u (subst (λ (xs : List ℕ). slice_get xs u ≡ Some i) e h)
@@ -88,19 +104,24 @@ own_name t old is g u i h v k m w m' w' n free =
     let e : k ≡ i = free.own u i (from_table t g u i m') k n (h, v, from_table t h v k w') in
     (is.once g u h v k (subst (λ (x : ℕ). IsIdAt old.groups g u x) (sym e) m) w).0
 
-module _ (old new : Table) (roots ids : List ℕ) (is : IsTable old) (live : All (IsLive old.types.slots) roots) (unused : AreUnused old roots ids) (all : DeletesAll old ids new) where
+module _ (old new : Table) (roots ids : List ℕ) (is : IsTable old) (live : All (IsLive old.types.slots) roots)
+    (unused : AreUnused old roots ids) (all : DeletesAll old ids new) where
   -- the u-th member i of g names k, and both are needed
-  module _ (g u i n k : ℕ) (m : IsIdAt old.groups g u i) (needed : IsNeeded old roots i) (name : slice_get (names_of (definition_at old.types.slots i)) n ≡ Some k) where
+  module _ (g u i n k : ℕ) (m : IsIdAt old.groups g u i) (needed : IsNeeded old roots i)
+      (name : slice_get (names_of (definition_at old.types.slots i)) n ≡ Some k) where
     named_old : Names (definition_at old.types.slots i) k
     named_old = contains_from_get (names_of (definition_at old.types.slots i)) n k name
 
     named_new : Names (definition_at new.types.slots i) k
-    named_new = subst (λ (d : Definition). Names d k) (sym (same_definition old new roots ids is live unused all i needed)) named_old
+    named_new = subst (λ (d : Definition). Names d k)
+        (sym (same_definition old new roots ids is live unused all i needed)) named_old
 
     also_needed : IsLive old.types.slots k → IsNeeded old roots k
     also_needed l = named i k needed (names_at old.types.slots i k (is.live g u i m) named_old) l
 
-    indexed_after : HasIndexBy (type_groups old.groups) (definition_at old.types.slots) (is_entry_at old.types.slots) g k → HasIndexBy (type_groups new.groups) (definition_at new.types.slots) (is_entry_at new.types.slots) g k
+    indexed_after : HasIndexBy (type_groups old.groups) (definition_at old.types.slots)
+        (is_entry_at old.types.slots) g k → HasIndexBy (type_groups new.groups)
+        (definition_at new.types.slots) (is_entry_at new.types.slots) g k
     indexed_after has =
         let h = has.home in
         let v = has.place in
@@ -116,17 +137,29 @@ module _ (old new : Table) (roots ids : List ℕ) (is : IsTable old) (live : All
           by = elim has.by [
             | inl e ↦ inl e
             | inr before ↦ elim before [
-              | inl b ↦ (let less = b.0 in inr (inl (b.0, λ inverts. (let same = own_name new old is g u i h v k m w m' w' named_new (inverts.free g (omega arith) (omega arith) u i (from_table new g u i m')) in let no : ⊥ = omega arith in no))))
-              | inr b ↦ (let less = b.0 in let same = own_name old old is g u i h v k m w m w named_old (b.1.free g (omega arith) (omega arith) u i (from_table old g u i m)) in let no : ⊥ = omega arith in absurd no)
+              | inl b ↦ (let less = b.0 in inr (inl (
+                b.0,
+                λ inverts.
+                    (let same = own_name new old is g u i h v k m w m' w' named_new
+                    (inverts.free g (omega arith) (omega arith) u i (from_table new g u i m')) in let no : ⊥ =
+                    omega arith in no),
+              )))
+              | inr b ↦ (let less = b.0 in let same =
+                  own_name old old is g u i h v k m w m w named_old
+                  (b.1.free g (omega arith) (omega arith) u i (from_table old g u i m)) in let no : ⊥ =
+                  omega arith in absurd no)
             ]
           ];
         }
 
-  pub well_named_after : IsWellNamed old → IsWellNamed new
-  well_named_after well g u n i k miss = nothing_stands (rec_group_at new.groups g) u i ((kept old new roots ids is live unused all).emptied g (λ v j m needed.
+  pub all_indices_after : HasAllIndices old → HasAllIndices new
+  all_indices_after well g u n i k miss = nothing_stands (rec_group_at new.groups g) u i
+      ((kept old new roots ids is live unused all).emptied g (λ v j m needed.
       let there = same_group old new roots ids is live unused all g v j m needed u i here in
       let too : IsNeeded old roots i = grouped j i needed (g, v, u, m, there) in
-      let name : slice_get (names_of (definition_at old.types.slots i)) n ≡ Some k = subst (λ (d : Definition). slice_get (names_of d) n ≡ Some k) (same_definition old new roots ids is live unused all i too) miss.name in
+      let name : slice_get (names_of (definition_at old.types.slots i)) n ≡ Some k =
+      subst (λ (d : Definition). slice_get (names_of d) n ≡ Some k)
+      (same_definition old new roots ids is live unused all i too) miss.name in
       well g u n i k (record {
         written = written_before old new roots ids is live unused all g u i there too miss.written;
         member = from_table old g u i there;

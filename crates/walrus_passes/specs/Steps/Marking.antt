@@ -1,5 +1,5 @@
 -- How far the marking of needed types has come.
-use Rattle.std.specs.Prelude.{◌≡◌, ℕ, ◌+◌, ◌<◌, ◌↔◌, Bool, true, false, ◌++◌, List, [], ◌∷◌, length, replicate, slice_index_or, slice_set, if◌then◌else◌, Option, Some, None}
+use Rattle.std.specs.Prelude.{◌≡◌, ℕ, ◌+◌, ◌<◌, ◌↔◌, Bool, true, false, List, [], ◌∷◌, length, replicate, slice_index_or, slice_set, if◌then◌else◌, Option, Some, None}
 use Rattle.std.specs.List.{fold}
 use Rattle.walrus_ty.specs.Types.{ModuleType}
 use Rattle.walrus_ty.specs.Views.{referenced_ids}
@@ -15,7 +15,7 @@ pub record State : Type 0 where
 
 -- no marks for the ids up to this one, and no work
 abbrev pub no_marks : ℕ → State
-no_marks greatest = record { marks = replicate greatest false ++ false ∷ []; work = [] }
+no_marks ids = record { marks = replicate ids false; work = [] }
 
 abbrev pub is_marked : State → ℕ → Bool
 is_marked s id = slice_index_or s.marks id false

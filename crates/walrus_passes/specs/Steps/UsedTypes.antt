@@ -6,7 +6,7 @@ use Rattle.walrus_ir.specs.BlockTypes.{block_type_name}
 use Rattle.instr.specs.Locals.{LocalVariable}
 use Rattle.walrus_ir.specs.Sequence.{Sequence}
 use Rattle.walrus_functions.specs.Body.{sequence}
-use Rattle.walrus_functions.specs.Locals.{FunctionWithArgs}
+use Rattle.walrus_functions.specs.FunctionWithArgs.{FunctionWithArgs}
 use Rattle.walrus_passes.specs.UsedTypes.{local_types, instr_types}
 
 -- the types of a sequence

@@ -27,14 +27,12 @@ impl Model for Marking {
 }
 
 impl Marking {
-    // No marks, with one for each id up to this one, and room for `room` ids to follow.
-    pub(super) fn new(alloc: Global, greatest: usize, room: usize) -> Result<Marking, AllocError>
-        ensures { IfOk result (λ s. s ≡ no_marks greatest) }
+    // No marks, with a place for each id below this number, and room for `room` ids to follow.
+    pub(super) fn new(alloc: Global, ids: usize, room: usize) -> Result<Marking, AllocError>
+        ensures { IfOk result (λ s. s ≡ no_marks ids) }
     {
-        let mut marks = vec![in alloc; false; greatest]?;
-        marks.push(false)?;
         Ok(Marking {
-            marks,
+            marks: vec![in alloc; false; ids]?,
             work: Vec::with_capacity(alloc, room)?,
         })
     }

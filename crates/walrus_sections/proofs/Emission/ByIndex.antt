@@ -16,4 +16,6 @@ pub record IsEmitted (s n : IndexSpace) (r m : ℕ → ℕ) : Type 0 where
   pub definition : (i : ℕ) → i < s.count → r i ≡ i → n.definition (m i) ≡ rename m (read_definition s r i)
   pub rec_position : (i : ℕ) → i < s.count → r i ≡ i → n.rec_position (m i) ≡ s.rec_position i
   pub fixed : (i j : ℕ) → i < j → j < s.count → r i ≡ i → r j ≡ j → IsFixed s r i ⊎ IsFixed s r j → m i < m j
-  pub free : (i j : ℕ) → i < j → j < s.count → r i ≡ i → r j ≡ j → ((a : ℕ) → i ≤ a → a ≤ j → r a ≡ a → ¬ (IsFixed s r a)) → (m i < m j ↔ ¬ (definition_cmp (read_definition s r j) (read_definition s r i) ≡ Less))
+  pub free : (i j : ℕ) → i < j → j < s.count → r i ≡ i → r j ≡ j →
+      ((a : ℕ) → i ≤ a → a ≤ j → r a ≡ a → ¬ (IsFixed s r a)) →
+      (m i < m j ↔ ¬ (definition_cmp (read_definition s r j) (read_definition s r i) ≡ Less))

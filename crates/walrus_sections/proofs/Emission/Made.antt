@@ -17,7 +17,11 @@ module _ (s : IndexSpace) (r : ℕ → ℕ) (d : IsSlotMap s r) where
   own_or_sent : (i : ℕ) → i < s.count → (r i ≡ i) ⊎ IsCandidate s r i (r i)
   own_or_sent i h = elim (cases_eq (r i) i) [
     | inl v ↦ inl v
-    | inr w ↦ (elim (in_or_out (s.rec_position i)) [ inl o ↦ inr (d.to_candidate i h o w) | inr x ↦ absurd (w (d.recs i h x)) ])
+    | inr w ↦ (elim (in_or_out (s.rec_position i)) [
+      | inl o ↦ inr (d.to_candidate i h o w)
+      | inr x ↦
+          absurd (w (d.recs i h x))
+    ])
   ]
 
   -- each index is sent to a live slot that is not later and holds what it defines
@@ -27,12 +31,13 @@ module _ (s : IndexSpace) (r : ℕ → ℕ) (d : IsSlotMap s r) where
   pub twice : (i : ℕ) → i < s.count → r (r i) ≡ r i
   twice i h = elim (own_or_sent i h) [ inl v ↦ ap r v | inr c ↦ c.live ]
 
-  pub same : (i : ℕ) → i < s.count → read_definition s r (r i) ≡ read_definition s r i
-  same i h = elim (own_or_sent i h) [ inl v ↦ ap (read_definition s r) v | inr c ↦ c.same ]
+  pub read-same : (i : ℕ) → i < s.count → read_definition s r (r i) ≡ read_definition s r i
+  read-same i h = elim (own_or_sent i h) [ inl v ↦ ap (read_definition s r) v | inr c ↦ c.same ]
 
 module _ (s : IndexSpace) (r : ℕ → ℕ) (l : IsLaidOut s) (wn : NamesBelowEnds s) (d : IsSlotMap s r) where
   -- a live slot of a `Single` that names itself holds what no earlier slot holds
-  earlier_differs : (i j : ℕ) → i < j → j < s.count → r i ≡ i → r j ≡ j → IsSingle s j → (¬ (Names (s.definition j) j) → ⊥) → ¬ (read_definition s r i ≡ read_definition s r j)
+  earlier_differs : (i j : ℕ) → i < j → j < s.count → r i ≡ i → r j ≡ j → IsSingle s j →
+      (¬ (Names (s.definition j) j) → ⊥) → ¬ (read_definition s r i ≡ read_definition s r j)
   earlier_differs i j g h vi vj oj or_else q = or_else (λ nj.
       (let a = Names-rename r (s.definition j) j nj in
       let b = named_before r (s.definition i) (r j) (names_same (r j) (sym q) a) in
@@ -44,8 +49,10 @@ module _ (s : IndexSpace) (r : ℕ → ℕ) (l : IsLaidOut s) (wn : NamesBelowEn
       ])))
 
   -- live slots of `Single`s hold different definitions
-  pub differ : (i j : ℕ) → i < j → j < s.count → r i ≡ i → r j ≡ j → IsSingle s i → IsSingle s j → ¬ (read_definition s r i ≡ read_definition s r j)
-  differ i j g h vi vj oi oj q = earlier_differs i j g h vi vj oj (λ nn. d.fresh j i h oj nn vj (record { earlier = g; single = oi; live = vi; same = q })) q
+  pub differ : (i j : ℕ) → i < j → j < s.count → r i ≡ i → r j ≡ j → IsSingle s i → IsSingle s j →
+      ¬ (read_definition s r i ≡ read_definition s r j)
+  differ i j g h vi vj oi oj q = earlier_differs i j g h vi vj oj (λ nn.
+      d.fresh j i h oj nn vj (record { earlier = g; single = oi; live = vi; same = q })) q
 
   -- a candidate is the only one
   pub one_candidate : (i j k : ℕ) → i < s.count → IsCandidate s r i j → IsCandidate s r i k → j ≡ k
@@ -55,7 +62,8 @@ module _ (s : IndexSpace) (r : ℕ → ℕ) (l : IsLaidOut s) (wn : NamesBelowEn
         | inl x ↦ absurd (differ j k x (omega arith) a.live b.live a.single b.single (a.same ∙ sym b.same))
         | inr x ↦ (elim (cases_eq j k) [
           | inl e ↦ e
-          | inr e ↦ absurd (differ k j (omega arith) (omega arith) b.live a.live b.single a.single (b.same ∙ sym a.same))
+          | inr e ↦ absurd (differ k j (omega arith) (omega arith) b.live a.live b.single a.single (b.same
+              ∙ sym a.same))
         ])
       ]
 
@@ -67,14 +75,16 @@ greater_of Greater p e h q = cc
 fixed_at : (s : IndexSpace) (r : ℕ → ℕ) (a b : ℕ) → a ≡ b → IsFixed s r a → IsFixed s r b
 fixed_at s r a b e h = rw e at h
 
-module _ (s n : IndexSpace) (r place : ℕ → ℕ) (l : IsLaidOut s) (wn : NamesBelowEnds s) (d : IsSlotMap s r) (e : IsEmitted s n r place) where
+module _ (s n : IndexSpace) (r place : ℕ → ℕ) (l : IsLaidOut s) (wn : NamesBelowEnds s) (d : IsSlotMap s r)
+    (e : IsEmitted s n r place) where
   abbrev m : ℕ → ℕ
   m i = place (r i)
 
   live_kept : (i : ℕ) → i < s.count → r i ≡ i → IsKept m i
   live_kept i h v j g q =
       let dj = down s r d j (omega arith) in
-      let z = e.apart (r j) (r i) (omega arith) (let x = down s r d i h in omega arith) (twice s r d j (omega arith)) (twice s r d i h) q in omega arith
+      let z = e.apart (r j) (r i) (omega arith) (let x = down s r d i h in omega arith)
+      (twice s r d j (omega arith)) (twice s r d i h) q in omega arith
 
   kept_live : (i : ℕ) → i < s.count → IsKept m i → r i ≡ i
   kept_live i h k = elim (cases_eq (r i) i) [
@@ -83,19 +93,24 @@ module _ (s n : IndexSpace) (r place : ℕ → ℕ) (l : IsLaidOut s) (wn : Name
   ]
 
   -- the types in two live slots that are written alike are alike
-  alike : (i j : ℕ) → i < s.count → j < s.count → n.definition (m i) ≡ n.definition (m j) → read_definition s r i ≡ read_definition s r j
+  alike : (i j : ℕ) → i < s.count → j < s.count → n.definition (m i) ≡ n.definition (m j) →
+      read_definition s r i ≡ read_definition s r j
   alike i j hi hj q =
       let ri = down s r d i hi in let rj = down s r d j hj in
       let a : rename place (read_definition s r (r i)) ≡ rename place (read_definition s r (r j)) =
-      sym (e.definition (r i) (omega arith) (twice s r d i hi)) ∙ (q ∙ e.definition (r j) (omega arith) (twice s r d j hj)) in
-      let names : (x : ℕ) → x < s.count → (k : ℕ) → Names (read_definition s r x) k → (k < s.count) × (r k ≡ k) = λ x hx k nk.
+      sym (e.definition (r i) (omega arith) (twice s r d i hi))
+      ∙ (q ∙ e.definition (r j) (omega arith) (twice s r d j hj)) in
+      let names : (x : ℕ) → x < s.count → (k : ℕ) → Names (read_definition s r x) k → (k < s.count)
+      × (r k ≡ k) = λ x hx k nk.
       (let b = named_before r (s.definition x) k nk in
       let w = wn x hx b.0 b.1 in let f = l.fits x hx in
       let db = down s r d b.0 (omega arith) in let tb = twice s r d b.0 (omega arith) in let b2 = b.2 in
       (omega arith, ap r (sym b2) ∙ (tb ∙ b2))) in
       let t = transfer place (λ k. k) (read_definition s r (r i)) (read_definition s r (r j)) (λ k k' p u v.
-      (let x = names (r i) (omega arith) k p in let y = names (r j) (omega arith) k' u in e.apart k k' x.0 y.0 x.1 y.1 v)) a in
-      sym (same s r d i hi) ∙ (sym (rename_id (read_definition s r (r i))) ∙ (t ∙ (rename_id (read_definition s r (r j)) ∙ same s r d j hj)))
+      (let x = names (r i) (omega arith) k p in let y = names (r j) (omega arith) k' u in
+      e.apart k k' x.0 y.0 x.1 y.1 v)) a in
+      sym (read-same s r d i hi) ∙ (sym (rename_id (read_definition s r (r i)))
+      ∙ (t ∙ (rename_id (read_definition s r (r j)) ∙ read-same s r d j hj)))
 
   fixed_if : (i : ℕ) → i < s.count → IsAnchor s m i → IsFixed s r i
   fixed_if i h (inl x) = inl x
@@ -120,31 +135,45 @@ module _ (s n : IndexSpace) (r place : ℕ → ℕ) (l : IsLaidOut s) (wn : Name
     | inr q ↦ absurd (na (inr (live_kept i h v, (k, nk, q))))
   ]) ∙ rename_id (s.definition i)
 
-  free_made : (i j : ℕ) → i < j → j < s.count → IsKept m i → IsKept m j → AreFree s m i j → (m i < m j ↔ definition_cmp (s.definition i) (s.definition j) ≡ Less)
+  free_made : (i j : ℕ) → i < j → j < s.count → IsKept m i → IsKept m j → AreFree s m i j →
+      (m i < m j ↔ definition_cmp (s.definition i) (s.definition j) ≡ Less)
   free_made i j g h ki kj fr =
       let vi = kept_live i (omega arith) ki in
       let vj = kept_live j h kj in
       let ti = own_type i (omega arith) vi (fr i (omega arith) (omega arith)) in
       let tj = own_type j h vj (fr j (omega arith) (omega arith)) in
       let f = e.free i j g h vi vj (λ a u v va fx. fr a u v (anchor_if a (omega arith) va fx)) in
-      let single : (a : ℕ) → i ≤ a → a ≤ j → IsSingle s a = λ a u v. elim (in_or_out (s.rec_position a)) [ inl o ↦ o | inr x ↦ absurd (fr a u v (inl x)) ] in
-      let ne : ¬ (s.definition i ≡ s.definition j) = λ q. differ s r l wn d i j g h vi vj (single i (omega arith) (omega arith)) (single j (omega arith) (omega arith)) (ap (rename r) q) in
+      let single : (a : ℕ) → i ≤ a → a ≤ j → IsSingle s a = λ a u v.
+      elim (in_or_out (s.rec_position a)) [ inl o ↦ o | inr x ↦ absurd (fr a u v (inl x)) ] in
+      let ne : ¬ (s.definition i ≡ s.definition j) = λ q.
+      differ s r l wn d i j g h vi vj (single i (omega arith) (omega arith))
+      (single j (omega arith) (omega arith)) (ap (rename r) q) in
       let pi = ap place vi in let pj = ap place vj in (
         (λ x. one_less (s.definition i) (s.definition j) ne (λ y. f.0 (omega arith) (cmp_same tj ti ∙ y))),
-        (λ x. (let z = f.1 (λ y. greater_of (definition_cmp (s.definition i) (s.definition j)) (definition_cmp (s.definition j) (s.definition i)) (definitions_total.antisymm (s.definition j) (s.definition i)) x (sym (cmp_same tj ti) ∙ y)) in omega arith)),
+        (λ x. (let z = f.1 (λ y. greater_of (definition_cmp (s.definition i) (s.definition j))
+            (definition_cmp (s.definition j) (s.definition i))
+            (definitions_total.antisymm (s.definition j) (s.definition i)) x (sym (cmp_same tj ti) ∙ y)) in
+            omega arith)),
       )
 
   pub normal_made : IsNormal s n m
   normal_made = record {
     below = λ i h. (let z = down s r d i h in e.below (r i) (omega arith) (twice s r d i h));
     onto = λ p h. (let o = e.onto p h in (o.0, o.1, ap place o.2 ∙ o.3));
-    same = λ i h. (let z = down s r d i h in e.definition (r i) (omega arith) (twice s r d i h) ∙ (ap (rename place) (same s r d i h) ∙ rename_twice place r (s.definition i)));
-    rec_to_rec = λ i x h q. (let v = d.recs i h (x, q) in ap (λ y. n.rec_position (place y)) v ∙ (e.rec_position i h v ∙ q));
-    rec_from_rec = λ p x h q. (let o = e.onto p h in (o.0, o.1, sym (e.rec_position o.0 o.1 o.2) ∙ (ap n.rec_position o.3 ∙ q)));
+    same = λ i h. (let z = down s r d i h in e.definition (r i) (omega arith) (twice s r d i h)
+        ∙ (ap (rename place) (read-same s r d i h) ∙ rename_twice place r (s.definition i)));
+    rec_to_rec = λ i x h q. (let v = d.recs i h (x, q) in ap (λ y. n.rec_position (place y)) v
+        ∙ (e.rec_position i h v ∙ q));
+    rec_from_rec = λ p x h q. (let o = e.onto p h in
+        (o.0, o.1, sym (e.rec_position o.0 o.1 o.2) ∙ (ap n.rec_position o.3 ∙ q)));
     selfs_kept = λ i h o q. live_kept i h (d.selfs i h o q);
     anchors = λ i j g h ki kj an. (
         let vi = kept_live i (omega arith) ki in let vj = kept_live j h kj in
-        let a : IsFixed s r i ⊎ IsFixed s r j = elim an [ inl x ↦ inl (fixed_if i (omega arith) x) | inr x ↦ inr (fixed_if j h x) ] in
+        let a : IsFixed s r i ⊎ IsFixed s r j = elim an [
+          | inl x ↦ inl (fixed_if i (omega arith) x)
+          | inr x ↦
+              inr (fixed_if j h x)
+        ] in
         let z = e.fixed i j g h vi vj a in
         let pi = ap place vi in let pj = ap place vj in omega arith);
     free = free_made;
@@ -154,7 +183,9 @@ module _ (s n : IndexSpace) (r place : ℕ → ℕ) (l : IsLaidOut s) (wn : Name
         let a1 = a.1 in let b1 = b.1 in
         let oi : IsSingle s i = sym (e.rec_position i a1 a.2) ∙ (ap n.rec_position a.3 ∙ op) in
         let oj : IsSingle s j = sym (e.rec_position j b1 b.2) ∙ (ap n.rec_position b.3 ∙ oq) in
-        let ti = alike i j a1 b1 (ap (λ y. n.definition (place y)) a.2 ∙ (ap n.definition a.3 ∙ (x ∙ (ap n.definition (sym b.3) ∙ ap (λ y. n.definition (place y)) (sym b.2))))) in
+        let ti = alike i j a1 b1 (ap (λ y. n.definition (place y)) a.2
+        ∙ (ap n.definition a.3 ∙ (x ∙ (ap n.definition (sym b.3)
+        ∙ ap (λ y. n.definition (place y)) (sym b.2))))) in
         elim (cases_lt i j) [
           | inl y ↦ differ s r l wn d i j y b1 a.2 b.2 oi oj ti
           | inr y ↦ (elim (cases_eq i j) [

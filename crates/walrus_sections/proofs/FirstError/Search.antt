@@ -40,7 +40,10 @@ pub bad_of_cons :
     option_or (option_map (naming i) o) (first_out_of_range end (index_uses_from (i + 1) ds))
 unfolding naming
 bad_of_cons end i d ds o found =
-    find_in_two (λ n. nat_le end n.index) (map (λ k. record { entry = i; index = k }) (names_of d)) (index_uses_from (i + 1) ds) ∙ ap (λ (f : Option IndexUse). option_or f (first_out_of_range end (index_uses_from (i + 1) ds))) (bad_of_one end i (names_of d) ∙ ap (option_map (naming i)) (sym found))
+    find_in_two (λ n. nat_le end n.index) (map (λ k. record { entry = i; index = k }) (names_of d))
+    (index_uses_from (i + 1) ds) ∙ ap (λ (f : Option IndexUse).
+    option_or f (first_out_of_range end (index_uses_from (i + 1) ds))) (bad_of_one end i (names_of d)
+    ∙ ap (option_map (naming i)) (sym found))
 
 from_drop :
     (es : List EntryAt) (e : EntryAt) (i : ℕ) → i < length es → e ≡ get_or es i e →
@@ -51,27 +54,34 @@ from_drop es e i within is = rw add-one (drop-cons es i e within ∙ ap (λ x. x
 pub bad_from :
     (end start i : ℕ) (es : List EntryAt) (e : EntryAt) (o : Option ℕ) → i < length es →
     e ≡ get_or es i e → o ≡ find (nat_le end) (names_of (entry_definition e)) →
-    first_out_of_range end (index_uses_from (start + i) (map entry_definition (drop i es))) ≡ option_or (option_map (λ k. record { entry = start + i; index = k }) o) (first_out_of_range end (index_uses_from (start + (i + 1)) (map entry_definition (drop (i + 1) es))))
+    first_out_of_range end (index_uses_from (start + i) (map entry_definition (drop i es))) ≡ option_or
+    (option_map (λ k. record { entry = start + i; index = k }) o)
+    (first_out_of_range end (index_uses_from (start + (i + 1)) (map entry_definition (drop (i + 1) es))))
 unfolding naming
 bad_from end start i es e o within is found =
     let rest : List Definition = map entry_definition (drop (i + 1) es) in
     let next : start + i + 1 ≡ start + (i + 1) = omega arith in
-    ap (λ (l : List EntryAt). first_out_of_range end (index_uses_from (start + i) (map entry_definition l))) (from_drop es e i within is)
+    ap (λ (l : List EntryAt). first_out_of_range end (index_uses_from (start + i) (map entry_definition l)))
+    (from_drop es e i within is)
     ∙ (bad_of_cons end (start + i) (entry_definition e) rest o found
-    ∙ ap (λ (n : ℕ). option_or (option_map (naming (start + i)) o) (first_out_of_range end (index_uses_from n rest))) next)
+    ∙ ap (λ (n : ℕ). option_or (option_map (naming (start + i)) o)
+    (first_out_of_range end (index_uses_from n rest))) next)
 
 none_past :
     (end : ℕ) (ks : List ℕ) → find (nat_le end) ks ≡ None → (i k : ℕ) → i < length ks →
     get_or ks i k ≡ k → k < end
 none_past end [] h i k w e = absurd (omega arith)
-none_past end (x ∷ ks) h zero k w e = leb-false end k (subst (λ (y : ℕ). nat_le end y ≡ false) e (first_fails (nat_le end x) x (find (nat_le end) ks) refl h)) where
-  first_fails : (b : Bool) (x : ℕ) (o : Option ℕ) → b ≡ b → cond b (Some x) o ≡ None → b ≡ false
-  first_fails true x o r h = cc
-  first_fails false x o r h = refl
-none_past end (x ∷ ks) h (suc i) k w e = none_past end ks (rest_fails (nat_le end x) x (find (nat_le end) ks) h) i k (omega arith) e where
-  rest_fails : (b : Bool) (x : ℕ) (o : Option ℕ) → cond b (Some x) o ≡ None → o ≡ None
-  rest_fails true x o h = cc
-  rest_fails false x o h = h
+none_past end (x ∷ ks) h zero k w e = leb-false end k
+    (subst (λ (y : ℕ). nat_le end y ≡ false) e (first_fails (nat_le end x) x (find (nat_le end) ks) refl h))
+  where
+    first_fails : (b : Bool) (x : ℕ) (o : Option ℕ) → b ≡ b → cond b (Some x) o ≡ None → b ≡ false
+    first_fails true x o r h = cc
+    first_fails false x o r h = refl
+none_past end (x ∷ ks) h (suc i) k w e = none_past end ks
+    (rest_fails (nat_le end x) x (find (nat_le end) ks) h) i k (omega arith) e where
+      rest_fails : (b : Bool) (x : ℕ) (o : Option ℕ) → cond b (Some x) o ≡ None → o ≡ None
+      rest_fails true x o h = cc
+      rest_fails false x o h = h
 
 left_none : {X : Type 0} (o p : Option X) → option_or o p ≡ None → o ≡ None
 left_none None p h = refl
@@ -91,11 +101,13 @@ none_bad :
 none_bad end i [] h u k d w named = absurd (omega arith)
 none_bad end i (e ∷ ds) h zero k d w named =
     let both = sym (bad_of_cons end i e ds (find (nat_le end) (names_of e)) refl) ∙ h in
-    let own = mapped_none (naming i) (find (nat_le end) (names_of e)) (left_none _ (first_out_of_range end (index_uses_from (i + 1) ds)) both) in
+    let own = mapped_none (naming i) (find (nat_le end) (names_of e))
+    (left_none _ (first_out_of_range end (index_uses_from (i + 1) ds)) both) in
     none_past end (names_of e) own named.0 k named.1 named.2
 none_bad end i (e ∷ ds) h (suc u) k d w named =
     let both = sym (bad_of_cons end i e ds (find (nat_le end) (names_of e)) refl) ∙ h in
-    none_bad end (i + 1) ds (right_none (option_map (naming i) (find (nat_le end) (names_of e))) _ both) u k d (omega arith) named
+    none_bad end (i + 1) ds (right_none (option_map (naming i) (find (nat_le end) (names_of e))) _ both) u k d
+    (omega arith) named
 
 -- a group without error: few entries, each of which names only indices below its end
 pub record IsSound (start : ℕ) (ds : List Definition) : Type 0 where
@@ -109,7 +121,8 @@ sound : (b : Bool) (start : ℕ) (ds : List Definition) → b ≡ nat_le entry_l
 sound true start ds e h = absurd cc
 sound false start ds e h = record {
   few = leb-false entry_limit (start + length ds) (sym e);
-  below = none_bad (start + length ds) start ds (mapped_none (λ (n : IndexUse). BadIndex n.entry n.index (start + length ds)) _ h);
+  below = none_bad (start + length ds) start ds
+      (mapped_none (λ (n : IndexUse). BadIndex n.entry n.index (start + length ds)) _ h);
 }
 
 pub sound_from_no_error :

@@ -13,7 +13,8 @@ pub record IsSwapped (s r : IndexSpace) (i : ℕ) : Type 0 where
   pub second_single : IsSingle s (suc i)
   pub first_own : (k : ℕ) → Names (s.definition i) k → k ≡ i
   pub second_own : (k : ℕ) → Names (s.definition (suc i)) k → k ≡ suc i
-  pub order : definition_cmp (s.definition i) (s.definition (suc i)) ≡ definition_cmp (rename (exchange i) (s.definition i)) (rename (exchange i) (s.definition (suc i)))
+  pub order : definition_cmp (s.definition i) (s.definition (suc i)) ≡ definition_cmp
+      (rename (exchange i) (s.definition i)) (rename (exchange i) (s.definition (suc i)))
   pub definition : (k : ℕ) → k < s.count → r.definition k ≡ rename (exchange i) (s.definition (exchange i k))
   pub rec_position : (k : ℕ) → k < s.count → r.rec_position k ≡ s.rec_position k
   pub end : (k : ℕ) → k < s.count → r.end k ≡ s.end k

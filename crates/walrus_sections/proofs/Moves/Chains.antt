@@ -29,7 +29,8 @@ listed s n f w g c =
       record {
         one_each = length-map-range_with_len f 0 (index_space s).count;
         filled = g;
-        laws = normal_same (index_space s) (index_space n) f (image m) (laid_out s) w.below_ends (λ i h. sym (get_or-map-range_with_len f 0 (index_space s).count i i 0 h (omega arith))) c;
+        laws = normal_same (index_space s) (index_space n) f (image m) (laid_out s) w.below_ends (λ i h.
+            sym (get_or-map-range_with_len f 0 (index_space s).count i i 0 h (omega arith))) c;
       },
     )
 
@@ -37,23 +38,35 @@ swapped_back : (s r : IndexSpace) (i : ℕ) → IsSwapped s r i → IsSwapped r 
 swapped_back s r i sw =
     let z = sw.inside in
     let u = exchange i in
-    let ri : r.definition i ≡ rename (exchange i) (s.definition (suc i)) = sw.definition i (omega arith) ∙ ap (λ y. rename (exchange i) (s.definition y)) (exchange_first i) in
-    let rj : r.definition (suc i) ≡ rename (exchange i) (s.definition i) = sw.definition (suc i) sw.inside ∙ ap (λ y. rename (exchange i) (s.definition y)) (exchange_second i) in
+    let ri : r.definition i ≡ rename (exchange i) (s.definition (suc i)) = sw.definition i (omega arith)
+    ∙ ap (λ y. rename (exchange i) (s.definition y)) (exchange_first i) in
+    let rj : r.definition (suc i) ≡ rename (exchange i) (s.definition i) = sw.definition (suc i) sw.inside
+    ∙ ap (λ y. rename (exchange i) (s.definition y)) (exchange_second i) in
     record {
       count = sym sw.count;
       inside = (let c = sw.count in omega arith);
       first_single = sw.rec_position i (omega arith) ∙ sw.first_single;
       second_single = sw.rec_position (suc i) sw.inside ∙ sw.second_single;
-      first_own = λ k h. (let b = named_before (exchange i) (s.definition (suc i)) k (rw ri at h) in sym b.2 ∙ (ap (exchange i) (sw.second_own b.0 b.1) ∙ exchange_second i));
-      second_own = λ k h. (let b = named_before (exchange i) (s.definition i) k (rw rj at h) in sym b.2 ∙ (ap (exchange i) (sw.first_own b.0 b.1) ∙ exchange_first i));
+      first_own = λ k h. (let b = named_before (exchange i) (s.definition (suc i)) k (rw ri at h) in sym b.2
+          ∙ (ap (exchange i) (sw.second_own b.0 b.1) ∙ exchange_second i));
+      second_own = λ k h. (let b = named_before (exchange i) (s.definition i) k (rw rj at h) in sym b.2
+          ∙ (ap (exchange i) (sw.first_own b.0 b.1) ∙ exchange_first i));
       order =
           (let e = s.definition i in let f = s.definition (suc i) in
-          let a : definition_cmp (rename (exchange i) f) (rename (exchange i) e) ≡ ordering_reverse (definition_cmp (rename (exchange i) e) (rename (exchange i) f)) = definitions_total.antisymm (rename (exchange i) f) (rename (exchange i) e) in
-          let b : definition_cmp f e ≡ ordering_reverse (definition_cmp e f) = definitions_total.antisymm f e in
-          let c : definition_cmp (rename (exchange i) f) (rename (exchange i) e) ≡ definition_cmp f e = a ∙ (ap ordering_reverse (sym sw.order) ∙ sym b) in
-          cmp_same ri rj ∙ (c ∙ sym (cmp_same (ap (rename (exchange i)) ri ∙ exchanged_back i f) (ap (rename (exchange i)) rj ∙ exchanged_back i e))));
+          let a : definition_cmp (rename (exchange i) f) (rename (exchange i) e) ≡ ordering_reverse
+          (definition_cmp (rename (exchange i) e) (rename (exchange i) f)) =
+          definitions_total.antisymm (rename (exchange i) f) (rename (exchange i) e) in
+          let b : definition_cmp f e ≡ ordering_reverse (definition_cmp e f) =
+          definitions_total.antisymm f e in
+          let c : definition_cmp (rename (exchange i) f) (rename (exchange i) e) ≡ definition_cmp f e = a
+          ∙ (ap ordering_reverse (sym sw.order) ∙ sym b) in
+          cmp_same ri rj ∙ (c ∙ sym (cmp_same (ap (rename (exchange i)) ri ∙ exchanged_back i f)
+          (ap (rename (exchange i)) rj ∙ exchanged_back i e))));
       definition = λ k h. (let c = sw.count in
-          sym (exchanged_back i (s.definition k)) ∙ (ap (λ y. rename (exchange i) (rename (exchange i) (s.definition y))) (sym (exchange_twice i k)) ∙ ap (rename (exchange i)) (sym (sw.definition (exchange i k) (exchange_within i k s.count sw.inside (omega arith))))));
+          sym (exchanged_back i (s.definition k)) ∙
+          (ap (λ y. rename (exchange i) (rename (exchange i) (s.definition y))) (sym (exchange_twice i k))
+          ∙ ap (rename (exchange i)) (sym (sw.definition (exchange i k) (exchange_within
+          i k s.count sw.inside (omega arith))))));
       rec_position = λ k h. (let c = sw.count in sym (sw.rec_position k (omega arith)));
       end = λ k h. (let c = sw.count in sym (sw.end k (omega arith)));
     }
@@ -61,11 +74,17 @@ swapped_back s r i sw =
 back_move :
     (s q n : Section) → IsWellNamed s → IsWellNamed q → Move s q → IsOutput q n → IsOutput s n
 back_move s q n ws wq (drop_empty_rec x) o =
-    listed s n (image o.0) ws o.1.filled (subst (λ (ps : List Place). IsNormal (index_space_of_places ps) (index_space n) (image o.0)) (sym (drop_empty_rec-places s q x)) o.1.laws)
+    listed s n (image o.0) ws o.1.filled (subst (λ (ps : List Place).
+    IsNormal (index_space_of_places ps) (index_space n) (image o.0)) (sym (drop_empty_rec-places s q x))
+    o.1.laws)
 back_move s q n ws wq (drop_repeat i j x) o =
-    listed s n (λ k. image o.0 (skip i j k)) ws o.1.filled (normal_without (index_space s) (index_space q) (index_space n) (image o.0) i j (laid_out s) ws.below_ends (without_by_index s q i j x) o.1.laws)
+    listed s n (λ k. image o.0 (skip i j k)) ws o.1.filled
+    (normal_without (index_space s) (index_space q) (index_space n) (image o.0) i j (laid_out s)
+    ws.below_ends (without_by_index s q i j x) o.1.laws)
 back_move s q n ws wq (swap_neighbours i x) o =
-    listed s n (λ k. image o.0 (exchange i k)) ws o.1.filled (normal_swapped (index_space q) (index_space s) (index_space n) (image o.0) i (laid_out q) wq.below_ends (swapped_back (index_space s) (index_space q) i (swapped_by_index s q i x)) o.1.laws)
+    listed s n (λ k. image o.0 (exchange i k)) ws o.1.filled
+    (normal_swapped (index_space q) (index_space s) (index_space n) (image o.0) i (laid_out q)
+    wq.below_ends (swapped_back (index_space s) (index_space q) i (swapped_by_index s q i x)) o.1.laws)
 
 down_output : (q s n : Section) → IsWellNamed s → DescentTo q s → IsOutput q n → IsOutput s n
 down_output q _ n w bottom o = o
@@ -74,8 +93,11 @@ down_output q _ n w (down s r mv lo wr d) o = back_move s r n w wr mv (down_outp
 -- each well-named section has an output, to which moves lead
 pub output : (s : Section) → IsWellNamed s → (n : Section) × IsOutput s n × DescentTo n s
 output s w =
-    let r = descend s w in
-    (r.q, down_output r.q s r.q w r.descent (listed r.q r.q (λ k. k) r.well_named r.filled r.holds), r.descent)
+    let r = descend s w in (
+      r.q,
+      down_output r.q s r.q w r.descent (listed r.q r.q (λ k. k) r.well_named r.filled r.holds),
+      r.descent,
+    )
 
 forth_move :
     (s q n : Section) → IsWellNamed s → IsWellNamed q → Move s q → IsOutput s n → IsOutput q n

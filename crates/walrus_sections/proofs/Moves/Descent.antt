@@ -23,13 +23,15 @@ fewer_without_empty s r x =
 pub fewer_without_repeat : (s r : Section) (i j : ℕ) → DropsRepeat s r i j → length r < length s
 fewer_without_repeat s r i j x =
     let a = ap length x.s_is ∙ length-append x.before (Single x.dropped ∷ x.after) in
-    let b = ap length x.r_is ∙ (length-map (x.before ++ x.after) (rename_group (skip i j)) ∙ length-append x.before x.after) in omega arith
+    let b = ap length x.r_is ∙ (length-map (x.before ++ x.after) (rename_group (skip i j))
+    ∙ length-append x.before x.after) in omega arith
 
 as_many : (s r : Section) (i : ℕ) → SwapsNeighbours s r i → length r ≡ length s
 as_many s r i x =
     let y = x.exchanged in
     let a = ap length y.s_is ∙ length-append y.before (Single y.first ∷ Single y.second ∷ y.after) in
-    let b = ap length y.r_is ∙ (length-map (y.before ++ Single y.second ∷ Single y.first ∷ y.after) (rename_group (exchange i)) ∙ length-append y.before (Single y.second ∷ Single y.first ∷ y.after)) in
+    let b = ap length y.r_is ∙ (length-map (y.before ++ Single y.second ∷ Single y.first ∷ y.after)
+    (rename_group (exchange i)) ∙ length-append y.before (Single y.second ∷ Single y.first ∷ y.after)) in
     omega arith
 
 less_if_greater : (o p : Ordering) → p ≡ ordering_reverse o → o ≡ Greater → p ≡ Less
@@ -42,7 +44,8 @@ unfixed : (s : IndexSpace) (i j : ℕ) → AreOutOfOrder s i j → AreUnfixed s 
 unfixed s i j x a u v (inl y) = let p = x.singles a u v in let q = y.1 in absurd cc
 unfixed s i j x a u v (inr y) = y.2 (x.own a u v y.0 y.1)
 
-module _ (s r : IndexSpace) (o : ℕ) (sw : IsSwapped s r o) (gr : definition_cmp (s.definition o) (s.definition (suc o)) ≡ Greater) where
+module _ (s r : IndexSpace) (o : ℕ) (sw : IsSwapped s r o)
+    (gr : definition_cmp (s.definition o) (s.definition (suc o)) ≡ Greater) where
   first_or_second : (a : ℕ) → o ≤ a → a ≤ suc o → (a ≡ o) ⊎ (a ≡ suc o)
   first_or_second a u v = elim (cases_eq a o) [ inl e ↦ inl e | inr n ↦ inr (omega arith) ]
 
@@ -50,16 +53,30 @@ module _ (s r : IndexSpace) (o : ℕ) (sw : IsSwapped s r o) (gr : definition_cm
   the_two = record {
     earlier = omega arith;
     inside = sw.inside;
-    singles = λ a u v. elim (first_or_second a u v) [ inl e ↦ ap s.rec_position e ∙ sw.first_single | inr e ↦ ap s.rec_position e ∙ sw.second_single ];
-    own = λ a u v k h. elim (first_or_second a u v) [ inl e ↦ sw.first_own k (rw e at h) ∙ sym e | inr e ↦ sw.second_own k (rw e at h) ∙ sym e ];
-    less = less_if_greater (definition_cmp (s.definition o) (s.definition (suc o))) (definition_cmp (s.definition (suc o)) (s.definition o)) (definitions_total.antisymm (s.definition (suc o)) (s.definition o)) gr;
+    singles = λ a u v. elim (first_or_second a u v) [
+      | inl e ↦ ap s.rec_position e ∙ sw.first_single
+      | inr e ↦
+          ap s.rec_position e ∙ sw.second_single
+    ];
+    own = λ a u v k h. elim (first_or_second a u v) [
+      | inl e ↦ sw.first_own k (rw e at h) ∙ sym e
+      | inr e ↦
+          sw.second_own k (rw e at h) ∙ sym e
+    ];
+    less = less_if_greater (definition_cmp (s.definition o) (s.definition (suc o)))
+        (definition_cmp (s.definition (suc o)) (s.definition o))
+        (definitions_total.antisymm (s.definition (suc o)) (s.definition o)) gr;
   }
 
   turned_greater : (i j : ℕ) → i ≡ o → j ≡ suc o → definition_cmp (r.definition j) (r.definition i) ≡ Greater
   turned_greater i j e f =
       let z = sw.inside in
-      let ri : r.definition i ≡ rename (exchange o) (s.definition (suc o)) = ap r.definition e ∙ (sw.definition o (omega arith) ∙ ap (λ y. rename (exchange o) (s.definition y)) (exchange_first o)) in
-      let rj : r.definition j ≡ rename (exchange o) (s.definition o) = ap r.definition f ∙ (sw.definition (suc o) sw.inside ∙ ap (λ y. rename (exchange o) (s.definition y)) (exchange_second o)) in
+      let ri : r.definition i ≡ rename (exchange o) (s.definition (suc o)) = ap r.definition e
+      ∙ (sw.definition o (omega arith) ∙ ap (λ y. rename (exchange o) (s.definition y))
+      (exchange_first o)) in
+      let rj : r.definition j ≡ rename (exchange o) (s.definition o) = ap r.definition f
+      ∙ (sw.definition (suc o) sw.inside ∙ ap (λ y. rename (exchange o) (s.definition y))
+      (exchange_second o)) in
       cmp_same rj ri ∙ (sym sw.order ∙ gr)
 
   sent_back : (i j : ℕ) → AreOutOfOrder r i j → AreOutOfOrder s (exchange o i) (exchange o j)
@@ -71,8 +88,10 @@ module _ (s r : IndexSpace) (o : ℕ) (sw : IsSwapped s r o) (gr : definition_cm
             let fs = unfixed_goes s r o sw i j x.earlier hj up (unfixed r i j x) in
             let same = cmp_goes s r o sw i j x.earlier hj up (unfixed r i j x) in
             let rev = definitions_total.antisymm (r.definition i) (r.definition j) in
-            let rev' = definitions_total.antisymm (s.definition (exchange o j)) (s.definition (exchange o i)) in
-            let g : definition_cmp (r.definition i) (r.definition j) ≡ Greater = rev ∙ ap ordering_reverse x.less in
+            let rev' = definitions_total.antisymm (s.definition (exchange o j)) (s.definition (exchange o i))
+            in
+            let g : definition_cmp (r.definition i) (r.definition j) ≡ Greater = rev
+            ∙ ap ordering_reverse x.less in
             record {
               earlier = up;
               inside = exchange_within o j s.count sw.inside hj;
@@ -101,4 +120,7 @@ pub lower_once_turned :
     (s r : Section) (o : ℕ) → SwapsNeighbours s r o →
     definition_cmp ((index_space s).definition o) ((index_space s).definition (suc o)) ≡ Greater →
     IsLower s r
-lower_once_turned s r o x gr = inr (as_many s r o x, fewer_once_turned (index_space s) (index_space r) o (swapped_by_index s r o x) gr)
+lower_once_turned s r o x gr = inr (
+  as_many s r o x,
+  fewer_once_turned (index_space s) (index_space r) o (swapped_by_index s r o x) gr,
+)

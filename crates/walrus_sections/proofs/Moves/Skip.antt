@@ -67,6 +67,15 @@ unskip_not i k f = elim (was i k) [ lower g e ↦ (omega arith) | higher g e ↦
 pub skip_rises : (i j x k : ℕ) → j < i → ¬ (k ≡ i) → x < k → skip i j x < skip i j k
 skip_rises i j x k ji n h = elim (side i j k) [
   | gone e f ↦ absurd (n e)
-  | below g f ↦ (elim (side i j x) [ gone e' f' ↦ absurd (omega arith) | below g' f' ↦ omega arith | above g' f' ↦ absurd (omega arith) ])
-  | above g f ↦ (elim (side i j x) [ gone e' f' ↦ omega arith | below g' f' ↦ omega arith | above g' f' ↦ omega arith ])
+  | below g f ↦ (elim (side i j x) [
+    | gone e' f' ↦ absurd (omega arith)
+    | below g' f' ↦ omega arith
+    | above g' f' ↦ absurd (omega arith)
+  ])
+  | above g f ↦ (elim (side i j x) [
+    | gone e' f' ↦ omega arith
+    | below g' f' ↦ omega arith
+    | above g' f' ↦
+        omega arith
+  ])
 ]

@@ -61,19 +61,29 @@ swapped_but :
     RisesBut (index_space r) b o
 swapped_but s r o b sw ob h but gr i j g jb ne = elim (exchange_order o i j g) [
   | inl up ↦ (
-      let nj : ¬ (exchange o j ≡ suc o) = λ e. ne (sym (exchange_twice o j) ∙ (ap (exchange o) e ∙ exchange_second o)) in
+      let nj : ¬ (exchange o j ≡ suc o) = λ e. ne (sym (exchange_twice o j)
+      ∙ (ap (exchange o) e ∙ exchange_second o)) in
       let le : exchange o j ≤ b = elim (where_is o j) [
         | inl x ↦ absurd (ne x.0)
-        | inr z ↦ (elim z [ inl x ↦ (let x1 = x.1 in omega arith) | inr p ↦ (let q = p.stays in omega arith) ])
+        | inr z ↦ (elim z [
+          | inl x ↦ (let x1 = x.1 in omega arith)
+          | inr p ↦
+              (let q = p.stays in omega arith)
+        ])
       ] in
-      rise_goes (index_space s) (index_space r) o sw i j g (omega arith) up (but (exchange o i) (exchange o j) up le nj))
+      rise_goes (index_space s) (index_space r) o sw i j g (omega arith) up
+      (but (exchange o i) (exchange o j) up le nj))
   | inr at ↦ (λ fr.
       (let ei = ap (exchange o) at.0 ∙ exchange_first o in
       let ej = ap (exchange o) at.1 ∙ exchange_second o in
-      let ri : (index_space r).definition i ≡ rename (exchange o) ((index_space s).definition (suc o)) = sw.definition i (omega arith) ∙ ap (λ y. rename (exchange o) ((index_space s).definition y)) ei in
-      let rj : (index_space r).definition j ≡ rename (exchange o) ((index_space s).definition o) = sw.definition j (omega arith) ∙ ap (λ y. rename (exchange o) ((index_space s).definition y)) ej in
-      let t = definitions_total.antisymm (rename (exchange o) ((index_space s).definition (suc o))) (rename (exchange o) ((index_space s).definition o)) in
-      let u : definition_cmp (rename (exchange o) ((index_space s).definition o)) (rename (exchange o) ((index_space s).definition (suc o))) ≡ Greater = sym sw.order ∙ gr in
+      let ri : (index_space r).definition i ≡ rename (exchange o) ((index_space s).definition (suc o)) =
+      sw.definition i (omega arith) ∙ ap (λ y. rename (exchange o) ((index_space s).definition y)) ei in
+      let rj : (index_space r).definition j ≡ rename (exchange o) ((index_space s).definition o) =
+      sw.definition j (omega arith) ∙ ap (λ y. rename (exchange o) ((index_space s).definition y)) ej in
+      let t = definitions_total.antisymm (rename (exchange o) ((index_space s).definition (suc o)))
+      (rename (exchange o) ((index_space s).definition o)) in
+      let u : definition_cmp (rename (exchange o) ((index_space s).definition o))
+      (rename (exchange o) ((index_space s).definition (suc o))) ≡ Greater = sym sw.order ∙ gr in
       rw (ri, rj) (t ∙ ap ordering_reverse u)))
 ]
 
@@ -82,58 +92,114 @@ insert :
     b < (index_space s).count → (index_space s).count ≡ n → RisesBut (index_space s) b p →
     Reached s (IsSortedTo n (suc b))
 insert zero b n s f w t pb h c but =
-    record { q = s; descent = bottom; filled = f; well_named = w; holds = (t, all_rise (index_space s) b 0 but (λ i g. absurd (omega arith)), c) }
+    record {
+      q = s;
+      descent = bottom;
+      filled = f;
+      well_named = w;
+      holds =
+          (t, all_rise (index_space s) b 0 but (λ i g. absurd (omega arith)), c);
+    }
 insert (suc o) b n s f w t pb h c but =
     let done = λ (last : (i : ℕ) → i < suc o → Rises (index_space s) i (suc o)).
-    (let r : Reached s (IsSortedTo n (suc b)) = record { q = s; descent = bottom; filled = f; well_named = w; holds = (t, all_rise (index_space s) b (suc o) but last, c) } in r) in
+    (let r : Reached s (IsSortedTo n (suc b)) =
+    record {
+      q = s;
+      descent = bottom;
+      filled = f;
+      well_named = w;
+      holds =
+          (t, all_rise (index_space s) b (suc o) but last, c);
+    } in r) in
     elim (fix_or_plain (index_space s) o) [
       | inl fx ↦ done (λ i g fr. absurd (fr o (omega arith) (omega arith) fx))
       | inr po ↦ (elim (fix_or_plain (index_space s) (suc o)) [
         | inl fx ↦ done (λ i g fr. absurd (fr (suc o) (omega arith) (omega arith) fx))
-        | inr pp ↦ (elim (which (definition_cmp ((index_space s).definition o) ((index_space s).definition (suc o)))) [
-          | inl less ↦ done (λ i g fr. elim (cases_eq i o) [
-            | inl e ↦ cmp_same (ap (index_space s).definition e) refl ∙ less
-            | inr ne ↦ definitions_total.trans ((index_space s).definition i) ((index_space s).definition o) ((index_space s).definition (suc o))
-                (but i o (omega arith) (omega arith) (λ e. omega arith) (λ a u v. fr a u (omega arith))) less
-          ])
-          | inr other ↦ (elim other [
-            | inl same ↦ absurd (t o (suc o) (omega arith) (omega arith) po.single pp.single (definition_exact ((index_space s).definition o) ((index_space s).definition (suc o)) same))
-            | inr greater ↦ (
-                let k = split_two s o f (omega arith) po.single pp.single in
-                let en = two_definitions s o k in
-                let r = map (rename_group (exchange o)) (k.before ++ Single k.f ∷ Single k.e ∷ k.after) in
-                let first : (x : ℕ) → Names k.e x → x ≡ o = λ x q. po.own x (rw (en.0) q) in
-                let second : (x : ℕ) → Names k.f x → x ≡ suc o = λ x q. pp.own x (rw (en.1) q) in
-                let gr : definition_cmp k.e k.f ≡ Greater = rw (en.0, en.1) at greater in
-                let mv : SwapsNeighbours s r o = record {
-                  exchanged = record { before = k.before; first = k.e; second = k.f; after = k.after; s_is = k.is; r_is = refl; place = length-places 0 0 k.before ∙ k.place };
-                  first_own = first;
-                  second_own = second;
-                  order = order_stays o k.e k.f first second gr;
-                } in
-                let sw = swapped_by_index s r o mv in
-                let wr = swapped_well_named s r o w mv in
-                let tr = tidy_goes (index_space s) (index_space r) o sw t in
-                let fk : IsFilled (k.before ++ Single k.e ∷ Single k.f ∷ k.after) = rw (k.is) at f in
-                let fr : IsFilled r = filled-map (exchange o) (k.before ++ Single k.f ∷ Single k.e ∷ k.after)
-                (filled-append k.before (Single k.f ∷ Single k.e ∷ k.after) (filled-left k.before (Single k.e ∷ Single k.f ∷ k.after) fk) (filled-right k.before (Single k.e ∷ Single k.f ∷ k.after) fk)) in
-                let cnt = sw.count in
-                let but' : RisesBut (index_space r) b o = swapped_but s r o b sw (omega arith) (omega arith) but greater in
-                let i = insert o b n r fr wr tr (omega arith) (omega arith) (cnt ∙ c) but' in
-                record { q = i.q; descent = down s r (swap_neighbours o mv) (lower_once_turned s r o mv greater) wr i.descent; filled = i.filled; well_named = i.well_named; holds = i.holds })
-          ])
-        ])
+        | inr pp ↦ (elim (which (definition_cmp ((index_space s).definition o)
+            ((index_space s).definition (suc o)))) [
+              | inl less ↦ done (λ i g fr. elim (cases_eq i o) [
+                | inl e ↦ cmp_same (ap (index_space s).definition e) refl ∙ less
+                | inr ne ↦ definitions_total.trans ((index_space s).definition i)
+                    ((index_space s).definition o)
+                    ((index_space s).definition (suc o))
+                    (but i o (omega arith) (omega arith) (λ e. omega arith) (λ a u v. fr a u (omega arith)))
+                    less
+              ])
+              | inr other ↦ (elim other [
+                | inl same ↦ absurd (t o (suc o) (omega arith) (omega arith) po.single pp.single
+                    (definition_exact ((index_space s).definition o) ((index_space s).definition (suc o))
+                    same))
+                | inr greater ↦ (
+                    let k = split_two s o f (omega arith) po.single pp.single in
+                    let en = two_definitions s o k in
+                    let r = map (rename_group (exchange o)) (k.before ++ Single k.f ∷ Single k.e ∷ k.after) in
+                    let first : (x : ℕ) → Names k.e x → x ≡ o = λ x q. po.own x (rw (en.0) q) in
+                    let second : (x : ℕ) → Names k.f x → x ≡ suc o = λ x q. pp.own x (rw (en.1) q) in
+                    let gr : definition_cmp k.e k.f ≡ Greater = rw (en.0, en.1) at greater in
+                    let mv : SwapsNeighbours s r o = record {
+                      exchanged = record {
+                        before = k.before;
+                        first = k.e;
+                        second = k.f;
+                        after = k.after;
+                        s_is =
+                            k.is;
+                        r_is = refl;
+                        place = length-places 0 0 k.before ∙ k.place;
+                      };
+                      first_own = first;
+                      second_own = second;
+                      order = order_stays o k.e k.f first second gr;
+                    } in
+                    let sw = swapped_by_index s r o mv in
+                    let wr = swapped_well_named s r o w mv in
+                    let tr = tidy_goes (index_space s) (index_space r) o sw t in
+                    let fk : IsFilled (k.before ++ Single k.e ∷ Single k.f ∷ k.after) = rw (k.is) at f in
+                    let fr : IsFilled r = filled-map (exchange o)
+                    (k.before ++ Single k.f ∷ Single k.e ∷ k.after)
+                    (filled-append k.before (Single k.f ∷ Single k.e ∷ k.after)
+                    (filled-left k.before (Single k.e ∷ Single k.f ∷ k.after) fk)
+                    (filled-right k.before (Single k.e ∷ Single k.f ∷ k.after) fk)) in
+                    let cnt = sw.count in
+                    let but' : RisesBut (index_space r) b o =
+                    swapped_but s r o b sw (omega arith) (omega arith) but greater in
+                    let i = insert o b n r fr wr tr (omega arith) (omega arith) (cnt ∙ c) but' in
+                    record {
+                      q = i.q;
+                      descent = down s r (swap_neighbours o mv)
+                          (lower_once_turned s r o mv greater) wr i.descent;
+                      filled = i.filled;
+                      well_named =
+                          i.well_named;
+                      holds = i.holds;
+                    })
+              ])
+            ])
       ])
     ]
 
 -- the first b definitions, and then the rest
 sort : (d b n : ℕ) (s : Section) → IsFilled s → IsWellNamed s → IsTidy (index_space s) →
     (index_space s).count ≡ n → d + b ≡ n → RisesTo (index_space s) b → Reached s (IsSortedTo n n)
-sort zero b n s f w t c e up = record { q = s; descent = bottom; filled = f; well_named = w; holds = (t, (λ i j h g. up i j h (omega arith)), c) }
+sort zero b n s f w t c e up = record {
+  q = s;
+  descent = bottom;
+  filled = f;
+  well_named = w;
+  holds =
+      (t, (λ i j h g. up i j h (omega arith)), c);
+}
 sort (suc d) b n s f w t c e up =
     let i = insert b b n s f w t (omega arith) (omega arith) c (λ i j h g ne. up i j h (omega arith)) in
     let r = sort d (suc b) n i.q i.filled i.well_named i.holds.0 i.holds.2 (omega arith) i.holds.1 in
-    record { q = r.q; descent = join r.q i.q s i.descent r.descent; filled = r.filled; well_named = r.well_named; holds = r.holds }
+    record {
+      q = r.q;
+      descent = join r.q i.q s i.descent r.descent;
+      filled = r.filled;
+      well_named =
+          r.well_named;
+      holds = r.holds;
+    }
 
 -- bounded search
 any_below :
@@ -159,10 +225,17 @@ twins_or_not t i j = elim (in_or_out (t.rec_position i)) [
   | inl o ↦ (elim (in_or_out (t.rec_position j)) [
     | inr x ↦ inr (λ z. (let a = z.first in let b = x.1 in cc))
     | inl o' ↦ (elim (which (definition_cmp (t.definition j) (t.definition i))) [
-      | inl less ↦ inr (λ z. (let e = tied_itself definitions_total (t.definition i) in let g : definition_cmp (t.definition i) (t.definition i) ≡ Less = rw (z.same) at less in cc))
+      | inl less ↦ inr (λ z. (let e = tied_itself definitions_total (t.definition i) in
+          let g : definition_cmp (t.definition i) (t.definition i) ≡ Less = rw (z.same) at less in cc))
       | inr w ↦ (elim w [
-        | inl eq ↦ inl (record { first = o'; second = o; same = definition_exact (t.definition j) (t.definition i) eq })
-        | inr gr ↦ inr (λ z. (let e = tied_itself definitions_total (t.definition i) in let g : definition_cmp (t.definition i) (t.definition i) ≡ Greater = rw (z.same) at gr in cc))
+        | inl eq ↦ inl (record {
+          first = o';
+          second = o;
+          same =
+              definition_exact (t.definition j) (t.definition i) eq;
+        })
+        | inr gr ↦ inr (λ z. (let e = tied_itself definitions_total (t.definition i) in
+            let g : definition_cmp (t.definition i) (t.definition i) ≡ Greater = rw (z.same) at gr in cc))
       ])
     ])
   ])
@@ -170,16 +243,25 @@ twins_or_not t i j = elim (in_or_out (t.rec_position i)) [
 
 find_twins :
     (t : IndexSpace) → ((i : ℕ) × (i < t.count) × ((j : ℕ) × (j < i) × AreTwins t i j)) ⊎ IsTidy t
-find_twins t = elim (any_below (λ i. (j : ℕ) × (j < i) × AreTwins t i j) (λ i. elim (any_below (AreTwins t i) (twins_or_not t i) i) [ inl x ↦ inl x | inr f ↦ inr (λ z. f z.0 z.1 z.2) ]) t.count) [
-  | inl x ↦ inl x
-  | inr f ↦ inr (λ i j h g oi oj e. f j g (i, h, record { first = oi; second = oj; same = e }))
-]
+find_twins t = elim (any_below (λ i. (j : ℕ) × (j < i) × AreTwins t i j) (λ i.
+    elim (any_below (AreTwins t i) (twins_or_not t i) i) [ inl x ↦ inl x | inr f ↦ inr (λ z. f z.0 z.1 z.2) ])
+    t.count) [
+      | inl x ↦ inl x
+      | inr f ↦ inr (λ i j h g oi oj e. f j g (i, h, record { first = oi; second = oj; same = e }))
+    ]
 
 -- repeats go out
 tidied :
     (n : ℕ) (s : Section) → (index_space s).count ≤ n → IsFilled s → IsWellNamed s →
     Reached s (λ q. IsTidy (index_space q))
-tidied zero s h f w = record { q = s; descent = bottom; filled = f; well_named = w; holds = λ i j g k. absurd (omega arith) }
+tidied zero s h f w = record {
+  q = s;
+  descent = bottom;
+  filled = f;
+  well_named = w;
+  holds = λ i j g k.
+      absurd (omega arith);
+}
 tidied (suc n) s h f w = elim (find_twins (index_space s)) [
   | inr t ↦ record { q = s; descent = bottom; filled = f; well_named = w; holds = t }
   | inl x ↦ (
@@ -200,28 +282,56 @@ tidied (suc n) s h f w = elim (find_twins (index_space s)) [
       let wo = without_by_index s r i j mv in
       let wr = without_well_named s r i j w mv in
       let fk : IsFilled (k.before ++ Single k.e ∷ k.after) = rw (k.is) at f in
-      let fr : IsFilled r = filled-map (skip i j) (k.before ++ k.after) (filled-append k.before k.after (filled-left k.before (Single k.e ∷ k.after) fk) (filled-right k.before (Single k.e ∷ k.after) fk)) in
+      let fr : IsFilled r = filled-map (skip i j) (k.before ++ k.after)
+      (filled-append k.before k.after (filled-left k.before (Single k.e ∷ k.after) fk)
+      (filled-right k.before (Single k.e ∷ k.after) fk)) in
       let cnt = wo.count in
       let d = tidied n r (omega arith) fr wr in
-      record { q = d.q; descent = down s r (drop_repeat i j mv) (inl (fewer_without_repeat s r i j mv)) wr d.descent; filled = d.filled; well_named = d.well_named; holds = d.holds })
+      record {
+        q = d.q;
+        descent = down s r (drop_repeat i j mv) (inl (fewer_without_repeat s r i j mv)) wr
+            d.descent;
+        filled = d.filled;
+        well_named = d.well_named;
+        holds = d.holds;
+      })
 ]
 
 -- empty `Rec`s go out
 filled_up :
     (done rest : Section) → IsFilled done → IsWellNamed (done ++ rest) →
     Reached (done ++ rest) (λ q. Unit {0})
-filled_up done [] f w = record { q = done ++ []; descent = bottom; filled = filled-append done [] f tt; well_named = w; holds = tt }
+filled_up done [] f w = record {
+  q = done ++ [];
+  descent = bottom;
+  filled = filled-append done [] f tt;
+  well_named = w;
+  holds = tt;
+}
 filled_up done (Single e ∷ gs) f w =
     let a : (done ++ Single e ∷ []) ++ gs ≡ done ++ Single e ∷ gs = append_assoc done (Single e ∷ []) gs in
-    subst (λ (s : Section). Reached s (λ q. Unit {0})) a (filled_up (done ++ Single e ∷ []) gs (filled-append done (Single e ∷ []) f tt) (subst (λ (s : Section). IsWellNamed s) (sym a) w))
+    subst (λ (s : Section). Reached s (λ q. Unit {0})) a
+    (filled_up (done ++ Single e ∷ []) gs (filled-append done (Single e ∷ []) f tt)
+    (subst (λ (s : Section). IsWellNamed s) (sym a) w))
 filled_up done (Rec [] ∷ gs) f w =
-    let mv : DropsEmptyRec (done ++ Rec [] ∷ gs) (done ++ gs) = record { before = done; after = gs; s_is = refl; r_is = refl } in
+    let mv : DropsEmptyRec (done ++ Rec [] ∷ gs) (done ++ gs) =
+    record { before = done; after = gs; s_is = refl; r_is = refl } in
     let wr = unemptied_well_named (done ++ Rec [] ∷ gs) (done ++ gs) w mv in
     let r = filled_up done gs f wr in
-    record { q = r.q; descent = down (done ++ Rec [] ∷ gs) (done ++ gs) (drop_empty_rec mv) (inl (fewer_without_empty (done ++ Rec [] ∷ gs) (done ++ gs) mv)) wr r.descent; filled = r.filled; well_named = r.well_named; holds = tt }
+    record {
+      q = r.q;
+      descent = down (done ++ Rec [] ∷ gs) (done ++ gs) (drop_empty_rec mv)
+          (inl (fewer_without_empty (done ++ Rec [] ∷ gs) (done ++ gs) mv)) wr r.descent;
+      filled = r.filled;
+      well_named = r.well_named;
+      holds = tt;
+    }
 filled_up done (Rec (e ∷ es) ∷ gs) f w =
-    let a : (done ++ Rec (e ∷ es) ∷ []) ++ gs ≡ done ++ Rec (e ∷ es) ∷ gs = append_assoc done (Rec (e ∷ es) ∷ []) gs in
-    subst (λ (s : Section). Reached s (λ q. Unit {0})) a (filled_up (done ++ Rec (e ∷ es) ∷ []) gs (filled-append done (Rec (e ∷ es) ∷ []) f tt) (subst (λ (s : Section). IsWellNamed s) (sym a) w))
+    let a : (done ++ Rec (e ∷ es) ∷ []) ++ gs ≡ done ++ Rec (e ∷ es) ∷ gs =
+    append_assoc done (Rec (e ∷ es) ∷ []) gs in
+    subst (λ (s : Section). Reached s (λ q. Unit {0})) a
+    (filled_up (done ++ Rec (e ∷ es) ∷ []) gs (filled-append done (Rec (e ∷ es) ∷ []) f tt)
+    (subst (λ (s : Section). IsWellNamed s) (sym a) w))
 
 -- down to a section that is its own normal form
 pub descend :
@@ -230,7 +340,8 @@ pub descend :
 descend s w =
     let a = filled_up [] s tt w in
     let b = tidied (index_space a.q).count a.q (omega arith) a.filled a.well_named in
-    let c = sort (index_space b.q).count 0 (index_space b.q).count b.q b.filled b.well_named b.holds refl (omega arith) (λ i j h g. absurd (omega arith)) in
+    let c = sort (index_space b.q).count 0 (index_space b.q).count b.q b.filled b.well_named b.holds refl
+    (omega arith) (λ i j h g. absurd (omega arith)) in
     let cnt = c.holds.2 in
     record {
       q = c.q;

@@ -35,7 +35,8 @@ anchor_at s m j k e h = rw e at h
 
 -- an exchange undone
 pub exchanged_back : (i : ℕ) (d : Definition) → rename (exchange i) (rename (exchange i) d) ≡ d
-exchanged_back i d = rename_twice (exchange i) (exchange i) d ∙ (rename_agree (λ k. exchange i (exchange i k)) (λ k. k) d (λ k _. exchange_twice i k) ∙ rename_id d)
+exchanged_back i d = rename_twice (exchange i) (exchange i) d
+    ∙ (rename_agree (λ k. exchange i (exchange i k)) (λ k. k) d (λ k _. exchange_twice i k) ∙ rename_id d)
 
 module _ (s r : IndexSpace) (o : ℕ) (sw : IsSwapped s r o) where
   -- a `Single` comes from a `Single`
@@ -48,7 +49,8 @@ module _ (s r : IndexSpace) (o : ℕ) (sw : IsSwapped s r o) where
     ])
   ]
 
-module _ (s r n : IndexSpace) (m : ℕ → ℕ) (i : ℕ) (l : IsLaidOut s) (wn : NamesBelowEnds s) (sw : IsSwapped s r i) (c : IsNormal s n m) where
+module _ (s r n : IndexSpace) (m : ℕ → ℕ) (i : ℕ) (l : IsLaidOut s) (wn : NamesBelowEnds s)
+    (sw : IsSwapped s r i) (c : IsNormal s n m) where
   abbrev w : ℕ → ℕ
   w k = m (exchange i k)
 
@@ -79,7 +81,8 @@ module _ (s r n : IndexSpace) (m : ℕ → ℕ) (i : ℕ) (l : IsLaidOut s) (wn 
 
   one_image : m i ≡ m (suc i) → rename m (s.definition i) ≡ s.definition (suc i)
   one_image e = let z = sw.inside in
-      sym (c.same i (omega arith)) ∙ (ap n.definition e ∙ (c.same (suc i) sw.inside ∙ nameless m (s.definition (suc i)) (second_nameless e)))
+      sym (c.same i (omega arith)) ∙ (ap n.definition e
+      ∙ (c.same (suc i) sw.inside ∙ nameless m (s.definition (suc i)) (second_nameless e)))
 
   first_nameless : m i ≡ m (suc i) → (x : ℕ) → ¬ (Names (s.definition i) x)
   first_nameless e x h =
@@ -125,14 +128,16 @@ module _ (s r n : IndexSpace) (m : ℕ → ℕ) (i : ℕ) (l : IsLaidOut s) (wn 
         | inr x ↦ b x.1
       ]
 
-  definition_other : (k : ℕ) → k < s.count → IsOther i k → r.definition k ≡ rename (exchange i) (s.definition k)
+  definition_other : (k : ℕ) → k < s.count → IsOther i k →
+      r.definition k ≡ rename (exchange i) (s.definition k)
   definition_other k h o = sw.definition k h ∙ ap (λ x. rename (exchange i) (s.definition x)) o.stays
 
   anchor_other : (k : ℕ) → k < s.count → IsAnchor r w k → IsOther i k × IsAnchor s m k
   anchor_other k h (inl x) =
       let e = sym (sw.rec_position k h) ∙ x.1 in (rec_stays k x.0 h e, inl (x.0, e))
   anchor_other k h (inr x) =
-      let b = named_before (exchange i) (s.definition (exchange i k)) x.1.0 (rw (sw.definition k h) at x.1.1) in
+      let b = named_before (exchange i) (s.definition (exchange i k)) x.1.0 (rw (sw.definition k h) at x.1.1)
+      in
       let ne = x.1.2 in
       let two : (exchange i k ≡ i) ⊎ (exchange i k ≡ suc i) → ⊥ = λ q.
       (let f = own (exchange i k) q b.0 b.1 in ne (sym b.2 ∙ (ap (exchange i) f ∙ exchange_twice i k))) in
@@ -166,7 +171,8 @@ module _ (s r n : IndexSpace) (m : ℕ → ℕ) (i : ℕ) (l : IsLaidOut s) (wn 
           kept_other_back k o x.0,
           (
             exchange i x.1.0,
-            (let q : Names (r.definition k) (exchange i x.1.0) = rw (definition_other k h o) (Names-rename (exchange i) (s.definition k) x.1.0 x.1.1) in q),
+            (let q : Names (r.definition k) (exchange i x.1.0) =
+                rw (definition_other k h o) (Names-rename (exchange i) (s.definition k) x.1.0 x.1.1) in q),
             λ f. x.1.2 (exchange_one i x.1.0 k (f ∙ sym o.stays)),
           ),
         ),
@@ -175,21 +181,32 @@ module _ (s r n : IndexSpace) (m : ℕ → ℕ) (i : ℕ) (l : IsLaidOut s) (wn 
   ]
 
   -- between free indices no anchor of s lies, if none of r lies between where they went
-  free_other : (k j p q : ℕ) → p ≤ q → q < s.count → ((a : ℕ) → IsOther i a → p ≤ a → a ≤ q → (k ≤ a) × (a ≤ j)) → AreFree r w k j → AreFree s m p q
+  free_other : (k j p q : ℕ) → p ≤ q → q < s.count →
+      ((a : ℕ) → IsOther i a → p ≤ a → a ≤ q → (k ≤ a) × (a ≤ j)) → AreFree r w k j → AreFree s m p q
   free_other k j p q pq hq f fr a u v an =
       let x = anchor_back a (omega arith) an in
       let y = f a x.0 u v in fr a y.0 y.1 x.1
 
-  free_definition_if_one : m i ≡ m (suc i) → (k : ℕ) → k < s.count → IsKept m k → ¬ (IsAnchor s m k) → r.definition k ≡ s.definition k
+  free_definition_if_one : m i ≡ m (suc i) → (k : ℕ) → k < s.count → IsKept m k → ¬ (IsAnchor s m k) →
+      r.definition k ≡ s.definition k
   free_definition_if_one e k h kk na = elim (where_is i k) [
-    | inl x ↦ sw.definition k h ∙ (ap (λ y. rename (exchange i) (s.definition y)) x.1 ∙ (nameless (exchange i) (s.definition (suc i)) (second_nameless e) ∙ (sym (two_equal e) ∙ ap s.definition (sym x.0))))
+    | inl x ↦ sw.definition k h ∙ (ap (λ y. rename (exchange i) (s.definition y)) x.1
+        ∙ (nameless (exchange i) (s.definition (suc i)) (second_nameless e)
+        ∙ (sym (two_equal e) ∙ ap s.definition (sym x.0))))
     | inr z ↦ (elim z [
-      | inl x ↦ sw.definition k h ∙ (ap (λ y. rename (exchange i) (s.definition y)) x.1 ∙ (nameless (exchange i) (s.definition i) (first_nameless e) ∙ (two_equal e ∙ ap s.definition (sym x.0))))
-      | inr o ↦ definition_other k h o ∙ (rename_agree (exchange i) (λ y. y) (s.definition k) (λ x nx. (let f = own_name s m k x kk na nx in ap (exchange i) f ∙ (o.stays ∙ sym f))) ∙ rename_id (s.definition k))
+      | inl x ↦ sw.definition k h ∙ (ap (λ y. rename (exchange i) (s.definition y)) x.1
+          ∙ (nameless (exchange i) (s.definition i) (first_nameless e)
+          ∙ (two_equal e ∙ ap s.definition (sym x.0))))
+      | inr o ↦ definition_other k h o ∙ (rename_agree (exchange i) (λ y. y) (s.definition k) (λ x nx.
+          (let f = own_name s m k x kk na nx in ap (exchange i) f ∙ (o.stays ∙ sym f)))
+          ∙ rename_id (s.definition k))
     ])
   ]
 
-  cmp_if_two : (k j : ℕ) → k < s.count → j < s.count → k < j → exchange i k < exchange i j → IsKept m (exchange i k) → IsKept m (exchange i j) → ¬ (IsAnchor s m (exchange i k)) → ¬ (IsAnchor s m (exchange i j)) → definition_cmp (r.definition k) (r.definition j) ≡ definition_cmp (s.definition (exchange i k)) (s.definition (exchange i j))
+  cmp_if_two : (k j : ℕ) → k < s.count → j < s.count → k < j → exchange i k < exchange i j →
+      IsKept m (exchange i k) → IsKept m (exchange i j) → ¬ (IsAnchor s m (exchange i k)) →
+      ¬ (IsAnchor s m (exchange i j)) → definition_cmp (r.definition k) (r.definition j) ≡ definition_cmp
+      (s.definition (exchange i k)) (s.definition (exchange i j))
   cmp_if_two k j hk hj lt lt' kk kj ak aj =
       let e = s.definition (exchange i k) in
       let f = s.definition (exchange i j) in
@@ -200,7 +217,8 @@ module _ (s r n : IndexSpace) (m : ℕ → ℕ) (i : ℕ) (l : IsLaidOut s) (wn 
       nat_less (exchange i x) (exchange i y) (omega arith) ∙ sym (nat_less x y (omega arith)))) in
       cmp_same (sw.definition k hk) (sw.definition j hj) ∙ (z ∙ cmp_same (rename_id e) (rename_id f))
 
-  free_swapped : (k j : ℕ) → k < j → j < s.count → IsKept w k → IsKept w j → AreFree r w k j → (w k < w j ↔ definition_cmp (r.definition k) (r.definition j) ≡ Less)
+  free_swapped : (k j : ℕ) → k < j → j < s.count → IsKept w k → IsKept w j → AreFree r w k j →
+      (w k < w j ↔ definition_cmp (r.definition k) (r.definition j) ≡ Less)
   free_swapped k j lt hj kk kj fr = elim (cases_eq (m i) (m (suc i))) [
     | inl e ↦ (
         let fm = free_other k j k j (omega arith) hj (λ a o u v. (u, v)) fr in
@@ -209,8 +227,12 @@ module _ (s r n : IndexSpace) (m : ℕ → ℕ) (i : ℕ) (l : IsLaidOut s) (wn 
         let ek = free_definition_if_one e k (omega arith) kk' (fm k (omega arith) (omega arith)) in
         let ej = free_definition_if_one e j hj kj' (fm j (omega arith) (omega arith)) in
         let f = c.free k j lt hj kk' kj' fm in
-        let wk = w_is_m e k in let wj = w_is_m e j in
-        ((λ x. rw (ek, ej) (f.0 (omega arith))), (λ x. (let y : definition_cmp (s.definition k) (s.definition j) ≡ Less = rw (ek, ej) at x in let z = f.1 y in omega arith))))
+        let wk = w_is_m e k in let wj = w_is_m e j in (
+          (λ x. rw (ek, ej) (f.0 (omega arith))),
+          (λ x.
+              (let y : definition_cmp (s.definition k) (s.definition j) ≡ Less = rw (ek, ej) at x in let z =
+              f.1 y in omega arith)),
+        ))
     | inr d ↦ (
         let kk' = kept_if_two d k kk in
         let kj' = kept_if_two d j kj in
@@ -222,15 +244,25 @@ module _ (s r n : IndexSpace) (m : ℕ → ℕ) (i : ℕ) (l : IsLaidOut s) (wn 
               let o1 = o.not_first in let o2 = o.not_second in (
                 elim (where_is i k) [
                   | inl x ↦ (let x0 = x.0 in let x1 = x.1 in omega arith)
-                  | inr y ↦ (elim y [ inl x ↦ (let x0 = x.0 in let x1 = x.1 in omega arith) | inr p ↦ (let z = p.stays in omega arith) ])
+                  | inr y ↦ (elim y [
+                    | inl x ↦ (let x0 = x.0 in let x1 = x.1 in omega arith)
+                    | inr p ↦
+                        (let z = p.stays in omega arith)
+                  ])
                 ],
                 elim (where_is i j) [
                   | inl x ↦ (let x0 = x.0 in let x1 = x.1 in omega arith)
-                  | inr y ↦ (elim y [ inl x ↦ (let x0 = x.0 in let x1 = x.1 in omega arith) | inr p ↦ (let z = p.stays in omega arith) ])
+                  | inr y ↦ (elim y [
+                    | inl x ↦ (let x0 = x.0 in let x1 = x.1 in omega arith)
+                    | inr p ↦
+                        (let z = p.stays in omega arith)
+                  ])
                 ],
               ))) fr in
               let f = c.free (exchange i k) (exchange i j) up bj kk' kj' fm in
-              let g = cmp_if_two k j (omega arith) hj lt up kk' kj' (fm (exchange i k) (omega arith) (omega arith)) (fm (exchange i j) (omega arith) (omega arith)) in
+              let g = cmp_if_two k j (omega arith) hj lt up kk' kj'
+              (fm (exchange i k) (omega arith) (omega arith))
+              (fm (exchange i j) (omega arith) (omega arith)) in
               ((λ x. g ∙ f.0 x), (λ x. f.1 (sym g ∙ x))))
           | inr at ↦ (
               let z = sw.inside in
@@ -239,16 +271,23 @@ module _ (s r n : IndexSpace) (m : ℕ → ℕ) (i : ℕ) (l : IsLaidOut s) (wn 
               let tj : exchange i j ≡ i = ap (exchange i) ej ∙ exchange_second i in
               let k1 : IsKept m (suc i) = rw tk at kk' in
               let k0 : IsKept m i = rw tj at kj' in
-              let fm : AreFree s m i (suc i) = free_other k j i (suc i) (omega arith) sw.inside (λ a o u v. (omega arith, omega arith)) fr in
+              let fm : AreFree s m i (suc i) = free_other k j i (suc i) (omega arith) sw.inside (λ a o u v.
+              (omega arith, omega arith)) fr in
               let f = c.free i (suc i) (omega arith) sw.inside k0 k1 fm in
-              let rk : r.definition k ≡ rename (exchange i) (s.definition (suc i)) = sw.definition k (omega arith) ∙ ap (λ y. rename (exchange i) (s.definition y)) tk in
-              let rj : r.definition j ≡ rename (exchange i) (s.definition i) = sw.definition j hj ∙ ap (λ y. rename (exchange i) (s.definition y)) tj in
+              let rk : r.definition k ≡ rename (exchange i) (s.definition (suc i)) =
+              sw.definition k (omega arith) ∙ ap (λ y. rename (exchange i) (s.definition y)) tk in
+              let rj : r.definition j ≡ rename (exchange i) (s.definition i) = sw.definition j hj
+              ∙ ap (λ y. rename (exchange i) (s.definition y)) tj in
               let wk : w k ≡ m (suc i) = ap m tk in
               let wj : w j ≡ m i = ap m tj in
               let o = definition_cmp (s.definition i) (s.definition (suc i)) in
               let p = definition_cmp (r.definition k) (r.definition j) in
-              let rev : p ≡ ordering_reverse o = rw (rk, rj) (definitions_total.antisymm (rename (exchange i) (s.definition (suc i))) (rename (exchange i) (s.definition i)) ∙ ap ordering_reverse (sym sw.order)) in
-              let ne : ¬ (o ≡ Equal) = λ q. kept_differ s n m c i (suc i) (omega arith) sw.inside k0 k1 sw.first_single sw.second_single (definition_exact (s.definition i) (s.definition (suc i)) q) in (
+              let rev : p ≡ ordering_reverse o = rw (rk, rj)
+              (definitions_total.antisymm (rename (exchange i) (s.definition (suc i)))
+              (rename (exchange i) (s.definition i)) ∙ ap ordering_reverse (sym sw.order)) in
+              let ne : ¬ (o ≡ Equal) = λ q. kept_differ s n m c i (suc i) (omega arith) sw.inside k0 k1
+              sw.first_single sw.second_single (definition_exact (s.definition i) (s.definition (suc i))
+              q) in (
                 (λ x. turned_back o p rev (λ q. (let y = f.1 q in omega arith)) ne),
                 (λ x. (let g = turned o p rev x in elim (cases_lt (m i) (m (suc i))) [
                   | inl y ↦ absurd (let h = f.0 y in let h' : o ≡ Less = h in cc)
@@ -258,10 +297,13 @@ module _ (s r n : IndexSpace) (m : ℕ → ℕ) (i : ℕ) (l : IsLaidOut s) (wn 
         ])
   ]
 
-  anchors_swapped : (k j : ℕ) → k < j → j < s.count → IsKept w k → IsKept w j → IsAnchor r w k ⊎ IsAnchor r w j → w k < w j
+  anchors_swapped : (k j : ℕ) → k < j → j < s.count → IsKept w k → IsKept w j → IsAnchor r w k
+      ⊎ IsAnchor r w j → w k < w j
   anchors_swapped k j lt hj kk kj an = elim (cases_eq (m i) (m (suc i))) [
     | inl e ↦ (
-        let a : IsAnchor s m k ⊎ IsAnchor s m j = elim an [ inl x ↦ inl (anchor_other k (omega arith) x).1 | inr x ↦ inr (anchor_other j hj x).1 ] in
+        let a : IsAnchor s m k ⊎ IsAnchor s m j =
+        elim an [ inl x ↦ inl (anchor_other k (omega arith) x).1 | inr x ↦ inr (anchor_other j hj x).1 ]
+        in
         let z = c.anchors k j lt hj (kept_if_one e k kk) (kept_if_one e j kj) a in
         let wk = w_is_m e k in let wj = w_is_m e j in omega arith)
     | inr d ↦ (
@@ -271,9 +313,11 @@ module _ (s r n : IndexSpace) (m : ℕ → ℕ) (i : ℕ) (l : IsLaidOut s) (wn 
         elim (exchange_order i k j lt) [
           | inl up ↦ (elim an [
             | inl x ↦ (let y = anchor_other k (omega arith) x in let st = y.0.stays in
-                c.anchors (exchange i k) (exchange i j) up bj kk' kj' (inl (anchor_at s m k (exchange i k) (sym st) y.1)))
+                c.anchors (exchange i k) (exchange i j) up bj kk' kj'
+                (inl (anchor_at s m k (exchange i k) (sym st) y.1)))
             | inr x ↦ (let y = anchor_other j hj x in let st = y.0.stays in
-                c.anchors (exchange i k) (exchange i j) up bj kk' kj' (inr (anchor_at s m j (exchange i j) (sym st) y.1)))
+                c.anchors (exchange i k) (exchange i j) up bj kk' kj'
+                (inr (anchor_at s m j (exchange i j) (sym st) y.1)))
           ])
           | inr at ↦ absurd (elim an [
             | inl x ↦ (anchor_other k (omega arith) x).0.not_first at.0
@@ -286,7 +330,8 @@ module _ (s r n : IndexSpace) (m : ℕ → ℕ) (i : ℕ) (l : IsLaidOut s) (wn 
   selfs_swapped k h o nk j g e =
       let b = named_before (exchange i) (s.definition (exchange i k)) k (rw (sw.definition k h) at nk) in
       let f : b.0 ≡ exchange i k = sym (exchange_twice i b.0) ∙ ap (exchange i) b.2 in
-      let self : Names (s.definition (exchange i k)) (exchange i k) = subst (λ (x : ℕ). Names (s.definition (exchange i k)) x) f b.1 in
+      let self : Names (s.definition (exchange i k)) (exchange i k) =
+      subst (λ (x : ℕ). Names (s.definition (exchange i k)) x) f b.1 in
       let kept = c.selfs_kept (exchange i k) (within k h) (single_too s r i sw k h o) self in
       elim (exchange_order i j k g) [
         | inl up ↦ kept (exchange i j) up e
@@ -300,13 +345,20 @@ module _ (s r n : IndexSpace) (m : ℕ → ℕ) (i : ℕ) (l : IsLaidOut s) (wn 
   pub normal_swapped : IsNormal r n w
   normal_swapped = record {
     below = λ k h. (let e = sw.count in c.below (exchange i k) (within k (omega arith)));
-    onto = λ p h. (let o = c.onto p h in (exchange i o.0, (let e = sw.count in let z = within o.0 o.1 in omega arith), ap m (exchange_twice i o.0) ∙ o.2));
+    onto = λ p h. (let o = c.onto p h in (
+      exchange i o.0,
+      (let e = sw.count in let z = within o.0 o.1 in omega arith),
+      ap m (exchange_twice i o.0) ∙ o.2,
+    ));
     same = λ k h. (let e = sw.count in let g : k < s.count = omega arith in
-        c.same (exchange i k) (within k g) ∙ (sym (rename_twice w (exchange i) (s.definition (exchange i k)) ∙ rename_agree (λ x. w (exchange i x)) m (s.definition (exchange i k)) (λ x q. ap m (exchange_twice i x))) ∙ ap (rename w) (sym (sw.definition k g))));
+        c.same (exchange i k) (within k g) ∙ (sym (rename_twice w (exchange i) (s.definition (exchange i k))
+        ∙ rename_agree (λ x. w (exchange i x)) m (s.definition (exchange i k)) (λ x q.
+        ap m (exchange_twice i x))) ∙ ap (rename w) (sym (sw.definition k g))));
     rec_to_rec = λ k x h e. (let q = sw.count in let g : k < s.count = omega arith in
         let f = sym (sw.rec_position k g) ∙ e in let o = rec_stays k x g f in
         ap (λ y. n.rec_position (m y)) o.stays ∙ c.rec_to_rec k x g f);
-    rec_from_rec = λ p x h e. (let o = c.rec_from_rec p x h e in let q = sw.count in (o.0, (let o1 = o.1 in omega arith), sw.rec_position o.0 o.1 ∙ o.2));
+    rec_from_rec = λ p x h e. (let o = c.rec_from_rec p x h e in let q = sw.count in
+        (o.0, (let o1 = o.1 in omega arith), sw.rec_position o.0 o.1 ∙ o.2));
     single_to_single = λ k h o. (let q = sw.count in let g : k < s.count = omega arith in
         c.single_to_single (exchange i k) (within k g) (single_too s r i sw k g o));
     singles_differ = c.singles_differ;
@@ -350,7 +402,9 @@ swapped_names s r i l wn sw k hk x nx =
         | inr o ↦ (let st = o.stays in let n1 = o.not_first in let n2 = o.not_second in
             let w' : b.0 < s.end k = subst (λ (j : ℕ). b.0 < s.end j) o.stays w in
             elim (where_is i b.0) [
-              | inl y ↦ (let y0 = y.0 in let y1 = y.1 in let m = past_both s i k l n1 n2 h sw.inside sw.first_single sw.second_single (omega arith) in omega arith)
+              | inl y ↦ (let y0 = y.0 in let y1 = y.1 in let m =
+                  past_both s i k l n1 n2 h sw.inside sw.first_single sw.second_single (omega arith) in
+                  omega arith)
               | inr v ↦ (elim v [
                 | inl y ↦ (let y0 = y.0 in let y1 = y.1 in omega arith)
                 | inr p ↦ (let ps = p.stays in omega arith)

@@ -42,7 +42,14 @@ normal_itself t tidy up = record {
   singles_differ = λ p q g h op oq. tidy p q g h op oq;
   selfs_kept = λ i h o nk j g e. omega arith;
   anchors = λ i j g h ki kj a. g;
-  free = λ i j g h ki kj fr. ((λ x. up i j g h (λ a u v fx. fr a u v (elim fx [ inl y ↦ inl y | inr y ↦ inr ((λ k z e. omega arith), y) ]))), (λ x. g));
+  free = λ i j g h ki kj fr. (
+    (λ x. up i j g h (λ a u v fx. fr a u v (elim fx [
+      | inl y ↦ inl y
+      | inr y ↦
+          inr ((λ k z e. omega arith), y)
+    ]))),
+    (λ x. g),
+  );
 }
 
 first_or_later :
@@ -75,7 +82,11 @@ pub record IsPlain (t : IndexSpace) (i : ℕ) : Type 0 where
 pub fix_or_plain : (t : IndexSpace) (i : ℕ) → IsFix t i ⊎ IsPlain t i
 fix_or_plain t i = elim (in_or_out (t.rec_position i)) [
   | inr x ↦ inl (inl x)
-  | inl o ↦ (elim (names_another i (t.definition i)) [ inl x ↦ inl (inr x) | inr f ↦ inr (record { single = o; own = f }) ])
+  | inl o ↦ (elim (names_another i (t.definition i)) [
+    | inl x ↦ inl (inr x)
+    | inr f ↦
+        inr (record { single = o; own = f })
+  ])
 ]
 
 pub plain_if : (t : IndexSpace) (i : ℕ) → ¬ (IsFix t i) → IsPlain t i
@@ -87,7 +98,8 @@ pub order_stays :
     definition_cmp e f ≡ Greater →
     definition_cmp e f ≡ definition_cmp (rename (exchange o) e) (rename (exchange o) f)
 order_stays o e f he hf g =
-    let r = cmp_or_less (λ k. k) (exchange o) e f (λ k l p q. (let a = he k p in let b = hf l q in omega arith)) in
+    let r = cmp_or_less (λ k. k) (exchange o) e f (λ k l p q.
+    (let a = he k p in let b = hf l q in omega arith)) in
     let ie = rename_id e in let jf = rename_id f in
     elim r [
       | inl x ↦ sym (cmp_same ie jf) ∙ x
@@ -112,7 +124,9 @@ module _ (s r : IndexSpace) (o : ℕ) (sw : IsSwapped s r o) where
           | inl z ↦ inl (z.0, sw.rec_position a h ∙ z.1)
           | inr z ↦ inr (
             exchange o z.0,
-            subst (λ (e : Definition). Names e (exchange o z.0)) (sym (sw.definition a h ∙ ap (λ y. rename (exchange o) (s.definition y)) p.stays)) (Names-rename (exchange o) (s.definition a) z.0 z.1),
+            subst (λ (e : Definition). Names e (exchange o z.0))
+                (sym (sw.definition a h ∙ ap (λ y. rename (exchange o) (s.definition y)) p.stays))
+                (Names-rename (exchange o) (s.definition a) z.0 z.1),
             λ f. z.2 (exchange_one o z.0 a (f ∙ sym p.stays)),
           )
         ],
@@ -122,18 +136,37 @@ module _ (s r : IndexSpace) (o : ℕ) (sw : IsSwapped s r o) where
 
   -- where nothing of r is fixed from i to j, nothing of s is from where i comes from to where j
   -- does
-  pub unfixed_goes : (i j : ℕ) → i < j → j < s.count → exchange o i < exchange o j → AreUnfixed r i j → AreUnfixed s (exchange o i) (exchange o j)
+  pub unfixed_goes : (i j : ℕ) → i < j → j < s.count → exchange o i < exchange o j → AreUnfixed r i j →
+      AreUnfixed s (exchange o i) (exchange o j)
   unfixed_goes i j h hj g fr a u v fx =
       let hj' = exchange_within o j s.count sw.inside hj in
       let y = fix_goes a (omega arith) fx in
       let n1 = y.0.not_first in let n2 = y.0.not_second in
       fr a
-      (elim (where_is o i) [ inl x ↦ (let x0 = x.0 in let x1 = x.1 in omega arith) | inr z ↦ (elim z [ inl x ↦ (let x0 = x.0 in let x1 = x.1 in omega arith) | inr p ↦ (let q = p.stays in omega arith) ]) ])
-      (elim (where_is o j) [ inl x ↦ (let x0 = x.0 in let x1 = x.1 in omega arith) | inr z ↦ (elim z [ inl x ↦ (let x0 = x.0 in let x1 = x.1 in omega arith) | inr p ↦ (let q = p.stays in omega arith) ]) ])
+      (elim (where_is o i) [
+        | inl x ↦ (let x0 = x.0 in let x1 = x.1 in omega arith)
+        | inr z ↦
+            (elim z [
+              | inl x ↦ (let x0 = x.0 in let x1 = x.1 in omega arith)
+              | inr p ↦
+                  (let q = p.stays in omega arith)
+            ])
+      ])
+      (elim (where_is o j) [
+        | inl x ↦ (let x0 = x.0 in let x1 = x.1 in omega arith)
+        | inr z ↦
+            (elim z [
+              | inl x ↦ (let x0 = x.0 in let x1 = x.1 in omega arith)
+              | inr p ↦
+                  (let q = p.stays in omega arith)
+            ])
+      ])
       y.1
 
   -- and two of r compare as the two where they come from
-  pub cmp_goes : (i j : ℕ) → i < j → j < s.count → exchange o i < exchange o j → AreUnfixed r i j → definition_cmp (r.definition i) (r.definition j) ≡ definition_cmp (s.definition (exchange o i)) (s.definition (exchange o j))
+  pub cmp_goes : (i j : ℕ) → i < j → j < s.count → exchange o i < exchange o j → AreUnfixed r i j →
+      definition_cmp (r.definition i) (r.definition j) ≡ definition_cmp (s.definition (exchange o i))
+      (s.definition (exchange o j))
   cmp_goes i j h hj g fr =
       let fs = unfixed_goes i j h hj g fr in
       let e = s.definition (exchange o i) in let f = s.definition (exchange o j) in
@@ -144,10 +177,12 @@ module _ (s r : IndexSpace) (o : ℕ) (sw : IsSwapped s r o) where
       let b = ap (exchange o) (pj.own l q) ∙ exchange_twice o j in
       let a' = pi.own k p in let b' = pj.own l q in
       nat_less (exchange o k) (exchange o l) (omega arith) ∙ sym (nat_less k l (omega arith)))) in
-      cmp_same (sw.definition i (omega arith)) (sw.definition j hj) ∙ (z ∙ cmp_same (rename_id e) (rename_id f))
+      cmp_same (sw.definition i (omega arith)) (sw.definition j hj)
+      ∙ (z ∙ cmp_same (rename_id e) (rename_id f))
 
   -- what rises in s rises in r, but for the two
-  pub rise_goes : (i j : ℕ) → i < j → j < s.count → exchange o i < exchange o j → Rises s (exchange o i) (exchange o j) → Rises r i j
+  pub rise_goes : (i j : ℕ) → i < j → j < s.count → exchange o i < exchange o j →
+      Rises s (exchange o i) (exchange o j) → Rises r i j
   rise_goes i j h hj g up fr = cmp_goes i j h hj g fr ∙ up (unfixed_goes i j h hj g fr)
 
   pub tidy_goes : IsTidy s → IsTidy r
@@ -158,8 +193,11 @@ module _ (s r : IndexSpace) (o : ℕ) (sw : IsSwapped s r o) where
       let wi = exchange_within o i s.count sw.inside hi' in
       let wj = exchange_within o j s.count sw.inside hj' in
       let si = single_too s r o sw i hi' oi in let sj = single_too s r o sw j hj' oj in
-      let q : rename (exchange o) (s.definition (exchange o i)) ≡ rename (exchange o) (s.definition (exchange o j)) = sym (sw.definition i hi') ∙ (e ∙ sw.definition j hj') in
-      let p : s.definition (exchange o i) ≡ s.definition (exchange o j) = sym (exchanged_back o (s.definition (exchange o i))) ∙ (ap (rename (exchange o)) q ∙ exchanged_back o (s.definition (exchange o j))) in
+      let q : rename (exchange o) (s.definition (exchange o i)) ≡ rename (exchange o)
+      (s.definition (exchange o j)) = sym (sw.definition i hi') ∙ (e ∙ sw.definition j hj') in
+      let p : s.definition (exchange o i) ≡ s.definition (exchange o j) =
+      sym (exchanged_back o (s.definition (exchange o i)))
+      ∙ (ap (rename (exchange o)) q ∙ exchanged_back o (s.definition (exchange o j))) in
       elim (cases_lt (exchange o i) (exchange o j)) [
         | inl x ↦ tidy (exchange o i) (exchange o j) x wj si sj p
         | inr x ↦ (elim (cases_eq (exchange o i) (exchange o j)) [

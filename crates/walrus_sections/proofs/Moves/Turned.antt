@@ -24,10 +24,14 @@ image-swap m i k h g =
     let x = image m (suc i) in let y = image m i in
     let ls = length-set m i x in
     (elim (where_is i k) [
-      | inl a ↦ ap (image m) a.1 ∙ (sym (get_or-set_same m i x 0 (omega arith)) ∙ (sym (get_or-set_other (set m i x) (suc i) i y 0 (λ q. omega arith)) ∙ (ap (λ j. image (set (set m i x) (suc i) y) j) (sym a.0) ∙ ap (λ l. image l k) e)))
+      | inl a ↦ ap (image m) a.1 ∙ (sym (get_or-set_same m i x 0 (omega arith))
+          ∙ (sym (get_or-set_other (set m i x) (suc i) i y 0 (λ q. omega arith))
+          ∙ (ap (λ j. image (set (set m i x) (suc i) y) j) (sym a.0) ∙ ap (λ l. image l k) e)))
       | inr z ↦ (elim z [
-        | inl a ↦ ap (image m) a.1 ∙ (sym (get_or-set_same (set m i x) (suc i) y 0 (omega arith)) ∙ (ap (λ j. image (set (set m i x) (suc i) y) j) (sym a.0) ∙ ap (λ l. image l k) e))
-        | inr o ↦ ap (image m) o.stays ∙ (sym (get_or-set_other m i k x 0 o.not_first) ∙ (sym (get_or-set_other (set m i x) (suc i) k y 0 o.not_second) ∙ ap (λ l. image l k) e))
+        | inl a ↦ ap (image m) a.1 ∙ (sym (get_or-set_same (set m i x) (suc i) y 0 (omega arith))
+            ∙ (ap (λ j. image (set (set m i x) (suc i) y) j) (sym a.0) ∙ ap (λ l. image l k) e))
+        | inr o ↦ ap (image m) o.stays ∙ (sym (get_or-set_other m i k x 0 o.not_first)
+            ∙ (sym (get_or-set_other (set m i x) (suc i) k y 0 o.not_second) ∙ ap (λ l. image l k) e))
       ])
     ])
 
@@ -41,9 +45,11 @@ normal_moved s r n m i w x c =
     record {
       one_each = length-swap m i (suc i) ∙ (c.one_each ∙ sym sw.count);
       filled = c.filled;
-      laws = normal_same (index_space r) (index_space n) (λ k. image m (exchange i k)) (image (swap m i (suc i))) (laid_out r) wr.below_ends
+      laws = normal_same (index_space r) (index_space n) (λ k. image m (exchange i k))
+          (image (swap m i (suc i))) (laid_out r) wr.below_ends
           (λ k h. image-swap m i k (omega arith) (omega arith))
-          (normal_swapped (index_space s) (index_space r) (index_space n) (image m) i (laid_out s) w.below_ends sw c.laws);
+          (normal_swapped (index_space s) (index_space r) (index_space n) (image m) i (laid_out s)
+          w.below_ends sw c.laws);
     }
 
 pub normal_renumbered :

@@ -13,7 +13,8 @@ use Rattle.walrus_ty.proofs.Names.Definitions.{Names-rename, named_before, renam
 use Rattle.walrus_ty.proofs.Spelling.Tokens.{nat_less}
 use Rattle.walrus_sections.proofs.NormalForms.Kept.{own_name}
 
-module _ (s r n : IndexSpace) (w : ℕ → ℕ) (i j : ℕ) (l : IsLaidOut s) (wn : NamesBelowEnds s) (x : IsWithout s r i j) (c : IsNormal r n w) where
+module _ (s r n : IndexSpace) (w : ℕ → ℕ) (i j : ℕ) (l : IsLaidOut s) (wn : NamesBelowEnds s)
+    (x : IsWithout s r i j) (c : IsNormal r n w) where
   abbrev m : ℕ → ℕ
   m k = w (skip i j k)
 
@@ -27,21 +28,25 @@ module _ (s r n : IndexSpace) (w : ℕ → ℕ) (i j : ℕ) (l : IsLaidOut s) (w
   high : (k : ℕ) → k < r.count → unskip i k < s.count
   high k h = let a = x.count in elim (was i k) [ lower g e ↦ omega arith | higher g e ↦ omega arith ]
 
-  definition_of : (k : ℕ) → k < s.count → ¬ (k ≡ i) → r.definition (skip i j k) ≡ rename (skip i j) (s.definition k)
-  definition_of k h ne = x.definition (skip i j k) (low k h) ∙ ap (λ y. rename (skip i j) (s.definition y)) (unskip_skip i j k ne)
+  definition_of : (k : ℕ) → k < s.count → ¬ (k ≡ i) →
+      r.definition (skip i j k) ≡ rename (skip i j) (s.definition k)
+  definition_of k h ne = x.definition (skip i j k) (low k h)
+      ∙ ap (λ y. rename (skip i j) (s.definition y)) (unskip_skip i j k ne)
 
   rec_position_of : (k : ℕ) → k < s.count → ¬ (k ≡ i) → r.rec_position (skip i j k) ≡ s.rec_position k
   rec_position_of k h ne = x.rec_position (skip i j k) (low k h) ∙ ap s.rec_position (unskip_skip i j k ne)
 
   same_of : (k : ℕ) → k < s.count → ¬ (k ≡ i) → n.definition (m k) ≡ rename m (s.definition k)
-  same_of k h ne = c.same (skip i j k) (low k h) ∙ (ap (rename w) (definition_of k h ne) ∙ rename_twice w (skip i j) (s.definition k))
+  same_of k h ne = c.same (skip i j k) (low k h)
+      ∙ (ap (rename w) (definition_of k h ne) ∙ rename_twice w (skip i j) (s.definition k))
 
   same_without : (k : ℕ) → k < s.count → n.definition (m k) ≡ rename m (s.definition k)
   same_without k h = elim (cases_eq k i) [
     | inr ne ↦ same_of k h ne
     | inl e ↦ (let ji = x.earlier in
         ap (λ y. n.definition (w y)) (ap (skip i j) e ∙ (skip_gone i j ∙ sym (skip_below i j j ji)))
-        ∙ (same_of j (omega arith) (λ q. omega arith) ∙ ap (rename m) (sym x.equal ∙ ap s.definition (sym e))))
+        ∙ (same_of j (omega arith) (λ q. omega arith)
+        ∙ ap (rename m) (sym x.equal ∙ ap s.definition (sym e))))
   ]
 
   rec_other : (k : ℕ) (v : ℕ × ℕ) → s.rec_position k ≡ Some v → ¬ (k ≡ i)
@@ -70,7 +75,8 @@ module _ (s r n : IndexSpace) (w : ℕ → ℕ) (i j : ℕ) (l : IsLaidOut s) (w
         let z = wn k h a.1.0 a.1.1 in let e = l.single_end k h o in
         let lt : a.1.0 < k = elim (cases_eq a.1.0 k) [ inl q ↦ absurd (a.1.2 q) | inr q ↦ omega arith ] in
         let up = skip_rises i j a.1.0 k x.earlier ne lt in
-        let nm : Names (r.definition (skip i j k)) (skip i j a.1.0) = rw (definition_of k h ne) (Names-rename (skip i j) (s.definition k) a.1.0 a.1.1) in
+        let nm : Names (r.definition (skip i j k)) (skip i j a.1.0) =
+        rw (definition_of k h ne) (Names-rename (skip i j) (s.definition k) a.1.0 a.1.1) in
         inr (kept_down k a.0, (skip i j a.1.0, nm, λ q. omega arith)))
   ]
 
@@ -83,15 +89,26 @@ module _ (s r n : IndexSpace) (w : ℕ → ℕ) (i j : ℕ) (l : IsLaidOut s) (w
         (b.0, b.1, λ q. a.1.2 (sym b.2 ∙ (ap (skip i j) q ∙ skip_unskip i j y))),
       )
 
-  free_without : (k q : ℕ) → k < q → q < s.count → IsKept m k → IsKept m q → AreFree s m k q → (m k < m q ↔ definition_cmp (s.definition k) (s.definition q) ≡ Less)
+  free_without : (k q : ℕ) → k < q → q < s.count → IsKept m k → IsKept m q → AreFree s m k q →
+      (m k < m q ↔ definition_cmp (s.definition k) (s.definition q) ≡ Less)
   free_without k q g h kk kq fr =
       let nk = kept_other k kk in let nq = kept_other q kq in
       let up = skip_rises i j k q x.earlier nq g in
       let ek = unskip_skip i j k nk in let eq = unskip_skip i j q nq in
       let lq = low q h in
       let fr' : AreFree r w (skip i j k) (skip i j q) = λ a u v an. (
-      let hi : (p : ℕ) → p ≤ a → unskip i p ≤ unskip i a = λ p e. (elim (cases_eq p a) [ inl z ↦ (let y = ap (unskip i) z in omega arith) | inr z ↦ (let y = unskip_rises i p a (omega arith) in omega arith) ]) in
-      let lo : (p : ℕ) → a ≤ p → unskip i a ≤ unskip i p = λ p e. (elim (cases_eq p a) [ inl z ↦ (let y = ap (unskip i) z in omega arith) | inr z ↦ (let y = unskip_rises i a p (omega arith) in omega arith) ]) in
+      let hi : (p : ℕ) → p ≤ a → unskip i p ≤ unskip i a = λ p e.
+      (elim (cases_eq p a) [
+        | inl z ↦ (let y = ap (unskip i) z in omega arith)
+        | inr z ↦
+            (let y = unskip_rises i p a (omega arith) in omega arith)
+      ]) in
+      let lo : (p : ℕ) → a ≤ p → unskip i a ≤ unskip i p = λ p e.
+      (elim (cases_eq p a) [
+        | inl z ↦ (let y = ap (unskip i) z in omega arith)
+        | inr z ↦
+            (let y = unskip_rises i a p (omega arith) in omega arith)
+      ]) in
       let a1 = hi (skip i j k) u in let a2 = lo (skip i j q) v in
       fr (unskip i a) (omega arith) (omega arith) (anchor_up a (omega arith) an)) in
       let f = c.free (skip i j k) (skip i j q) up lq (kept_down k kk) (kept_down q kq) fr' in
@@ -102,7 +119,8 @@ module _ (s r n : IndexSpace) (w : ℕ → ℕ) (i j : ℕ) (l : IsLaidOut s) (w
       let a' = ap (skip i j) a in let b' = ap (skip i j) b in
       nat_less (skip i j y) (skip i j y') (omega arith) ∙ sym (nat_less y y' (omega arith)))) in
       let t : definition_cmp (r.definition (skip i j k)) (r.definition (skip i j q)) ≡ definition_cmp e e' =
-      cmp_same (definition_of k (omega arith) nk) (definition_of q h nq) ∙ (z ∙ cmp_same (rename_id e) (rename_id e')) in
+      cmp_same (definition_of k (omega arith) nk) (definition_of q h nq)
+      ∙ (z ∙ cmp_same (rename_id e) (rename_id e')) in
       ((λ y. sym t ∙ f.0 y), (λ y. f.1 (t ∙ y)))
 
   selfs_without : (k : ℕ) → k < s.count → IsSingle s k → Names (s.definition k) k → IsKept m k
@@ -110,8 +128,10 @@ module _ (s r n : IndexSpace) (w : ℕ → ℕ) (i j : ℕ) (l : IsLaidOut s) (w
       let ne : ¬ (k ≡ i) = λ q. (
       let a : Names (s.definition j) k = rw (sym x.equal ∙ ap s.definition (sym q)) nk in
       let ji = x.earlier in
-      let b = wn j (omega arith) k a in let e = l.single_end j (omega arith) x.earlier_single in omega arith) in
-      let nm : Names (r.definition (skip i j k)) (skip i j k) = rw (definition_of k h ne) (Names-rename (skip i j) (s.definition k) k nk) in
+      let b = wn j (omega arith) k a in let e = l.single_end j (omega arith) x.earlier_single in omega arith)
+      in
+      let nm : Names (r.definition (skip i j k)) (skip i j k) =
+      rw (definition_of k h ne) (Names-rename (skip i j) (s.definition k) k nk) in
       kept_up k ne (c.selfs_kept (skip i j k) (low k h) (rec_position_of k h ne ∙ o) nm)
 
   single_without : (k : ℕ) → k < s.count → IsSingle s k → IsSingle n (m k)
@@ -128,11 +148,13 @@ module _ (s r n : IndexSpace) (w : ℕ → ℕ) (i j : ℕ) (l : IsLaidOut s) (w
     onto = λ p h. (let o = c.onto p h in (unskip i o.0, high o.0 o.1, ap w (skip_unskip i j o.0) ∙ o.2));
     same = same_without;
     rec_to_rec = λ k v h e. c.rec_to_rec (skip i j k) v (low k h) (rec_position_of k h (rec_other k v e) ∙ e);
-    rec_from_rec = λ p v h e. (let o = c.rec_from_rec p v h e in (unskip i o.0, high o.0 o.1, sym (x.rec_position o.0 o.1) ∙ o.2));
+    rec_from_rec = λ p v h e. (let o = c.rec_from_rec p v h e in
+        (unskip i o.0, high o.0 o.1, sym (x.rec_position o.0 o.1) ∙ o.2));
     single_to_single = single_without;
     singles_differ = c.singles_differ;
     selfs_kept = selfs_without;
-    anchors = λ k q g h kk kq an. c.anchors (skip i j k) (skip i j q) (skip_rises i j k q x.earlier (kept_other q kq) g) (low q h) (kept_down k kk) (kept_down q kq)
+    anchors = λ k q g h kk kq an. c.anchors (skip i j k) (skip i j q)
+        (skip_rises i j k q x.earlier (kept_other q kq) g) (low q h) (kept_down k kk) (kept_down q kq)
         (elim an [ inl a ↦ inl (anchor_down k (omega arith) a) | inr a ↦ inr (anchor_down q h a) ]);
     free = free_without;
   }
@@ -154,5 +176,10 @@ module _ (s r : IndexSpace) (i j : ℕ) (l : IsLaidOut s) (wn : NamesBelowEnds s
             let z = wn (suc k) (omega arith) b.0 (names_at s (unskip i k) (suc k) b.0 e b.1) in
             let t = x.end_above k g h in
             let own = l.own (suc k) (omega arith) in
-            (elim (side i j b.0) [ gone e' f ↦ omega arith | below g' f ↦ omega arith | above g' f ↦ omega arith ]))
+            (elim (side i j b.0) [
+              | gone e' f ↦ omega arith
+              | below g' f ↦ omega arith
+              | above g' f ↦
+                  omega arith
+            ]))
       ]

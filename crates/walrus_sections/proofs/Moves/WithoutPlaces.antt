@@ -17,7 +17,8 @@ pub drop_empty_rec-places :
 drop_empty_rec-places s r x =
     let a = places-append 0 0 x.before (Rec [] ∷ x.after) in
     let e : zero + a.0 ≡ a.0 = omega arith in
-    ap (places_from 0 0) x.s_is ∙ (a.2 ∙ (ap (λ b. places_from 0 0 x.before ++ places_from b a.1 x.after) e ∙ (sym (a.3 x.after) ∙ ap (places_from 0 0) (sym x.r_is))))
+    ap (places_from 0 0) x.s_is ∙ (a.2 ∙ (ap (λ b. places_from 0 0 x.before ++ places_from b a.1 x.after) e
+    ∙ (sym (a.3 x.after) ∙ ap (places_from 0 0) (sym x.r_is))))
 
 at-before :
     (ps : List Place) (p : Place) (qs rs : List Place) (k : ℕ) → k < length ps →
@@ -45,7 +46,9 @@ module _ (ps : List Place) (p : Place) (qs : List Place) (j : ℕ) where
   abbrev less : List Place
   less = map (rename_place (skip (length ps) j)) (ps ++ qs)
 
-  without : j < length ps → p.rec_position ≡ None → (at full j).rec_position ≡ None → (at full j).definition ≡ p.definition → IsWithout (index_space_of_places full) (index_space_of_places less) (length ps) j
+  without : j < length ps → p.rec_position ≡ None → (at full j).rec_position ≡ None →
+      (at full j).definition ≡ p.definition → IsWithout (index_space_of_places full)
+      (index_space_of_places less) (length ps) j
   without ji o oj eq =
       let u = skip (length ps) j in
       let len = length-append ps (p ∷ map shift qs) in
@@ -60,16 +63,24 @@ module _ (ps : List Place) (p : Place) (qs : List Place) (j : ℕ) where
         single = ap (λ (x : Place). x.rec_position) here ∙ o;
         earlier_single = oj;
         equal = ap (λ (x : Place). x.definition) here ∙ sym eq;
-        definition = λ k h. ap (λ (x : Place). x.definition) (at-map u (ps ++ qs) k) ∙ ap (rename u) (elim (cases_lt k (length ps)) [
-          | inl g ↦ ap (λ (x : Place). x.definition) (at-before ps p qs (map shift qs) k g) ∙ ap (λ y. (at full y).definition) (sym (unskip_below (length ps) k g))
-          | inr g ↦ sym (ap (λ (x : Place). x.definition) (at-after ps p qs k g (omega arith))) ∙ ap (λ y. (at full y).definition) (sym (unskip_above (length ps) k g))
-        ]);
-        rec_position = λ k h. ap (λ (x : Place). x.rec_position) (at-map u (ps ++ qs) k) ∙ (elim (cases_lt k (length ps)) [
-          | inl g ↦ ap (λ (x : Place). x.rec_position) (at-before ps p qs (map shift qs) k g) ∙ ap (λ y. (at full y).rec_position) (sym (unskip_below (length ps) k g))
-          | inr g ↦ sym (ap (λ (x : Place). x.rec_position) (at-after ps p qs k g (omega arith))) ∙ ap (λ y. (at full y).rec_position) (sym (unskip_above (length ps) k g))
-        ]);
-        end_below = λ k g. ap (λ (x : Place). x.end) (at-map u (ps ++ qs) k) ∙ ap (λ (x : Place). x.end) (at-before ps p qs (map shift qs) k g);
-        end_above = λ k g h. ap (λ (x : Place). suc x.end) (at-map u (ps ++ qs) k) ∙ sym (ap (λ (x : Place). x.end) (at-after ps p qs k g (omega arith)));
+        definition = λ k h. ap (λ (x : Place). x.definition) (at-map u (ps ++ qs) k)
+            ∙ ap (rename u) (elim (cases_lt k (length ps)) [
+              | inl g ↦ ap (λ (x : Place). x.definition) (at-before ps p qs (map shift qs) k g)
+                  ∙ ap (λ y. (at full y).definition) (sym (unskip_below (length ps) k g))
+              | inr g ↦ sym (ap (λ (x : Place). x.definition) (at-after ps p qs k g (omega arith)))
+                  ∙ ap (λ y. (at full y).definition) (sym (unskip_above (length ps) k g))
+            ]);
+        rec_position = λ k h. ap (λ (x : Place). x.rec_position) (at-map u (ps ++ qs) k)
+            ∙ (elim (cases_lt k (length ps)) [
+              | inl g ↦ ap (λ (x : Place). x.rec_position) (at-before ps p qs (map shift qs) k g)
+                  ∙ ap (λ y. (at full y).rec_position) (sym (unskip_below (length ps) k g))
+              | inr g ↦ sym (ap (λ (x : Place). x.rec_position) (at-after ps p qs k g (omega arith)))
+                  ∙ ap (λ y. (at full y).rec_position) (sym (unskip_above (length ps) k g))
+            ]);
+        end_below = λ k g. ap (λ (x : Place). x.end) (at-map u (ps ++ qs) k)
+            ∙ ap (λ (x : Place). x.end) (at-before ps p qs (map shift qs) k g);
+        end_above = λ k g h. ap (λ (x : Place). suc x.end) (at-map u (ps ++ qs) k)
+            ∙ sym (ap (λ (x : Place). x.end) (at-after ps p qs k g (omega arith)));
       }
 
 finish :
@@ -87,8 +98,13 @@ without_by_index s r i j x =
     let p : Place = record { definition = x.dropped; end = suc a.0; rec_position = None } in
     let place : length ps ≡ i = x.place in
     let ji = x.earlier in
-    let es : places_from 0 0 s ≡ ps ++ p ∷ map shift qs = ap (places_from 0 0) x.s_is ∙ (a.2 ∙ ap (λ y. ps ++ p ∷ y) (places-shift a.0 a.1 x.after)) in
+    let es : places_from 0 0 s ≡ ps ++ p ∷ map shift qs = ap (places_from 0 0) x.s_is
+    ∙ (a.2 ∙ ap (λ y. ps ++ p ∷ y) (places-shift a.0 a.1 x.after)) in
     let er : places_from 0 0 r ≡ map (rename_place (skip (length ps) j)) (ps ++ qs) =
-    ap (places_from 0 0) x.r_is ∙ (places-map (skip i j) 0 0 (x.before ++ x.after) ∙ (ap (map (rename_place (skip i j))) (a.3 x.after) ∙ ap (λ y. map (rename_place (skip y j)) (ps ++ qs)) (sym place))) in
-    let w = without ps p qs j (omega arith) refl (ap (λ y. (at y j).rec_position) (sym es) ∙ x.earlier_single) (ap (λ y. (at y j).definition) (sym es) ∙ x.equal) in
-    finish (places_from 0 0 s) (places_from 0 0 r) (ps ++ p ∷ map shift qs) (map (rename_place (skip (length ps) j)) (ps ++ qs)) (length ps) i j es er place w
+    ap (places_from 0 0) x.r_is ∙ (places-map (skip i j) 0 0 (x.before ++ x.after)
+    ∙ (ap (map (rename_place (skip i j))) (a.3 x.after)
+    ∙ ap (λ y. map (rename_place (skip y j)) (ps ++ qs)) (sym place))) in
+    let w = without ps p qs j (omega arith) refl (ap (λ y. (at y j).rec_position) (sym es) ∙ x.earlier_single)
+    (ap (λ y. (at y j).definition) (sym es) ∙ x.equal) in
+    finish (places_from 0 0 s) (places_from 0 0 r) (ps ++ p ∷ map shift qs)
+    (map (rename_place (skip (length ps) j)) (ps ++ qs)) (length ps) i j es er place w

@@ -37,7 +37,8 @@ less_or_greater a Greater e f g = refl
 pub one_less :
     (e f : Definition) → ¬ (e ≡ f) → ¬ (definition_cmp f e ≡ Less) → definition_cmp e f ≡ Less
 one_less e f d n =
-    let g = less_or_greater (definition_cmp f e) (definition_cmp f e) refl n (λ q. d (sym (definition_exact f e q))) in
+    let g = less_or_greater (definition_cmp f e) (definition_cmp f e) refl n (λ q.
+    d (sym (definition_exact f e q))) in
     let r = definitions_total.antisymm e f in rw g at r
 
 -- kept `Single`s differ
@@ -46,7 +47,8 @@ pub kept_differ :
     IsKept m j → IsSingle s i → IsSingle s j → ¬ (s.definition i ≡ s.definition j)
 kept_differ s n m c i j g h ki kj oi oj e =
     let a = c.single_to_single i (omega arith) oi in let b = c.single_to_single j h oj in
-    let x : n.definition (m i) ≡ n.definition (m j) = c.same i (omega arith) ∙ (ap (rename m) e ∙ sym (c.same j h)) in
+    let x : n.definition (m i) ≡ n.definition (m j) = c.same i (omega arith)
+    ∙ (ap (rename m) e ∙ sym (c.same j h)) in
     elim (cases_lt (m i) (m j)) [
       | inl lt ↦ c.singles_differ (m i) (m j) lt (c.below j h) a b x
       | inr ge ↦ (elim (cases_eq (m i) (m j)) [
@@ -55,7 +57,8 @@ kept_differ s n m c i j g h ki kj oi oj e =
       ])
     ]
 
-module _ (s n : IndexSpace) (m : ℕ → ℕ) (l : IsLaidOut s) (ln : IsLaidOut n) (wn : NamesBelowEnds s) (c : IsNormal s n m) where
+module _ (s n : IndexSpace) (m : ℕ → ℕ) (l : IsLaidOut s) (ln : IsLaidOut n) (wn : NamesBelowEnds s)
+    (c : IsNormal s n m) where
   -- what stands before an anchor has an image before its image
   below_anchor : (i k : ℕ) → i < s.count → k < i → IsAnchor s m i → m k < m i
   below_anchor i k h g a =
@@ -87,12 +90,14 @@ module _ (s n : IndexSpace) (m : ℕ → ℕ) (l : IsLaidOut s) (ln : IsLaidOut 
       elim (cases_lt j i) [
         | inl g ↦ (let z = below_anchor i j hi g (names_below i j hi r.2 nb.1 g) in omega arith)
         | inr g ↦ (elim (in_or_out (s.rec_position i)) [
-          | inl q ↦ (let se = l.single_end i hi q in let f : j ≡ i = omega arith in let z = ap m f in omega arith)
+          | inl q ↦ (let se = l.single_end i hi q in let f : j ≡ i = omega arith in let z = ap m f in
+              omega arith)
           | inr x ↦ (elim (cases_eq j i) [
             | inl f ↦ (let z = ap m f in omega arith)
             | inr f ↦ (elim (l.pair i j (omega arith) (omega arith)) [
               | inl a ↦ absurd (let z = a.ends in omega arith)
-              | inr t ↦ (let u = c.rec_to_rec i t.x hi t.at_x in let v = c.rec_to_rec j t.y (omega arith) t.at_y in
+              | inr t ↦ (let u = c.rec_to_rec i t.x hi t.at_x in let v =
+                  c.rec_to_rec j t.y (omega arith) t.at_y in
                   let bj = c.below j (omega arith) in
                   let w = same_rec_end n ln (m i) (m j) t.x t.y bi bj u v t.same in
                   let oj = ln.own (m j) bj in omega arith)
@@ -116,7 +121,9 @@ module _ (s n : IndexSpace) (m : ℕ → ℕ) (l : IsLaidOut s) (ln : IsLaidOut 
   single_if : (i : ℕ) → ¬ (IsAnchor s m i) → IsSingle s i
   single_if i na = elim (in_or_out (s.rec_position i)) [ inl o ↦ o | inr x ↦ absurd (na (inl x)) ]
 
-  less_again : (i j : ℕ) → i < s.count → j < s.count → IsKept m i → IsKept m j → ¬ (IsAnchor s m i) → ¬ (IsAnchor s m j) → m i < m j → definition_cmp (s.definition i) (s.definition j) ≡ Less → definition_cmp (n.definition (m i)) (n.definition (m j)) ≡ Less
+  less_again : (i j : ℕ) → i < s.count → j < s.count → IsKept m i → IsKept m j → ¬ (IsAnchor s m i) →
+      ¬ (IsAnchor s m j) → m i < m j → definition_cmp (s.definition i) (s.definition j) ≡ Less →
+      definition_cmp (n.definition (m i)) (n.definition (m j)) ≡ Less
   less_again i j hi hj ki kj ai aj lt le =
       let r = cmp_or_less m (λ k. k) (s.definition i) (s.definition j) (λ k k' p q.
       (let e = own_name s m i k ki ai p in let f = own_name s m j k' kj aj q in
@@ -126,7 +133,8 @@ module _ (s n : IndexSpace) (m : ℕ → ℕ) (l : IsLaidOut s) (ln : IsLaidOut 
         | inr e ↦ e
       ])
 
-  free_again : (p q : ℕ) → p < q → q < n.count → AreFree n (λ k. k) p q → definition_cmp (n.definition p) (n.definition q) ≡ Less
+  free_again : (p q : ℕ) → p < q → q < n.count → AreFree n (λ k. k) p q →
+      definition_cmp (n.definition p) (n.definition q) ≡ Less
   free_again p q h hq fr =
       let o = c.onto p (omega arith) in
       let o' = c.onto q hq in
@@ -166,7 +174,9 @@ module _ (s n : IndexSpace) (m : ℕ → ℕ) (l : IsLaidOut s) (ln : IsLaidOut 
                 ])
               ]) in
               let iff = c.free j i (omega arith) hi r'.2 r.2 fr' in
-              one_less (s.definition i) (s.definition j) (λ y. kept_differ s n m c j i (omega arith) hi r'.2 r.2 sj si (sym y)) (λ y. (let z = iff.1 y in omega arith)))
+              one_less (s.definition i) (s.definition j) (λ y.
+              kept_differ s n m c j i (omega arith) hi r'.2 r.2 sj si (sym y)) (λ y.
+              (let z = iff.1 y in omega arith)))
         ])
       ] in
       sym (cmp_same (ap n.definition e) (ap n.definition f)) ∙ (less_again i j hi hj r.2 r'.2 ai aj lt less)

@@ -22,22 +22,26 @@ pub anchor_agree :
 anchor_agree s m w ga i h (inl r) = inl r
 anchor_agree s m w ga i h (inr r) = inr (kept_agree s m w ga i h r.0, r.1)
 
-module _ (s n n' : IndexSpace) (m w : ℕ → ℕ) (l : IsLaidOut s) (wn : NamesBelowEnds s) (c : IsNormal s n m) (d : IsNormal s n' w) where
+module _ (s n n' : IndexSpace) (m w : ℕ → ℕ) (l : IsLaidOut s) (wn : NamesBelowEnds s) (c : IsNormal s n m)
+    (d : IsNormal s n' w) where
   -- an index that shares its image with an earlier one does so under each normal form
-  step : (b j : ℕ) → b < s.count → ((i k : ℕ) → i < b → k < b → m i ≡ m k → w i ≡ w k) → j < b → m j ≡ m b → w j ≡ w b
+  step : (b j : ℕ) → b < s.count → ((i k : ℕ) → i < b → k < b → m i ≡ m k → w i ≡ w k) → j < b → m j ≡ m b →
+      w j ≡ w b
   step b j hb ih g e = elim (in_or_out (s.rec_position b)) [
     | inl o ↦ (
         let oj = single_only s n m l c b j hb (omega arith) o e in
         let eb = ends_before_single s l b j g hb o in
         let end = l.single_end b hb o in
-        let same : rename m (s.definition j) ≡ rename m (s.definition b) = sym (c.same j (omega arith)) ∙ (ap n.definition e ∙ c.same b hb) in
+        let same : rename m (s.definition j) ≡ rename m (s.definition b) = sym (c.same j (omega arith))
+        ∙ (ap n.definition e ∙ c.same b hb) in
         let t = transfer m w (s.definition j) (s.definition b) (λ k k' p q u. ih k k'
         (let z = wn j (omega arith) k p in omega arith)
         (elim (cases_eq k' b) [
           | inl f ↦ absurd (c.selfs_kept b hb o (rw f at q) j g e)
           | inr f ↦ (let z = wn b hb k' q in omega arith)
         ]) u) same in
-        let t' : n'.definition (w j) ≡ n'.definition (w b) = d.same j (omega arith) ∙ (t ∙ sym (d.same b hb)) in
+        let t' : n'.definition (w j) ≡ n'.definition (w b) = d.same j (omega arith)
+        ∙ (t ∙ sym (d.same b hb)) in
         let sj = d.single_to_single j (omega arith) oj in
         let sb = d.single_to_single b hb o in
         let bj = d.below j (omega arith) in

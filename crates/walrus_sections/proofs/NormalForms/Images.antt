@@ -9,7 +9,8 @@ use Rattle.walrus_sections.proofs.NormalForms.Kept.{kept_one, free_if_not}
 use Rattle.walrus_sections.proofs.NormalForms.Agree.{Agree, kept_agree, anchor_agree}
 use Rattle.walrus_ty.proofs.Names.Definitions.{rename_agree}
 
-module _ (s n n' : IndexSpace) (m w : ℕ → ℕ) (c : IsNormal s n m) (d : IsNormal s n' w) (l : IsLaidOut s) (ag : Agree s m w) (ga : Agree s w m) where
+module _ (s n n' : IndexSpace) (m w : ℕ → ℕ) (c : IsNormal s n m) (d : IsNormal s n' w) (l : IsLaidOut s)
+    (ag : Agree s m w) (ga : Agree s w m) where
   -- kept indices stand in the same order
   pub same_order : (i j : ℕ) → i < s.count → j < s.count → IsKept m i → IsKept m j → m i < m j → w i < w j
   same_order i j hi hj ki kj lt =
@@ -29,7 +30,8 @@ module _ (s n n' : IndexSpace) (m w : ℕ → ℕ) (c : IsNormal s n m) (d : IsN
                 elim (cases_eq (w i) (w j)) [
                   | inl e ↦ absurd (ki' j h' (sym e))
                   | inr ne' ↦ (let lt' : w j < w i = omega arith in
-                      let z = (c.free j i h' hi kj ki fm).1 ((d.free j i h' hi kj' ki' fw).0 lt') in absurd (omega arith))
+                      let z = (c.free j i h' hi kj ki fm).1 ((d.free j i h' hi kj' ki' fw).0 lt') in
+                      absurd (omega arith))
                 ])
           ])
         ])
@@ -52,17 +54,20 @@ module _ (s n n' : IndexSpace) (m w : ℕ → ℕ) (c : IsNormal s n m) (d : IsN
       let e = ag r.0 i (omega arith) h r.3 in
       let g = at_least (m r.0) r.0 (omega arith) r.2 refl in let r3 = r.3 in omega arith
 
-module _ (s n n' : IndexSpace) (m w : ℕ → ℕ) (c : IsNormal s n m) (d : IsNormal s n' w) (l : IsLaidOut s) (ag : Agree s m w) (ga : Agree s w m) where
+module _ (s n n' : IndexSpace) (m w : ℕ → ℕ) (c : IsNormal s n m) (d : IsNormal s n' w) (l : IsLaidOut s)
+    (ag : Agree s m w) (ga : Agree s w m) where
   pub same_image : (i : ℕ) → i < s.count → m i ≡ w i
   same_image i h =
       let a = image_at_least s n n' m w c d l ag ga i h in
       let b = image_at_least s n' n w m d c l ga ag i h in omega arith
 
 -- with equal maps, the definitions are equal
-module _ (s n n' : IndexSpace) (m w : ℕ → ℕ) (l : IsLaidOut s) (wn : NamesBelowEnds s) (c : IsNormal s n m) (d : IsNormal s n' w) (eq : (i : ℕ) → i < s.count → m i ≡ w i) where
+module _ (s n n' : IndexSpace) (m w : ℕ → ℕ) (l : IsLaidOut s) (wn : NamesBelowEnds s) (c : IsNormal s n m)
+    (d : IsNormal s n' w) (eq : (i : ℕ) → i < s.count → m i ≡ w i) where
   pub count_least : n.count ≤ n'.count
   count_least = elim (cases_lt n'.count n.count) [
-    | inl h ↦ (let o = c.onto n'.count h in let b = d.below o.0 o.1 in let e = eq o.0 o.1 in let f = o.2 in absurd (omega arith))
+    | inl h ↦ (let o = c.onto n'.count h in let b = d.below o.0 o.1 in let e = eq o.0 o.1 in let f = o.2 in
+        absurd (omega arith))
     | inr h ↦ h
   ]
 
@@ -72,10 +77,12 @@ module _ (s n n' : IndexSpace) (m w : ℕ → ℕ) (l : IsLaidOut s) (wn : Names
       let i = o.0 in
       let x = c.same i o.1 in
       let y = d.same i o.1 in
-      let z = rename_agree m w (s.definition i) (λ k g. eq k (let a = wn i o.1 k g in let b = l.fits i o.1 in omega arith)) in
+      let z = rename_agree m w (s.definition i) (λ k g.
+      eq k (let a = wn i o.1 k g in let b = l.fits i o.1 in omega arith)) in
       ap n.definition (sym o.2) ∙ (x ∙ (z ∙ (sym y ∙ ap n'.definition (sym (eq i o.1) ∙ o.2))))
 
-module _ (s n n' : IndexSpace) (m w : ℕ → ℕ) (c : IsNormal s n m) (d : IsNormal s n' w) (eq : (i : ℕ) → i < s.count → m i ≡ w i) where
+module _ (s n n' : IndexSpace) (m w : ℕ → ℕ) (c : IsNormal s n m) (d : IsNormal s n' w) (eq : (i : ℕ) →
+    i < s.count → m i ≡ w i) where
   pub same_rec_positions : (p : ℕ) → p < n.count → n.rec_position p ≡ n'.rec_position p
   same_rec_positions p h =
       let o = c.onto p h in

@@ -7,21 +7,25 @@ use Rattle.walrus_sections.proofs.Sections.Lying.{IsLaidOut, in_or_out, same_rec
 use Rattle.walrus_ty.specs.Definition.{Names}
 
 -- the first index below b that f sends to v
-first : (f : ℕ → ℕ) (v b : ℕ) →
+index-first : (f : ℕ → ℕ) (v b : ℕ) →
     ((j : ℕ) × (j < b) × (f j ≡ v) × ((k : ℕ) → k < j → ¬ (f k ≡ v))) ⊎
     ((k : ℕ) → k < b → ¬ (f k ≡ v))
-first f v zero = inr (λ k h e. omega arith)
-first f v (suc b) = elim (first f v b) [
+index-first f v zero = inr (λ k h e. omega arith)
+index-first f v (suc b) = elim (index-first f v b) [
   | inl r ↦ (let z = r.1 in inl (r.0, omega arith, r.2, r.3))
   | inr h ↦ (elim (cases_eq (f b) v) [
     | inl e ↦ inl (b, omega arith, e, h)
-    | inr d ↦ inr (λ k i e. elim (cases_lt k b) [ inl g ↦ h k g e | inr g ↦ (let w : k ≡ b = omega arith in d (rw w at e)) ])
+    | inr d ↦ inr (λ k i e. elim (cases_lt k b) [
+      | inl g ↦ h k g e
+      | inr g ↦
+          (let w : k ≡ b = omega arith in d (rw w at e))
+    ])
   ])
 ]
 
 -- each index shares its image with a kept one that is not later
 pub kept_one : (m : ℕ → ℕ) (i : ℕ) → (j : ℕ) × (j ≤ i) × IsKept m j × (m j ≡ m i)
-kept_one m i = elim (first m (m i) (suc i)) [
+kept_one m i = elim (index-first m (m i) (suc i)) [
   | inl r ↦ (let z = r.1 in (r.0, omega arith, (λ k h e. r.3 k h (e ∙ r.2)), r.2))
   | inr h ↦ absurd (h i (omega arith) refl)
 ]
@@ -48,7 +52,8 @@ module _ (s n : IndexSpace) (m : ℕ → ℕ) (l : IsLaidOut s) (c : IsNormal s 
   pub single_only : (i j : ℕ) → i < s.count → j < s.count → IsSingle s i → m j ≡ m i → IsSingle s j
   single_only i j hi hj o e = elim (in_or_out (s.rec_position j)) [
     | inl p ↦ p
-    | inr y ↦ (let a = c.rec_to_rec j y.0 hj y.1 in let b = c.single_to_single i hi o in let f = ap n.rec_position e in absurd cc)
+    | inr y ↦ (let a = c.rec_to_rec j y.0 hj y.1 in let b = c.single_to_single i hi o in let f =
+        ap n.rec_position e in absurd cc)
   ]
 
   pub anchor_kept : (i : ℕ) → i < s.count → IsAnchor s m i → IsKept m i
@@ -62,7 +67,9 @@ module _ (s n : IndexSpace) (m : ℕ → ℕ) (l : IsLaidOut s) (c : IsNormal s 
       | inl g' ↦ (let ka = anchor_kept a (omega arith) an in
           let x = c.anchors i a g (omega arith) ki ka (inr an) in
           let y = c.anchors a j g' b ka kj (inl an) in omega arith)
-      | inr g' ↦ (let e : a ≡ j = omega arith in let x = c.anchors i j h b ki kj (inr (rw e at an)) in omega arith)
+      | inr g' ↦ (let e : a ≡ j = omega arith in let x = c.anchors i j h b ki kj (inr (rw e at an)) in
+          omega arith)
     ])
-    | inr g ↦ (let e : a ≡ i = omega arith in let x = c.anchors i j h b ki kj (inl (rw e at an)) in omega arith)
+    | inr g ↦ (let e : a ≡ i = omega arith in let x = c.anchors i j h b ki kj (inl (rw e at an)) in
+        omega arith)
   ]

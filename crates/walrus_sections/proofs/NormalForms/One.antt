@@ -20,7 +20,8 @@ same_cells [] [] l h g = refl
 same_cells [] (q ∷ qs) l h g = absurd (omega arith)
 same_cells (p ∷ ps) [] l h g = absurd (omega arith)
 same_cells (p ∷ ps) (q ∷ qs) l h g =
-    let i = same_cells ps qs (omega arith) (λ k b. h (suc k) (omega arith)) (λ k b. g (suc k) (omega arith)) in
+    let i = same_cells ps qs (omega arith) (λ k b. h (suc k) (omega arith)) (λ k b. g (suc k) (omega arith))
+    in
     let x : p.definition ≡ q.definition = h 0 (omega arith) in
     let y : p.rec_position ≡ q.rec_position = g 0 (omega arith) in
     cc
@@ -32,13 +33,19 @@ one_normal_form s n n' m w wn c d =
     let l = laid_out s in
     let ag = agree (index_space s) (index_space n) (index_space n') (image m) (image w) l wn c.laws d.laws in
     let ga = agree (index_space s) (index_space n') (index_space n) (image w) (image m) l wn d.laws c.laws in
-    let eq = same_image (index_space s) (index_space n) (index_space n') (image m) (image w) c.laws d.laws l ag ga in
+    let eq = same_image (index_space s) (index_space n) (index_space n') (image m) (image w) c.laws d.laws l
+    ag ga in
     let qe : (i : ℕ) → i < (index_space s).count → image w i ≡ image m i = λ i h. sym (eq i h) in
-    let a = count_least (index_space s) (index_space n) (index_space n') (image m) (image w) l wn c.laws d.laws eq in
-    let b = count_least (index_space s) (index_space n') (index_space n) (image w) (image m) l wn d.laws c.laws qe in
-    let ds = same_definition (index_space s) (index_space n) (index_space n') (image m) (image w) l wn c.laws d.laws eq in
-    let sp = same_rec_positions (index_space s) (index_space n) (index_space n') (image m) (image w) c.laws d.laws eq in
+    let a = count_least (index_space s) (index_space n) (index_space n') (image m) (image w) l wn c.laws
+    d.laws eq in
+    let b = count_least (index_space s) (index_space n') (index_space n) (image w) (image m) l wn d.laws
+    c.laws qe in
+    let ds = same_definition (index_space s) (index_space n) (index_space n') (image m) (image w) l wn c.laws
+    d.laws eq in
+    let sp = same_rec_positions (index_space s) (index_space n) (index_space n') (image m) (image w) c.laws
+    d.laws eq in
     let lm = c.one_each in let lw = d.one_each in (
-      rebuild n n' 0 0 0 c.filled d.filled (same_cells (places_from 0 0 n) (places_from 0 0 n') (omega arith) ds sp),
+      rebuild n n' 0 0 0 c.filled d.filled (same_cells (places_from 0 0 n) (places_from 0 0 n') (omega arith)
+          ds sp),
       ext_get_or 0 m w (lm ∙ sym lw) (λ i h. eq i (omega arith)),
     )

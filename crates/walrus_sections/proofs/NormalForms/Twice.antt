@@ -18,7 +18,8 @@ pub normal_well_named :
     (s n : Section) (m : List ℕ) → IsWellNamed s → IsNormalForm s n m → IsWellNamed n
 normal_well_named s n m w c = record {
   few = (let a = no_more (index_space s) (index_space n) (image m) c.laws in let b = w.few in omega arith);
-  below_ends = names_again (index_space s) (index_space n) (image m) (laid_out s) (laid_out n) w.below_ends c.laws;
+  below_ends = names_again (index_space s) (index_space n) (image m) (laid_out s) (laid_out n) w.below_ends
+      c.laws;
 }
 
 pub normal_twice :
@@ -31,5 +32,6 @@ normal_twice s n m w c =
     record {
       one_each = length-range_with_len 0 (index_space n).count;
       filled = c.filled;
-      laws = normal_same (index_space n) (index_space n) (λ i. i) (image (identity n)) ln wn.below_ends (image-range (index_space n).count) again;
+      laws = normal_same (index_space n) (index_space n) (λ i. i) (image (identity n)) ln wn.below_ends
+          (image-range (index_space n).count) again;
     }

@@ -35,8 +35,10 @@ no_later :
     t.rec_position i ≡ Some x → t.rec_position j ≡ Some x → ⊥
 no_later t l i j x h b p q = elim (l.pair i j h b) [
   | inl a ↦ (let z = a.rises x x p q in omega arith)
-  | inr o ↦ (let e = some_same (t.rec_position i) x o.x p o.at_x in let f = some_same (t.rec_position j) x o.y q o.at_y in
-      let g : o.x ≡ o.y = cc in let z = o.later in let w : o.x.1 ≡ o.y.1 = ap (λ (v : ℕ × ℕ). v.1) g in omega arith)
+  | inr o ↦ (let e = some_same (t.rec_position i) x o.x p o.at_x in let f =
+      some_same (t.rec_position j) x o.y q o.at_y in
+      let g : o.x ≡ o.y = cc in let z = o.later in let w : o.x.1 ≡ o.y.1 = ap (λ (v : ℕ × ℕ). v.1) g in
+      omega arith)
 ]
 
 -- no two indices have one position

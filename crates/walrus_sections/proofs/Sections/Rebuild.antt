@@ -48,15 +48,18 @@ rebuild (Single e ∷ gs) (Single e' ∷ hs) b c k f g h =
 rebuild (Single e ∷ gs) (Rec [] ∷ hs) b c k f g h = absurd g
 rebuild (Single e ∷ gs) (Rec (e' ∷ es) ∷ hs) b c k f g h =
     let p : ◌≡◌ {A = Definition × Option (ℕ × ℕ)} (e, None) (e', Some (k, 0)) = cc in
-    let p1 : ◌≡◌ {A = Option (ℕ × ℕ)} None (Some (k, 0)) = ap (λ (x : Definition × Option (ℕ × ℕ)). x.1) p in cc
+    let p1 : ◌≡◌ {A = Option (ℕ × ℕ)} None (Some (k, 0)) = ap (λ (x : Definition × Option (ℕ × ℕ)). x.1) p in
+    cc
 rebuild (Rec [] ∷ gs) hs b c k f g h = absurd f
 rebuild (Rec (e ∷ es) ∷ gs) [] b c k f g h = cc
 rebuild (Rec (e ∷ es) ∷ gs) (Single e' ∷ hs) b c k f g h =
     let p : ◌≡◌ {A = Definition × Option (ℕ × ℕ)} (e, Some (k, 0)) (e', None) = cc in
-    let p1 : ◌≡◌ {A = Option (ℕ × ℕ)} (Some (k, 0)) None = ap (λ (x : Definition × Option (ℕ × ℕ)). x.1) p in cc
+    let p1 : ◌≡◌ {A = Option (ℕ × ℕ)} (Some (k, 0)) None = ap (λ (x : Definition × Option (ℕ × ℕ)). x.1) p in
+    cc
 rebuild (Rec (e ∷ es) ∷ gs) (Rec [] ∷ hs) b c k f g h = absurd g
 rebuild (Rec (e ∷ es) ∷ gs) (Rec (e' ∷ es') ∷ hs) b c k f g h =
-    let r = same_rec (e ∷ es) (e' ∷ es') (suc (length es) + b) (suc (length es') + c) k 0 (suc (length es) + b) (suc (length es') + c)
+    let r = same_rec (e ∷ es) (e' ∷ es') (suc (length es) + b) (suc (length es') + c) k 0
+    (suc (length es) + b) (suc (length es') + c)
     (places_from (suc (length es) + b) (suc k) gs) (places_from (suc (length es') + c) (suc k) hs)
     (rows (suc (length es) + b) (suc k) gs) (rows (suc (length es') + c) (suc k) hs) h in
     let q = rebuild gs hs (suc (length es) + b) (suc (length es') + c) (suc k) f g r.1 in

@@ -17,7 +17,8 @@ pub length-places : (b k : ℕ) (gs : Section) → length (places_from b k gs) �
 length-places b k [] = refl
 length-places b k (Single e ∷ gs) = ap suc (length-places (suc b) k gs)
 length-places b k (Rec es ∷ gs) =
-    length-rec_places es (length es + b) k 0 (places_from (length es + b) (recs_after es k) gs) ∙ ap (λ n. length es + n) (length-places (length es + b) (recs_after es k) gs)
+    length-rec_places es (length es + b) k 0 (places_from (length es + b) (recs_after es k) gs)
+    ∙ ap (λ n. length es + n) (length-places (length es + b) (recs_after es k) gs)
 
 pub record Split (gs : Section) (i : ℕ) : Type 0 where
   pub before : Section
@@ -33,7 +34,13 @@ split [] b k i h o = absurd (omega arith)
 split (Single e ∷ gs) b k zero h o = record { before = []; after = gs; e = e; is = refl; place = refl }
 split (Single e ∷ gs) b k (suc i) h o =
     let r = split gs (suc b) k i (omega arith) o in
-    record { before = Single e ∷ r.before; after = r.after; e = r.e; is = ap (λ xs. Single e ∷ xs) r.is; place = ap suc r.place }
+    record {
+      before = Single e ∷ r.before;
+      after = r.after;
+      e = r.e;
+      is = ap (λ xs. Single e ∷ xs) r.is;
+      place = ap suc r.place;
+    }
 split (Rec es ∷ gs) b k i h o =
     let rest = places_from (length es + b) (recs_after es k) gs in
     elim (rec_at_number es (length es + b) k 0 rest i) [
@@ -41,9 +48,16 @@ split (Rec es ∷ gs) b k i h o =
       | inr x ↦ (
           let x1 = x.1 in
           let len = length-rec_places es (length es + b) k 0 rest in
-          let r = split gs (length es + b) (recs_after es k) x.0 (omega arith) (ap (λ (p : Place). p.rec_position) (sym x.2) ∙ o) in
+          let r = split gs (length es + b) (recs_after es k) x.0 (omega arith)
+          (ap (λ (p : Place). p.rec_position) (sym x.2) ∙ o) in
           let rp = r.place in
-          record { before = Rec es ∷ r.before; after = r.after; e = r.e; is = ap (λ xs. Rec es ∷ xs) r.is; place = (omega arith) })
+          record {
+            before = Rec es ∷ r.before;
+            after = r.after;
+            e = r.e;
+            is = ap (λ xs. Rec es ∷ xs) r.is;
+            place = (omega arith);
+          })
     ]
 
 pub split_definition : (s : Section) (i : ℕ) (r : Split s i) → (index_space s).definition i ≡ r.e
@@ -51,8 +65,11 @@ split_definition s i r =
     let a = places-append 0 0 r.before (Single r.e ∷ r.after) in
     let ps = places_from 0 0 r.before in
     let len = length-places 0 0 r.before ∙ r.place in
-    ap (λ (j : ℕ). (index_space s).definition j) (sym len) ∙ (ap (λ (qs : List Place). (at qs (length ps)).definition) (ap (places_from 0 0) r.is ∙ a.2)
-    ∙ ap (λ (p : Place). p.definition) (at-here ps (record { definition = r.e; end = suc a.0; rec_position = None }) (places_from (suc a.0) a.1 r.after)))
+    ap (λ (j : ℕ). (index_space s).definition j) (sym len)
+    ∙ (ap (λ (qs : List Place). (at qs (length ps)).definition) (ap (places_from 0 0) r.is ∙ a.2)
+    ∙ ap (λ (p : Place). p.definition) (at-here ps
+    (record { definition = r.e; end = suc a.0; rec_position = None })
+    (places_from (suc a.0) a.1 r.after)))
 
 pub filled-right : (gs hs : Section) → IsFilled (gs ++ hs) → IsFilled hs
 filled-right [] hs f = f
@@ -95,15 +112,29 @@ next_single s i r [] e f h o =
     let z = ap length (ap (places_from 0 0) q ∙ a.2) in
     let len = length-append (places_from 0 0 r.before) (places_from a.0 a.1 (Single r.e ∷ [])) in
     let lp = length-places 0 0 r.before in let pl = r.place in absurd (omega arith)
-next_single s i r (Single f ∷ after) e g h o = record { before = r.before; after = after; e = r.e; f = f; is = r.is ∙ ap (λ xs. r.before ++ Single r.e ∷ xs) e; place = r.place }
+next_single s i r (Single f ∷ after) e g h o =
+    record {
+      before = r.before;
+      after = after;
+      e = r.e;
+      f = f;
+      is = r.is
+          ∙ ap (λ xs. r.before ++ Single r.e ∷ xs) e;
+      place = r.place;
+    }
 next_single s i r (Rec [] ∷ after) e f h o = absurd f
 next_single s i r (Rec (x ∷ xs) ∷ after) e f h o =
-    let q : s ≡ r.before ++ Single r.e ∷ Rec (x ∷ xs) ∷ after = r.is ∙ ap (λ xs. r.before ++ Single r.e ∷ xs) e in
+    let q : s ≡ r.before ++ Single r.e ∷ Rec (x ∷ xs) ∷ after = r.is
+    ∙ ap (λ xs. r.before ++ Single r.e ∷ xs) e in
     let a = places-append 0 0 r.before (Single r.e ∷ Rec (x ∷ xs) ∷ after) in
     let ps = places_from 0 0 r.before in
     let len = length-places 0 0 r.before ∙ r.place in
-    let n = at-next ps (record { definition = r.e; end = suc a.0; rec_position = None }) (places_from (suc a.0) a.1 (Rec (x ∷ xs) ∷ after)) in
-    let z : (index_space s).rec_position (suc i) ≡ Some (a.1, 0) = ap (λ (j : ℕ). (index_space s).rec_position (suc j)) (sym len) ∙ (ap (λ (qs : List Place). (at qs (suc (length ps))).rec_position) (ap (places_from 0 0) q ∙ a.2) ∙ ap (λ (p : Place). p.rec_position) n) in
+    let n = at-next ps (record { definition = r.e; end = suc a.0; rec_position = None })
+    (places_from (suc a.0) a.1 (Rec (x ∷ xs) ∷ after)) in
+    let z : (index_space s).rec_position (suc i) ≡ Some (a.1, 0) =
+    ap (λ (j : ℕ). (index_space s).rec_position (suc j)) (sym len)
+    ∙ (ap (λ (qs : List Place). (at qs (suc (length ps))).rec_position) (ap (places_from 0 0) q ∙ a.2)
+    ∙ ap (λ (p : Place). p.rec_position) n) in
     absurd cc
 
 pub split_two :
@@ -124,6 +155,10 @@ two_definitions s i r =
     let len = length-places 0 0 r.before ∙ r.place in
     let p : Place = record { definition = r.e; end = suc a.0; rec_position = None } in
     let qs = places_from (suc a.0) a.1 (Single r.f ∷ r.after) in (
-      ap (λ (j : ℕ). (index_space s).definition j) (sym len) ∙ (ap (λ (qs : List Place). (at qs (length ps)).definition) (ap (places_from 0 0) r.is ∙ a.2) ∙ ap (λ (p : Place). p.definition) (at-here ps p qs)),
-      ap (λ (j : ℕ). (index_space s).definition (suc j)) (sym len) ∙ (ap (λ (qs : List Place). (at qs (suc (length ps))).definition) (ap (places_from 0 0) r.is ∙ a.2) ∙ ap (λ (p : Place). p.definition) (at-next ps p qs)),
+      ap (λ (j : ℕ). (index_space s).definition j) (sym len)
+          ∙ (ap (λ (qs : List Place). (at qs (length ps)).definition) (ap (places_from 0 0) r.is ∙ a.2)
+          ∙ ap (λ (p : Place). p.definition) (at-here ps p qs)),
+      ap (λ (j : ℕ). (index_space s).definition (suc j)) (sym len)
+          ∙ (ap (λ (qs : List Place). (at qs (suc (length ps))).definition) (ap (places_from 0 0) r.is ∙ a.2)
+          ∙ ap (λ (p : Place). p.definition) (at-next ps p qs)),
     )

@@ -8,7 +8,8 @@ pub none_more :
     (P i → IsTrue b) → b ≡ false → (a : ℕ) → first ≤ a → a < i + 1 → ¬ P a
 none_more P first i b before sees fails a low below is = elim (cases_lt a i) [
   | inl w ↦ before a low w is
-  | inr w ↦ let e : a ≡ i = omega (arith, w, below) in let yes' : b ≡ true = sees (subst P e is) in let k : ⊥ = cc in absurd k
+  | inr w ↦ let e : a ≡ i = omega (arith, w, below) in let yes' : b ≡ true = sees (subst P e is) in
+      let k : ⊥ = cc in absurd k
 ]
 
 -- it holds of each before i, and a test that tells says yes at i
@@ -46,7 +47,8 @@ pub each_pair_more :
     (IsTrue b → (i : ℕ) → i < j → P i j) → b ≡ true → (i k : ℕ) → i < k → k < j + 1 → P i k
 each_pair_more P j b before tells holds i k less below = elim (cases_lt k j) [
   | inl w ↦ before i k less w
-  | inr w ↦ let e : k ≡ j = omega (arith, w, below) in subst (λ (n : ℕ). P i n) (sym e) (tells holds i (omega (arith, less, e)))
+  | inr w ↦ let e : k ≡ j = omega (arith, w, below) in
+      subst (λ (n : ℕ). P i n) (sym e) (tells holds i (omega (arith, less, e)))
 ]
 
 -- a test b of L, where K, J and F hold, tells whether M, which holds, is L
@@ -59,5 +61,13 @@ as_held b k j f m tells = (λ t _ _ _. (λ _. tells.0 t, λ _. m), λ all. tells
 pub as_not_held :
     {K J F M L : Type 0} (b : Bool) → K → J → F → ¬ M → ((IsTrue b → L) × (L → IsTrue b)) →
     (IsTrue (not b) → K → J → F → (M ↔ L)) × ((K → J → F → (M ↔ L)) → IsTrue (not b))
-as_not_held true k j f fails tells = (λ t. let e : ⊥ = cc in absurd e, λ all. absurd (fails ((all k j f).1 (tells.0 refl))))
-as_not_held false k j f fails tells = (λ t _ _ _. (λ m. absurd (fails m), λ l. let e : false ≡ true = tells.1 l in let n : ⊥ = cc in absurd n), λ all. refl)
+as_not_held true k j f fails tells = (
+  λ t. let e : ⊥ = cc in absurd e,
+  λ all.
+      absurd (fails ((all k j f).1 (tells.0 refl))),
+)
+as_not_held false k j f fails tells = (
+  λ t _ _ _.
+      (λ m. absurd (fails m), λ l. let e : false ≡ true = tells.1 l in let n : ⊥ = cc in absurd n),
+  λ all. refl,
+)

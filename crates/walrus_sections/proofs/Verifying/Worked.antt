@@ -64,13 +64,20 @@ turned =
         below = two (λ i. m i < 2) (omega arith) (omega arith);
         onto = two (λ p. (i : ℕ) × (i < 2) × (m i ≡ p)) (1, omega arith, refl) (0, omega arith, refl);
         same = two (λ i. n.definition (m i) ≡ rename m (s.definition i)) refl refl;
-        rec_to_rec = λ i x h. two (λ i. s.rec_position i ≡ Some x → n.rec_position (m i) ≡ Some x) (λ e. absurd cc) (λ e. absurd cc) i h;
-        rec_from_rec = λ p x h. two (λ p. n.rec_position p ≡ Some x → (i : ℕ) × (i < 2) × (s.rec_position i ≡ Some x)) (λ e. absurd cc) (λ e. absurd cc) p h;
+        rec_to_rec = λ i x h. two (λ i. s.rec_position i ≡ Some x → n.rec_position (m i) ≡ Some x) (λ e.
+            absurd cc) (λ e. absurd cc) i h;
+        rec_from_rec = λ p x h. two (λ p. n.rec_position p ≡ Some x → (i : ℕ) × (i < 2)
+            × (s.rec_position i ≡ Some x)) (λ e. absurd cc) (λ e. absurd cc) p h;
         single_to_single = two (λ i. IsSingle s i → IsSingle n (m i)) (λ o. refl) (λ o. refl);
-        singles_differ = pair_of_two (λ p q. IsSingle n p → IsSingle n q → ¬ (n.definition p ≡ n.definition q)) (λ o o' e. (let c = ap (λ d. d.composite) e in absurd cc));
-        selfs_kept = two (λ i. IsSingle s i → Names (s.definition i) i → IsKept m i) (λ o h. absurd (no_names s 0 0 refl h)) (λ o h. absurd (no_names s 1 1 refl h));
-        anchors = pair_of_two (λ i j. IsKept m i → IsKept m j → IsAnchor s m i ⊎ IsAnchor s m j → m i < m j) (λ k k' a. absurd (neither s m 0 1 first second a));
-        free = pair_of_two (λ i j. IsKept m i → IsKept m j → AreFree s m i j → (m i < m j ↔ definition_cmp (s.definition i) (s.definition j) ≡ Less)) (λ k k' f. ((λ l. absurd (omega arith)), (λ e. absurd cc)));
+        singles_differ = pair_of_two (λ p q. IsSingle n p → IsSingle n q →
+            ¬ (n.definition p ≡ n.definition q)) (λ o o' e. (let c = ap (λ d. d.composite) e in absurd cc));
+        selfs_kept = two (λ i. IsSingle s i → Names (s.definition i) i → IsKept m i) (λ o h.
+            absurd (no_names s 0 0 refl h)) (λ o h. absurd (no_names s 1 1 refl h));
+        anchors = pair_of_two (λ i j. IsKept m i → IsKept m j → IsAnchor s m i ⊎ IsAnchor s m j → m i < m j)
+            (λ k k' a. absurd (neither s m 0 1 first second a));
+        free = pair_of_two (λ i j. IsKept m i → IsKept m j → AreFree s m i j →
+            (m i < m j ↔ definition_cmp (s.definition i) (s.definition j) ≡ Less)) (λ k k' f.
+            ((λ l. absurd (omega arith)), (λ e. absurd cc)));
       };
     }
 
@@ -88,16 +95,23 @@ merged =
         below = three (λ i. m i < 2) (omega arith) (omega arith) (omega arith);
         onto = two (λ p. (i : ℕ) × (i < 3) × (m i ≡ p)) (0, omega arith, refl) (1, omega arith, refl);
         same = three (λ i. n.definition (m i) ≡ rename m (s.definition i)) refl refl refl;
-        rec_to_rec = λ i x h. three (λ i. s.rec_position i ≡ Some x → n.rec_position (m i) ≡ Some x) (λ e. absurd cc) (λ e. e) (λ e. absurd cc) i h;
-        rec_from_rec = λ p x h. two (λ p. n.rec_position p ≡ Some x → (i : ℕ) × (i < 3) × (s.rec_position i ≡ Some x)) (λ e. absurd cc) (λ e. (1, omega arith, e)) p h;
-        single_to_single = three (λ i. IsSingle s i → IsSingle n (m i)) (λ o. refl) (λ o. absurd cc) (λ o. refl);
-        singles_differ = pair_of_two (λ p q. IsSingle n p → IsSingle n q → ¬ (n.definition p ≡ n.definition q)) (λ o o' e. absurd cc);
+        rec_to_rec = λ i x h. three (λ i. s.rec_position i ≡ Some x → n.rec_position (m i) ≡ Some x) (λ e.
+            absurd cc) (λ e. e) (λ e. absurd cc) i h;
+        rec_from_rec = λ p x h. two (λ p. n.rec_position p ≡ Some x → (i : ℕ) × (i < 3)
+            × (s.rec_position i ≡ Some x)) (λ e. absurd cc) (λ e. (1, omega arith, e)) p h;
+        single_to_single = three (λ i. IsSingle s i → IsSingle n (m i)) (λ o. refl) (λ o. absurd cc) (λ o.
+            refl);
+        singles_differ = pair_of_two (λ p q. IsSingle n p → IsSingle n q →
+            ¬ (n.definition p ≡ n.definition q)) (λ o o' e. absurd cc);
         selfs_kept = three (λ i. IsSingle s i → Names (s.definition i) i → IsKept m i)
-            (λ o h. absurd (no_names s 0 0 refl h)) (λ o h. absurd (no_names s 1 1 refl h)) (λ o h. absurd (no_names s 2 2 refl h));
+            (λ o h. absurd (no_names s 0 0 refl h)) (λ o h. absurd (no_names s 1 1 refl h)) (λ o h.
+            absurd (no_names s 2 2 refl h));
         anchors = pair_of_three (λ i j. IsKept m i → IsKept m j → IsAnchor s m i ⊎ IsAnchor s m j → m i < m j)
             (λ k k' a. omega arith) (λ k k' a. absurd (last k')) (λ k k' a. absurd (last k'));
-        free = pair_of_three (λ i j. IsKept m i → IsKept m j → AreFree s m i j → (m i < m j ↔ definition_cmp (s.definition i) (s.definition j) ≡ Less))
-            (λ k k' f. absurd (f 1 (omega arith) (omega arith) (inl ((0, 0), refl)))) (λ k k' f. absurd (last k')) (λ k k' f. absurd (last k'));
+        free = pair_of_three (λ i j. IsKept m i → IsKept m j → AreFree s m i j →
+            (m i < m j ↔ definition_cmp (s.definition i) (s.definition j) ≡ Less))
+            (λ k k' f. absurd (f 1 (omega arith) (omega arith) (inl ((0, 0), refl)))) (λ k k' f.
+            absurd (last k')) (λ k k' f. absurd (last k'));
       };
     }
 
@@ -119,14 +133,20 @@ both_kept =
         below = two (λ i. m i < 2) (omega arith) (omega arith);
         onto = two (λ p. (i : ℕ) × (i < 2) × (m i ≡ p)) (0, omega arith, refl) (1, omega arith, refl);
         same = two (λ i. s.definition (m i) ≡ rename m (s.definition i)) refl refl;
-        rec_to_rec = λ i x h. two (λ i. s.rec_position i ≡ Some x → s.rec_position (m i) ≡ Some x) (λ e. absurd cc) (λ e. absurd cc) i h;
+        rec_to_rec = λ i x h. two (λ i. s.rec_position i ≡ Some x → s.rec_position (m i) ≡ Some x) (λ e.
+            absurd cc) (λ e. absurd cc) i h;
         rec_from_rec = λ p x h e. (p, h, e);
         single_to_single = two (λ i. IsSingle s i → IsSingle s (m i)) (λ o. refl) (λ o. refl);
-        singles_differ = pair_of_two (λ p q. IsSingle s p → IsSingle s q → ¬ (s.definition p ≡ s.definition q)) (λ o o' e. (let c : 0 ∷ [] ≡ 1 ∷ [] = ap names_of e in absurd cc));
+        singles_differ = pair_of_two (λ p q. IsSingle s p → IsSingle s q →
+            ¬ (s.definition p ≡ s.definition q)) (λ o o' e.
+            (let c : 0 ∷ [] ≡ 1 ∷ [] = ap names_of e in absurd cc));
         selfs_kept = two (λ i. IsSingle s i → Names (s.definition i) i → IsKept m i)
             (λ o h j g e. (omega arith)) (λ o h. kept_second);
-        anchors = pair_of_two (λ i j. IsKept m i → IsKept m j → IsAnchor s m i ⊎ IsAnchor s m j → m i < m j) (λ k k' a. absurd (neither s m 0 1 first second a));
-        free = pair_of_two (λ i j. IsKept m i → IsKept m j → AreFree s m i j → (m i < m j ↔ definition_cmp (s.definition i) (s.definition j) ≡ Less)) (λ k k' f. ((λ l. refl), (λ e. omega arith)));
+        anchors = pair_of_two (λ i j. IsKept m i → IsKept m j → IsAnchor s m i ⊎ IsAnchor s m j → m i < m j)
+            (λ k k' a. absurd (neither s m 0 1 first second a));
+        free = pair_of_two (λ i j. IsKept m i → IsKept m j → AreFree s m i j →
+            (m i < m j ↔ definition_cmp (s.definition i) (s.definition j) ≡ Less)) (λ k k' f.
+            ((λ l. refl), (λ e. omega arith)));
       };
     }
   where
@@ -137,11 +157,20 @@ both_kept =
 -- the two that are out of order change places, and name nothing
 
 nameless : (d : Definition) → names_of d ≡ [] → (k : ℕ) → ¬ (Names d k)
-nameless d none k named = let below : named.0 < 0 = omega (arith, named.1, ap length none) in absurd (omega (arith, below))
+nameless d none k named = let below : named.0 < 0 = omega (arith, named.1, ap length none) in
+    absurd (omega (arith, below))
 
 pub swapped : IsRenumberedSwap unordered_pair ordered_pair 0
 swapped = record {
-  exchanged = record { before = []; first = int_struct; second = func; after = []; s_is = refl; r_is = refl; place = refl };
+  exchanged = record {
+    before = [];
+    first = int_struct;
+    second = func;
+    after = [];
+    s_is = refl;
+    r_is = refl;
+    place = refl;
+  };
   first_nameless = nameless int_struct refl;
   second_nameless = nameless func refl;
 }

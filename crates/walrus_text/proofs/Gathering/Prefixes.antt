@@ -56,16 +56,20 @@ apart true None (comp.Struct fs) ws k at o u f a e = u (ap byte_of e ∙ at)
 apart true None (comp.Array g) ws k at o u f a e = a (ap byte_of e ∙ at)
 
 pub not_rec : (e : EntryAt) → entry_words e ≢ codes "rec" ∷ []
-not_rec e = apart e.is_final e.supertype e.comp (codes "rec" ∷ []) 114 refl (λ k. omega (arith, k)) (λ k. omega (arith, k)) (λ k. omega (arith, k)) (λ k. omega (arith, k))
+not_rec e = apart e.is_final e.supertype e.comp (codes "rec" ∷ []) 114 refl (λ k. omega (arith, k)) (λ k.
+    omega (arith, k)) (λ k. omega (arith, k)) (λ k. omega (arith, k))
 
 pub not_end : (e : EntryAt) → entry_words e ≢ codes "end" ∷ []
-not_end e = apart e.is_final e.supertype e.comp (codes "end" ∷ []) 101 refl (λ k. omega (arith, k)) (λ k. omega (arith, k)) (λ k. omega (arith, k)) (λ k. omega (arith, k))
+not_end e = apart e.is_final e.supertype e.comp (codes "end" ∷ []) 101 refl (λ k. omega (arith, k)) (λ k.
+    omega (arith, k)) (λ k. omega (arith, k)) (λ k. omega (arith, k))
 
 not_empty : (e : EntryAt) → entry_words e ≢ []
-not_empty e = apart e.is_final e.supertype e.comp [] 0 refl (λ k. omega (arith, k)) (λ k. omega (arith, k)) (λ k. omega (arith, k)) (λ k. omega (arith, k))
+not_empty e = apart e.is_final e.supertype e.comp [] 0 refl (λ k. omega (arith, k)) (λ k. omega (arith, k))
+    (λ k. omega (arith, k)) (λ k. omega (arith, k))
 
 not_null_first : (e : EntryAt) (w : List ℕ) (ws : List (List ℕ)) → entry_words e ≢ (0 ∷ w) ∷ ws
-not_null_first e w ws = apart e.is_final e.supertype e.comp ((0 ∷ w) ∷ ws) 0 refl (λ k. omega (arith, k)) (λ k. omega (arith, k)) (λ k. omega (arith, k)) (λ k. omega (arith, k))
+not_null_first e w ws = apart e.is_final e.supertype e.comp ((0 ∷ w) ∷ ws) 0 refl (λ k. omega (arith, k))
+    (λ k. omega (arith, k)) (λ k. omega (arith, k)) (λ k. omega (arith, k))
 
 pub rec_not_end : codes "rec" ∷ [] ≢ codes "end" ∷ []
 rec_not_end e = let k : 114 ≡ 101 = ap byte_of e in omega (arith, k)
@@ -79,11 +83,14 @@ pub null_first :
     ((0 ∷ w) ∷ ws) ∷ ls ≢ section_lines groups
 null_first w ws ls [] e = not_none _ _ e
 null_first w ws ls (group.Single d ∷ s) e = not_null_first d w ws (sym (ap first_line e))
-null_first w ws ls (group.Rec es ∷ s) e = let k : 0 ≡ 114 = ap (λ l. byte_of (first_line l)) e in omega (arith, k)
+null_first w ws ls (group.Rec es ∷ s) e = let k : 0 ≡ 114 = ap (λ l. byte_of (first_line l)) e in
+    omega (arith, k)
 
 -- what stands after some entries of a recursion group: more entries, its end, and more groups
 abbrev FollowsEntries : Lines → Type 0
-FollowsEntries X = (rest : List EntryAt) × AllByRecursion Fits rest × (after : List GroupAt) × AllByRecursion HasGroupIndices after × (X ≡ map entry_words rest ++ (codes "end" ∷ []) ∷ section_lines after)
+FollowsEntries X = (rest : List EntryAt) × AllByRecursion Fits rest × (after : List GroupAt)
+    × AllByRecursion HasGroupIndices after × (X ≡ map entry_words rest ++ (codes "end" ∷ []) ∷ section_lines
+    after)
 
 span_entries :
     (es fs : List EntryAt) (X : Lines) (after : List GroupAt) → AllByRecursion Fits fs →
@@ -92,7 +99,8 @@ span_entries :
     FollowsEntries X
 span_entries [] fs X after fits others e = (fs, fits, after, others, e)
 span_entries (x ∷ es) [] X after fits others e = absurd (not_end x (ap first_line e))
-span_entries (x ∷ es) (f ∷ fs) X after fits others e = span_entries es fs X after fits.1 others (ap later_lines e)
+span_entries (x ∷ es) (f ∷ fs) X after fits others e =
+    span_entries es fs X after fits.1 others (ap later_lines e)
 
 after_end : (X : Lines) → FollowsEntries ((codes "end" ∷ []) ∷ X) → IsSectionText X
 after_end X ([], fits, after, others, e) = (after, others, ap later_lines e)
@@ -104,26 +112,31 @@ in_rec :
     IsSectionText (((codes "rec" ∷ []) ∷ map entry_words es) ++ X) → FollowsEntries X
 in_rec es X ([], fits, e) = absurd (not_none _ _ e)
 in_rec es X (group.Single f ∷ s, fits, e) = absurd (not_rec f (sym (ap first_line e)))
-in_rec es X (group.Rec fs ∷ s, fits, e) = span_entries es fs X s fits.0 fits.1 (ap later_lines e ∙ append_assoc (map entry_words fs) ((codes "end" ∷ []) ∷ []) (section_lines s))
+in_rec es X (group.Rec fs ∷ s, fits, e) = span_entries es fs X s fits.0 fits.1 (ap later_lines e
+    ∙ append_assoc (map entry_words fs) ((codes "end" ∷ []) ∷ []) (section_lines s))
 
 after_group : (g : GroupAt) (X : Lines) → IsSectionText (group_lines g ++ X) → IsSectionText X
 after_group (group.Single d) X ([], fits, e) = absurd (not_none _ _ e)
 after_group (group.Single d) X (group.Single f ∷ s, fits, e) = (s, fits.1, ap later_lines e)
 after_group (group.Single d) X (group.Rec fs ∷ s, fits, e) = absurd (not_rec d (ap first_line e))
 after_group (group.Rec es) X h =
-    let whole : rec_lines es ++ X ≡ ((codes "rec" ∷ []) ∷ map entry_words es) ++ (codes "end" ∷ []) ∷ X = ap (λ ls. (codes "rec" ∷ []) ∷ ls) (append_assoc (map entry_words es) ((codes "end" ∷ []) ∷ []) X) in
+    let whole : rec_lines es ++ X ≡ ((codes "rec" ∷ []) ∷ map entry_words es) ++ (codes "end" ∷ []) ∷ X =
+    ap (λ ls. (codes "rec" ∷ []) ∷ ls) (append_assoc (map entry_words es) ((codes "end" ∷ []) ∷ []) X) in
     after_end X (in_rec es ((codes "end" ∷ []) ∷ X) (subst IsSectionText whole h))
 
 after_groups :
     (gs : List GroupAt) (X : Lines) → IsSectionText (section_lines gs ++ X) → IsSectionText X
 after_groups [] X h = h
-after_groups (g ∷ gs) X h = after_groups gs X (after_group g (section_lines gs ++ X) (subst IsSectionText (append_assoc (group_lines g) (section_lines gs) X) h))
+after_groups (g ∷ gs) X h = after_groups gs X
+    (after_group g (section_lines gs ++ X) (subst IsSectionText
+    (append_assoc (group_lines g) (section_lines gs) X) h))
 
 -- what can follow the lines so far can follow those of the open group
 goes_on :
     (g : SectionBuilder) (X : Lines) → IsSectionText (builder_lines g ++ X) →
     IsSectionText (open_lines g.open ++ X)
-goes_on g X h = after_groups g.groups.items (open_lines g.open ++ X) (subst IsSectionText (append_assoc (section_lines g.groups.items) (open_lines g.open) X) h)
+goes_on g X h = after_groups g.groups.items (open_lines g.open ++ X)
+    (subst IsSectionText (append_assoc (section_lines g.groups.items) (open_lines g.open) X) h)
 
 rec_in_rec : (X : Lines) → ¬ FollowsEntries ((codes "rec" ∷ []) ∷ X)
 rec_in_rec X ([], fits, after, others, e) = rec_not_end (ap first_line e)
@@ -152,8 +165,10 @@ pub second_rec :
     (g : SectionBuilder) → IsSome g.open →
     BeginsNoSection (builder_lines g ++ (codes "rec" ∷ []) ∷ [])
 second_rec g some more h =
-    by_open g.open some (goes_on g ((codes "rec" ∷ []) ∷ more) (subst IsSectionText (append_assoc (builder_lines g) ((codes "rec" ∷ []) ∷ []) more) h)) where
-      by_open : (o : Option (Vec EntryAt Global)) → IsSome o → IsSectionText (open_lines o ++ (codes "rec" ∷ []) ∷ more) → ⊥
+    by_open g.open some (goes_on g ((codes "rec" ∷ []) ∷ more)
+    (subst IsSectionText (append_assoc (builder_lines g) ((codes "rec" ∷ []) ∷ []) more) h)) where
+      by_open : (o : Option (Vec EntryAt Global)) → IsSome o →
+          IsSectionText (open_lines o ++ (codes "rec" ∷ []) ∷ more) → ⊥
       by_open None some k = false≢true some
       by_open (Some es) some k = rec_in_rec more (in_rec es.items ((codes "rec" ∷ []) ∷ more) k)
 
@@ -162,7 +177,9 @@ pub early_end :
     (g : SectionBuilder) → g.open ≡ None →
     BeginsNoSection (builder_lines g ++ (codes "end" ∷ []) ∷ [])
 early_end g none more h =
-    end_first more (subst (λ o. IsSectionText (open_lines o ++ (codes "end" ∷ []) ∷ more)) none (goes_on g ((codes "end" ∷ []) ∷ more) (subst IsSectionText (append_assoc (builder_lines g) ((codes "end" ∷ []) ∷ []) more) h)))
+    end_first more (subst (λ o. IsSectionText (open_lines o ++ (codes "end" ∷ []) ∷ more)) none
+    (goes_on g ((codes "end" ∷ []) ∷ more) (subst IsSectionText
+    (append_assoc (builder_lines g) ((codes "end" ∷ []) ∷ []) more) h)))
 
 -- a recursion group that is open at the end
 pub still_open : (g : SectionBuilder) → IsSome g.open → ¬ IsSectionText (builder_lines g)
@@ -189,7 +206,8 @@ pub bad_line :
 bad_line g ws bad =
     let some : ws ≢ [] = λ e. bad (line.Blank, tt, e) in
     subst (λ ls. BeginsNoSection (builder_lines g ++ ls)) (sym (some_words ws some)) (λ more h.
-    no_bad_line g.open ws more bad (goes_on g (ws ∷ more) (subst IsSectionText (append_assoc (builder_lines g) (ws ∷ []) more) h)))
+    no_bad_line g.open ws more bad (goes_on g (ws ∷ more)
+    (subst IsSectionText (append_assoc (builder_lines g) (ws ∷ []) more) h)))
 
 -- a line of a section among those that have words
 pub line_words_if_any_is : (l : Line) → line_words_if_any l ≡ filter has_items (line_words l ∷ [])
@@ -200,7 +218,8 @@ line_words_if_any_is (line.Entry e) = sym (some_words (entry_words e) (not_empty
 
 -- no more lines help
 pub no_section_more : (lines more : Lines) → BeginsNoSection lines → BeginsNoSection (lines ++ more)
-no_section_more lines more h others k = h (more ++ others) (subst IsSectionText (append_assoc lines more others) k)
+no_section_more lines more h others k = h (more ++ others)
+    (subst IsSectionText (append_assoc lines more others) k)
 
 -- one more group
 pub groups_more :

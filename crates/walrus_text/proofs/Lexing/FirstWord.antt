@@ -37,8 +37,10 @@ words-cons_space b l e = ap (filter has_items) (slice_split-cons_yes is_space b 
 pub words_past_spaces : (l : List ℕ) → words_of (drop (spaces l) l) ≡ words_of l
 words_past_spaces [] = refl
 words_past_spaces (b ∷ l) = by_test (b == 32) refl (words_past_spaces l) where
-  by_test : (t : Bool) → (b == 32) ≡ t → words_of (drop (spaces l) l) ≡ words_of l → words_of (drop (spaces (b ∷ l)) (b ∷ l)) ≡ words_of (b ∷ l)
-  by_test true e more = ap (λ n. words_of (drop n (b ∷ l))) (spaces-cons_yes b l e) ∙ (more ∙ sym (words-cons_space b l e))
+  by_test : (t : Bool) → (b == 32) ≡ t → words_of (drop (spaces l) l) ≡ words_of l →
+      words_of (drop (spaces (b ∷ l)) (b ∷ l)) ≡ words_of (b ∷ l)
+  by_test true e more = ap (λ n. words_of (drop n (b ∷ l))) (spaces-cons_yes b l e)
+      ∙ (more ∙ sym (words-cons_space b l e))
   by_test false e more = ap (λ n. words_of (drop n (b ∷ l))) (spaces-cons_no b l e)
 
 -- what stands before the first space is the first part
@@ -80,7 +82,8 @@ words_from_front :
     words_of l ≡ take (word l) l ∷ words_of (drop (word l) l)
 words_from_front l h =
     let f = front_of l in
-    ap (filter has_items) f.first ∙ (with_word (take (word l) l) f.parts h ∙ ap (λ ws. take (word l) l ∷ ws) (sym f.others))
+    ap (filter has_items) f.first ∙ (with_word (take (word l) l) f.parts h
+    ∙ ap (λ ws. take (word l) l ∷ ws) (sym f.others))
 
 -- a line from its first word on
 pub words_from_word :
@@ -89,17 +92,22 @@ pub words_from_word :
     words_of line ≡ first ∷ words_of others
 words_from_word line rest first others e f o h =
     let long : 0 < length (take (word rest) rest) = rw f at h in
-    let k : words_of rest ≡ take (word rest) rest ∷ words_of (drop (word rest) rest) = words_from_front rest long in
-    sym (words_past_spaces line) ∙ (ap words_of (sym e) ∙ (k ∙ (ap (λ w. w ∷ words_of (drop (word rest) rest)) (sym f) ∙ ap (λ r. first ∷ words_of r) (sym o))))
+    let k : words_of rest ≡ take (word rest) rest ∷ words_of (drop (word rest) rest) =
+    words_from_front rest long in
+    sym (words_past_spaces line) ∙ (ap words_of (sym e)
+    ∙ (k ∙ (ap (λ w. w ∷ words_of (drop (word rest) rest)) (sym f)
+    ∙ ap (λ r. first ∷ words_of r) (sym o))))
 
 no_words_after : (line : List ℕ) → word (drop (spaces line) line) ≡ 0 → words_of line ≡ []
 no_words_after [] e = refl
 no_words_after (b ∷ l) e = by_test (b == 32) refl (no_words_after l) e where
-  by_test : (t : Bool) → (b == 32) ≡ t → (word (drop (spaces l) l) ≡ 0 → words_of l ≡ []) → word (drop (spaces (b ∷ l)) (b ∷ l)) ≡ 0 → words_of (b ∷ l) ≡ []
+  by_test : (t : Bool) → (b == 32) ≡ t → (word (drop (spaces l) l) ≡ 0 → words_of l ≡ []) →
+      word (drop (spaces (b ∷ l)) (b ∷ l)) ≡ 0 → words_of (b ∷ l) ≡ []
   by_test true s more e =
       words-cons_space b l s ∙ more (ap (λ n. word (drop n (b ∷ l))) (sym (spaces-cons_yes b l s)) ∙ e)
   by_test false s more e =
-      let k : suc (word l) ≡ 0 = sym (word-cons_no b l s) ∙ (ap (λ n. word (drop n (b ∷ l))) (sym (spaces-cons_no b l s)) ∙ e) in
+      let k : suc (word l) ≡ 0 = sym (word-cons_no b l s)
+      ∙ (ap (λ n. word (drop n (b ∷ l))) (sym (spaces-cons_no b l s)) ∙ e) in
       absurd (omega (arith, k))
 
 -- a line has no words where no byte after its spaces begins one
@@ -112,6 +120,11 @@ pub place_or_end :
     (p : ℕ → Bool) (line : List ℕ) →
     unwrap_or (position p line) (length line) ≡ position_or_len p line
 place_or_end p line = by_test (nat_lt (position_or_len p line) (length line)) refl where
-  by_test : (t : Bool) → nat_lt (position_or_len p line) (length line) ≡ t → unwrap_or (position p line) (length line) ≡ position_or_len p line
+  by_test : (t : Bool) → nat_lt (position_or_len p line) (length line) ≡ t →
+      unwrap_or (position p line) (length line) ≡ position_or_len p line
   by_test true e = rw e refl
-  by_test false e = rw e (omega (arith, ltb-false (position_or_len p line) (length line) e, prefix_len-le-length (λ b. not (p b)) line))
+  by_test false e = rw e (omega (
+    arith,
+    ltb-false (position_or_len p line) (length line) e,
+    prefix_len-le-length (λ b. not (p b)) line,
+  ))

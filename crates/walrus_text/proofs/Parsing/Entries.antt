@@ -71,8 +71,13 @@ subtype_line :
     (e : EntryAt) (ws : List (List ℕ)) →
     AreIndices (composite_names (comp_composite e.comp) ++ supertype_names e.supertype) →
     ws ≡ supertype_words e.supertype ++ composite_words e.comp → IsSubtypeLine ws
-subtype_line e ws h k =
-    (e.supertype, all_right _ (composite_names (comp_composite e.comp)) _ h, composite_words e.comp, (e.comp, all_left _ _ (supertype_names e.supertype) h, refl), k)
+subtype_line e ws h k = (
+  e.supertype,
+  all_right _ (composite_names (comp_composite e.comp)) _ h,
+  composite_words e.comp,
+  (e.comp, all_left _ _ (supertype_names e.supertype) h, refl),
+  k,
+)
 
 open_rest :
     (b : Bool) (s : Option ℕ) (c : CompAt) (rest : List (List ℕ)) →
@@ -83,7 +88,8 @@ open_rest true s c rest e = absurd (not_open s c rest e)
 
 pub after_open :
     (ws rest : List (List ℕ)) → ws ≡ codes "open" ∷ rest → IsEntryLine ws → IsSubtypeLine rest
-after_open ws rest h (e, fits, k) = subtype_line e rest fits (open_rest e.is_final e.supertype e.comp rest (sym h ∙ k))
+after_open ws rest h (e, fits, k) = subtype_line e rest fits
+    (open_rest e.is_final e.supertype e.comp rest (sym h ∙ k))
 
 no_open_rest :
     (b : Bool) (ws tail : List (List ℕ)) → ((rest : List (List ℕ)) → ws ≢ codes "open" ∷ rest) →
@@ -106,12 +112,15 @@ not_sub (comp.Array f) k rest e = let d : 115 ≡ 97 = ap byte_of e in omega (ar
 pub after_supertype :
     (k : ℕ) (ws rest : List (List ℕ)) → ws ≡ (codes "sub:" ++ decimal k) ∷ rest → IsSubtypeLine ws →
     IsCompositeLine rest
-after_supertype k ws rest h (Some j, fits, more, line, e) = subst IsCompositeLine (sym (ap rest_of (sym h ∙ e))) line
-after_supertype k ws rest h (None, fits, more, (c, small, spelled), e) = absurd (not_sub c k rest (sym h ∙ (e ∙ spelled)))
+after_supertype k ws rest h (Some j, fits, more, line, e) =
+    subst IsCompositeLine (sym (ap rest_of (sym h ∙ e))) line
+after_supertype k ws rest h (None, fits, more, (c, small, spelled), e) =
+    absurd (not_sub c k rest (sym h ∙ (e ∙ spelled)))
 
 pub without_supertype :
     (ws : List (List ℕ)) → ¬ BeginsWith IsSupertypeWord ws → IsSubtypeLine ws → IsCompositeLine ws
-without_supertype ws none (Some j, fits, more, line, e) = absurd (none (subst (BeginsWith IsSupertypeWord) (sym e) (j, fits.0, refl)))
+without_supertype ws none (Some j, fits, more, line, e) =
+    absurd (none (subst (BeginsWith IsSupertypeWord) (sym e) (j, fits.0, refl)))
 without_supertype ws none (None, fits, more, line, e) = subst IsCompositeLine (sym e) line
 
 -- the words of some values up to one that is none: what is left of any other reading is the same
@@ -120,16 +129,20 @@ pub span_rest :
     (vs ps : List X) (left more : List (List ℕ)) → ¬ BeginsWith (IsText f B) left →
     AllByRecursion B ps → map f vs ++ left ≡ map f ps ++ sep ∷ more → left ≡ sep ∷ more
 span_rest f B sep other [] [] left more stops fits e = e
-span_rest f B sep other [] (p ∷ ps) left more stops fits e = absurd (stops (subst (BeginsWith (IsText f B)) (sym e) (p, fits.0, refl)))
+span_rest f B sep other [] (p ∷ ps) left more stops fits e =
+    absurd (stops (subst (BeginsWith (IsText f B)) (sym e) (p, fits.0, refl)))
 span_rest f B sep other (v ∷ vs) [] left more stops fits e = absurd (other v (ap (first_of sep) e))
-span_rest f B sep other (v ∷ vs) (p ∷ ps) left more stops fits e = span_rest f B sep other vs ps left more stops fits.1 (ap rest_of e)
+span_rest f B sep other (v ∷ vs) (p ∷ ps) left more stops fits e =
+    span_rest f B sep other vs ps left more stops fits.1 (ap rest_of e)
 
 pub span_end :
     {X : Type 0} (f : X → List ℕ) (B : X → Type 0) → (vs ps : List X) (left : List (List ℕ)) →
     ¬ BeginsWith (IsText f B) left → AllByRecursion B ps → map f vs ++ left ≡ map f ps → left ≡ []
 span_end f B [] [] left stops fits e = e
-span_end f B [] (p ∷ ps) left stops fits e = absurd (stops (subst (BeginsWith (IsText f B)) (sym e) (p, fits.0, refl)))
-span_end f B (v ∷ vs) [] left stops fits e = let d : 1 + length (map f vs ++ left) ≡ 0 = ap count e in absurd (omega (arith, d))
+span_end f B [] (p ∷ ps) left stops fits e =
+    absurd (stops (subst (BeginsWith (IsText f B)) (sym e) (p, fits.0, refl)))
+span_end f B (v ∷ vs) [] left stops fits e = let d : 1 + length (map f vs ++ left) ≡ 0 = ap count e in
+    absurd (omega (arith, d))
 span_end f B (v ∷ vs) (p ∷ ps) left stops fits e = span_end f B vs ps left stops fits.1 (ap rest_of e)
 
 ref_not_arrow :
@@ -153,9 +166,12 @@ pub no_arrow :
     ¬ BeginsWith IsValWord left → ((more : List (List ℕ)) → left ≢ codes "->" ∷ more) →
     ¬ IsCompositeLine (codes "func" ∷ ws)
 no_arrow ws left vs e stops none (comp.Function ps rs, fits, k) =
-    let each = all_each (λ i. i < 2 ^ 32) val_names ps (all_left _ (flat_map val_names ps) (flat_map val_names rs) fits) in
-    none (map val_word rs) (span_rest val_word (λ v. AreIndices (val_names v)) (codes "->") val_not_arrow vs ps left (map val_word rs) stops each (sym e ∙ ap rest_of k))
-no_arrow ws left vs e stops none (comp.Struct fs, fits, k) = let d : 102 ≡ 115 = ap byte_of k in omega (arith, d)
+    let each = all_each (λ i. i < 2 ^ 32) val_names ps
+    (all_left _ (flat_map val_names ps) (flat_map val_names rs) fits) in
+    none (map val_word rs) (span_rest val_word (λ v. AreIndices (val_names v)) (codes "->") val_not_arrow vs
+    ps left (map val_word rs) stops each (sym e ∙ ap rest_of k))
+no_arrow ws left vs e stops none (comp.Struct fs, fits, k) = let d : 102 ≡ 115 = ap byte_of k in
+    omega (arith, d)
 no_arrow ws left vs e stops none (comp.Array f, fits, k) = let d : 102 ≡ 97 = ap byte_of k in omega (arith, d)
 
 pub more_after_results :
@@ -163,21 +179,29 @@ pub more_after_results :
     ¬ BeginsWith IsValWord left → left ≡ codes "->" ∷ others → others ≡ map val_word us ++ last →
     ¬ BeginsWith IsValWord last → ¬ (last ≡ []) → ¬ IsCompositeLine (codes "func" ∷ ws)
 more_after_results ws left others last vs us e stops arrow f ends some (comp.Function ps rs, fits, k) =
-    let each = all_each (λ i. i < 2 ^ 32) val_names ps (all_left _ (flat_map val_names ps) (flat_map val_names rs) fits) in
-    let eachr = all_each (λ i. i < 2 ^ 32) val_names rs (all_right _ (flat_map val_names ps) (flat_map val_names rs) fits) in
-    let tail = span_rest val_word (λ v. AreIndices (val_names v)) (codes "->") val_not_arrow vs ps left (map val_word rs) stops each (sym e ∙ ap rest_of k) in
+    let each = all_each (λ i. i < 2 ^ 32) val_names ps
+    (all_left _ (flat_map val_names ps) (flat_map val_names rs) fits) in
+    let eachr = all_each (λ i. i < 2 ^ 32) val_names rs
+    (all_right _ (flat_map val_names ps) (flat_map val_names rs) fits) in
+    let tail = span_rest val_word (λ v. AreIndices (val_names v)) (codes "->") val_not_arrow vs ps left
+    (map val_word rs) stops each (sym e ∙ ap rest_of k) in
     let same : others ≡ map val_word rs = ap rest_of (sym arrow ∙ tail) in
     some (span_end val_word (λ v. AreIndices (val_names v)) us rs last ends eachr (sym f ∙ same))
-more_after_results ws left others last vs us e stops arrow f ends some (comp.Struct fs, fits, k) = let d : 102 ≡ 115 = ap byte_of k in omega (arith, d)
-more_after_results ws left others last vs us e stops arrow f ends some (comp.Array g, fits, k) = let d : 102 ≡ 97 = ap byte_of k in omega (arith, d)
+more_after_results ws left others last vs us e stops arrow f ends some (comp.Struct fs, fits, k) =
+    let d : 102 ≡ 115 = ap byte_of k in omega (arith, d)
+more_after_results ws left others last vs us e stops arrow f ends some (comp.Array g, fits, k) =
+    let d : 102 ≡ 97 = ap byte_of k in omega (arith, d)
 
 pub more_after_fields :
     (ws left : List (List ℕ)) (vs : List (Field ℕ)) → ws ≡ map field_word vs ++ left →
     ¬ BeginsWith IsFieldWord left → ¬ (left ≡ []) → ¬ IsCompositeLine (codes "struct" ∷ ws)
 more_after_fields ws left vs e stops some (comp.Struct fs, fits, k) =
-    some (span_end field_word (λ f. AreIndices (field_names f)) vs fs left stops (all_each (λ i. i < 2 ^ 32) field_names fs fits) (sym e ∙ ap rest_of k))
-more_after_fields ws left vs e stops some (comp.Function ps rs, fits, k) = let d : 115 ≡ 102 = ap byte_of k in omega (arith, d)
-more_after_fields ws left vs e stops some (comp.Array g, fits, k) = let d : 115 ≡ 97 = ap byte_of k in omega (arith, d)
+    some (span_end field_word (λ f. AreIndices (field_names f)) vs fs left stops
+    (all_each (λ i. i < 2 ^ 32) field_names fs fits) (sym e ∙ ap rest_of k))
+more_after_fields ws left vs e stops some (comp.Function ps rs, fits, k) = let d : 115 ≡ 102 = ap byte_of k in
+    omega (arith, d)
+more_after_fields ws left vs e stops some (comp.Array g, fits, k) = let d : 115 ≡ 97 = ap byte_of k in
+    omega (arith, d)
 
 -- a line that begins as none of the three begin is no composite type
 pub no_composite :

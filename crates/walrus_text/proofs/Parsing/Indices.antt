@@ -17,7 +17,9 @@ use Rattle.walrus_text.proofs.Basics.{some_from_match, none_from_match}
 
 -- what the clause of `strip_prefix` says of bytes
 abbrev pub Stripped : List ℕ → List ℕ → Option (Bor (List ℕ)) → Type 0
-Stripped s p r = MatchOption r (pointwise nat_eq (take (length p) s) p ≡ false) (λ x. (pointwise nat_eq (take (length p) s) p ≡ true) × (x.now ≡ drop (length p) s) × (length x.now + length p ≡ length s))
+Stripped s p r = MatchOption r (pointwise nat_eq (take (length p) s) p ≡ false) (λ x.
+    (pointwise nat_eq (take (length p) s) p ≡ true) × (x.now ≡ drop (length p) s)
+    × (length x.now + length p ≡ length s))
 
 pub stripped_some :
     (s p : List ℕ) (r : Option (Bor (List ℕ))) → Stripped s p r →
@@ -77,7 +79,8 @@ pub number_found :
 number_found {E} bs (Err e) h p = tt
 number_found {E} bs (Ok k) h p =
     let read = parse_plain own {E = E} 32 bs (Ok k) h (plain_first bs p) in
-    sym (ap decimal read.1 ∙ decimal-digits_value own bs read.0.0 read.0.1 (plain_zero bs p read.0.1) (omega (arith, read.0.2)))
+    sym (ap decimal read.1 ∙ decimal-digits_value own bs read.0.0 read.0.1 (plain_zero bs p read.0.1)
+    (omega (arith, read.0.2)))
 
 pub number_none :
     {E : Type 0} (bs : List ℕ) (r : Result ℕ E) → ParsesUnsigned 32 10 bs r →
@@ -91,4 +94,5 @@ pub not_text_none :
     {X E : Type 0} (bs : List ℕ) (r : Result X E) (P : X → Type 0) (Q : E → Type 0) →
     result_ok r ≡ None → MatchResult r P (λ e. ¬ (IsUtf8 bs) × Q e) → ¬ IsIndexWord bs
 not_text_none bs (Ok x) P Q e h w = absurd cc
-not_text_none bs (Err f) P Q e h w = h.0 (subst IsUtf8 (sym w.2) (IsUtf8-from_ascii _ (IsAscii-decimal w.0 (omega (arith, w.1)))))
+not_text_none bs (Err f) P Q e h w = h.0 (subst IsUtf8 (sym w.2)
+    (IsUtf8-from_ascii _ (IsAscii-decimal w.0 (omega (arith, w.1)))))

@@ -24,11 +24,11 @@ use Rattle.walrus_ty.specs.Records.{comp_composite, entry_definition}
 use Rattle.walrus_text.specs.Text.{AreIndices, name_word, heap_word, val_word, storage_word, field_word, composite_words, open_words, supertype_words, entry_words}
 use Rattle.walrus_text.proofs.Basics.{all_left, all_right}
 
-abbrev same : List ℕ → List ℕ → Bool
-same [] [] = true
-same [] (d ∷ ds) = false
-same (c ∷ cs) [] = false
-same (c ∷ cs) (d ∷ ds) = nat_eq c d && same cs ds
+abbrev same_bytes : List ℕ → List ℕ → Bool
+same_bytes [] [] = true
+same_bytes [] (d ∷ ds) = false
+same_bytes (c ∷ cs) [] = false
+same_bytes (c ∷ cs) (d ∷ ds) = nat_eq c d && same_bytes cs ds
 
 -- numbers
 
@@ -53,21 +53,21 @@ number_first k small = digit_first (decimal k) (decimal_is_IsNumeral k (omega (a
 
 abbrev name_read : List ℕ → AbstractHeapType
 name_read word =
-    if same word (codes "func") then abstract.Func else
-    (if same word (codes "extern") then abstract.Extern else
-    (if same word (codes "any") then abstract.Any else
-    (if same word (codes "none") then abstract.None else
-    (if same word (codes "noextern") then abstract.NoExtern else
-    (if same word (codes "nofunc") then abstract.NoFunc else
-    (if same word (codes "eq") then abstract.Eq else
-    (if same word (codes "struct") then abstract.Struct else
-    (if same word (codes "array") then abstract.Array else
-    (if same word (codes "i31") then abstract.I31 else
-    (if same word (codes "exn") then abstract.Exn else abstract.NoExn))))))))))
+    if same_bytes word (codes "func") then abstract.Func else
+    (if same_bytes word (codes "extern") then abstract.Extern else
+    (if same_bytes word (codes "any") then abstract.Any else
+    (if same_bytes word (codes "none") then abstract.None else
+    (if same_bytes word (codes "noextern") then abstract.NoExtern else
+    (if same_bytes word (codes "nofunc") then abstract.NoFunc else
+    (if same_bytes word (codes "eq") then abstract.Eq else
+    (if same_bytes word (codes "struct") then abstract.Struct else
+    (if same_bytes word (codes "array") then abstract.Array else
+    (if same_bytes word (codes "i31") then abstract.I31 else
+    (if same_bytes word (codes "exn") then abstract.Exn else abstract.NoExn))))))))))
 
 abbrev other_heap_read : List ℕ → Heap ℕ
 other_heap_read word =
-    if same (take 6 word) (codes "exact:") then heap.Exact (number (drop 6 word))
+    if same_bytes (take 6 word) (codes "exact:") then heap.Exact (number (drop 6 word))
     else heap.Abstract (name_read word)
 
 abbrev heap_read : List ℕ → Heap ℕ
@@ -90,7 +90,8 @@ name_back abstract.NoExn = refl
 heap_back : (h : Heap ℕ) → AreIndices (heap_names h) → heap_read (heap_word h) ≡ h
 heap_back (heap.Abstract a) fits = name_back a
 heap_back (heap.Concrete k) fits =
-    ap (λ (b : Bool). if b then heap.Concrete (number (decimal k)) else other_heap_read (decimal k)) (number_first k fits.0)
+    ap (λ (b : Bool). if b then heap.Concrete (number (decimal k)) else other_heap_read (decimal k))
+    (number_first k fits.0)
     ∙ ap (λ (n : ℕ). heap.Concrete n) (number_back k fits.0)
 heap_back (heap.Exact k) fits = ap (λ (n : ℕ). heap.Exact n) (number_back k fits.0)
 
@@ -101,19 +102,19 @@ reference nullable h = val.Ref (record { nullable = nullable; heap_type = h })
 
 abbrev plain_read : List ℕ → Val ℕ
 plain_read word =
-    if same word (codes "i32") then val.I32 else
-    (if same word (codes "i64") then val.I64 else
-    (if same word (codes "f32") then val.F32 else
-    (if same word (codes "f64") then val.F64 else val.V128)))
+    if same_bytes word (codes "i32") then val.I32 else
+    (if same_bytes word (codes "i64") then val.I64 else
+    (if same_bytes word (codes "f32") then val.F32 else
+    (if same_bytes word (codes "f64") then val.F64 else val.V128)))
 
 abbrev other_val_read : List ℕ → Val ℕ
 other_val_read word =
-    if same (take 4 word) (codes "ref:") then reference false (heap_read (drop 4 word))
+    if same_bytes (take 4 word) (codes "ref:") then reference false (heap_read (drop 4 word))
     else plain_read word
 
 abbrev val_read : List ℕ → Val ℕ
 val_read word =
-    if same (take 5 word) (codes "null:") then reference true (heap_read (drop 5 word))
+    if same_bytes (take 5 word) (codes "null:") then reference true (heap_read (drop 5 word))
     else other_val_read word
 
 reference_back :
@@ -134,8 +135,8 @@ val_back (val.Ref r) fits = reference_back r.nullable r.heap_type fits
 
 abbrev storage_read : List ℕ → Storage ℕ
 storage_read word =
-    if same word (codes "i8") then storage.I8 else
-    (if same word (codes "i16") then storage.I16 else storage.Val (val_read word))
+    if same_bytes word (codes "i8") then storage.I8 else
+    (if same_bytes word (codes "i16") then storage.I16 else storage.Val (val_read word))
 
 storage_reference_back :
     (nullable : Bool) (h : Heap ℕ) → AreIndices (heap_names h) →
@@ -158,16 +159,16 @@ field mutable s = record { element_type = s; mutable = mutable }
 
 abbrev field_read : List ℕ → Field ℕ
 field_read word =
-    if same (take 4 word) (codes "mut:") then field true (storage_read (drop 4 word))
+    if same_bytes (take 4 word) (codes "mut:") then field true (storage_read (drop 4 word))
     else field false (storage_read word)
 
 reference_not_mut :
     (nullable : Bool) (h : Heap ℕ) →
-    same (take 4 (val_word (reference nullable h))) (codes "mut:") ≡ false
+    same_bytes (take 4 (val_word (reference nullable h))) (codes "mut:") ≡ false
 reference_not_mut true h = refl
 reference_not_mut false h = refl
 
-not_mut : (s : Storage ℕ) → same (take 4 (storage_word s)) (codes "mut:") ≡ false
+not_mut : (s : Storage ℕ) → same_bytes (take 4 (storage_word s)) (codes "mut:") ≡ false
 not_mut storage.I8 = refl
 not_mut storage.I16 = refl
 not_mut (storage.Val val.I32) = refl
@@ -182,7 +183,8 @@ field_parts_back :
     field_read (field_word (field mutable s)) ≡ field mutable s
 field_parts_back true s fits = ap (λ (t : Storage ℕ). field true t) (storage_back s fits)
 field_parts_back false s fits =
-    ap (λ (b : Bool). if b then field true (storage_read (drop 4 (storage_word s))) else field false (storage_read (storage_word s))) (not_mut s)
+    ap (λ (b : Bool). if b then field true (storage_read (drop 4 (storage_word s))) else
+    field false (storage_read (storage_word s))) (not_mut s)
     ∙ ap (λ (t : Storage ℕ). field false t) (storage_back s fits)
 
 field_back : (f : Field ℕ) → AreIndices (field_names f) → field_read (field_word f) ≡ f
@@ -196,23 +198,25 @@ all_back :
     AreIndices (flat_map names xs) → map read (map word xs) ≡ xs
 all_back read word names back [] fits = refl
 all_back {X} read word names back (x ∷ xs) fits =
-    ap (λ (y : X). y ∷ map read (map word xs)) (back x (all_left (λ i. i < 2 ^ 32) (names x) (flat_map names xs) fits))
-    ∙ ap (λ (ys : List X). x ∷ ys) (all_back read word names back xs (all_right (λ i. i < 2 ^ 32) (names x) (flat_map names xs) fits))
+    ap (λ (y : X). y ∷ map read (map word xs)) (back x
+    (all_left (λ i. i < 2 ^ 32) (names x) (flat_map names xs) fits))
+    ∙ ap (λ (ys : List X). x ∷ ys) (all_back read word names back xs
+    (all_right (λ i. i < 2 ^ 32) (names x) (flat_map names xs) fits))
 
 abbrev before_arrow : List (List ℕ) → List (List ℕ)
 before_arrow [] = []
-before_arrow (w ∷ ws) = if same w (codes "->") then [] else w ∷ before_arrow ws
+before_arrow (w ∷ ws) = if same_bytes w (codes "->") then [] else w ∷ before_arrow ws
 
 abbrev after_arrow : List (List ℕ) → List (List ℕ)
 after_arrow [] = []
-after_arrow (w ∷ ws) = if same w (codes "->") then ws else after_arrow ws
+after_arrow (w ∷ ws) = if same_bytes w (codes "->") then ws else after_arrow ws
 
 reference_not_arrow :
-    (nullable : Bool) (h : Heap ℕ) → same (val_word (reference nullable h)) (codes "->") ≡ false
+    (nullable : Bool) (h : Heap ℕ) → same_bytes (val_word (reference nullable h)) (codes "->") ≡ false
 reference_not_arrow true h = refl
 reference_not_arrow false h = refl
 
-not_arrow : (v : Val ℕ) → same (val_word v) (codes "->") ≡ false
+not_arrow : (v : Val ℕ) → same_bytes (val_word v) (codes "->") ≡ false
 not_arrow val.I32 = refl
 not_arrow val.I64 = refl
 not_arrow val.F32 = refl
@@ -225,7 +229,8 @@ params_before :
     before_arrow (map val_word vs ++ codes "->" ∷ ws) ≡ map val_word vs
 params_before [] ws = refl
 params_before (v ∷ vs) ws =
-    ap (λ (b : Bool). if b then [] else val_word v ∷ before_arrow (map val_word vs ++ codes "->" ∷ ws)) (not_arrow v)
+    ap (λ (b : Bool). if b then [] else val_word v ∷ before_arrow (map val_word vs ++ codes "->" ∷ ws))
+    (not_arrow v)
     ∙ ap (λ (us : List (List ℕ)). val_word v ∷ us) (params_before vs ws)
 
 results_after :
@@ -233,7 +238,8 @@ results_after :
     after_arrow (map val_word vs ++ codes "->" ∷ ws) ≡ ws
 results_after [] ws = refl
 results_after (v ∷ vs) ws =
-    ap (λ (b : Bool). if b then map val_word vs ++ codes "->" ∷ ws else after_arrow (map val_word vs ++ codes "->" ∷ ws)) (not_arrow v)
+    ap (λ (b : Bool). if b then map val_word vs ++ codes "->" ∷ ws else
+    after_arrow (map val_word vs ++ codes "->" ∷ ws)) (not_arrow v)
     ∙ results_after vs ws
 
 -- composite types
@@ -245,9 +251,9 @@ first_word (w ∷ ws) = w
 abbrev composite_read : List (List ℕ) → CompAt
 composite_read [] = comp.Struct []
 composite_read (w ∷ ws) =
-    if same w (codes "func") then
+    if same_bytes w (codes "func") then
     comp.Function (map val_read (before_arrow ws)) (map val_read (after_arrow ws))
-    else (if same w (codes "struct") then comp.Struct (map field_read ws)
+    else (if same_bytes w (codes "struct") then comp.Struct (map field_read ws)
     else comp.Array (field_read (first_word ws)))
 
 vals_back :
@@ -259,9 +265,17 @@ composite_back :
     (c : CompAt) → AreIndices (composite_names (comp_composite c)) →
     composite_read (composite_words c) ≡ c
 composite_back (comp.Function ps rs) fits =
-    ap (λ (us : List (Val ℕ)). comp.Function us (map val_read (after_arrow (map val_word ps ++ codes "->" ∷ map val_word rs)))) (vals_back ps (before_arrow (map val_word ps ++ codes "->" ∷ map val_word rs)) (all_left (λ i. i < 2 ^ 32) (flat_map val_names ps) (flat_map val_names rs) fits) (params_before ps (map val_word rs)))
-    ∙ ap (λ (us : List (Val ℕ)). comp.Function ps us) (vals_back rs (after_arrow (map val_word ps ++ codes "->" ∷ map val_word rs)) (all_right (λ i. i < 2 ^ 32) (flat_map val_names ps) (flat_map val_names rs) fits) (results_after ps (map val_word rs)))
-composite_back (comp.Struct fs) fits = ap (λ (gs : List (Field ℕ)). comp.Struct gs) (all_back field_read field_word field_names field_back fs fits)
+    ap (λ (us : List (Val ℕ)). comp.Function us
+    (map val_read (after_arrow (map val_word ps ++ codes "->" ∷ map val_word rs))))
+    (vals_back ps (before_arrow (map val_word ps ++ codes "->" ∷ map val_word rs))
+    (all_left (λ i. i < 2 ^ 32) (flat_map val_names ps) (flat_map val_names rs) fits)
+    (params_before ps (map val_word rs)))
+    ∙ ap (λ (us : List (Val ℕ)). comp.Function ps us)
+    (vals_back rs (after_arrow (map val_word ps ++ codes "->" ∷ map val_word rs))
+    (all_right (λ i. i < 2 ^ 32) (flat_map val_names ps) (flat_map val_names rs) fits)
+    (results_after ps (map val_word rs)))
+composite_back (comp.Struct fs) fits = ap (λ (gs : List (Field ℕ)). comp.Struct gs)
+    (all_back field_read field_word field_names field_back fs fits)
 composite_back (comp.Array f) fits = ap (λ (g : Field ℕ). comp.Array g) (field_back f fits)
 
 -- definitions
@@ -272,13 +286,14 @@ entry is_final supertype c = record { comp = c; is_final = is_final; supertype =
 abbrev subtype_read : Bool → List (List ℕ) → EntryAt
 subtype_read is_final [] = entry is_final None (composite_read [])
 subtype_read is_final (w ∷ ws) =
-    if same (take 4 w) (codes "sub:") then
+    if same_bytes (take 4 w) (codes "sub:") then
     entry is_final (Some (number (drop 4 w))) (composite_read ws)
     else entry is_final None (composite_read (w ∷ ws))
 
 abbrev entry_read : List (List ℕ) → EntryAt
 entry_read [] = subtype_read true []
-entry_read (w ∷ ws) = if same w (codes "open") then subtype_read false ws else subtype_read true (w ∷ ws)
+entry_read (w ∷ ws) = if same_bytes w (codes "open") then subtype_read false ws else
+    subtype_read true (w ∷ ws)
 
 subtype_back :
     (b : Bool) (s : Option ℕ) (c : CompAt) → AreIndices (composite_names (comp_composite c)) →
@@ -287,9 +302,12 @@ subtype_back :
 subtype_back b (Some k) c fits small =
     ap (λ (n : ℕ). entry b (Some n) (composite_read (composite_words c))) (number_back k small.0)
     ∙ ap (λ (d : CompAt). entry b (Some k) d) (composite_back c fits)
-subtype_back b None (comp.Function ps rs) fits small = ap (λ (d : CompAt). entry b None d) (composite_back (comp.Function ps rs) fits)
-subtype_back b None (comp.Struct fs) fits small = ap (λ (d : CompAt). entry b None d) (composite_back (comp.Struct fs) fits)
-subtype_back b None (comp.Array f) fits small = ap (λ (d : CompAt). entry b None d) (composite_back (comp.Array f) fits)
+subtype_back b None (comp.Function ps rs) fits small =
+    ap (λ (d : CompAt). entry b None d) (composite_back (comp.Function ps rs) fits)
+subtype_back b None (comp.Struct fs) fits small =
+    ap (λ (d : CompAt). entry b None d) (composite_back (comp.Struct fs) fits)
+subtype_back b None (comp.Array f) fits small =
+    ap (λ (d : CompAt). entry b None d) (composite_back (comp.Array f) fits)
 
 parts_back :
     (b : Bool) (s : Option ℕ) (c : CompAt) → AreIndices (composite_names (comp_composite c)) →
@@ -297,7 +315,8 @@ parts_back :
     entry_read (open_words b ++ (supertype_words s ++ composite_words c)) ≡ entry b s c
 parts_back false s c fits small = subtype_back false s c fits small
 parts_back true (Some k) c fits small = subtype_back true (Some k) c fits small
-parts_back true None (comp.Function ps rs) fits small = subtype_back true None (comp.Function ps rs) fits small
+parts_back true None (comp.Function ps rs) fits small =
+    subtype_back true None (comp.Function ps rs) fits small
 parts_back true None (comp.Struct fs) fits small = subtype_back true None (comp.Struct fs) fits small
 parts_back true None (comp.Array f) fits small = subtype_back true None (comp.Array f) fits small
 

@@ -27,8 +27,11 @@ same_entries [] [] X Y fits others e = (refl, ap later_lines e)
 same_entries [] (f ∷ fs) X Y fits others e = absurd (not_end f (sym (ap first_line e)))
 same_entries (d ∷ es) [] X Y fits others e = absurd (not_end d (ap first_line e))
 same_entries (d ∷ es) (f ∷ fs) X Y fits others e =
-    let more = same_entries es fs X Y fits.1 others.1 (ap later_lines e) in
-    (ap (λ (x : EntryAt). x ∷ es) (same_entry d f fits.0 others.0 (ap first_line e)) ∙ ap (λ (xs : List EntryAt). f ∷ xs) more.0, more.1)
+    let more = same_entries es fs X Y fits.1 others.1 (ap later_lines e) in (
+      ap (λ (x : EntryAt). x ∷ es) (same_entry d f fits.0 others.0 (ap first_line e))
+          ∙ ap (λ (xs : List EntryAt). f ∷ xs) more.0,
+      more.1,
+    )
 
 pub same_section :
     (a b : List GroupAt) → HasSectionIndices a → HasSectionIndices b →
@@ -42,9 +45,12 @@ same_section (group.Single d ∷ a) (group.Single f ∷ b) fits others e =
     ap (λ (x : EntryAt). group.Single x ∷ a) (same_entry d f fits.0 others.0 (ap first_line e))
     ∙ ap (λ (gs : List GroupAt). group.Single f ∷ gs) (same_section a b fits.1 others.1 (ap later_lines e))
 same_section (group.Single d ∷ a) (group.Rec fs ∷ b) fits others e = absurd (not_rec d (ap first_line e))
-same_section (group.Rec es ∷ a) (group.Single f ∷ b) fits others e = absurd (not_rec f (sym (ap first_line e)))
+same_section (group.Rec es ∷ a) (group.Single f ∷ b) fits others e =
+    absurd (not_rec f (sym (ap first_line e)))
 same_section (group.Rec es ∷ a) (group.Rec fs ∷ b) fits others e =
-    let ends = sym (append_assoc (map entry_words es) ((codes "end" ∷ []) ∷ []) (section_lines a)) ∙ (ap later_lines e ∙ append_assoc (map entry_words fs) ((codes "end" ∷ []) ∷ []) (section_lines b)) in
+    let ends = sym (append_assoc (map entry_words es) ((codes "end" ∷ []) ∷ []) (section_lines a))
+    ∙ (ap later_lines e ∙ append_assoc (map entry_words fs) ((codes "end" ∷ []) ∷ []) (section_lines b))
+    in
     let parts = same_entries es fs (section_lines a) (section_lines b) fits.0 others.0 ends in
     ap (λ (xs : List EntryAt). group.Rec xs ∷ a) parts.0
     ∙ ap (λ (gs : List GroupAt). group.Rec fs ∷ gs) (same_section a b fits.1 others.1 parts.1)

@@ -125,7 +125,8 @@ storage_is_word (storage.Val v) fits = val_is_word v fits
 field_parts_are_word :
     (mutable : Bool) (s : Storage ℕ) → AreIndices (storage_names s) →
     is_word ((if mutable then codes "mut:" else []) ++ storage_word s) ≡ true
-field_parts_are_word true s fits = (and_parts (has_items (storage_word s)) (is_printed (storage_word s)) (storage_is_word s fits)).1
+field_parts_are_word true s fits = (and_parts (has_items (storage_word s)) (is_printed (storage_word s))
+    (storage_is_word s fits)).1
 field_parts_are_word false s fits = storage_is_word s fits
 
 field_is_word : (f : Field ℕ) → AreIndices (field_names f) → is_word (field_word f) ≡ true
@@ -136,8 +137,10 @@ composite_is_words :
     are_words (composite_words c) ≡ true
 composite_is_words (comp.Function ps rs) fits =
     words-both (map val_word ps) (codes "->" ∷ map val_word rs)
-    (words-each val_word val_names val_is_word ps (all_left (λ i. i < 2 ^ 32) (flat_map val_names ps) (flat_map val_names rs) fits))
-    (words-each val_word val_names val_is_word rs (all_right (λ i. i < 2 ^ 32) (flat_map val_names ps) (flat_map val_names rs) fits))
+    (words-each val_word val_names val_is_word ps
+    (all_left (λ i. i < 2 ^ 32) (flat_map val_names ps) (flat_map val_names rs) fits))
+    (words-each val_word val_names val_is_word rs
+    (all_right (λ i. i < 2 ^ 32) (flat_map val_names ps) (flat_map val_names rs) fits))
 composite_is_words (comp.Struct fs) fits = words-each field_word field_names field_is_word fs fits
 composite_is_words (comp.Array f) fits = and_from (is_word (field_word f)) true (field_is_word f fits) refl
 
@@ -146,14 +149,16 @@ subtype_is_words :
     AreIndices (supertype_names s) → are_words (supertype_words s ++ composite_words c) ≡ true
 subtype_is_words None c fits small = composite_is_words c fits
 subtype_is_words (Some k) c fits small =
-    and_from (is_printed (decimal k)) (are_words (composite_words c)) (number_is_printed k small.0) (composite_is_words c fits)
+    and_from (is_printed (decimal k)) (are_words (composite_words c)) (number_is_printed k small.0)
+    (composite_is_words c fits)
 
 entry_parts_are_words :
     (b : Bool) (ws : List (List ℕ)) → are_words ws ≡ true → are_words (open_words b ++ ws) ≡ true
 entry_parts_are_words true ws h = h
 entry_parts_are_words false ws h = h
 
-has_words : (b : Bool) (s : Option ℕ) (c : CompAt) → has_items (open_words b ++ (supertype_words s ++ composite_words c)) ≡ true
+has_words : (b : Bool) (s : Option ℕ) (c : CompAt) →
+    has_items (open_words b ++ (supertype_words s ++ composite_words c)) ≡ true
 has_words false s c = refl
 has_words true (Some k) c = refl
 has_words true None (comp.Function ps rs) = refl
@@ -168,7 +173,8 @@ entry_is_line e fits =
     (entry_parts_are_words e.is_final (supertype_words e.supertype ++ composite_words e.comp)
     (subtype_is_words e.supertype e.comp
     (all_left (λ i. i < 2 ^ 32) (composite_names (comp_composite e.comp)) (supertype_names e.supertype) fits)
-    (all_right (λ i. i < 2 ^ 32) (composite_names (comp_composite e.comp)) (supertype_names e.supertype) fits)))
+    (all_right (λ i. i < 2 ^ 32) (composite_names (comp_composite e.comp)) (supertype_names e.supertype)
+    fits)))
 
 abbrev Fits : EntryAt → Type 0
 Fits e = AreIndices (names_of (entry_definition e))
@@ -176,12 +182,15 @@ Fits e = AreIndices (names_of (entry_definition e))
 entries_are_lines : (es : List EntryAt) → AllByRecursion Fits es → are_lines (map entry_words es) ≡ true
 entries_are_lines [] fits = refl
 entries_are_lines (e ∷ es) fits =
-    and_from (has_items (entry_words e) && are_words (entry_words e)) (are_lines (map entry_words es)) (entry_is_line e fits.0) (entries_are_lines es fits.1)
+    and_from (has_items (entry_words e) && are_words (entry_words e)) (are_lines (map entry_words es))
+    (entry_is_line e fits.0) (entries_are_lines es fits.1)
 
-section_is_lines : (groups : List GroupAt) → HasSectionIndices groups → are_lines (section_lines groups) ≡ true
+section_is_lines : (groups : List GroupAt) → HasSectionIndices groups →
+    are_lines (section_lines groups) ≡ true
 section_is_lines [] fits = refl
 section_is_lines (group.Single e ∷ groups) fits =
-    and_from (has_items (entry_words e) && are_words (entry_words e)) (are_lines (section_lines groups)) (entry_is_line e fits.0) (section_is_lines groups fits.1)
+    and_from (has_items (entry_words e) && are_words (entry_words e)) (are_lines (section_lines groups))
+    (entry_is_line e fits.0) (section_is_lines groups fits.1)
 section_is_lines (group.Rec es ∷ groups) fits =
     lines-both (map entry_words es ++ (codes "end" ∷ []) ∷ []) (section_lines groups)
     (lines-both (map entry_words es) ((codes "end" ∷ []) ∷ []) (entries_are_lines es fits.0) refl)
@@ -203,7 +212,8 @@ printed-no divider low (b ∷ bs) h =
 word_alone : (w : List ℕ) → is_word w ≡ true → words_of w ≡ w ∷ []
 word_alone [] h = absurd cc
 word_alone (b ∷ w) h =
-    ap (filter has_items) (slice_split_none (λ c. c == 32) (b ∷ w) (All-from_recursion (IsNo 32) (b ∷ w) (printed-no 32 (omega arith) (b ∷ w) h)))
+    ap (filter has_items) (slice_split_none (λ c. c == 32) (b ∷ w)
+    (All-from_recursion (IsNo 32) (b ∷ w) (printed-no 32 (omega arith) (b ∷ w) h)))
 
 words-spaced :
     (ws : List (List ℕ)) (l : List ℕ) → are_words ws ≡ true →
@@ -212,7 +222,8 @@ words-spaced [] l h = ap words_of (append-nil l) ∙ sym (append-nil (words_of l
 words-spaced (w ∷ ws) l h =
     let parts = and_parts (is_word w) (are_words ws) h in
     words_at_space l (w ++ space_before_each ws)
-    ∙ ap (λ (vs : List (List ℕ)). words_of l ++ vs) (words-spaced ws w parts.1 ∙ ap (λ (vs : List (List ℕ)). vs ++ ws) (word_alone w parts.0))
+    ∙ ap (λ (vs : List (List ℕ)). words_of l ++ vs) (words-spaced ws w parts.1
+    ∙ ap (λ (vs : List (List ℕ)). vs ++ ws) (word_alone w parts.0))
 
 line_back : (ws : List (List ℕ)) → are_words ws ≡ true → words_of (line_text ws) ≡ ws
 line_back [] h = refl
@@ -226,14 +237,18 @@ word_printed w h = (and_parts (has_items w) (is_printed w) h).1
 spaced-one_line : (ws : List (List ℕ)) → are_words ws ≡ true → AllByRecursion (IsNo 10) (space_before_each ws)
 spaced-one_line [] h = tt
 spaced-one_line (w ∷ ws) h =
-    let parts = and_parts (is_word w) (are_words ws) h in
-    (refl, all_both (IsNo 10) w (space_before_each ws) (printed-no 10 (omega arith) w (word_printed w parts.0)) (spaced-one_line ws parts.1))
+    let parts = and_parts (is_word w) (are_words ws) h in (
+      refl,
+      all_both (IsNo 10) w (space_before_each ws)
+          (printed-no 10 (omega arith) w (word_printed w parts.0)) (spaced-one_line ws parts.1),
+    )
 
 line-one_line : (ws : List (List ℕ)) → are_words ws ≡ true → AllByRecursion (IsNo 10) (line_text ws)
 line-one_line [] h = tt
 line-one_line (w ∷ ws) h =
     let parts = and_parts (is_word w) (are_words ws) h in
-    all_both (IsNo 10) w (space_before_each ws) (printed-no 10 (omega arith) w (word_printed w parts.0)) (spaced-one_line ws parts.1)
+    all_both (IsNo 10) w (space_before_each ws) (printed-no 10 (omega arith) w (word_printed w parts.0))
+    (spaced-one_line ws parts.1)
 
 some_words : (ws : List (List ℕ)) → has_items ws ≡ true → filter has_items (ws ∷ []) ≡ ws ∷ []
 some_words [] h = absurd cc
@@ -245,11 +260,17 @@ lines_back (ws ∷ lines) h =
     let parts = and_parts (has_items ws && are_words ws) (are_lines lines) h in
     let line = and_parts (has_items ws) (are_words ws) parts.0 in
     ap lines_of (append_assoc (line_text ws) (10 ∷ []) (text_of lines))
-    ∙ (lines_at_feed (line_text ws) (text_of lines) (All-from_recursion (IsNo 10) (line_text ws) (line-one_line ws line.1))
-    ∙ (ap (λ (vs : List (List ℕ)). filter has_items (vs ∷ []) ++ lines_of (text_of lines)) (line_back ws line.1)
+    ∙ (lines_at_feed (line_text ws) (text_of lines)
+    (All-from_recursion (IsNo 10) (line_text ws) (line-one_line ws line.1))
+    ∙ (ap (λ (vs : List (List ℕ)). filter has_items (vs ∷ []) ++ lines_of (text_of lines))
+    (line_back ws line.1)
     ∙ (ap (λ (ls : List (List (List ℕ))). ls ++ lines_of (text_of lines)) (some_words ws line.0)
     ∙ ap (λ (ls : List (List (List ℕ))). ws ∷ ls) (lines_back lines parts.1))))
 
 pub section_back :
     (groups : List GroupAt) → HasSectionIndices groups → IsTextOf (text_of (section_lines groups)) groups
-section_back groups fits = record { fits = fits; lines = lines_back (section_lines groups) (section_is_lines groups fits) }
+section_back groups fits = record {
+  fits = fits;
+  lines =
+      lines_back (section_lines groups) (section_is_lines groups fits);
+}

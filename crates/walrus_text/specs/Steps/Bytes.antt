@@ -1,5 +1,6 @@
 -- `HasReadBytes`: what a line reader knows of the bytes that it was given.
 use Rattle.std.specs.Prelude.{ℕ, false, List, ◌++◌, ◌==◌, Option, Some, None, ◌≡◌, All}
+use Rattle.walrus_text.specs.declared.error.BadLine.{BadLine}
 use Rattle.walrus_text.specs.declared.line_reader.LineReader.{LineReader}
 use Rattle.walrus_text.specs.declared.section_builder.SectionBuilder.{SectionBuilder}
 use Rattle.walrus_text.specs.Words.{lines_of}
@@ -7,7 +8,7 @@ use Rattle.walrus_text.specs.Steps.Builder.{builder_lines, HasBuilderIndices, Be
 
 -- these lines are what the builder was built from, or one of them was bad: no section begins with
 -- them
-abbrev pub HasChecked : SectionBuilder → Option ℕ → List (List (List ℕ)) → Type 0
+abbrev pub HasChecked : SectionBuilder → Option BadLine → List (List (List ℕ)) → Type 0
 HasChecked section None lines = builder_lines section ≡ lines
 HasChecked section (Some bad) lines = BeginsNoSection lines
 

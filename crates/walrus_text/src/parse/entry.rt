@@ -36,7 +36,7 @@ pub fn entry(alloc: Global, line: &[u8]) -> Result<Option<EntryAt>, AllocError>
 
 /// Whether a definition is final, and the words that follow.
 #[tactic(auto, using(crate::proofs::Parsing::Entries::after_open, crate::proofs::Parsing::Entries::without_open))]
-fn finality(line: &[u8]) -> (bool, &[u8])
+pub fn finality(line: &[u8]) -> (bool, &[u8])
     ensures value { words_of line.now ≡ open_words result.0 ++ words_of result.1.now }
     ensures only { IsEntryLine (words_of line.now) → IsSubtypeLine (words_of result.1.now) }
 {
@@ -48,7 +48,7 @@ fn finality(line: &[u8]) -> (bool, &[u8])
 
 /// The supertype of a definition, and the words that follow.
 #[tactic(auto, using(crate::proofs::Parsing::Entries::after_supertype, crate::proofs::Parsing::Entries::without_supertype))]
-fn supertype(line: &[u8]) -> (Option<u32>, &[u8])
+pub fn supertype(line: &[u8]) -> (Option<u32>, &[u8])
     ensures value { words_of line.now ≡ supertype_words result.0 ++ words_of result.1.now }
     ensures fits { AreIndices (supertype_names result.0) }
     ensures only { IsSubtypeLine (words_of line.now) → IsCompositeLine (words_of result.1.now) }
@@ -186,7 +186,7 @@ fn values(alloc: Global, line: &[u8]) -> Result<(Vec<ValAt>, &[u8]), AllocError>
     Ok((values, rest))
 }
 
-fn next_value(line: &[u8]) -> Option<(ValAt, &[u8])>
+pub fn next_value(line: &[u8]) -> Option<(ValAt, &[u8])>
     ensures found { IfSome result (λ found. words_of line.now ≡ val_word found.0 ∷
         words_of found.1.now) }
     ensures shorter { IfSome result (λ found. length found.1.now < length line.now) }
@@ -216,7 +216,7 @@ fn fields(alloc: Global, line: &[u8]) -> Result<(Vec<FieldAt>, &[u8]), AllocErro
     Ok((fields, rest))
 }
 
-fn next_field(line: &[u8]) -> Option<(FieldAt, &[u8])>
+pub fn next_field(line: &[u8]) -> Option<(FieldAt, &[u8])>
     ensures found { IfSome result (λ found. words_of line.now ≡ field_word found.0 ∷
         words_of found.1.now) }
     ensures shorter { IfSome result (λ found. length found.1.now < length line.now) }

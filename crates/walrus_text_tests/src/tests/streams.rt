@@ -1,7 +1,7 @@
 //! Readers that give one byte at a time and then fail, and writers that fail.
 use std::io;
 use std::io::{Error, ErrorKind, Read, Write};
-use walrus_text::{TextError, read_section, write_output, write_section};
+use walrus_text::{BadLine, Expected, TextError, read_section, write_output, write_section};
 
 /// Gives one byte at a time, this many times, and then fails.
 #[derive(Drop)]
@@ -28,12 +28,24 @@ impl Read for Drip<'_> {
     }
 }
 
+/// The error of a line that is bad from its beginning on.
+fn bad_line(line: u64, expected: Expected) -> TextError {
+    TextError::BadText(BadLine {
+        line,
+        column: 1,
+        expected,
+    })
+}
+
 #[test]
 fn failed_read(rt: HostRuntime) {
     let texts: [(&[u8], Option<TextError>); 3] = [
         (b"rec\nfunc i32 ->\nend", None),
-        (b"rec\nfunc i32 ->\n", Some(TextError::BadText { line: 3 })),
-        (b"type\nfunc i32 ->\n", Some(TextError::BadText { line: 1 })),
+        (b"rec\nfunc i32 ->\n", Some(bad_line(3, Expected::End))),
+        (
+            b"type\nfunc i32 ->\n",
+            Some(bad_line(1, Expected::DefinitionOrRec)),
+        ),
     ];
     for (text, wanted) in texts {
         let reads = text.len() as u64;

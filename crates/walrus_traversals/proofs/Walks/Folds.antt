@@ -91,7 +91,8 @@ module _ {V : Type 0} (step : V → Event → V → Type 0) where
   after_items v w g i xs h =
       let F : List Event → Type 0 = λ l. AfterFirst step v l w in
       let done = flat_map g (take i xs) in
-      subst F (sym (flat_map_parts g i xs)) (after_front v w done (flat_map g (drop i xs)) (after_all v w done h))
+      subst F (sym (flat_map_parts g i xs)) (after_front v w done (flat_map g (drop i xs))
+      (after_all v w done h))
 
   -- one call, then those over a list
   pub folds_list :

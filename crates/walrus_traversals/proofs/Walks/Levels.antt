@@ -23,7 +23,10 @@ pub all_from_contains :
     {A : Type 0} (P : A → Type 0) (xs : List A) → ((x : A) → Contains xs x → P x) →
     AllByRecursion P xs
 all_from_contains P [] h = tt
-all_from_contains P (x ∷ xs) h = (h x (0, omega arith, refl), all_from_contains P xs (λ y m. h y (suc m.0, omega arith, m.2)))
+all_from_contains P (x ∷ xs) h = (
+  h x (0, omega arith, refl),
+  all_from_contains P xs (λ y m. h y (suc m.0, omega arith, m.2)),
+)
 
 pub within_at :
     (f : Body) (start : ℕ) (h : IsNested f start) (n q : ℕ) → IsReachable f start q →
@@ -36,12 +39,14 @@ within_at f start h (suc n) q r lt = (
       let there = below q c r child in
       let known = h.1.known c there in
       let less = h.1.falls q c r child in
-      within_at f start h n c there (let a = under_lt h.0 (h.0 q) c (length f.seqs) known less in omega arith)),
+      within_at f start h n c there (let a = under_lt h.0 (h.0 q) c (length f.seqs) known less in
+      omega arith)),
 )
 
 pub within_from_nested : (f : Body) (start : ℕ) → IsNested f start → Within f (levels f) start
 within_from_nested f start h =
-    within_at f start h (levels f) start at_start (let a = under_le h.0 (h.0 start) (length f.seqs) in omega arith)
+    within_at f start h (levels f) start at_start (let a = under_le h.0 (h.0 start) (length f.seqs) in
+    omega arith)
 
 pub All-append :
     {X : Type 0} (P : X → Type 0) (xs ys : List X) → AllByRecursion P xs → AllByRecursion P ys →
@@ -72,13 +77,17 @@ pub All-items :
     {X Y : Type 0} (P : Y → Type 0) (g : X → List Y) (xs : List X) →
     AllByRecursion P (flat_map g xs) → AllByRecursion (λ x. AllByRecursion P (g x)) xs
 All-items P g [] h = tt
-All-items P g (x ∷ xs) h = (All-front P (g x) (flat_map g xs) h, All-items P g xs (All-back P (g x) (flat_map g xs) h))
+All-items P g (x ∷ xs) h = (
+  All-front P (g x) (flat_map g xs) h,
+  All-items P g xs (All-back P (g x) (flat_map g xs) h),
+)
 
 pub flat_map-same :
     {X A : Type 0} (P : X → Type 0) (g h : X → List A) (xs : List X) → ((x : X) → P x → g x ≡ h x) →
     AllByRecursion P xs → flat_map g xs ≡ flat_map h xs
 flat_map-same P g h [] e k = refl
-flat_map-same P g h (x ∷ xs) e k = ap (λ l. l ++ flat_map g xs) (e x k.0) ∙ ap (λ l. h x ++ l) (flat_map-same P g h xs e k.1)
+flat_map-same P g h (x ∷ xs) e k = ap (λ l. l ++ flat_map g xs) (e x k.0)
+    ∙ ap (λ l. h x ++ l) (flat_map-same P g h xs e k.1)
 
 -- the events of instructions, where two ways to give those of sequences agree on the sequences
 -- inside
@@ -87,7 +96,8 @@ pub same_inside :
     AllByRecursion (λ x. AllByRecursion P (children x.0)) xs →
     events_of_instrs g xs ≡ events_of_instrs h xs
 same_inside P g h xs e k =
-    flat_map-same (λ x. AllByRecursion P (children x.0)) (λ x. own_events x ++ flat_map g (children x.0)) (λ x. own_events x ++ flat_map h (children x.0)) xs
+    flat_map-same (λ x. AllByRecursion P (children x.0)) (λ x. own_events x ++ flat_map g (children x.0))
+    (λ x. own_events x ++ flat_map h (children x.0)) xs
     (λ x a. ap (λ l. own_events x ++ l) (flat_map-same P g h (children x.0) e a)) k
 
 -- one level more than is needed gives the same events
@@ -95,13 +105,19 @@ pub same_deeper : (f : Body) (n q : ℕ) → Within f n q → events_to f (suc n
 unfolding Within events_to
 same_deeper f zero q h = absurd h
 same_deeper f (suc n) q h =
-    ap (λ l. at start_instr_seq (sequence f q) ∷ reported (type_fields (sequence f q).ty) ++ l ++ at end_instr_seq (sequence f q) ∷ [])
-    (same_inside (Within f n) (events_to f (suc n)) (events_to f n) (sequence f q).instrs (same_deeper f n) (All-items (Within f n) (λ x. children x.0) (sequence f q).instrs h.1))
+    ap (λ l. at start_instr_seq (sequence f q) ∷ reported (type_fields (sequence f q).ty) ++ l ++ at
+    end_instr_seq (sequence f q) ∷ [])
+    (same_inside (Within f n) (events_to f (suc n)) (events_to f n) (sequence f q).instrs (same_deeper f n)
+    (All-items (Within f n) (λ x. children x.0) (sequence f q).instrs h.1))
 
 pub still_within : (f : Body) (n q : ℕ) → Within f n q → Within f (suc n) q
 unfolding Within
 still_within f zero q h = absurd h
-still_within f (suc n) q h = (h.0, All-weaker (Within f n) (Within f (suc n)) (children_of f q) (still_within f n) h.1)
+still_within f (suc n) q h = (
+  h.0,
+  All-weaker (Within f n) (Within f (suc n)) (children_of f q) (still_within
+      f n) h.1,
+)
 
 -- the events of a nested sequence, with those inside it given as events again
 pub events_unfold :

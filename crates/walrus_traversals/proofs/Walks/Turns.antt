@@ -7,6 +7,8 @@ use Rattle.walrus_ir.specs.Calls.{Event, at}
 use Rattle.walrus_ir.specs.Hooks.{end_instr_seq}
 use Rattle.walrus_functions.specs.Body.{Body, sequence, Knows}
 use Rattle.walrus_functions.specs.Nesting.{children, IsNested}
+use Rattle.walrus_nesting.specs.Pushing.{Pushes}
+use Rattle.walrus_nesting.proofs.Pushed.{pushed_behind}
 use Rattle.walrus_traversals.specs.Events.{AfterFirst, own_events, events}
 use Rattle.walrus_traversals.specs.Steps.Walking.{reports, leaves, at_place, after_place, seq_of, has_items, Does, Goes, Stops}
 use Rattle.walrus_traversals.specs.declared.traversals.stack.Work.{Work}
@@ -35,8 +37,12 @@ module _ {V : Type 0} (step : V → Event → V → Type 0) (f : Body) where
       (v : V) (q : ℕ) (all : List Work) → all ≡ Enter q ∷ [] → IsNested f q →
       Trail step f v (events f q) v all
   started v q all e h =
-      let F : List Work → Type 0 = λ l. AllByRecursion (IsSound f) l in
-      (subst F (sym e) (within_from_nested f q h, tt), [], refl, sym (ap (left f) e ∙ append-nil (events f q)))
+      let F : List Work → Type 0 = λ l. AllByRecursion (IsSound f) l in (
+        subst F (sym e) (within_from_nested f q h, tt),
+        [],
+        refl,
+        sym (ap (left f) e ∙ append-nil (events f q)),
+      )
 
   module _ (o : V) (es : List Event) where
     next_sound :
@@ -114,7 +120,8 @@ module _ {V : Type 0} (step : V → Event → V → Type 0) (f : Body) where
         let rest = left f (k.2 ++ leaves f k.3) in
         let s = next_sound k.1 k.2 k.3 t in
         subst G (sym (t.3 ∙ ap (λ l. t.1 ++ l) (next_left f k.2 (k.2 ++ leaves f k.3) k.3 s.1 refl)))
-        (after_part step o k.1 w t.1 (reports f k.3 ++ rest) t.2 (after_front step k.1 w (reports f k.3) rest k.5))
+        (after_part step o k.1 w t.1 (reports f k.3 ++ rest) t.2
+        (after_front step k.1 w (reports f k.3) rest k.5))
 
   one_before :
       (n : ℕ) (v u w : V) (ws new : List Work) (p : Work) → FoldsTo step v (reports f p) u →
@@ -188,3 +195,11 @@ pub no_item :
     {A : Type 0} (xs ys : List A) (k : ℕ) → xs ≡ ys → length xs ≤ k → slice_get ys k ≡ None
 no_item {A} xs ys k e past =
     let F : List A → Type 0 = λ l. slice_get l k ≡ None in subst F e (slice_get_past xs k past)
+
+-- a piece of work, and on it the children of an instruction
+pub children_left :
+    (p : Work) (xs : List ℕ) (old between new : List Work) → between ≡ old ++ p ∷ [] →
+    Pushes (λ id w. w ≡ Enter id) xs between new → new ≡ old ++ p ∷ reverse (map Enter xs)
+children_left p xs old between new e h =
+    pushed_behind (λ id w. w ≡ Enter id) Enter (λ x t k. k) xs between new h
+    ∙ ap (λ l. l ++ reverse (map Enter xs)) e ∙ append_assoc old (p ∷ []) (reverse (map Enter xs))

@@ -25,11 +25,13 @@ entry_of d = record { comp = comp_of d.composite; is_final = d.is_final; superty
 
 entry_back : (e : EntryAt) → entry_of (entry_definition e) ≡ e
 unfolding entry_of
-entry_back e = ap (λ (c : CompAt). record { comp = c; is_final = e.is_final; supertype = e.supertype }) (comp_back e.comp)
+entry_back e = ap (λ (c : CompAt). record { comp = c; is_final = e.is_final; supertype = e.supertype })
+    (comp_back e.comp)
 
 entries_back : (es : List EntryAt) → map entry_of (map entry_definition es) ≡ es
 entries_back [] = refl
-entries_back (e ∷ es) = ap (λ (x : EntryAt). x ∷ map entry_of (map entry_definition es)) (entry_back e) ∙ ap (λ (xs : List EntryAt). e ∷ xs) (entries_back es)
+entries_back (e ∷ es) = ap (λ (x : EntryAt). x ∷ map entry_of (map entry_definition es)) (entry_back e)
+    ∙ ap (λ (xs : List EntryAt). e ∷ xs) (entries_back es)
 
 record_of : Group → GroupAt
 record_of (Single d) = group.Single (entry_of d)
@@ -42,7 +44,8 @@ group_back (group.Rec es) = ap group.Rec (entries_back es)
 
 groups_back : (gs : List GroupAt) → map record_of (section_of gs) ≡ gs
 groups_back [] = refl
-groups_back (g ∷ gs) = ap (λ (x : GroupAt). x ∷ map record_of (section_of gs)) (group_back g) ∙ ap (λ (xs : List GroupAt). g ∷ xs) (groups_back gs)
+groups_back (g ∷ gs) = ap (λ (x : GroupAt). x ∷ map record_of (section_of gs)) (group_back g)
+    ∙ ap (λ (xs : List GroupAt). g ∷ xs) (groups_back gs)
 
 pub same_entry : (d e : EntryAt) → entry_definition d ≡ entry_definition e → d ≡ e
 same_entry d e p = sym (entry_back d) ∙ (ap entry_of p ∙ entry_back e)

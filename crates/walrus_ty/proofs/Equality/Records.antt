@@ -26,7 +26,8 @@ entry_itself e = (entry_equal e e).1 refl
 
 pub group_exact : (g h : GroupAt) → (group_equality.ghosts).eq g h ≡ true → g ≡ h
 group_exact (group.Single d) (group.Single e) h = ap group.Single (entry_exact d e h)
-group_exact (group.Rec ds) (group.Rec es) h = ap group.Rec (pointwise_exact (entry_equality.ghosts).eq entry_exact ds es h)
+group_exact (group.Rec ds) (group.Rec es) h =
+    ap group.Rec (pointwise_exact (entry_equality.ghosts).eq entry_exact ds es h)
 group_exact (group.Single d) (group.Rec es) h = cc
 group_exact (group.Rec ds) (group.Single e) h = cc
 
@@ -40,5 +41,6 @@ pub records_equal :
     (IsTrue r ↔ (section_of gs ≡ section_of hs))
 records_equal gs hs r is = (
   (λ h. ap section_of (pointwise_exact (group_equality.ghosts).eq group_exact gs hs (sym is ∙ h))),
-  (λ p. is ∙ (ap (pointwise (group_equality.ghosts).eq gs) (sym (same_section gs hs p)) ∙ pointwise_same (group_equality.ghosts).eq group_itself gs)),
+  (λ p. is ∙ (ap (pointwise (group_equality.ghosts).eq gs) (sym (same_section gs hs p))
+      ∙ pointwise_same (group_equality.ghosts).eq group_itself gs)),
 )

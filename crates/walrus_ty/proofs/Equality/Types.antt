@@ -47,7 +47,8 @@ pub pointwise_exact :
 pointwise_exact E e [] [] h = refl
 pointwise_exact E e [] (y ∷ ys) h = cc
 pointwise_exact E e (x ∷ xs) [] h = cc
-pointwise_exact E e (x ∷ xs) (y ∷ ys) h = let same : x ≡ y = e x y (and_left (E x y) (pointwise E xs ys) h) in let rest : xs ≡ ys = pointwise_exact E e xs ys (and_right (E x y) (pointwise E xs ys) h) in cc
+pointwise_exact E e (x ∷ xs) (y ∷ ys) h = let same : x ≡ y = e x y (and_left (E x y) (pointwise E xs ys) h) in
+    let rest : xs ≡ ys = pointwise_exact E e xs ys (and_right (E x y) (pointwise E xs ys) h) in cc
 
 abstract_exact : (x y : AbstractHeapType) → abstract_ghosts.eq x y ≡ true → x ≡ y
 abstract_exact x y h = same_true abstract_type (search rules) x y h
@@ -112,7 +113,8 @@ field_parts :
     (p q : Bool) (s t : Storage n.Denot) → (field_ghosts n g d).eq (field p s) (field q t) ≡ true →
     field p s ≡ field q t
 unfolding field
-field_parts n g d e p q s t h = let a : s ≡ t = storage_exact n g d e s t (and_left _ _ h) in let b : p ≡ q = bool_exact p q (and_right _ _ h) in cc
+field_parts n g d e p q s t h = let a : s ≡ t = storage_exact n g d e s t (and_left _ _ h) in let b : p ≡ q =
+    bool_exact p q (and_right _ _ h) in cc
 
 pub field_exact :
     (n : RattleType) (g : Ghosts n.Denot) (d : Dict) → ((i j : n.Denot) → g.eq i j ≡ true → i ≡ j) →
@@ -148,8 +150,10 @@ function_exact x y h =
 
 pub composite_exact : (x y : CompositeType) → composite_ghosts.eq x y ≡ true → x ≡ y
 composite_exact (Function f) (Function g) h = ap Function (function_exact f g h)
-composite_exact (Struct f) (Struct g) h = ap (λ (fs : List (Field ℕ)). Struct (record { fields = fs })) (fields_exact f.fields g.fields h)
-composite_exact (Array f) (Array g) h = ap (λ (x : Field ℕ). Array (record { field = x })) (field_exact ids numbers no_dict eqb-true f.field g.field h)
+composite_exact (Struct f) (Struct g) h = ap (λ (fs : List (Field ℕ)). Struct (record { fields = fs }))
+    (fields_exact f.fields g.fields h)
+composite_exact (Array f) (Array g) h = ap (λ (x : Field ℕ). Array (record { field = x }))
+    (field_exact ids numbers no_dict eqb-true f.field g.field h)
 composite_exact x y h = cc
 
 option_exact : (x y : Option ℕ) → option_eq eqb x y ≡ true → x ≡ y
@@ -169,7 +173,8 @@ four true true false d h = let k : ⊥ = cc in absurd k
 pub same_from_eq : (x y : ModuleType) → type_eq x y ≡ true → IsSameType x y
 unfolding type_eq
 same_from_eq x y h =
-    let parts : _ = four (composite_ghosts.eq x.kind y.kind) (beq x.is_final y.is_final) (option_eq eqb x.supertype y.supertype) (beq x.is_for_function_entry y.is_for_function_entry) h in
+    let parts : _ = four (composite_ghosts.eq x.kind y.kind) (beq x.is_final y.is_final)
+    (option_eq eqb x.supertype y.supertype) (beq x.is_for_function_entry y.is_for_function_entry) h in
     record {
       kind = composite_exact x.kind y.kind parts.0;
       is_final = bool_exact x.is_final y.is_final parts.1;
@@ -178,7 +183,15 @@ same_from_eq x y h =
     }
 
 type_of : CompositeType → Bool → Option ℕ → Bool → ℕ → Option (String Global) → ModuleType
-type_of kind is_final supertype mark id name = record { kind = kind; is_final = is_final; supertype = supertype; is_for_function_entry = mark; id = id; name = name }
+type_of kind is_final supertype mark id name =
+    record {
+      kind = kind;
+      is_final = is_final;
+      supertype = supertype;
+      is_for_function_entry = mark;
+      id = id;
+      name = name;
+    }
 
 eq_of_parts :
     (k k' : CompositeType) (f f' : Bool) (s s' : Option ℕ) (m m' : Bool) (i i' : ℕ)
@@ -191,7 +204,9 @@ eq_of_parts k k' f f' s s' m m' i i' n n' a b c d = rw (a, b, c, d) refl
 -- types that are the same in all that counts are equal
 pub eq_from_same : (x y : ModuleType) → IsSameType x y → type_eq x y ≡ true
 unfolding type_eq type_of
-eq_from_same x y same = eq_of_parts x.kind y.kind x.is_final y.is_final x.supertype y.supertype x.is_for_function_entry y.is_for_function_entry x.id y.id x.name y.name same.kind same.is_final same.supertype same.is_for_function_entry ∙ laws-law.refl x
+eq_from_same x y same = eq_of_parts x.kind y.kind x.is_final y.is_final x.supertype y.supertype
+    x.is_for_function_entry y.is_for_function_entry x.id y.id x.name y.name same.kind same.is_final
+    same.supertype same.is_for_function_entry ∙ laws-law.refl x
 
 -- each is equal to itself
 
@@ -199,7 +214,8 @@ pub composite_itself : (k : CompositeType) → composite_ghosts.eq k k ≡ true
 unfolding type_of
 composite_itself k =
     let x : ModuleType = type_of k true None false 0 None in
-    (four (composite_ghosts.eq k k) (beq true true) (option_eq eqb None None) (beq false false) (laws-law.refl x)).0
+    (four (composite_ghosts.eq k k) (beq true true) (option_eq eqb None None) (beq false false)
+    (laws-law.refl x)).0
 
 pub field_itself : (f : Field ℕ) → (field_ghosts ids numbers no_dict).eq f f ≡ true
 field_itself f = composite_itself (Array (record { field = f }))
@@ -233,7 +249,9 @@ values_refl : (ps : List (Val ℕ)) → pointwise (val_ghosts ids numbers no_dic
 unfolding type_of signature
 values_refl ps =
     let x : ModuleType = type_of (Function (signature ps [])) true None false 0 None in
-    let whole : function_ghosts.eq (signature ps []) (signature ps []) ≡ true = (four (function_ghosts.eq (signature ps []) (signature ps [])) (beq true true) (option_eq eqb None None) (beq false false) (laws-law.refl x)).0 in
+    let whole : function_ghosts.eq (signature ps []) (signature ps []) ≡ true =
+    (four (function_ghosts.eq (signature ps []) (signature ps [])) (beq true true)
+    (option_eq eqb None None) (beq false false) (laws-law.refl x)).0 in
     and_left (pointwise (val_ghosts ids numbers no_dict).eq ps ps) true whole
 
 true_of : (b : Bool) → IsTrue b → b ≡ true
@@ -245,19 +263,22 @@ values_test :
     IsTrue b ↔ (xs ≡ ys)
 values_test b xs ys is = (
   λ h. vals_exact xs ys (sym is ∙ true_of b h),
-  λ e. subst (λ (c : Bool). IsTrue c) (sym (is ∙ ap (pointwise (val_ghosts ids numbers no_dict).eq xs) (sym e) ∙ values_refl xs)) refl,
+  λ e. subst (λ (c : Bool). IsTrue c) (sym (is ∙ ap (pointwise (val_ghosts ids numbers no_dict).eq xs) (sym e)
+      ∙ values_refl xs)) refl,
 )
 
 params_same :
     (k : CompositeType) (f : Signature) (ps rs : List (Val ℕ)) → k ≡ Function f →
     k ≡ function ps rs → (f.params ≡ ps) × (f.results ≡ rs)
-params_same k f ps rs is same = let e : f ≡ record { params = ps; results = rs } = cc in (ap (λ s. s.params) e, ap (λ s. s.results) e)
+params_same k f ps rs is same = let e : f ≡ record { params = ps; results = rs } = cc in
+    (ap (λ s. s.params) e, ap (λ s. s.results) e)
 
 function_of :
     (f : Signature) (ps rs : List (Val ℕ)) → f.params ≡ ps → f.results ≡ rs →
     Function f ≡ function ps rs
 unfolding signature
-function_of f ps rs a b = ap (λ (xs : List (Val ℕ)). Function (signature xs f.results)) a ∙ ap (λ (xs : List (Val ℕ)). Function (signature ps xs)) b
+function_of f ps rs a b = ap (λ (xs : List (Val ℕ)). Function (signature xs f.results)) a
+    ∙ ap (λ (xs : List (Val ℕ)). Function (signature ps xs)) b
 
 -- what the comparison of both lists says
 pub results_test :
@@ -265,7 +286,8 @@ pub results_test :
     a ≡ pointwise (val_ghosts ids numbers no_dict).eq f.params ps → a ≡ true →
     b ≡ pointwise (val_ghosts ids numbers no_dict).eq f.results rs → IsTrue b ↔ (k ≡ function ps rs)
 results_test k f ps rs a b is params agree results = (
-  λ h. is ∙ function_of f ps rs ((values_test a f.params ps params).0 agree) ((values_test b f.results rs results).0 h),
+  λ h. is ∙ function_of f ps rs ((values_test a f.params ps params).0 agree)
+      ((values_test b f.results rs results).0 h),
   λ e. (values_test b f.results rs results).1 (params_same k f ps rs is e).1,
 )
 

@@ -40,26 +40,33 @@ use Rattle.walrus_ty.proofs.Equality.Records.{entry_exact, entry_itself, group_e
 is_sameness :
     {A : Type 0} (test : A → A → Bool) → ((x y : A) → test x y ≡ true → x ≡ y) →
     ((x : A) → test x x ≡ true) → (x y : A) → (IsTrue (test x y) ↔ (x ≡ y))
-is_sameness {A = A} test exact itself x y = (exact x y, (λ p. subst (λ (z : A). test x z ≡ true) p (itself x)))
+is_sameness {A = A} test exact itself x y = (
+  exact x y,
+  (λ p. subst (λ (z : A). test x z ≡ true) p (itself x)),
+)
 
 -- over ids
 
 pub heap_same : (h g : Heap ℕ) → (IsTrue ((heap_ghosts ids numbers no_dict).eq h g) ↔ (h ≡ g))
-heap_same = is_sameness (heap_ghosts ids numbers no_dict).eq (heap_exact ids numbers no_dict eqb-true) heap_itself
+heap_same = is_sameness (heap_ghosts ids numbers no_dict).eq (heap_exact ids numbers no_dict eqb-true)
+    heap_itself
 
 pub reference_same :
     (r q : Reference ℕ) → (IsTrue ((ref_ghosts ids numbers no_dict).eq r q) ↔ (r ≡ q))
-reference_same = is_sameness (ref_ghosts ids numbers no_dict).eq (ref_exact ids numbers no_dict eqb-true) ref_itself
+reference_same = is_sameness (ref_ghosts ids numbers no_dict).eq (ref_exact ids numbers no_dict eqb-true)
+    ref_itself
 
 pub val_same : (v w : Val ℕ) → (IsTrue ((val_ghosts ids numbers no_dict).eq v w) ↔ (v ≡ w))
 val_same = is_sameness (val_ghosts ids numbers no_dict).eq (val_exact ids numbers no_dict eqb-true) val_itself
 
 pub storage_same :
     (s t : Storage ℕ) → (IsTrue ((storage_ghosts ids numbers no_dict).eq s t) ↔ (s ≡ t))
-storage_same = is_sameness (storage_ghosts ids numbers no_dict).eq (storage_exact ids numbers no_dict eqb-true) storage_itself
+storage_same = is_sameness (storage_ghosts ids numbers no_dict).eq
+    (storage_exact ids numbers no_dict eqb-true) storage_itself
 
 pub field_same : (f g : Field ℕ) → (IsTrue ((field_ghosts ids numbers no_dict).eq f g) ↔ (f ≡ g))
-field_same = is_sameness (field_ghosts ids numbers no_dict).eq (field_exact ids numbers no_dict eqb-true) field_itself
+field_same = is_sameness (field_ghosts ids numbers no_dict).eq (field_exact ids numbers no_dict eqb-true)
+    field_itself
 
 function_itself : (f : Signature) → function_ghosts.eq f f ≡ true
 function_itself f = composite_itself (Function f)
@@ -71,10 +78,16 @@ pub kind_same : (c d : CompositeType) → (IsTrue (composite_ghosts.eq c d) ↔ 
 kind_same = is_sameness composite_ghosts.eq composite_exact composite_itself
 
 pub struct_same : (s t : StructType) → (IsTrue (struct_ghosts.eq s t) ↔ (s ≡ t))
-struct_same s t = ((λ h. let p : Struct s ≡ Struct t = (kind_same (Struct s) (Struct t)).0 h in cc), (λ p. (kind_same (Struct s) (Struct t)).1 (ap Struct p)))
+struct_same s t = (
+  (λ h. let p : Struct s ≡ Struct t = (kind_same (Struct s) (Struct t)).0 h in cc),
+  (λ p. (kind_same (Struct s) (Struct t)).1 (ap Struct p)),
+)
 
 pub array_same : (a b : ArrayType) → (IsTrue (array_ghosts.eq a b) ↔ (a ≡ b))
-array_same a b = ((λ h. let p : Array a ≡ Array b = (kind_same (Array a) (Array b)).0 h in cc), (λ p. (kind_same (Array a) (Array b)).1 (ap Array p)))
+array_same a b = (
+  (λ h. let p : Array a ≡ Array b = (kind_same (Array a) (Array b)).0 h in cc),
+  (λ p. (kind_same (Array a) (Array b)).1 (ap Array p)),
+)
 
 -- over indices
 
@@ -91,7 +104,8 @@ with_true false h = h
 
 comp_exact : (c d : CompAt) → (comp_equality.ghosts).eq c d ≡ true → c ≡ d
 unfolding entry
-comp_exact c d h = ap (λ (e : EntryAt). e.comp) (entry_exact (entry c) (entry d) (with_true ((comp_equality.ghosts).eq c d) h))
+comp_exact c d h = ap (λ (e : EntryAt). e.comp)
+    (entry_exact (entry c) (entry d) (with_true ((comp_equality.ghosts).eq c d) h))
 
 pub comp_same : (c d : CompAt) → (IsTrue ((comp_equality.ghosts).eq c d) ↔ (c ≡ d))
 comp_same = is_sameness (comp_equality.ghosts).eq comp_exact comp_itself
@@ -133,24 +147,29 @@ heap_at_itself h = ref_at_itself (to_heap h)
 pub heap_at_same :
     (h g : Heap ℕ) → (IsTrue
     ((heap_ghosts u32 number_equality.ghosts number_equality.dict).eq h g) ↔ (h ≡ g))
-heap_at_same = is_sameness (heap_ghosts u32 number_equality.ghosts number_equality.dict).eq (heap_exact u32 number_equality.ghosts number_equality.dict eqb-true) heap_at_itself
+heap_at_same = is_sameness (heap_ghosts u32 number_equality.ghosts number_equality.dict).eq
+    (heap_exact u32 number_equality.ghosts number_equality.dict eqb-true) heap_at_itself
 
 pub reference_at_same :
     (r q : Reference ℕ) → (IsTrue
     ((ref_ghosts u32 number_equality.ghosts number_equality.dict).eq r q) ↔ (r ≡ q))
-reference_at_same = is_sameness (ref_ghosts u32 number_equality.ghosts number_equality.dict).eq (ref_exact u32 number_equality.ghosts number_equality.dict eqb-true) ref_at_itself
+reference_at_same = is_sameness (ref_ghosts u32 number_equality.ghosts number_equality.dict).eq
+    (ref_exact u32 number_equality.ghosts number_equality.dict eqb-true) ref_at_itself
 
 pub val_at_same :
     (v w : Val ℕ) → (IsTrue ((val_ghosts u32 number_equality.ghosts number_equality.dict).eq v w) ↔
     (v ≡ w))
-val_at_same = is_sameness (val_ghosts u32 number_equality.ghosts number_equality.dict).eq (val_exact u32 number_equality.ghosts number_equality.dict eqb-true) val_at_itself
+val_at_same = is_sameness (val_ghosts u32 number_equality.ghosts number_equality.dict).eq
+    (val_exact u32 number_equality.ghosts number_equality.dict eqb-true) val_at_itself
 
 pub storage_at_same :
     (s t : Storage ℕ) → (IsTrue
     ((storage_ghosts u32 number_equality.ghosts number_equality.dict).eq s t) ↔ (s ≡ t))
-storage_at_same = is_sameness (storage_ghosts u32 number_equality.ghosts number_equality.dict).eq (storage_exact u32 number_equality.ghosts number_equality.dict eqb-true) storage_at_itself
+storage_at_same = is_sameness (storage_ghosts u32 number_equality.ghosts number_equality.dict).eq
+    (storage_exact u32 number_equality.ghosts number_equality.dict eqb-true) storage_at_itself
 
 pub field_at_same :
     (f g : Field ℕ) → (IsTrue
     ((field_ghosts u32 number_equality.ghosts number_equality.dict).eq f g) ↔ (f ≡ g))
-field_at_same = is_sameness (field_ghosts u32 number_equality.ghosts number_equality.dict).eq (field_exact u32 number_equality.ghosts number_equality.dict eqb-true) field_at_itself
+field_at_same = is_sameness (field_ghosts u32 number_equality.ghosts number_equality.dict).eq
+    (field_exact u32 number_equality.ghosts number_equality.dict eqb-true) field_at_itself

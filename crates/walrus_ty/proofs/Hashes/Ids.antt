@@ -33,49 +33,94 @@ abbrev pub InRange : ℕ → Type 0
 InRange k = k < 2 ^ 64
 
 abbrev pub heap_input : Heap ℕ → HashWrites
-heap_input = generic.heap_input (Key.the_row Builtin.RawPtr) (id_hash.ghosts Builtin.RawPtr) (id_hash.dict Builtin.RawPtr) (id_eq.ghosts Builtin.RawPtr) (id_eq.dict Builtin.RawPtr) (id_partial_eq.ghosts Builtin.RawPtr) (id_partial_eq.dict Builtin.RawPtr)
+heap_input = generic.heap_input (Key.the_row Builtin.RawPtr) (id_hash.ghosts Builtin.RawPtr)
+    (id_hash.dict Builtin.RawPtr) (id_eq.ghosts Builtin.RawPtr) (id_eq.dict Builtin.RawPtr)
+    (id_partial_eq.ghosts Builtin.RawPtr) (id_partial_eq.dict Builtin.RawPtr)
 
 pub heaps_hash : HashesBy (λ (x : Heap ℕ). x) (λ x. Fits 64 (heap_name x)) heap_input
-heaps_hash = hashes _ heap_input (generic.heap_read (Key.the_row Builtin.RawPtr) (id_hash.ghosts Builtin.RawPtr) (id_hash.dict Builtin.RawPtr) (id_eq.ghosts Builtin.RawPtr) (id_eq.dict Builtin.RawPtr) (id_partial_eq.ghosts Builtin.RawPtr) (id_partial_eq.dict Builtin.RawPtr) InRange id_read id_back) (generic.heap_back (Key.the_row Builtin.RawPtr) (id_hash.ghosts Builtin.RawPtr) (id_hash.dict Builtin.RawPtr) (id_eq.ghosts Builtin.RawPtr) (id_eq.dict Builtin.RawPtr) (id_partial_eq.ghosts Builtin.RawPtr) (id_partial_eq.dict Builtin.RawPtr) InRange id_read id_back)
+heaps_hash = hashes _ heap_input (generic.heap_read (Key.the_row Builtin.RawPtr)
+    (id_hash.ghosts Builtin.RawPtr) (id_hash.dict Builtin.RawPtr) (id_eq.ghosts Builtin.RawPtr)
+    (id_eq.dict Builtin.RawPtr) (id_partial_eq.ghosts Builtin.RawPtr) (id_partial_eq.dict Builtin.RawPtr)
+    InRange id_read id_back) (generic.heap_back (Key.the_row Builtin.RawPtr) (id_hash.ghosts Builtin.RawPtr)
+    (id_hash.dict Builtin.RawPtr) (id_eq.ghosts Builtin.RawPtr) (id_eq.dict Builtin.RawPtr)
+    (id_partial_eq.ghosts Builtin.RawPtr) (id_partial_eq.dict Builtin.RawPtr) InRange id_read id_back)
 
 abbrev pub reference_input : Reference ℕ → HashWrites
-reference_input = generic.reference_input (Key.the_row Builtin.RawPtr) (id_hash.ghosts Builtin.RawPtr) (id_hash.dict Builtin.RawPtr) (id_eq.ghosts Builtin.RawPtr) (id_eq.dict Builtin.RawPtr) (id_partial_eq.ghosts Builtin.RawPtr) (id_partial_eq.dict Builtin.RawPtr)
+reference_input = generic.reference_input (Key.the_row Builtin.RawPtr) (id_hash.ghosts Builtin.RawPtr)
+    (id_hash.dict Builtin.RawPtr) (id_eq.ghosts Builtin.RawPtr) (id_eq.dict Builtin.RawPtr)
+    (id_partial_eq.ghosts Builtin.RawPtr) (id_partial_eq.dict Builtin.RawPtr)
 
 pub references_hash : HashesBy (λ (x : Reference ℕ). x) (λ x. Fits 64 (reference_name x)) reference_input
-references_hash = hashes _ reference_input (generic.reference_read (Key.the_row Builtin.RawPtr) (id_hash.ghosts Builtin.RawPtr) (id_hash.dict Builtin.RawPtr) (id_eq.ghosts Builtin.RawPtr) (id_eq.dict Builtin.RawPtr) (id_partial_eq.ghosts Builtin.RawPtr) (id_partial_eq.dict Builtin.RawPtr) InRange id_read id_back) (generic.reference_back (Key.the_row Builtin.RawPtr) (id_hash.ghosts Builtin.RawPtr) (id_hash.dict Builtin.RawPtr) (id_eq.ghosts Builtin.RawPtr) (id_eq.dict Builtin.RawPtr) (id_partial_eq.ghosts Builtin.RawPtr) (id_partial_eq.dict Builtin.RawPtr) InRange id_read id_back)
+references_hash = hashes _ reference_input (generic.reference_read (Key.the_row Builtin.RawPtr)
+    (id_hash.ghosts Builtin.RawPtr) (id_hash.dict Builtin.RawPtr) (id_eq.ghosts Builtin.RawPtr)
+    (id_eq.dict Builtin.RawPtr) (id_partial_eq.ghosts Builtin.RawPtr) (id_partial_eq.dict Builtin.RawPtr)
+    InRange id_read id_back) (generic.reference_back (Key.the_row Builtin.RawPtr)
+    (id_hash.ghosts Builtin.RawPtr) (id_hash.dict Builtin.RawPtr) (id_eq.ghosts Builtin.RawPtr)
+    (id_eq.dict Builtin.RawPtr) (id_partial_eq.ghosts Builtin.RawPtr) (id_partial_eq.dict Builtin.RawPtr)
+    InRange id_read id_back)
 
 abbrev pub val_input : Val ℕ → HashWrites
-val_input = generic.val_input (Key.the_row Builtin.RawPtr) (id_hash.ghosts Builtin.RawPtr) (id_hash.dict Builtin.RawPtr) (id_eq.ghosts Builtin.RawPtr) (id_eq.dict Builtin.RawPtr) (id_partial_eq.ghosts Builtin.RawPtr) (id_partial_eq.dict Builtin.RawPtr)
+val_input = generic.val_input (Key.the_row Builtin.RawPtr) (id_hash.ghosts Builtin.RawPtr)
+    (id_hash.dict Builtin.RawPtr) (id_eq.ghosts Builtin.RawPtr) (id_eq.dict Builtin.RawPtr)
+    (id_partial_eq.ghosts Builtin.RawPtr) (id_partial_eq.dict Builtin.RawPtr)
 
 pub vals_hash : HashesBy (λ (x : Val ℕ). x) (λ x. Fits 64 (val_name x)) val_input
-vals_hash = hashes _ val_input (generic.val_read (Key.the_row Builtin.RawPtr) (id_hash.ghosts Builtin.RawPtr) (id_hash.dict Builtin.RawPtr) (id_eq.ghosts Builtin.RawPtr) (id_eq.dict Builtin.RawPtr) (id_partial_eq.ghosts Builtin.RawPtr) (id_partial_eq.dict Builtin.RawPtr) InRange id_read id_back) (generic.val_back (Key.the_row Builtin.RawPtr) (id_hash.ghosts Builtin.RawPtr) (id_hash.dict Builtin.RawPtr) (id_eq.ghosts Builtin.RawPtr) (id_eq.dict Builtin.RawPtr) (id_partial_eq.ghosts Builtin.RawPtr) (id_partial_eq.dict Builtin.RawPtr) InRange id_read id_back)
+vals_hash = hashes _ val_input (generic.val_read (Key.the_row Builtin.RawPtr) (id_hash.ghosts Builtin.RawPtr)
+    (id_hash.dict Builtin.RawPtr) (id_eq.ghosts Builtin.RawPtr) (id_eq.dict Builtin.RawPtr)
+    (id_partial_eq.ghosts Builtin.RawPtr) (id_partial_eq.dict Builtin.RawPtr) InRange id_read id_back)
+    (generic.val_back (Key.the_row Builtin.RawPtr) (id_hash.ghosts Builtin.RawPtr)
+    (id_hash.dict Builtin.RawPtr) (id_eq.ghosts Builtin.RawPtr) (id_eq.dict Builtin.RawPtr)
+    (id_partial_eq.ghosts Builtin.RawPtr) (id_partial_eq.dict Builtin.RawPtr) InRange id_read id_back)
 
 abbrev pub storage_input : Storage ℕ → HashWrites
-storage_input = generic.storage_input (Key.the_row Builtin.RawPtr) (id_hash.ghosts Builtin.RawPtr) (id_hash.dict Builtin.RawPtr) (id_eq.ghosts Builtin.RawPtr) (id_eq.dict Builtin.RawPtr) (id_partial_eq.ghosts Builtin.RawPtr) (id_partial_eq.dict Builtin.RawPtr)
+storage_input = generic.storage_input (Key.the_row Builtin.RawPtr) (id_hash.ghosts Builtin.RawPtr)
+    (id_hash.dict Builtin.RawPtr) (id_eq.ghosts Builtin.RawPtr) (id_eq.dict Builtin.RawPtr)
+    (id_partial_eq.ghosts Builtin.RawPtr) (id_partial_eq.dict Builtin.RawPtr)
 
 pub storages_hash : HashesBy (λ (x : Storage ℕ). x) (λ x. Fits 64 (storage_name x)) storage_input
-storages_hash = hashes _ storage_input (generic.storage_read (Key.the_row Builtin.RawPtr) (id_hash.ghosts Builtin.RawPtr) (id_hash.dict Builtin.RawPtr) (id_eq.ghosts Builtin.RawPtr) (id_eq.dict Builtin.RawPtr) (id_partial_eq.ghosts Builtin.RawPtr) (id_partial_eq.dict Builtin.RawPtr) InRange id_read id_back) (generic.storage_back (Key.the_row Builtin.RawPtr) (id_hash.ghosts Builtin.RawPtr) (id_hash.dict Builtin.RawPtr) (id_eq.ghosts Builtin.RawPtr) (id_eq.dict Builtin.RawPtr) (id_partial_eq.ghosts Builtin.RawPtr) (id_partial_eq.dict Builtin.RawPtr) InRange id_read id_back)
+storages_hash = hashes _ storage_input (generic.storage_read (Key.the_row Builtin.RawPtr)
+    (id_hash.ghosts Builtin.RawPtr) (id_hash.dict Builtin.RawPtr) (id_eq.ghosts Builtin.RawPtr)
+    (id_eq.dict Builtin.RawPtr) (id_partial_eq.ghosts Builtin.RawPtr) (id_partial_eq.dict Builtin.RawPtr)
+    InRange id_read id_back) (generic.storage_back (Key.the_row Builtin.RawPtr)
+    (id_hash.ghosts Builtin.RawPtr) (id_hash.dict Builtin.RawPtr) (id_eq.ghosts Builtin.RawPtr)
+    (id_eq.dict Builtin.RawPtr) (id_partial_eq.ghosts Builtin.RawPtr) (id_partial_eq.dict Builtin.RawPtr)
+    InRange id_read id_back)
 
 abbrev pub field_input : Field ℕ → HashWrites
-field_input = generic.field_input (Key.the_row Builtin.RawPtr) (id_hash.ghosts Builtin.RawPtr) (id_hash.dict Builtin.RawPtr) (id_eq.ghosts Builtin.RawPtr) (id_eq.dict Builtin.RawPtr) (id_partial_eq.ghosts Builtin.RawPtr) (id_partial_eq.dict Builtin.RawPtr)
+field_input = generic.field_input (Key.the_row Builtin.RawPtr) (id_hash.ghosts Builtin.RawPtr)
+    (id_hash.dict Builtin.RawPtr) (id_eq.ghosts Builtin.RawPtr) (id_eq.dict Builtin.RawPtr)
+    (id_partial_eq.ghosts Builtin.RawPtr) (id_partial_eq.dict Builtin.RawPtr)
 
 pub fields_hash : HashesBy (λ (x : Field ℕ). x) (λ x. Fits 64 (field_name x)) field_input
-fields_hash = hashes _ field_input (generic.field_read (Key.the_row Builtin.RawPtr) (id_hash.ghosts Builtin.RawPtr) (id_hash.dict Builtin.RawPtr) (id_eq.ghosts Builtin.RawPtr) (id_eq.dict Builtin.RawPtr) (id_partial_eq.ghosts Builtin.RawPtr) (id_partial_eq.dict Builtin.RawPtr) InRange id_read id_back) (generic.field_back (Key.the_row Builtin.RawPtr) (id_hash.ghosts Builtin.RawPtr) (id_hash.dict Builtin.RawPtr) (id_eq.ghosts Builtin.RawPtr) (id_eq.dict Builtin.RawPtr) (id_partial_eq.ghosts Builtin.RawPtr) (id_partial_eq.dict Builtin.RawPtr) InRange id_read id_back)
+fields_hash = hashes _ field_input (generic.field_read (Key.the_row Builtin.RawPtr)
+    (id_hash.ghosts Builtin.RawPtr) (id_hash.dict Builtin.RawPtr) (id_eq.ghosts Builtin.RawPtr)
+    (id_eq.dict Builtin.RawPtr) (id_partial_eq.ghosts Builtin.RawPtr) (id_partial_eq.dict Builtin.RawPtr)
+    InRange id_read id_back) (generic.field_back (Key.the_row Builtin.RawPtr) (id_hash.ghosts Builtin.RawPtr)
+    (id_hash.dict Builtin.RawPtr) (id_eq.ghosts Builtin.RawPtr) (id_eq.dict Builtin.RawPtr)
+    (id_partial_eq.ghosts Builtin.RawPtr) (id_partial_eq.dict Builtin.RawPtr) InRange id_read id_back)
 
 abbrev pub val_read : HashWrites → Read (Val ℕ)
-val_read = generic.val_read (Key.the_row Builtin.RawPtr) (id_hash.ghosts Builtin.RawPtr) (id_hash.dict Builtin.RawPtr) (id_eq.ghosts Builtin.RawPtr) (id_eq.dict Builtin.RawPtr) (id_partial_eq.ghosts Builtin.RawPtr) (id_partial_eq.dict Builtin.RawPtr) InRange id_read id_back
+val_read = generic.val_read (Key.the_row Builtin.RawPtr) (id_hash.ghosts Builtin.RawPtr)
+    (id_hash.dict Builtin.RawPtr) (id_eq.ghosts Builtin.RawPtr) (id_eq.dict Builtin.RawPtr)
+    (id_partial_eq.ghosts Builtin.RawPtr) (id_partial_eq.dict Builtin.RawPtr) InRange id_read id_back
 
 abbrev pub field_read : HashWrites → Read (Field ℕ)
-field_read = generic.field_read (Key.the_row Builtin.RawPtr) (id_hash.ghosts Builtin.RawPtr) (id_hash.dict Builtin.RawPtr) (id_eq.ghosts Builtin.RawPtr) (id_eq.dict Builtin.RawPtr) (id_partial_eq.ghosts Builtin.RawPtr) (id_partial_eq.dict Builtin.RawPtr) InRange id_read id_back
+field_read = generic.field_read (Key.the_row Builtin.RawPtr) (id_hash.ghosts Builtin.RawPtr)
+    (id_hash.dict Builtin.RawPtr) (id_eq.ghosts Builtin.RawPtr) (id_eq.dict Builtin.RawPtr)
+    (id_partial_eq.ghosts Builtin.RawPtr) (id_partial_eq.dict Builtin.RawPtr) InRange id_read id_back
 
 abbrev pub Named : {A : Type 0} → (A → Option ℕ) → A → Type 0
 Named name x = Fits 64 (name x)
 
 pub val_back : ReadsBack (Named val_name) val_input val_read
-val_back = generic.val_back (Key.the_row Builtin.RawPtr) (id_hash.ghosts Builtin.RawPtr) (id_hash.dict Builtin.RawPtr) (id_eq.ghosts Builtin.RawPtr) (id_eq.dict Builtin.RawPtr) (id_partial_eq.ghosts Builtin.RawPtr) (id_partial_eq.dict Builtin.RawPtr) InRange id_read id_back
+val_back = generic.val_back (Key.the_row Builtin.RawPtr) (id_hash.ghosts Builtin.RawPtr)
+    (id_hash.dict Builtin.RawPtr) (id_eq.ghosts Builtin.RawPtr) (id_eq.dict Builtin.RawPtr)
+    (id_partial_eq.ghosts Builtin.RawPtr) (id_partial_eq.dict Builtin.RawPtr) InRange id_read id_back
 
 pub field_back : ReadsBack (Named field_name) field_input field_read
-field_back = generic.field_back (Key.the_row Builtin.RawPtr) (id_hash.ghosts Builtin.RawPtr) (id_hash.dict Builtin.RawPtr) (id_eq.ghosts Builtin.RawPtr) (id_eq.dict Builtin.RawPtr) (id_partial_eq.ghosts Builtin.RawPtr) (id_partial_eq.dict Builtin.RawPtr) InRange id_read id_back
+field_back = generic.field_back (Key.the_row Builtin.RawPtr) (id_hash.ghosts Builtin.RawPtr)
+    (id_hash.dict Builtin.RawPtr) (id_eq.ghosts Builtin.RawPtr) (id_eq.dict Builtin.RawPtr)
+    (id_partial_eq.ghosts Builtin.RawPtr) (id_partial_eq.dict Builtin.RawPtr) InRange id_read id_back
 
 -- composite types
 
@@ -88,7 +133,8 @@ function_read = lists_read (λ ps rs. record { params = ps; results = rs }) val_
 function_back :
     ReadsBack (λ (f : Signature). ListFits val_name 64 f.params × ListFits val_name 64 f.results)
     function_input function_read
-function_back f h ts = lists_back (λ ps rs. record { params = ps; results = rs }) (Named val_name) val_input val_read val_back f.params f.results h.0 h.1 ts
+function_back f h ts = lists_back (λ ps rs. record { params = ps; results = rs }) (Named val_name) val_input
+    val_read val_back f.params f.results h.0 h.1 ts
 
 pub functions_hash :
     HashesBy (λ (f : Signature). f)
@@ -102,7 +148,8 @@ abbrev struct_read : HashWrites → Read StructType
 struct_read ws = bind (list_read field_read ws) (λ fs us. Got (record { fields = fs }) us)
 
 struct_back : ReadsBack (λ (s : StructType). ListFits field_name 64 s.fields) struct_input struct_read
-struct_back s h ts = ap (λ q. bind q (λ fs us. Got (record { fields = fs }) us)) (list_back (Named field_name) field_input field_read field_back s.fields h.0 h.1 ts)
+struct_back s h ts = ap (λ q. bind q (λ fs us. Got (record { fields = fs }) us))
+    (list_back (Named field_name) field_input field_read field_back s.fields h.0 h.1 ts)
 
 pub structs_hash :
     HashesBy (λ (s : StructType). s) (λ s. ListFits field_name 64 s.fields) struct_input
@@ -150,7 +197,8 @@ kinds_hash = hashes _ kind_input kind_read kind_back
 -- types, by the parts that count
 
 abbrev parts_input : TypeParts → HashWrites
-parts_input p = kind_input p.kind ++ (fed.bool p.is_final ++ (fed.option fed.usize p.supertype ++ fed.bool p.is_for_function_entry))
+parts_input p = kind_input p.kind ++ (fed.bool p.is_final ++
+    (fed.option fed.usize p.supertype ++ fed.bool p.is_for_function_entry))
 
 abbrev parts_of : CompositeType → Bool → Option ℕ → Bool → TypeParts
 parts_of k final s mark = record { kind = k; is_final = final; supertype = s; is_for_function_entry = mark }
@@ -174,11 +222,14 @@ parts_back : ReadsBack PartsFit parts_input parts_read
 parts_back p h ts =
     let mark : HashWrites = fed.bool p.is_for_function_entry in
     let above : HashWrites = fed.option fed.usize p.supertype in
-    ap parts_read (append_assoc (kind_input p.kind) (fed.bool p.is_final ++ (above ++ mark)) ts ∙ ap (λ ws. kind_input p.kind ++ (fed.bool p.is_final ++ ws)) (append_assoc above mark ts))
+    ap parts_read (append_assoc (kind_input p.kind) (fed.bool p.is_final ++ (above ++ mark)) ts
+    ∙ ap (λ ws. kind_input p.kind ++ (fed.bool p.is_final ++ ws)) (append_assoc above mark ts))
     ∙ (ap (λ q. bind q after_kind) (kind_back p.kind h.0 (fed.bool p.is_final ++ (above ++ (mark ++ ts))))
     ∙ (ap (λ q. bind q (after_final p.kind)) (bool_back p.is_final (above ++ (mark ++ ts)))
-    ∙ (ap (λ q. bind q (after_supertype p.kind p.is_final)) (option_back InRange fed.usize id_read id_back p.supertype h.1 (mark ++ ts))
-    ∙ ap (λ q. bind q (λ m us. Got (parts_of p.kind p.is_final p.supertype m) us)) (bool_back p.is_for_function_entry ts))))
+    ∙ (ap (λ q. bind q (after_supertype p.kind p.is_final))
+    (option_back InRange fed.usize id_read id_back p.supertype h.1 (mark ++ ts))
+    ∙ ap (λ q. bind q (λ m us. Got (parts_of p.kind p.is_final p.supertype m) us))
+    (bool_back p.is_for_function_entry ts))))
 
 abbrev type_input : ModuleType → HashWrites
 type_input = (type_hash.ghosts).hash_input

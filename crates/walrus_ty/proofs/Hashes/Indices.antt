@@ -26,49 +26,73 @@ abbrev pub InRange : ℕ → Type 0
 InRange k = k < 2 ^ 32
 
 abbrev pub heap_input : Heap ℕ → HashWrites
-heap_input = generic.heap_input u32 number_hash.ghosts number_hash.dict number_eq.ghosts number_eq.dict number_partial_eq.ghosts number_partial_eq.dict
+heap_input = generic.heap_input u32 number_hash.ghosts number_hash.dict number_eq.ghosts number_eq.dict
+    number_partial_eq.ghosts number_partial_eq.dict
 
 pub heaps_hash : HashesBy (λ (x : Heap ℕ). x) (λ x. Fits 32 (heap_name x)) heap_input
-heaps_hash = hashes _ heap_input (generic.heap_read u32 number_hash.ghosts number_hash.dict number_eq.ghosts number_eq.dict number_partial_eq.ghosts number_partial_eq.dict InRange index_read index_back) (generic.heap_back u32 number_hash.ghosts number_hash.dict number_eq.ghosts number_eq.dict number_partial_eq.ghosts number_partial_eq.dict InRange index_read index_back)
+heaps_hash = hashes _ heap_input (generic.heap_read u32 number_hash.ghosts number_hash.dict number_eq.ghosts
+    number_eq.dict number_partial_eq.ghosts number_partial_eq.dict InRange index_read index_back)
+    (generic.heap_back u32 number_hash.ghosts number_hash.dict number_eq.ghosts number_eq.dict
+    number_partial_eq.ghosts number_partial_eq.dict InRange index_read index_back)
 
 abbrev pub reference_input : Reference ℕ → HashWrites
-reference_input = generic.reference_input u32 number_hash.ghosts number_hash.dict number_eq.ghosts number_eq.dict number_partial_eq.ghosts number_partial_eq.dict
+reference_input = generic.reference_input u32 number_hash.ghosts number_hash.dict number_eq.ghosts
+    number_eq.dict number_partial_eq.ghosts number_partial_eq.dict
 
 pub references_hash : HashesBy (λ (x : Reference ℕ). x) (λ x. Fits 32 (reference_name x)) reference_input
-references_hash = hashes _ reference_input (generic.reference_read u32 number_hash.ghosts number_hash.dict number_eq.ghosts number_eq.dict number_partial_eq.ghosts number_partial_eq.dict InRange index_read index_back) (generic.reference_back u32 number_hash.ghosts number_hash.dict number_eq.ghosts number_eq.dict number_partial_eq.ghosts number_partial_eq.dict InRange index_read index_back)
+references_hash = hashes _ reference_input (generic.reference_read u32 number_hash.ghosts number_hash.dict
+    number_eq.ghosts number_eq.dict number_partial_eq.ghosts number_partial_eq.dict InRange index_read
+    index_back) (generic.reference_back u32 number_hash.ghosts number_hash.dict number_eq.ghosts
+    number_eq.dict number_partial_eq.ghosts number_partial_eq.dict InRange index_read index_back)
 
 abbrev pub val_input : Val ℕ → HashWrites
-val_input = generic.val_input u32 number_hash.ghosts number_hash.dict number_eq.ghosts number_eq.dict number_partial_eq.ghosts number_partial_eq.dict
+val_input = generic.val_input u32 number_hash.ghosts number_hash.dict number_eq.ghosts number_eq.dict
+    number_partial_eq.ghosts number_partial_eq.dict
 
 pub vals_hash : HashesBy (λ (x : Val ℕ). x) (λ x. Fits 32 (val_name x)) val_input
-vals_hash = hashes _ val_input (generic.val_read u32 number_hash.ghosts number_hash.dict number_eq.ghosts number_eq.dict number_partial_eq.ghosts number_partial_eq.dict InRange index_read index_back) (generic.val_back u32 number_hash.ghosts number_hash.dict number_eq.ghosts number_eq.dict number_partial_eq.ghosts number_partial_eq.dict InRange index_read index_back)
+vals_hash = hashes _ val_input (generic.val_read u32 number_hash.ghosts number_hash.dict number_eq.ghosts
+    number_eq.dict number_partial_eq.ghosts number_partial_eq.dict InRange index_read index_back)
+    (generic.val_back u32 number_hash.ghosts number_hash.dict number_eq.ghosts number_eq.dict
+    number_partial_eq.ghosts number_partial_eq.dict InRange index_read index_back)
 
 abbrev pub storage_input : Storage ℕ → HashWrites
-storage_input = generic.storage_input u32 number_hash.ghosts number_hash.dict number_eq.ghosts number_eq.dict number_partial_eq.ghosts number_partial_eq.dict
+storage_input = generic.storage_input u32 number_hash.ghosts number_hash.dict number_eq.ghosts number_eq.dict
+    number_partial_eq.ghosts number_partial_eq.dict
 
 pub storages_hash : HashesBy (λ (x : Storage ℕ). x) (λ x. Fits 32 (storage_name x)) storage_input
-storages_hash = hashes _ storage_input (generic.storage_read u32 number_hash.ghosts number_hash.dict number_eq.ghosts number_eq.dict number_partial_eq.ghosts number_partial_eq.dict InRange index_read index_back) (generic.storage_back u32 number_hash.ghosts number_hash.dict number_eq.ghosts number_eq.dict number_partial_eq.ghosts number_partial_eq.dict InRange index_read index_back)
+storages_hash = hashes _ storage_input (generic.storage_read u32 number_hash.ghosts number_hash.dict
+    number_eq.ghosts number_eq.dict number_partial_eq.ghosts number_partial_eq.dict InRange index_read
+    index_back) (generic.storage_back u32 number_hash.ghosts number_hash.dict number_eq.ghosts number_eq.dict
+    number_partial_eq.ghosts number_partial_eq.dict InRange index_read index_back)
 
 abbrev pub field_input : Field ℕ → HashWrites
-field_input = generic.field_input u32 number_hash.ghosts number_hash.dict number_eq.ghosts number_eq.dict number_partial_eq.ghosts number_partial_eq.dict
+field_input = generic.field_input u32 number_hash.ghosts number_hash.dict number_eq.ghosts number_eq.dict
+    number_partial_eq.ghosts number_partial_eq.dict
 
 pub fields_hash : HashesBy (λ (x : Field ℕ). x) (λ x. Fits 32 (field_name x)) field_input
-fields_hash = hashes _ field_input (generic.field_read u32 number_hash.ghosts number_hash.dict number_eq.ghosts number_eq.dict number_partial_eq.ghosts number_partial_eq.dict InRange index_read index_back) (generic.field_back u32 number_hash.ghosts number_hash.dict number_eq.ghosts number_eq.dict number_partial_eq.ghosts number_partial_eq.dict InRange index_read index_back)
+fields_hash = hashes _ field_input (generic.field_read u32 number_hash.ghosts number_hash.dict
+    number_eq.ghosts number_eq.dict number_partial_eq.ghosts number_partial_eq.dict InRange index_read
+    index_back) (generic.field_back u32 number_hash.ghosts number_hash.dict number_eq.ghosts number_eq.dict
+    number_partial_eq.ghosts number_partial_eq.dict InRange index_read index_back)
 
 abbrev pub val_read : HashWrites → Read (Val ℕ)
-val_read = generic.val_read u32 number_hash.ghosts number_hash.dict number_eq.ghosts number_eq.dict number_partial_eq.ghosts number_partial_eq.dict InRange index_read index_back
+val_read = generic.val_read u32 number_hash.ghosts number_hash.dict number_eq.ghosts number_eq.dict
+    number_partial_eq.ghosts number_partial_eq.dict InRange index_read index_back
 
 abbrev pub field_read : HashWrites → Read (Field ℕ)
-field_read = generic.field_read u32 number_hash.ghosts number_hash.dict number_eq.ghosts number_eq.dict number_partial_eq.ghosts number_partial_eq.dict InRange index_read index_back
+field_read = generic.field_read u32 number_hash.ghosts number_hash.dict number_eq.ghosts number_eq.dict
+    number_partial_eq.ghosts number_partial_eq.dict InRange index_read index_back
 
 abbrev pub Named : {A : Type 0} → (A → Option ℕ) → A → Type 0
 Named name x = Fits 32 (name x)
 
 pub val_back : ReadsBack (Named val_name) val_input val_read
-val_back = generic.val_back u32 number_hash.ghosts number_hash.dict number_eq.ghosts number_eq.dict number_partial_eq.ghosts number_partial_eq.dict InRange index_read index_back
+val_back = generic.val_back u32 number_hash.ghosts number_hash.dict number_eq.ghosts number_eq.dict
+    number_partial_eq.ghosts number_partial_eq.dict InRange index_read index_back
 
 pub field_back : ReadsBack (Named field_name) field_input field_read
-field_back = generic.field_back u32 number_hash.ghosts number_hash.dict number_eq.ghosts number_eq.dict number_partial_eq.ghosts number_partial_eq.dict InRange index_read index_back
+field_back = generic.field_back u32 number_hash.ghosts number_hash.dict number_eq.ghosts number_eq.dict
+    number_partial_eq.ghosts number_partial_eq.dict InRange index_read index_back
 
 -- composite types and entries
 
@@ -86,11 +110,13 @@ comp_read ws = comp_case (next ws) (rest ws)
 
 comp_back : ReadsBack (λ (c : CompAt). CompositeFits 32 (comp_composite c)) comp_input comp_read
 comp_back (comp.Function ps rs) h ts =
-    ap (λ m. comp_case m ((fed.slice val_input ps ++ fed.slice val_input rs) ++ ts)) (tag_tells 0 (omega arith))
+    ap (λ m. comp_case m ((fed.slice val_input ps ++ fed.slice val_input rs) ++ ts))
+    (tag_tells 0 (omega arith))
     ∙ lists_back comp.Function (Named val_name) val_input val_read val_back ps rs h.0 h.1 ts
 comp_back (comp.Struct fs) h ts =
     ap (λ m. comp_case m (fed.slice field_input fs ++ ts)) (tag_tells 1 (omega arith))
-    ∙ ap (λ q. bind q (λ gs us. Got (comp.Struct gs) us)) (list_back (Named field_name) field_input field_read field_back fs h.0 h.1 ts)
+    ∙ ap (λ q. bind q (λ gs us. Got (comp.Struct gs) us))
+    (list_back (Named field_name) field_input field_read field_back fs h.0 h.1 ts)
 comp_back (comp.Array f) h ts =
     ap (λ m. comp_case m (field_input f ++ ts)) (tag_tells 2 (omega arith))
     ∙ ap (λ q. bind q (λ g us. Got (comp.Array g) us)) (field_back f h ts)
@@ -120,7 +146,8 @@ entry_back e h ts =
     ap entry_read (append_assoc (comp_input e.comp) (fed.bool e.is_final ++ above) ts)
     ∙ (ap (λ q. bind q after_comp) (comp_back e.comp h.0 (fed.bool e.is_final ++ (above ++ ts)))
     ∙ (ap (λ q. bind q (after_final e.comp)) (bool_back e.is_final (above ++ ts))
-    ∙ ap (λ q. bind q (λ s us. Got (entry_of e.comp e.is_final s) us)) (option_back InRange fed.u32 index_read index_back e.supertype h.1 ts)))
+    ∙ ap (λ q. bind q (λ s us. Got (entry_of e.comp e.is_final s) us))
+    (option_back InRange fed.u32 index_read index_back e.supertype h.1 ts)))
 
 pub entries_hash :
     HashesBy (λ (e : EntryAt). e) (λ e. DefinitionFits 32 (entry_definition e)) entry_input

@@ -47,7 +47,8 @@ pub apart :
     {A : Type 0} (Fits : A → Type 0) (input : A → HashWrites) (read : HashWrites → Read A) →
     ReadsBack Fits input read → (x y : A) → Fits x → Fits y → input x ≡ input y → x ≡ y
 unfolding value
-apart Fits input read back x y f g e = ap (value x) (sym (back x f []) ∙ (ap (λ ws. read (ws ++ [])) e ∙ back y g []))
+apart Fits input read back x y f g e = ap (value x) (sym (back x f [])
+    ∙ (ap (λ ws. read (ws ++ [])) e ∙ back y g []))
 
 abbrev pub bool_read : HashWrites → Read Bool
 bool_read ws = Got (next ws == 1) (rest ws)
@@ -67,7 +68,8 @@ items_back :
 items_back Fits input read back [] h ts = refl
 items_back Fits input read back (x ∷ xs) h ts =
     ap (items_read read (suc (length xs))) (append_assoc (input x) (flat_map input xs) ts)
-    ∙ (ap (λ r. bind r (λ y us. bind (items_read read (length xs) us) (λ ys vs. Got (y ∷ ys) vs))) (back x h.0 (flat_map input xs ++ ts))
+    ∙ (ap (λ r. bind r (λ y us. bind (items_read read (length xs) us) (λ ys vs. Got (y ∷ ys) vs)))
+    (back x h.0 (flat_map input xs ++ ts))
     ∙ ap (λ r. bind r (λ ys vs. Got (x ∷ ys) vs)) (items_back Fits input read back xs h.1 ts))
 
 abbrev pub list_read : {A : Type 0} → (HashWrites → Read A) → HashWrites → Read (List A)
@@ -78,12 +80,14 @@ pub list_back :
     ReadsBack Fits input read → (xs : List A) → length xs < 2 ^ 64 → AllByRecursion Fits xs →
     (ts : HashWrites) → list_read read (fed.slice input xs ++ ts) ≡ Got xs ts
 list_back Fits input read back xs short h ts =
-    ap (λ m. items_read read m (flat_map input xs ++ ts)) (tells (length xs) short) ∙ items_back Fits input read back xs h ts
+    ap (λ m. items_read read m (flat_map input xs ++ ts)) (tells (length xs) short)
+    ∙ items_back Fits input read back xs h ts
 
 -- two lists, one after the other
 abbrev pub lists_read :
     {A B : Type 0} → (List A → List A → B) → (HashWrites → Read A) → HashWrites → Read B
-lists_read f read ws = bind (list_read read ws) (λ ps us. bind (list_read read us) (λ rs vs. Got (f ps rs) vs))
+lists_read f read ws = bind (list_read read ws) (λ ps us.
+    bind (list_read read us) (λ rs vs. Got (f ps rs) vs))
 
 pub lists_back :
     {A B : Type 0} (f : List A → List A → B) (Fits : A → Type 0) (input : A → HashWrites)
@@ -93,19 +97,23 @@ pub lists_back :
     lists_read f read ((fed.slice input ps ++ fed.slice input rs) ++ ts) ≡ Got (f ps rs) ts
 lists_back f Fits input read back ps rs g h ts =
     ap (lists_read f read) (append_assoc (fed.slice input ps) (fed.slice input rs) ts)
-    ∙ (ap (λ q. bind q (λ xs us. bind (list_read read us) (λ ys vs. Got (f xs ys) vs))) (list_back Fits input read back ps g.0 g.1 (fed.slice input rs ++ ts))
+    ∙ (ap (λ q. bind q (λ xs us. bind (list_read read us) (λ ys vs. Got (f xs ys) vs)))
+    (list_back Fits input read back ps g.0 g.1 (fed.slice input rs ++ ts))
     ∙ ap (λ q. bind q (λ ys vs. Got (f ps ys) vs)) (list_back Fits input read back rs h.0 h.1 ts))
 
 abbrev pub option_read : {A : Type 0} → (HashWrites → Read A) → HashWrites → Read (Option A)
-option_read read ws = cond (next ws == 0) (Got None (rest ws)) (bind (read (rest ws)) (λ x us. Got (Some x) us))
+option_read read ws = cond (next ws == 0) (Got None (rest ws))
+    (bind (read (rest ws)) (λ x us. Got (Some x) us))
 
 pub option_back :
     {A : Type 0} (Fits : A → Type 0) (input : A → HashWrites) (read : HashWrites → Read A) →
     ReadsBack Fits input read → ReadsBack (λ o. IfSome o Fits) (fed.option input) (option_read read)
 option_back Fits input read back None h ts =
-    ap (λ m. cond (m == 0) (Got None ts) (bind (read ts) (λ x us. Got (Some x) us))) (tag_tells 0 (omega arith))
+    ap (λ m. cond (m == 0) (Got None ts) (bind (read ts) (λ x us. Got (Some x) us)))
+    (tag_tells 0 (omega arith))
 option_back Fits input read back (Some x) h ts =
-    ap (λ m. cond (m == 0) (Got None (input x ++ ts)) (bind (read (input x ++ ts)) (λ y us. Got (Some y) us))) (tag_tells 1 (omega arith))
+    ap (λ m. cond (m == 0) (Got None (input x ++ ts)) (bind (read (input x ++ ts)) (λ y us. Got (Some y) us)))
+    (tag_tells 1 (omega arith))
     ∙ ap (λ q. bind q (λ y us. Got (Some y) us)) (back x h ts)
 
 -- ids and indices

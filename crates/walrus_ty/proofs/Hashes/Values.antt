@@ -68,7 +68,8 @@ abstract_reads a ts =
     ap (λ ws. abstract_read (ws ++ ts)) (abstract_is a)
     ∙ ap (λ b. Got b ts) (ap abstract_at (tag_tells (abstract_index a) (below_twelve a)) ∙ abstract_back a)
 
-module _ (n : RattleType) (h : hash.Ghosts n.Denot) (hd : Dict) (t : total.Ghosts n.Denot) (td : Dict) (e : equality.Ghosts n.Denot) (ed : Dict) where
+module _ (n : RattleType) (h : hash.Ghosts n.Denot) (hd : Dict) (t : total.Ghosts n.Denot) (td : Dict)
+    (e : equality.Ghosts n.Denot) (ed : Dict) where
   abbrev pub heap_input : Heap n.Denot → HashWrites
   heap_input = (heap_hash.ghosts n h hd t td e ed).hash_input
 
@@ -84,7 +85,8 @@ module _ (n : RattleType) (h : hash.Ghosts n.Denot) (hd : Dict) (t : total.Ghost
   abbrev pub field_input : Field n.Denot → HashWrites
   field_input = (field_hash.ghosts n h hd t td e ed).hash_input
 
-  module _ (Fits : n.Denot → Type 0) (name_read : HashWrites → Read n.Denot) (name_back : ReadsBack Fits h.hash_input name_read) where
+  module _ (Fits : n.Denot → Type 0) (name_read : HashWrites → Read n.Denot)
+      (name_back : ReadsBack Fits h.hash_input name_read) where
     abbrev heap_case : ℕ → HashWrites → Read (Heap n.Denot)
     heap_case m ws =
         cond (m == 0) (bind (abstract_read ws) (λ a us. Got (heap.Abstract a) us))
@@ -114,7 +116,8 @@ module _ (n : RattleType) (h : hash.Ghosts n.Denot) (hd : Dict) (t : total.Ghost
     pub reference_back : ReadsBack (λ r. IfSome (reference_name r) Fits) reference_input reference_read
     reference_back r f ts =
         ap (λ q. bind q after_nullable) (bool_back r.nullable (heap_input r.heap_type ++ ts))
-        ∙ ap (λ q. bind q (λ x vs. Got (record { nullable = r.nullable; heap_type = x }) vs)) (heap_back r.heap_type f ts)
+        ∙ ap (λ q. bind q (λ x vs. Got (record { nullable = r.nullable; heap_type = x }) vs))
+        (heap_back r.heap_type f ts)
 
     abbrev val_case : ℕ → HashWrites → Read (Val n.Denot)
     val_case m ws =
@@ -160,4 +163,5 @@ module _ (n : RattleType) (h : hash.Ghosts n.Denot) (hd : Dict) (t : total.Ghost
     field_back x f ts =
         ap field_read (append_assoc (storage_input x.element_type) (fed.bool x.mutable) ts)
         ∙ (ap (λ q. bind q after_element) (storage_back x.element_type f (fed.bool x.mutable ++ ts))
-        ∙ ap (λ q. bind q (λ b vs. Got (record { element_type = x.element_type; mutable = b }) vs)) (bool_back x.mutable ts))
+        ∙ ap (λ q. bind q (λ b vs. Got (record { element_type = x.element_type; mutable = b }) vs))
+        (bool_back x.mutable ts))

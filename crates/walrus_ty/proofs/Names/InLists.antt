@@ -56,7 +56,8 @@ pub any_append :
     {A : Type 0} (test : A → Bool) (xs ys : List A) →
     list_any test (xs ++ ys) ≡ (list_any test xs || list_any test ys)
 any_append test [] ys = refl
-any_append test (x ∷ xs) ys = ap (λ (b : Bool). test x || b) (any_append test xs ys) ∙ or_assoc (test x) (list_any test xs) (list_any test ys)
+any_append test (x ∷ xs) ys = ap (λ (b : Bool). test x || b) (any_append test xs ys)
+    ∙ or_assoc (test x) (list_any test xs) (list_any test ys)
 
 pub any_left :
     {A : Type 0} (test : A → Bool) (xs ys : List A) → list_any test xs ≡ true →
@@ -71,10 +72,12 @@ any_right test xs ys h = any_append test xs ys ∙ or_false (list_any test xs) (
 pub any_here :
     {A B : Type 0} (test : B → Bool) (f : A → List B) (rest left : List A) (x : A) →
     rest ≡ x ∷ left → list_any test (f x) ≡ true → list_any test (flat_map f rest) ≡ true
-any_here test f rest left x e h = ap (λ xs. list_any test (flat_map f xs)) e ∙ any_left test (f x) (flat_map f left) h
+any_here test f rest left x e h = ap (λ xs. list_any test (flat_map f xs)) e
+    ∙ any_left test (f x) (flat_map f left) h
 
 pub any_later :
     {A B : Type 0} (test : B → Bool) (f : A → List B) (rest left : List A) (x : A) →
     rest ≡ x ∷ left → list_any test (f x) ≡ false →
     list_any test (flat_map f rest) ≡ list_any test (flat_map f left)
-any_later test f rest left x e h = ap (λ xs. list_any test (flat_map f xs)) e ∙ any_right test (f x) (flat_map f left) h
+any_later test f rest left x e h = ap (λ xs. list_any test (flat_map f xs)) e
+    ∙ any_right test (f x) (flat_map f left) h

@@ -46,7 +46,12 @@ pub reference_is :
     (id_eq.dict Builtin.RawPtr) (id_partial_eq.ghosts Builtin.RawPtr)
     (id_partial_eq.dict Builtin.RawPtr) (id_partial_order.ghosts Builtin.RawPtr)
     (id_partial_order.dict Builtin.RawPtr)).cmp r q ≡ reference_cmp r q
-reference_is r q = ap (λ o. ordering_then o ((heap_order.ghosts (Key.the_row Builtin.RawPtr) (id_order.ghosts Builtin.RawPtr) (id_order.dict Builtin.RawPtr) (id_eq.ghosts Builtin.RawPtr) (id_eq.dict Builtin.RawPtr) (id_partial_eq.ghosts Builtin.RawPtr) (id_partial_eq.dict Builtin.RawPtr) (id_partial_order.ghosts Builtin.RawPtr) (id_partial_order.dict Builtin.RawPtr)).cmp r.heap_type q.heap_type)) (bool_is r.nullable q.nullable)
+reference_is r q = ap (λ o. ordering_then
+    o ((heap_order.ghosts (Key.the_row Builtin.RawPtr) (id_order.ghosts Builtin.RawPtr)
+    (id_order.dict Builtin.RawPtr) (id_eq.ghosts Builtin.RawPtr) (id_eq.dict Builtin.RawPtr)
+    (id_partial_eq.ghosts Builtin.RawPtr) (id_partial_eq.dict Builtin.RawPtr)
+    (id_partial_order.ghosts Builtin.RawPtr) (id_partial_order.dict Builtin.RawPtr)).cmp r.heap_type
+    q.heap_type)) (bool_is r.nullable q.nullable)
     ∙ ap (ordering_then (bool_cmp r.nullable q.nullable)) (heap_is r.heap_type q.heap_type)
 
 pub val_is :
@@ -114,5 +119,6 @@ pub field_is :
     (id_eq.dict Builtin.RawPtr) (id_partial_eq.ghosts Builtin.RawPtr)
     (id_partial_eq.dict Builtin.RawPtr) (id_partial_order.ghosts Builtin.RawPtr)
     (id_partial_order.dict Builtin.RawPtr)).cmp f g ≡ field_cmp f g
-field_is f g = ap (λ o. ordering_then o ((bool_order.ghosts).cmp f.mutable g.mutable)) (storage_is f.element_type g.element_type)
+field_is f g = ap (λ o. ordering_then o ((bool_order.ghosts).cmp f.mutable g.mutable))
+    (storage_is f.element_type g.element_type)
     ∙ ap (ordering_then (storage_cmp f.element_type g.element_type)) (bool_is f.mutable g.mutable)

@@ -41,7 +41,10 @@ pub reference_is :
     (r q : Reference ℕ) → (reference_order.ghosts u32 number_order.ghosts number_order.dict
     number_eq.ghosts number_eq.dict number_partial_eq.ghosts number_partial_eq.dict
     number_partial_order.ghosts number_partial_order.dict).cmp r q ≡ reference_cmp r q
-reference_is r q = ap (λ o. ordering_then o ((heap_order.ghosts u32 number_order.ghosts number_order.dict number_eq.ghosts number_eq.dict number_partial_eq.ghosts number_partial_eq.dict number_partial_order.ghosts number_partial_order.dict).cmp r.heap_type q.heap_type)) (bool_is r.nullable q.nullable)
+reference_is r q = ap (λ o. ordering_then
+    o ((heap_order.ghosts u32 number_order.ghosts number_order.dict number_eq.ghosts number_eq.dict
+    number_partial_eq.ghosts number_partial_eq.dict number_partial_order.ghosts number_partial_order.dict).cmp
+    r.heap_type q.heap_type)) (bool_is r.nullable q.nullable)
     ∙ ap (ordering_then (bool_cmp r.nullable q.nullable)) (heap_is r.heap_type q.heap_type)
 
 pub val_is :
@@ -103,5 +106,6 @@ pub field_is :
     (f g : Field ℕ) → (field_order.ghosts u32 number_order.ghosts number_order.dict number_eq.ghosts
     number_eq.dict number_partial_eq.ghosts number_partial_eq.dict number_partial_order.ghosts
     number_partial_order.dict).cmp f g ≡ field_cmp f g
-field_is f g = ap (λ o. ordering_then o ((bool_order.ghosts).cmp f.mutable g.mutable)) (storage_is f.element_type g.element_type)
+field_is f g = ap (λ o. ordering_then o ((bool_order.ghosts).cmp f.mutable g.mutable))
+    (storage_is f.element_type g.element_type)
     ∙ ap (ordering_then (storage_cmp f.element_type g.element_type)) (bool_is f.mutable g.mutable)

@@ -36,20 +36,26 @@ vals_are :
     slice_cmp (val_order.ghosts u32 number_order.ghosts number_order.dict number_eq.ghosts
     number_eq.dict number_partial_eq.ghosts number_partial_eq.dict number_partial_order.ghosts
     number_partial_order.dict).cmp vs ws ≡ slice_cmp val_cmp vs ws
-vals_are vs ws = lists_are (val_order.ghosts u32 number_order.ghosts number_order.dict number_eq.ghosts number_eq.dict number_partial_eq.ghosts number_partial_eq.dict number_partial_order.ghosts number_partial_order.dict).cmp val_cmp val_is vs ws
+vals_are vs ws = lists_are (val_order.ghosts u32 number_order.ghosts number_order.dict number_eq.ghosts
+    number_eq.dict number_partial_eq.ghosts number_partial_eq.dict number_partial_order.ghosts
+    number_partial_order.dict).cmp val_cmp val_is vs ws
 
 fields_are :
     (fs gs : List (Field ℕ)) →
     slice_cmp (field_order.ghosts u32 number_order.ghosts number_order.dict number_eq.ghosts
     number_eq.dict number_partial_eq.ghosts number_partial_eq.dict number_partial_order.ghosts
     number_partial_order.dict).cmp fs gs ≡ slice_cmp field_cmp fs gs
-fields_are fs gs = lists_are (field_order.ghosts u32 number_order.ghosts number_order.dict number_eq.ghosts number_eq.dict number_partial_eq.ghosts number_partial_eq.dict number_partial_order.ghosts number_partial_order.dict).cmp field_cmp field_is fs gs
+fields_are fs gs = lists_are (field_order.ghosts u32 number_order.ghosts number_order.dict number_eq.ghosts
+    number_eq.dict number_partial_eq.ghosts number_partial_eq.dict number_partial_order.ghosts
+    number_partial_order.dict).cmp field_cmp field_is fs gs
 
 pub comp_is :
     (c d : CompAt) → (comp_order.ghosts).cmp c d ≡
     composite_cmp (comp_composite c) (comp_composite d)
 comp_is (comp.Function ps rs) (comp.Function qs ss) =
-    ap (λ o. ordering_then o (slice_cmp (val_order.ghosts u32 number_order.ghosts number_order.dict number_eq.ghosts number_eq.dict number_partial_eq.ghosts number_partial_eq.dict number_partial_order.ghosts number_partial_order.dict).cmp rs ss)) (vals_are ps qs)
+    ap (λ o. ordering_then o (slice_cmp (val_order.ghosts u32 number_order.ghosts number_order.dict
+    number_eq.ghosts number_eq.dict number_partial_eq.ghosts number_partial_eq.dict
+    number_partial_order.ghosts number_partial_order.dict).cmp rs ss)) (vals_are ps qs)
     ∙ ap (ordering_then (slice_cmp val_cmp ps qs)) (vals_are rs ss)
 comp_is (comp.Function ps rs) (comp.Struct gs) = refl
 comp_is (comp.Function ps rs) (comp.Array g) = refl
@@ -73,9 +79,16 @@ pub entry_is :
     (d e : EntryAt) → (entry_order.ghosts).cmp d e ≡
     definition_cmp (entry_definition d) (entry_definition e)
 entry_is d e =
-    ap (λ o. ordering_then o (ordering_then ((bool_order.ghosts).cmp d.is_final e.is_final) ((option_order.ghosts u32 number_order.ghosts number_order.dict number_eq.ghosts number_eq.dict number_partial_eq.ghosts number_partial_eq.dict number_partial_order.ghosts number_partial_order.dict).cmp d.supertype e.supertype))) (comp_is d.comp e.comp)
-    ∙ (ap (λ o. ordering_then (composite_cmp (comp_composite d.comp) (comp_composite e.comp)) (ordering_then o ((option_order.ghosts u32 number_order.ghosts number_order.dict number_eq.ghosts number_eq.dict number_partial_eq.ghosts number_partial_eq.dict number_partial_order.ghosts number_partial_order.dict).cmp d.supertype e.supertype))) (bool_is d.is_final e.is_final)
-    ∙ ap (λ o. ordering_then (composite_cmp (comp_composite d.comp) (comp_composite e.comp)) (ordering_then (bool_cmp d.is_final e.is_final) o)) (supertype_is d.supertype e.supertype))
+    ap (λ o. ordering_then o (ordering_then ((bool_order.ghosts).cmp d.is_final e.is_final)
+    ((option_order.ghosts u32 number_order.ghosts number_order.dict number_eq.ghosts number_eq.dict
+    number_partial_eq.ghosts number_partial_eq.dict number_partial_order.ghosts
+    number_partial_order.dict).cmp d.supertype e.supertype))) (comp_is d.comp e.comp)
+    ∙ (ap (λ o. ordering_then (composite_cmp (comp_composite d.comp) (comp_composite e.comp)) (ordering_then
+    o ((option_order.ghosts u32 number_order.ghosts number_order.dict number_eq.ghosts number_eq.dict
+    number_partial_eq.ghosts number_partial_eq.dict number_partial_order.ghosts
+    number_partial_order.dict).cmp d.supertype e.supertype))) (bool_is d.is_final e.is_final)
+    ∙ ap (λ o. ordering_then (composite_cmp (comp_composite d.comp) (comp_composite e.comp)) (ordering_then
+    (bool_cmp d.is_final e.is_final) o)) (supertype_is d.supertype e.supertype))
 
 pub equal_if_is_eq : (o : Ordering) → is_eq o ≡ true → o ≡ Equal
 equal_if_is_eq Less h = cc
@@ -87,6 +100,9 @@ pub entry_equal :
     (d e : EntryAt) → (IsTrue ((entry_equality.ghosts).eq d e) ↔
     (entry_definition d ≡ entry_definition e))
 entry_equal d e = (
-  (λ h. definition_exact (entry_definition d) (entry_definition e) (sym (entry_is d e) ∙ equal_if_is_eq ((entry_order.ghosts).cmp d e) (sym (entry_laws.matches_eq-law d e) ∙ h))),
-  (λ p. entry_laws.matches_eq-law d e ∙ ap is_eq (entry_is d e ∙ (ap (definition_cmp (entry_definition d)) (sym p) ∙ tied_itself definitions_total (entry_definition d)))),
+  (λ h. definition_exact (entry_definition d) (entry_definition e) (sym (entry_is d e)
+      ∙ equal_if_is_eq ((entry_order.ghosts).cmp d e) (sym (entry_laws.matches_eq-law d e) ∙ h))),
+  (λ p. entry_laws.matches_eq-law d e ∙ ap is_eq (entry_is d e
+      ∙ (ap (definition_cmp (entry_definition d)) (sym p)
+      ∙ tied_itself definitions_total (entry_definition d)))),
 )

@@ -32,7 +32,9 @@ abbrev array_of : Field ℕ → Definition
 array_of f = record { composite = Array f; is_final = true; supertype = None }
 
 field_found : (f g : Field ℕ) → field_cmp f g ≡ Equal → f ≡ g
-field_found f g h = let p : Array f ≡ Array g = ap (λ (d : Definition). d.composite) (definition_exact (array_of f) (array_of g) (ap (λ o. ordering_then o Equal) h)) in cc
+field_found f g h = let p : Array f ≡ Array g =
+    ap (λ (d : Definition). d.composite) (definition_exact (array_of f) (array_of g)
+    (ap (λ o. ordering_then o Equal) h)) in cc
 
 field_itself : (f : Field ℕ) → field_cmp f f ≡ Equal
 field_itself f = (then_equal (field_cmp f f) Equal (tied_itself definitions_total (array_of f))).0
@@ -41,13 +43,15 @@ abbrev whole : Storage ℕ → Field ℕ
 whole s = record { element_type = s; mutable = true }
 
 storage_found : (s t : Storage ℕ) → storage_cmp s t ≡ Equal → s ≡ t
-storage_found s t h = ap (λ (f : Field ℕ). f.element_type) (field_found (whole s) (whole t) (ap (λ o. ordering_then o Equal) h))
+storage_found s t h = ap (λ (f : Field ℕ). f.element_type)
+    (field_found (whole s) (whole t) (ap (λ o. ordering_then o Equal) h))
 
 storage_itself : (s : Storage ℕ) → storage_cmp s s ≡ Equal
 storage_itself s = (then_equal (storage_cmp s s) Equal (field_itself (whole s))).0
 
 val_found : (v w : Val ℕ) → val_cmp v w ≡ Equal → v ≡ w
-val_found v w h = let p : storage.Val v ≡ storage.Val w = storage_found (storage.Val v) (storage.Val w) h in cc
+val_found v w h = let p : storage.Val v ≡ storage.Val w = storage_found (storage.Val v) (storage.Val w) h in
+    cc
 
 val_itself : (v : Val ℕ) → val_cmp v v ≡ Equal
 val_itself v = storage_itself (storage.Val v)
@@ -99,5 +103,8 @@ pub by_equality :
     ((x y : A) → eq x y ≡ is_eq (cmp x y)) → ComparesBy parts eq cmp
 by_equality parts {eq = eq} {cmp = cmp} same matches = record {
   equal = same;
-  tied = λ x y. ((λ h. (same x y).0 (matches x y ∙ ap is_eq h)), (λ p. equal_if_is_eq (cmp x y) (sym (matches x y) ∙ (same x y).1 p)));
+  tied = λ x y. (
+    (λ h. (same x y).0 (matches x y ∙ ap is_eq h)),
+    (λ p. equal_if_is_eq (cmp x y) (sym (matches x y) ∙ (same x y).1 p)),
+  );
 }

@@ -41,7 +41,10 @@ vals_are :
     (id_partial_eq.ghosts Builtin.RawPtr) (id_partial_eq.dict Builtin.RawPtr)
     (id_partial_order.ghosts Builtin.RawPtr) (id_partial_order.dict Builtin.RawPtr)).cmp vs ws ≡
     slice_cmp val_cmp vs ws
-vals_are vs ws = lists_are (val_order.ghosts (Key.the_row Builtin.RawPtr) (id_order.ghosts Builtin.RawPtr) (id_order.dict Builtin.RawPtr) (id_eq.ghosts Builtin.RawPtr) (id_eq.dict Builtin.RawPtr) (id_partial_eq.ghosts Builtin.RawPtr) (id_partial_eq.dict Builtin.RawPtr) (id_partial_order.ghosts Builtin.RawPtr) (id_partial_order.dict Builtin.RawPtr)).cmp val_cmp val_is vs ws
+vals_are vs ws = lists_are (val_order.ghosts (Key.the_row Builtin.RawPtr) (id_order.ghosts Builtin.RawPtr)
+    (id_order.dict Builtin.RawPtr) (id_eq.ghosts Builtin.RawPtr) (id_eq.dict Builtin.RawPtr)
+    (id_partial_eq.ghosts Builtin.RawPtr) (id_partial_eq.dict Builtin.RawPtr)
+    (id_partial_order.ghosts Builtin.RawPtr) (id_partial_order.dict Builtin.RawPtr)).cmp val_cmp val_is vs ws
 
 fields_are :
     (fs gs : List (Field ℕ)) →
@@ -50,13 +53,21 @@ fields_are :
     (id_partial_eq.ghosts Builtin.RawPtr) (id_partial_eq.dict Builtin.RawPtr)
     (id_partial_order.ghosts Builtin.RawPtr) (id_partial_order.dict Builtin.RawPtr)).cmp fs gs ≡
     slice_cmp field_cmp fs gs
-fields_are fs gs = lists_are (field_order.ghosts (Key.the_row Builtin.RawPtr) (id_order.ghosts Builtin.RawPtr) (id_order.dict Builtin.RawPtr) (id_eq.ghosts Builtin.RawPtr) (id_eq.dict Builtin.RawPtr) (id_partial_eq.ghosts Builtin.RawPtr) (id_partial_eq.dict Builtin.RawPtr) (id_partial_order.ghosts Builtin.RawPtr) (id_partial_order.dict Builtin.RawPtr)).cmp field_cmp field_is fs gs
+fields_are fs gs = lists_are (field_order.ghosts (Key.the_row Builtin.RawPtr) (id_order.ghosts Builtin.RawPtr)
+    (id_order.dict Builtin.RawPtr) (id_eq.ghosts Builtin.RawPtr) (id_eq.dict Builtin.RawPtr)
+    (id_partial_eq.ghosts Builtin.RawPtr) (id_partial_eq.dict Builtin.RawPtr)
+    (id_partial_order.ghosts Builtin.RawPtr) (id_partial_order.dict Builtin.RawPtr)).cmp field_cmp field_is fs
+    gs
 
 pub kind_is :
     (c d : CompositeType) → (kind_order.ghosts).cmp c d ≡
     composite_cmp (kind_composite c) (kind_composite d)
 kind_is (kind.Function f) (kind.Function g) =
-    ap (λ o. ordering_then o (slice_cmp (val_order.ghosts (Key.the_row Builtin.RawPtr) (id_order.ghosts Builtin.RawPtr) (id_order.dict Builtin.RawPtr) (id_eq.ghosts Builtin.RawPtr) (id_eq.dict Builtin.RawPtr) (id_partial_eq.ghosts Builtin.RawPtr) (id_partial_eq.dict Builtin.RawPtr) (id_partial_order.ghosts Builtin.RawPtr) (id_partial_order.dict Builtin.RawPtr)).cmp f.results g.results)) (vals_are f.params g.params)
+    ap (λ o. ordering_then o (slice_cmp (val_order.ghosts (Key.the_row Builtin.RawPtr)
+    (id_order.ghosts Builtin.RawPtr) (id_order.dict Builtin.RawPtr) (id_eq.ghosts Builtin.RawPtr)
+    (id_eq.dict Builtin.RawPtr) (id_partial_eq.ghosts Builtin.RawPtr) (id_partial_eq.dict Builtin.RawPtr)
+    (id_partial_order.ghosts Builtin.RawPtr) (id_partial_order.dict Builtin.RawPtr)).cmp f.results
+    g.results)) (vals_are f.params g.params)
     ∙ ap (ordering_then (slice_cmp val_cmp f.params g.params)) (vals_are f.results g.results)
 kind_is (kind.Function f) (kind.Struct t) = refl
 kind_is (kind.Function f) (kind.Array b) = refl
@@ -101,12 +112,24 @@ pub type_is :
     ordering_then (definition_cmp (type_definition t) (type_definition u))
     (bool_cmp t.is_for_function_entry u.is_for_function_entry)
 type_is t u =
-    then_three ((kind_order.ghosts).cmp t.kind u.kind) ((bool_order.ghosts).cmp t.is_final u.is_final) ((option_order.ghosts (Key.the_row Builtin.RawPtr) (id_order.ghosts Builtin.RawPtr) (id_order.dict Builtin.RawPtr) (id_eq.ghosts Builtin.RawPtr) (id_eq.dict Builtin.RawPtr) (id_partial_eq.ghosts Builtin.RawPtr) (id_partial_eq.dict Builtin.RawPtr) (id_partial_order.ghosts Builtin.RawPtr) (id_partial_order.dict Builtin.RawPtr)).cmp t.supertype u.supertype) ((bool_order.ghosts).cmp t.is_for_function_entry u.is_for_function_entry)
+    then_three ((kind_order.ghosts).cmp t.kind u.kind) ((bool_order.ghosts).cmp t.is_final u.is_final)
+    ((option_order.ghosts (Key.the_row Builtin.RawPtr) (id_order.ghosts Builtin.RawPtr)
+    (id_order.dict Builtin.RawPtr) (id_eq.ghosts Builtin.RawPtr) (id_eq.dict Builtin.RawPtr)
+    (id_partial_eq.ghosts Builtin.RawPtr) (id_partial_eq.dict Builtin.RawPtr)
+    (id_partial_order.ghosts Builtin.RawPtr) (id_partial_order.dict Builtin.RawPtr)).cmp t.supertype
+    u.supertype) ((bool_order.ghosts).cmp t.is_for_function_entry u.is_for_function_entry)
     ∙ (ap (λ o. ordering_then o ((bool_order.ghosts).cmp t.is_for_function_entry u.is_for_function_entry))
-    (then_same ((kind_order.ghosts).cmp t.kind u.kind) ((bool_order.ghosts).cmp t.is_final u.is_final) ((option_order.ghosts (Key.the_row Builtin.RawPtr) (id_order.ghosts Builtin.RawPtr) (id_order.dict Builtin.RawPtr) (id_eq.ghosts Builtin.RawPtr) (id_eq.dict Builtin.RawPtr) (id_partial_eq.ghosts Builtin.RawPtr) (id_partial_eq.dict Builtin.RawPtr) (id_partial_order.ghosts Builtin.RawPtr) (id_partial_order.dict Builtin.RawPtr)).cmp t.supertype u.supertype)
-    (composite_cmp (kind_composite t.kind) (kind_composite u.kind)) (bool_cmp t.is_final u.is_final) (supertype_cmp t.supertype u.supertype)
+    (then_same ((kind_order.ghosts).cmp t.kind u.kind) ((bool_order.ghosts).cmp t.is_final u.is_final)
+    ((option_order.ghosts (Key.the_row Builtin.RawPtr) (id_order.ghosts Builtin.RawPtr)
+    (id_order.dict Builtin.RawPtr) (id_eq.ghosts Builtin.RawPtr) (id_eq.dict Builtin.RawPtr)
+    (id_partial_eq.ghosts Builtin.RawPtr) (id_partial_eq.dict Builtin.RawPtr)
+    (id_partial_order.ghosts Builtin.RawPtr) (id_partial_order.dict Builtin.RawPtr)).cmp t.supertype
+    u.supertype)
+    (composite_cmp (kind_composite t.kind) (kind_composite u.kind)) (bool_cmp t.is_final u.is_final)
+    (supertype_cmp t.supertype u.supertype)
     (kind_is t.kind u.kind) (bool_is t.is_final u.is_final) (supertype_is t.supertype u.supertype))
-    ∙ ap (ordering_then (definition_cmp (type_definition t) (type_definition u))) (bool_is t.is_for_function_entry u.is_for_function_entry))
+    ∙ ap (ordering_then (definition_cmp (type_definition t) (type_definition u)))
+    (bool_is t.is_for_function_entry u.is_for_function_entry))
 
 marks_equal : (a b : Bool) → bool_cmp a b ≡ Equal → a ≡ b
 marks_equal true true h = refl
@@ -127,9 +150,13 @@ pub type_equal :
 type_equal t u =
     let d = definition_cmp (type_definition t) (type_definition u) in
     let m = bool_cmp t.is_for_function_entry u.is_for_function_entry in (
-      (λ h. (let e = then_equal d m (sym (type_is t u) ∙ equal_if_is_eq ((type_order.ghosts).cmp t u) (sym (type_laws.matches_eq-law t u) ∙ h)) in
-          (definition_exact (type_definition t) (type_definition u) e.0, marks_equal t.is_for_function_entry u.is_for_function_entry e.1))),
-      (λ p. (let a : d ≡ Equal = ap (definition_cmp (type_definition t)) (sym p.0) ∙ tied_itself definitions_total (type_definition t) in
+      (λ h. (let e = then_equal d m (sym (type_is t u)
+          ∙ equal_if_is_eq ((type_order.ghosts).cmp t u) (sym (type_laws.matches_eq-law t u) ∙ h)) in (
+            definition_exact (type_definition t) (type_definition u) e.0,
+            marks_equal t.is_for_function_entry u.is_for_function_entry e.1,
+          ))),
+      (λ p. (let a : d ≡ Equal = ap (definition_cmp (type_definition t)) (sym p.0)
+          ∙ tied_itself definitions_total (type_definition t) in
           let b : m ≡ Equal = marks_tied t.is_for_function_entry u.is_for_function_entry p.1 in
           type_laws.matches_eq-law t u ∙ ap is_eq (type_is t u ∙ (ap (λ o. ordering_then o m) a ∙ b)))),
     )

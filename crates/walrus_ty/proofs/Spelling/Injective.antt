@@ -17,7 +17,12 @@ use Rattle.walrus_ty.proofs.Spelling.Spelled.{heap_spelled, reference_spelled, v
 
 -- an abstract heap type from its number
 pub abstract_at : ℕ → AbstractHeapType
-abstract_at n = cond (n == 0) abstract.Func (cond (n == 1) abstract.Extern (cond (n == 2) abstract.Any (cond (n == 3) abstract.None (cond (n == 4) abstract.NoExtern (cond (n == 5) abstract.NoFunc (cond (n == 6) abstract.Eq (cond (n == 7) abstract.Struct (cond (n == 8) abstract.Array (cond (n == 9) abstract.I31 (cond (n == 10) abstract.Exn (abstract.NoExn)))))))))))
+abstract_at n = cond (n == 0) abstract.Func (cond (n == 1) abstract.Extern
+    (cond (n == 2) abstract.Any (cond (n == 3) abstract.None
+    (cond (n == 4) abstract.NoExtern (cond (n == 5) abstract.NoFunc
+    (cond (n == 6) abstract.Eq (cond (n == 7) abstract.Struct
+    (cond (n == 8) abstract.Array (cond (n == 9) abstract.I31
+    (cond (n == 10) abstract.Exn (abstract.NoExn)))))))))))
 
 pub abstract_back : (a : AbstractHeapType) → abstract_at (abstract_index a) ≡ a
 unfolding abstract_at
@@ -39,7 +44,8 @@ abstract_of a b h = sym (abstract_back a) ∙ (ap abstract_at h ∙ abstract_bac
 
 heap_told :
     (h g : Heap ℕ) (ts us : Spelling) → heap_spelled h ts ≡ heap_spelled g us → (h ≡ g) × (ts ≡ us)
-heap_told (heap.Abstract a) (heap.Abstract b) ts us e = let p : abstract_index a ≡ abstract_index b = cc in (ap heap.Abstract (abstract_of a b p), cc)
+heap_told (heap.Abstract a) (heap.Abstract b) ts us e = let p : abstract_index a ≡ abstract_index b = cc in
+    (ap heap.Abstract (abstract_of a b p), cc)
 heap_told (heap.Abstract a) (heap.Concrete l) ts us e = cc
 heap_told (heap.Abstract a) (heap.Exact l) ts us e = cc
 heap_told (heap.Concrete k) (heap.Abstract b) ts us e = cc
@@ -62,8 +68,11 @@ reference_told r q ts us e =
     let a : bool_index r.nullable ≡ bool_index q.nullable = cc in
     let h = heap_told r.heap_type q.heap_type ts us cc in
     let b : r.nullable ≡ q.nullable = bool_of r.nullable q.nullable a in
-    let c : r.heap_type ≡ q.heap_type = h.0 in
-    (ap (λ x. record { nullable = x; heap_type = r.heap_type }) b ∙ ap (λ x. record { nullable = q.nullable; heap_type = x }) c, h.1)
+    let c : r.heap_type ≡ q.heap_type = h.0 in (
+      ap (λ x. record { nullable = x; heap_type = r.heap_type }) b
+          ∙ ap (λ x. record { nullable = q.nullable; heap_type = x }) c,
+      h.1,
+    )
 
 val_told :
     (v w : Val ℕ) (ts us : Spelling) → val_spelled v ts ≡ val_spelled w us → (v ≡ w) × (ts ≡ us)
@@ -107,7 +116,8 @@ val_told (val.Ref r) val.V128 ts us e = cc
 storage_told :
     (a b : Storage ℕ) (ts us : Spelling) → storage_spelled a ts ≡ storage_spelled b us →
     (a ≡ b) × (ts ≡ us)
-storage_told (storage.Val v) (storage.Val w) ts us e = let h = val_told v w ts us cc in (ap storage.Val h.0, h.1)
+storage_told (storage.Val v) (storage.Val w) ts us e = let h = val_told v w ts us cc in
+    (ap storage.Val h.0, h.1)
 storage_told (storage.Val v) storage.I8 ts us e = cc
 storage_told (storage.Val v) storage.I16 ts us e = cc
 storage_told storage.I8 (storage.Val w) ts us e = cc
@@ -124,8 +134,11 @@ field_told f g ts us e =
     let h = storage_told f.element_type g.element_type _ _ e in
     let h1 : Mark (bool_index f.mutable) ∷ ts ≡ Mark (bool_index g.mutable) ∷ us = h.1 in
     let a : bool_index f.mutable ≡ bool_index g.mutable = cc in
-    let b : f.mutable ≡ g.mutable = bool_of f.mutable g.mutable a in
-    (ap (λ x. record { element_type = x; mutable = f.mutable }) h.0 ∙ ap (λ x. record { element_type = g.element_type; mutable = x }) b, cc)
+    let b : f.mutable ≡ g.mutable = bool_of f.mutable g.mutable a in (
+      ap (λ x. record { element_type = x; mutable = f.mutable }) h.0
+          ∙ ap (λ x. record { element_type = g.element_type; mutable = x }) b,
+      cc,
+    )
 
 list_told :
     {A : Type 0} (f : A → Spelling → Spelling) →
@@ -150,7 +163,8 @@ composite_told (Function ps rs) (Function qs ss) ts us e =
 composite_told (Function ps rs) (Struct gs) ts us e = cc
 composite_told (Function ps rs) (Array g) ts us e = cc
 composite_told (Struct fs) (Function qs ss) ts us e = cc
-composite_told (Struct fs) (Struct gs) ts us e = let a = list_told field_spelled field_told fs gs ts us cc in (ap Struct a.0, a.1)
+composite_told (Struct fs) (Struct gs) ts us e = let a = list_told field_spelled field_told fs gs ts us cc in
+    (ap Struct a.0, a.1)
 composite_told (Struct fs) (Array g) ts us e = cc
 composite_told (Array f) (Function qs ss) ts us e = cc
 composite_told (Array f) (Struct gs) ts us e = cc
@@ -166,9 +180,11 @@ supertype_told (Some k) (Some l) e = cc
 pub told : (d e : Definition) → spelled d ≡ spelled e → d ≡ e
 told d e h =
     let a = composite_told d.composite e.composite _ _ h in
-    let a1 : Mark (bool_index d.is_final) ∷ supertype_spelled d.supertype ≡ Mark (bool_index e.is_final) ∷ supertype_spelled e.supertype = a.1 in
+    let a1 : Mark (bool_index d.is_final) ∷ supertype_spelled d.supertype ≡ Mark (bool_index e.is_final) ∷
+    supertype_spelled e.supertype = a.1 in
     let b : bool_index d.is_final ≡ bool_index e.is_final = cc in
     let b' = bool_of d.is_final e.is_final b in
     let c = supertype_told d.supertype e.supertype cc in
     ap (λ x. record { composite = x; is_final = d.is_final; supertype = d.supertype }) a.0
-    ∙ (ap (λ x. record { composite = e.composite; is_final = x; supertype = d.supertype }) b' ∙ ap (λ x. record { composite = e.composite; is_final = e.is_final; supertype = x }) c)
+    ∙ (ap (λ x. record { composite = e.composite; is_final = x; supertype = d.supertype }) b'
+    ∙ ap (λ x. record { composite = e.composite; is_final = e.is_final; supertype = x }) c)

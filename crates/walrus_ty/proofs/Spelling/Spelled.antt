@@ -87,7 +87,8 @@ reference_orders :
     ordering_then (reference_cmp r q) (spelling_cmp ts us)
 reference_orders r q ts us =
     ap (ordering_then (bool_cmp r.nullable q.nullable)) (heap_orders r.heap_type q.heap_type ts us)
-    ∙ sym (then_assoc (bool_cmp r.nullable q.nullable) (heap_cmp r.heap_type q.heap_type) (spelling_cmp ts us))
+    ∙ sym (then_assoc (bool_cmp r.nullable q.nullable) (heap_cmp r.heap_type q.heap_type)
+    (spelling_cmp ts us))
 
 val_orders :
     (v w : Val ℕ) (ts us : Spelling) →
@@ -141,7 +142,9 @@ list_orders f c h [] [] ts us = refl
 list_orders f c h [] (y ∷ ys) ts us = refl
 list_orders f c h (x ∷ xs) [] ts us = refl
 list_orders f c h (x ∷ xs) (y ∷ ys) ts us =
-    h x y (list_spelled f xs ts) (list_spelled f ys us) ∙ (ap (ordering_then (c x y)) (list_orders f c h xs ys ts us) ∙ sym (then_assoc (c x y) (slice_cmp c xs ys) (spelling_cmp ts us)))
+    h x y (list_spelled f xs ts) (list_spelled f ys us)
+    ∙ (ap (ordering_then (c x y)) (list_orders f c h xs ys ts us)
+    ∙ sym (then_assoc (c x y) (slice_cmp c xs ys) (spelling_cmp ts us)))
 
 heap_renames :
     (m : ℕ → ℕ) (h : Heap ℕ) (ts : Spelling) →
@@ -153,7 +156,8 @@ heap_renames m (heap.Exact k) ts = refl
 val_renames :
     (m : ℕ → ℕ) (v : Val ℕ) (ts : Spelling) →
     retold m (val_spelled v ts) ≡ val_spelled (rename_val m v) (retold m ts)
-val_renames m (val.Ref r) ts = ap (λ us. Mark 5 ∷ Mark (bool_index r.nullable) ∷ us) (heap_renames m r.heap_type ts)
+val_renames m (val.Ref r) ts = ap (λ us. Mark 5 ∷ Mark (bool_index r.nullable) ∷ us)
+    (heap_renames m r.heap_type ts)
 val_renames m v ts = refl
 
 list_renames :
@@ -162,7 +166,8 @@ list_renames :
     (xs : List A) (ts : Spelling) →
     retold m (list_spelled f xs ts) ≡ list_spelled f (map g xs) (retold m ts)
 list_renames f m g h [] ts = refl
-list_renames f m g h (x ∷ xs) ts = ap (λ us. Mark 1 ∷ us) (h x (list_spelled f xs ts) ∙ ap (f (g x)) (list_renames f m g h xs ts))
+list_renames f m g h (x ∷ xs) ts = ap (λ us. Mark 1 ∷ us) (h x (list_spelled f xs ts)
+    ∙ ap (f (g x)) (list_renames f m g h xs ts))
 
 storage_orders :
     (a b : Storage ℕ) (ts us : Spelling) →
@@ -183,15 +188,18 @@ field_orders :
     spelling_cmp (field_spelled f ts) (field_spelled g us) ≡
     ordering_then (field_cmp f g) (spelling_cmp ts us)
 field_orders f g ts us =
-    storage_orders f.element_type g.element_type (Mark (bool_index f.mutable) ∷ ts) (Mark (bool_index g.mutable) ∷ us)
-    ∙ sym (then_assoc (storage_cmp f.element_type g.element_type) (bool_cmp f.mutable g.mutable) (spelling_cmp ts us))
+    storage_orders f.element_type g.element_type (Mark (bool_index f.mutable) ∷ ts)
+    (Mark (bool_index g.mutable) ∷ us)
+    ∙ sym (then_assoc (storage_cmp f.element_type g.element_type) (bool_cmp f.mutable g.mutable)
+    (spelling_cmp ts us))
 
 composite_orders :
     (c d : Composite) (ts us : Spelling) →
     spelling_cmp (composite_spelled c ts) (composite_spelled d us) ≡
     ordering_then (composite_cmp c d) (spelling_cmp ts us)
 composite_orders (Function ps rs) (Function qs ss) ts us =
-    list_orders val_spelled val_cmp val_orders ps qs (list_spelled val_spelled rs ts) (list_spelled val_spelled ss us)
+    list_orders val_spelled val_cmp val_orders ps qs (list_spelled val_spelled rs ts)
+    (list_spelled val_spelled ss us)
     ∙ (ap (ordering_then (slice_cmp val_cmp ps qs)) (list_orders val_spelled val_cmp val_orders rs ss ts us)
     ∙ sym (then_assoc (slice_cmp val_cmp ps qs) (slice_cmp val_cmp rs ss) (spelling_cmp ts us)))
 composite_orders (Function ps rs) (Struct gs) ts us = refl
@@ -212,7 +220,9 @@ supertype_orders (Some k) (Some l) = then_equal (nat_cmp k l)
 
 -- the order of definitions is that of their spelling
 pub orders : (d e : Definition) → spelling_cmp (spelled d) (spelled e) ≡ definition_cmp d e
-orders d e = composite_orders d.composite e.composite _ _ ∙ ap (λ o. ordering_then (composite_cmp d.composite e.composite) (ordering_then (bool_cmp d.is_final e.is_final) o)) (supertype_orders d.supertype e.supertype)
+orders d e = composite_orders d.composite e.composite _ _
+    ∙ ap (λ o. ordering_then (composite_cmp d.composite e.composite) (ordering_then
+    (bool_cmp d.is_final e.is_final) o)) (supertype_orders d.supertype e.supertype)
 
 storage_renames :
     (m : ℕ → ℕ) (a : Storage ℕ) (ts : Spelling) →
@@ -230,8 +240,11 @@ composite_renames :
     (m : ℕ → ℕ) (c : Composite) (ts : Spelling) →
     retold m (composite_spelled c ts) ≡ composite_spelled (rename_composite m c) (retold m ts)
 composite_renames m (Function ps rs) ts = ap (λ us. Mark 0 ∷ us)
-    (list_renames val_spelled m (rename_val m) (val_renames m) ps (list_spelled val_spelled rs ts) ∙ ap (list_spelled val_spelled (map (rename_val m) ps)) (list_renames val_spelled m (rename_val m) (val_renames m) rs ts))
-composite_renames m (Struct fs) ts = ap (λ us. Mark 1 ∷ us) (list_renames field_spelled m (rename_field m) (field_renames m) fs ts)
+    (list_renames val_spelled m (rename_val m) (val_renames m) ps (list_spelled val_spelled rs ts)
+    ∙ ap (list_spelled val_spelled (map (rename_val m) ps))
+    (list_renames val_spelled m (rename_val m) (val_renames m) rs ts))
+composite_renames m (Struct fs) ts = ap (λ us. Mark 1 ∷ us)
+    (list_renames field_spelled m (rename_field m) (field_renames m) fs ts)
 composite_renames m (Array f) ts = ap (λ us. Mark 2 ∷ us) (field_renames m f ts)
 
 supertype_renames :
@@ -241,7 +254,9 @@ supertype_renames m (Some k) = refl
 
 -- renaming goes through spelling
 pub renames : (m : ℕ → ℕ) (d : Definition) → retold m (spelled d) ≡ spelled (rename m d)
-renames m d = composite_renames m d.composite _ ∙ ap (λ us. composite_spelled (rename_composite m d.composite) (Mark (bool_index d.is_final) ∷ us)) (supertype_renames m d.supertype)
+renames m d = composite_renames m d.composite _
+    ∙ ap (λ us. composite_spelled (rename_composite m d.composite) (Mark (bool_index d.is_final) ∷ us))
+    (supertype_renames m d.supertype)
 
 -- the numbers that a spelling tells, in its order
 abbrev pub told_names : Spelling → List ℕ
@@ -277,14 +292,17 @@ list_tells :
     (xs : List A) (ts : Spelling) →
     told_names (list_spelled f xs ts) ≡ flat_map g xs ++ told_names ts
 list_tells f g h [] ts = refl
-list_tells f g h (x ∷ xs) ts = h x (list_spelled f xs ts) ∙ (ap (λ ys. g x ++ ys) (list_tells f g h xs ts) ∙ sym (append_assoc (g x) (flat_map g xs) (told_names ts)))
+list_tells f g h (x ∷ xs) ts = h x (list_spelled f xs ts)
+    ∙ (ap (λ ys. g x ++ ys) (list_tells f g h xs ts)
+    ∙ sym (append_assoc (g x) (flat_map g xs) (told_names ts)))
 
 composite_tells :
     (c : Composite) (ts : Spelling) →
     told_names (composite_spelled c ts) ≡ composite_names c ++ told_names ts
 composite_tells (Function ps rs) ts =
     list_tells val_spelled val_names val_tells ps (list_spelled val_spelled rs ts)
-    ∙ (ap (λ ys. flat_map val_names ps ++ ys) (list_tells val_spelled val_names val_tells rs ts) ∙ sym (append_assoc (flat_map val_names ps) (flat_map val_names rs) (told_names ts)))
+    ∙ (ap (λ ys. flat_map val_names ps ++ ys) (list_tells val_spelled val_names val_tells rs ts)
+    ∙ sym (append_assoc (flat_map val_names ps) (flat_map val_names rs) (told_names ts)))
 composite_tells (Struct fs) ts = list_tells field_spelled field_names field_tells fs ts
 composite_tells (Array f) ts = field_tells f ts
 
@@ -294,7 +312,8 @@ supertype_tells (Some k) = refl
 
 -- a definition names what its spelling tells, in the same order
 pub tells : (d : Definition) → told_names (spelled d) ≡ names_of d
-tells d = composite_tells d.composite _ ∙ ap (λ ys. composite_names d.composite ++ ys) (supertype_tells d.supertype)
+tells d = composite_tells d.composite _ ∙ ap (λ ys. composite_names d.composite ++ ys)
+    (supertype_tells d.supertype)
 
 told_at :
     (w : Spelling) (i k : ℕ) → i < length (told_names w) → slice_index_or (told_names w) i k ≡ k →

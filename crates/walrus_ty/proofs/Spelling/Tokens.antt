@@ -52,7 +52,8 @@ pub retold_agree :
     (u v : ℕ → ℕ) (e : Spelling) → ((k : ℕ) → Tells e k → u k ≡ v k) → retold u e ≡ retold v e
 retold_agree u v [] h = refl
 retold_agree u v (Mark n ∷ ts) h = ap (λ xs. Mark n ∷ xs) (retold_agree u v ts (λ k i. h k (inr i)))
-retold_agree u v (Name l ∷ ts) h = let a : u l ≡ v l = h l (inl refl) in let b = retold_agree u v ts (λ k i. h k (inr i)) in cc
+retold_agree u v (Name l ∷ ts) h = let a : u l ≡ v l = h l (inl refl) in let b =
+    retold_agree u v ts (λ k i. h k (inr i)) in cc
 
 pub retold_id : (e : Spelling) → retold (λ k. k) e ≡ e
 retold_id [] = refl
@@ -107,13 +108,15 @@ pub cmp_agree :
 cmp_agree u v [] [] h = refl
 cmp_agree u v [] (y ∷ ys) h = refl
 cmp_agree u v (x ∷ xs) [] h = refl
-cmp_agree u v (Mark a ∷ xs) (Mark b ∷ ys) h = ap (ordering_then (nat_cmp a b)) (cmp_agree u v xs ys (λ k l i j. h k l (inr i) (inr j)))
+cmp_agree u v (Mark a ∷ xs) (Mark b ∷ ys) h =
+    ap (ordering_then (nat_cmp a b)) (cmp_agree u v xs ys (λ k l i j. h k l (inr i) (inr j)))
 cmp_agree u v (Mark a ∷ xs) (Name l ∷ ys) h = refl
 cmp_agree u v (Name k ∷ xs) (Mark b ∷ ys) h = refl
 cmp_agree u v (Name k ∷ xs) (Name l ∷ ys) h =
     let t = cmp_agree u v xs ys (λ a b i j. h a b (inr i) (inr j)) in
     let w : nat_cmp (u k) (u l) ≡ nat_cmp (v k) (v l) = h k l (inl refl) (inl refl) in
-    ap (λ o. ordering_then o (spelling_cmp (retold u xs) (retold u ys))) w ∙ ap (ordering_then (nat_cmp (v k) (v l))) t
+    ap (λ o. ordering_then o (spelling_cmp (retold u xs) (retold u ys))) w
+    ∙ ap (ordering_then (nat_cmp (v k) (v l))) t
 
 pub nat_less : (a b : ℕ) → a < b → nat_cmp a b ≡ Less
 nat_less a b h = grind (arith, nat_tests)
@@ -134,11 +137,13 @@ pub cmp_or_less :
 cmp_or_less u v [] [] h = inl refl
 cmp_or_less u v [] (y ∷ ys) h = inl refl
 cmp_or_less u v (x ∷ xs) [] h = inl refl
-cmp_or_less u v (Mark a ∷ xs) (Mark b ∷ ys) h = then_or_less (nat_cmp a b) _ _ (cmp_or_less u v xs ys (λ k l i j. h k l (inr i) (inr j)))
+cmp_or_less u v (Mark a ∷ xs) (Mark b ∷ ys) h =
+    then_or_less (nat_cmp a b) _ _ (cmp_or_less u v xs ys (λ k l i j. h k l (inr i) (inr j)))
 cmp_or_less u v (Mark a ∷ xs) (Name l ∷ ys) h = inl refl
 cmp_or_less u v (Name k ∷ xs) (Mark b ∷ ys) h = inl refl
 cmp_or_less u v (Name k ∷ xs) (Name l ∷ ys) h =
-    inr (ap (λ o. ordering_then o (spelling_cmp (retold u xs) (retold u ys))) (nat_less (u k) (u l) (h k l (inl refl) (inl refl))))
+    inr (ap (λ o. ordering_then o (spelling_cmp (retold u xs) (retold u ys)))
+    (nat_less (u k) (u l) (h k l (inl refl) (inl refl))))
 
 -- the order is total, and ties are equal
 tokens_antisymm : (x y : Token) → token_cmp x y ≡ ordering_reverse (token_cmp y x)
@@ -176,8 +181,10 @@ spelling_cmp_is (x ∷ xs) (y ∷ ys) = ap (ordering_then (token_cmp x y)) (spel
 pub spellings_total : IsTotalOrder spelling_cmp
 spellings_total = let o = lists_total tokens_total in record {
   antisymm = λ x y. rw (← spelling_cmp_is x y, ← spelling_cmp_is y x) (o.antisymm x y);
-  trans = λ x y z h i. sym (spelling_cmp_is x z) ∙ o.trans x y z (spelling_cmp_is x y ∙ h) (spelling_cmp_is y z ∙ i);
-  congr = λ x y z h. sym (spelling_cmp_is x z) ∙ (o.congr x y z (spelling_cmp_is x y ∙ h) ∙ spelling_cmp_is y z);
+  trans = λ x y z h i. sym (spelling_cmp_is x z)
+      ∙ o.trans x y z (spelling_cmp_is x y ∙ h) (spelling_cmp_is y z ∙ i);
+  congr = λ x y z h. sym (spelling_cmp_is x z)
+      ∙ (o.congr x y z (spelling_cmp_is x y ∙ h) ∙ spelling_cmp_is y z);
 }
 
 pub nat_exact : (a b : ℕ) → nat_cmp a b ≡ Equal → a ≡ b
@@ -192,7 +199,9 @@ pub spelling_exact : (e f : Spelling) → spelling_cmp e f ≡ Equal → e ≡ f
 spelling_exact [] [] h = refl
 spelling_exact [] (y ∷ ys) h = cc
 spelling_exact (x ∷ xs) [] h = cc
-spelling_exact (Mark a ∷ xs) (Mark b ∷ ys) h = let r = then_equal (nat_cmp a b) (spelling_cmp xs ys) h in let p = nat_exact a b r.0 in let q = spelling_exact xs ys r.1 in cc
+spelling_exact (Mark a ∷ xs) (Mark b ∷ ys) h = let r = then_equal (nat_cmp a b) (spelling_cmp xs ys) h in
+    let p = nat_exact a b r.0 in let q = spelling_exact xs ys r.1 in cc
 spelling_exact (Mark a ∷ xs) (Name b ∷ ys) h = cc
 spelling_exact (Name a ∷ xs) (Mark b ∷ ys) h = cc
-spelling_exact (Name a ∷ xs) (Name b ∷ ys) h = let r = then_equal (nat_cmp a b) (spelling_cmp xs ys) h in let p = nat_exact a b r.0 in let q = spelling_exact xs ys r.1 in cc
+spelling_exact (Name a ∷ xs) (Name b ∷ ys) h = let r = then_equal (nat_cmp a b) (spelling_cmp xs ys) h in
+    let p = nat_exact a b r.0 in let q = spelling_exact xs ys r.1 in cc

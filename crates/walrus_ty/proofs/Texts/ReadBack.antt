@@ -66,7 +66,8 @@ name_read text =
     (if same text (codes "exn)") then abstract.Exn else abstract.NoExn))))))))))
 
 abbrev other_heap_read : List ℕ → Heap ℕ
-other_heap_read text = if same (take 6 text) (codes "exact ") then heap.Exact (number (drop 6 text)) else heap.Abstract (name_read text)
+other_heap_read text = if same (take 6 text) (codes "exact ") then heap.Exact (number (drop 6 text)) else
+    heap.Abstract (name_read text)
 
 abbrev heap_read : List ℕ → Heap ℕ
 heap_read text = if has_digit_first text then heap.Concrete (number text) else other_heap_read text
@@ -77,10 +78,12 @@ abbrev reference : Bool → Heap ℕ → Val ℕ
 reference nullable h = val.Ref (record { nullable = nullable; heap_type = h })
 
 abbrev other_long_read : List ℕ → Val ℕ
-other_long_read text = if same (take 5 text) (codes "null ") then reference true (heap_read (drop 5 text)) else reference false (other_heap_read text)
+other_long_read text = if same (take 5 text) (codes "null ") then
+    reference true (heap_read (drop 5 text)) else reference false (other_heap_read text)
 
 abbrev long_read : List ℕ → Val ℕ
-long_read text = if has_digit_first text then reference false (heap.Concrete (number text)) else other_long_read text
+long_read text = if has_digit_first text then reference false (heap.Concrete (number text)) else
+    other_long_read text
 
 -- a value type that is one word
 
@@ -101,7 +104,8 @@ word_read text =
     (if same text (codes "structref") then reference true (heap.Abstract abstract.Struct) else
     (if same text (codes "arrayref") then reference true (heap.Abstract abstract.Array) else
     (if same text (codes "i31ref") then reference true (heap.Abstract abstract.I31) else
-    (if same text (codes "exnref") then reference true (heap.Abstract abstract.Exn) else reference true (heap.Abstract abstract.NoExn))))))))))))))))
+    (if same text (codes "exnref") then reference true (heap.Abstract abstract.Exn) else
+    reference true (heap.Abstract abstract.NoExn))))))))))))))))
 
 abbrev read : List ℕ → Val ℕ
 read text = if same (take 5 text) (codes "(ref ") then long_read (drop 5 text) else word_read text
@@ -112,10 +116,12 @@ concrete_back :
     (nullable : Bool) (k : ℕ) → k < 2 ^ 64 →
     read (val_text (reference nullable (heap.Concrete k))) ≡ reference nullable (heap.Concrete k)
 concrete_back true k small =
-    ap (λ (b : Bool). reference true (if b then heap.Concrete (number (decimal k ++ codes ")")) else other_heap_read (decimal k ++ codes ")"))) (number_first k small)
+    ap (λ (b : Bool). reference true (if b then heap.Concrete (number (decimal k ++ codes ")")) else
+    other_heap_read (decimal k ++ codes ")"))) (number_first k small)
     ∙ ap (λ (n : ℕ). reference true (heap.Concrete n)) (number_back k small)
 concrete_back false k small =
-    ap (λ (b : Bool). if b then reference false (heap.Concrete (number (decimal k ++ codes ")"))) else other_long_read (decimal k ++ codes ")")) (number_first k small)
+    ap (λ (b : Bool). if b then reference false (heap.Concrete (number (decimal k ++ codes ")"))) else
+    other_long_read (decimal k ++ codes ")")) (number_first k small)
     ∙ ap (λ (n : ℕ). reference false (heap.Concrete n)) (number_back k small)
 
 exact_back :

@@ -24,13 +24,15 @@ use Rattle.walrus_types.specs.Table.{Table, IsTable}
 use Rattle.walrus_types.specs.TableEmission.{type_groups, definition_at, is_entry_at, written_types, IfNameMissing, IsWrittenId, IsEmitted, MissesFirst}
 use Rattle.walrus_types.specs.declared.emit.order.PendingGroup.{PendingGroup}
 use Rattle.walrus_types.specs.Steps.PendingGroups.{groups_of, places_of}
-use Rattle.walrus_types.specs.Steps.WrittenGroups.{AreWritten, FailsBy, IsApart, IsFirstMissingIn, IsWritingOrder, ids_in, in_order, id_count}
+use Rattle.walrus_types.specs.Steps.WrittenGroups.{AreWritten, IsMemoryOrMissing, IsApart, IsFirstMissingIn, IsWritingOrder, ids_in, in_order, id_count}
 use Rattle.walrus_sections.proofs.Emission.WrittenMembers.{written_member}
 use Rattle.walrus_types.proofs.Emission.IndexOfId.{Home, home, member_at}
 use Rattle.walrus_types.proofs.Emission.PairsOfGroups.{at_member, to_member, emission, none_missing, first_missing, placed_member}
 use Rattle.walrus_types.proofs.Emission.OrderFromSort.{live_member, single, same_member}
 
-module _ (t : Table) (known : IsTable t) (order : List ℕ) (ord : IsWritingOrder (type_groups t.groups) (definition_at t.types.slots) (is_entry_at t.types.slots) order) where
+module _ (t : Table) (known : IsTable t) (order : List ℕ)
+    (ord : IsWritingOrder (type_groups t.groups) (definition_at t.types.slots) (is_entry_at t.types.slots)
+    order) where
   abbrev gs : List TypeGroup
   gs = type_groups t.groups
 
@@ -55,7 +57,8 @@ module _ (t : Table) (known : IsTable t) (order : List ℕ) (ord : IsWritingOrde
       subst (λ (n : ℕ). 0 < length (group_at gs n).ids) (sym (at_zero k d lt)) (omega (arith, m.place))
 
   pub singles : All (λ (g : RecGroup). g.is_explicit ≡ false → length g.types ≤ 1) t.groups
-  singles k d lt = subst (λ (g : RecGroup). g.is_explicit ≡ false → length g.types ≤ 1) (get_or_default t.groups k table.no_rec_group d lt) (known.single k)
+  singles k d lt = subst (λ (g : RecGroup). g.is_explicit ≡ false → length g.types ≤ 1)
+      (get_or_default t.groups k table.no_rec_group d lt) (known.single k)
 
   pub apart : IsApart (ids_in (in_order gs order))
   apart p q i at_p at_q =
@@ -63,14 +66,18 @@ module _ (t : Table) (known : IsTable t) (order : List ℕ) (ord : IsWritingOrde
       let k : Home (in_order gs order) q i = home (in_order gs order) q i at_q in
       let m : _ = placed_member gs def (is_entry_at t.types.slots) order ord h.group h.place i h.is in
       let n : _ = placed_member gs def (is_entry_at t.types.slots) order ord k.group k.place i k.is in
-      let same : _ = same_member t known (slice_index order h.group) h.place (slice_index order k.group) k.place i m.1 n.1 in
+      let same : _ = same_member t known (slice_index order h.group) h.place (slice_index order k.group)
+      k.place i m.1 n.1 in
       let groups_same : h.group ≡ k.group = m.2 k.group n.0 same.0 in
-      h.at ∙ (ap (λ (a : ℕ). length (ids_in (take a (in_order gs order))) + h.place) groups_same ∙ (ap (λ (u : ℕ). length (ids_in (take k.group (in_order gs order))) + u) same.1 ∙ sym k.at))
+      h.at ∙ (ap (λ (a : ℕ). length (ids_in (take a (in_order gs order))) + h.place) groups_same
+      ∙ (ap (λ (u : ℕ). length (ids_in (take k.group (in_order gs order))) + u) same.1 ∙ sym k.at))
 
-  pub emitted : id_count gs order ≡ written_types t → (out : List GroupAt) (x : IndexMap) → AreWritten def (in_order gs order) out x → IsEmitted t out x
+  pub emitted : id_count gs order ≡ written_types t → (out : List GroupAt) (x : IndexMap) →
+      AreWritten def (in_order gs order) out x → IsEmitted t out x
   emitted many out x w = record {
     count = w.indexes.count ∙ many;
-    section = subst (λ (n : Section). IsEmission gs def (is_entry_at t.types.slots) n (value_or_zero x.index)) (sym w.section) (emission gs def (is_entry_at t.types.slots) order ord (single t known) x w.indexes);
+    section = subst (λ (n : Section). IsEmission gs def (is_entry_at t.types.slots) n (value_or_zero x.index))
+        (sym w.section) (emission gs def (is_entry_at t.types.slots) order ord (single t known) x w.indexes);
     has_index = λ id. (from id, to id);
     complete = none_missing gs def (is_entry_at t.types.slots) order ord w.complete;
   }
@@ -78,7 +85,8 @@ module _ (t : Table) (known : IsTable t) (order : List ℕ) (ord : IsWritingOrde
       from : (id : ℕ) → IsSome (x.index id) → IsWrittenId gs (is_entry_at t.types.slots) id
       from id s =
           let r : (p : ℕ) × (x.index id ≡ Some p) = found (x.index id) s in
-          let h : Home (in_order gs order) r.0 id = home (in_order gs order) r.0 id ((w.indexes.index id r.0).0 r.1) in
+          let h : Home (in_order gs order) r.0 id =
+          home (in_order gs order) r.0 id ((w.indexes.index id r.0).0 r.1) in
           let m : _ = placed_member gs def (is_entry_at t.types.slots) order ord h.group h.place id h.is in
           (written_member (ord.written h.group m.0) m.1, refl)
         where
@@ -90,11 +98,16 @@ module _ (t : Table) (known : IsTable t) (order : List ℕ) (ord : IsWritingOrde
       to id g =
           let y : WrittenMember gs (is_entry_at t.types.slots) = g.0 in
           let o : _ = ord.onto y.group y.is_written in
-          let at : slice_get (group_at (in_order gs order) o.0).ids y.place ≡ Some y.id = ap (λ (z : TypeGroup). slice_get z.ids y.place) (get_or-map (group_at gs) order o.0 0 no_group o.1 ∙ ap (group_at gs) o.2) ∙ at_member gs y.group y.place y.id y.is_member in
-          let e : x.index y.id ≡ Some (length (ids_in (take o.0 (in_order gs order))) + y.place) = (w.indexes.index y.id _).1 (member_at (in_order gs order) o.0 y.place y.id at) in
+          let at : slice_get (group_at (in_order gs order) o.0).ids y.place ≡ Some y.id =
+          ap (λ (z : TypeGroup). slice_get z.ids y.place)
+          (get_or-map (group_at gs) order o.0 0 no_group o.1 ∙ ap (group_at gs) o.2)
+          ∙ at_member gs y.group y.place y.id y.is_member in
+          let e : x.index y.id ≡ Some (length (ids_in (take o.0 (in_order gs order))) + y.place) =
+          (w.indexes.index y.id _).1 (member_at (in_order gs order) o.0 y.place y.id at) in
           subst (λ (k : ℕ). IsSome (x.index k)) g.1 (rw e refl)
 
-  pub misses : (e : EmitError) → FailsBy e (IsFirstMissingIn def (in_order gs order)) → FailsBy e (MissesFirst t)
+  pub misses : (e : EmitError) → IsMemoryOrMissing e (IsFirstMissingIn def (in_order gs order)) →
+      IsMemoryOrMissing e (MissesFirst t)
   misses (emit.NoIndex i k) h = first_missing gs def (is_entry_at t.types.slots) order ord i k h
   misses emit.TooMany h = h
   misses emit.Memory h = h
@@ -103,22 +116,30 @@ module _ (t : Table) (known : IsTable t) (order : List ℕ) (ord : IsWritingOrde
 pub live_groups :
     (t : Table) → IsTable t → All (λ (g : RecGroup). All (IsLive t.types.slots) g.types) t.groups
 live_groups t known k d lt u e in_u =
-    let same : table.rec_group_at t.groups k ≡ get_or t.groups k d = get_or_default t.groups k table.no_rec_group d lt in
+    let same : table.rec_group_at t.groups k ≡ get_or t.groups k d =
+    get_or_default t.groups k table.no_rec_group d lt in
     let P : RecGroup → Type 0 = λ g. slice_get g.types u ≡ Some (get_or (get_or t.groups k d).types u e) in
-    known.live k u (get_or (get_or t.groups k d).types u e) (subst P (sym same) (slice_get-get_or (get_or t.groups k d).types u e in_u))
+    known.live k u (get_or (get_or t.groups k d).types u e)
+    (subst P (sym same) (slice_get-get_or (get_or t.groups k d).types u e in_u))
 
 -- the groups that are written, one by one
-module _ (t : Table) (known : IsTable t) (order : List ℕ) (ord : IsWritingOrder (type_groups t.groups) (definition_at t.types.slots) (is_entry_at t.types.slots) order) (k : ℕ) (d : TypeGroup) (lt : k < length (in_order (type_groups t.groups) order)) where
+module _ (t : Table) (known : IsTable t) (order : List ℕ)
+    (ord : IsWritingOrder (type_groups t.groups) (definition_at t.types.slots) (is_entry_at t.types.slots)
+    order) (k : ℕ) (d : TypeGroup) (lt : k < length (in_order (type_groups t.groups) order)) where
   below : k < length order
   below = omega (arith, lt, length-map order (group_at (type_groups t.groups)))
 
   pub filled_in_order : 0 < length (get_or (in_order (type_groups t.groups) order) k d).ids
-  filled_in_order = subst (λ (g : TypeGroup). 0 < length g.ids) (sym (get_or-map (group_at (type_groups t.groups)) order k 0 d below)) (filled t known order ord k 0 below)
+  filled_in_order = subst (λ (g : TypeGroup). 0 < length g.ids)
+      (sym (get_or-map (group_at (type_groups t.groups)) order k 0 d below))
+      (filled t known order ord k 0 below)
 
 pub places_within :
     (ps : List PendingGroup) (n : ℕ) → All (λ g. g < n) (places_of ps) →
     All (λ (p : PendingGroup). p.place < n) ps
-places_within ps n each k d lt = subst (λ (g : ℕ). g < n) (get_or-map (λ (p : PendingGroup). p.place) ps k d 0 lt) (each k 0 (omega (arith, lt, length-map ps (λ (p : PendingGroup). p.place))))
+places_within ps n each k d lt = subst (λ (g : ℕ). g < n)
+    (get_or-map (λ (p : PendingGroup). p.place) ps k d 0 lt)
+    (each k 0 (omega (arith, lt, length-map ps (λ (p : PendingGroup). p.place))))
 
 pub as_ordered :
     (from to : List RecGroup) (ps qs : List PendingGroup) → from ≡ to → ps ≡ qs →
@@ -129,12 +150,12 @@ pub carried :
     {A B : Type 0} (P : A → B → Type 0) (a a' : A) (b b' : B) → a ≡ a' → b ≡ b' → P a b → P a' b'
 carried P a a' b b' e f h = subst (λ x. P x b') e (subst (P a) f h)
 
-pub names_missing : (P : ℕ → ℕ → Type 0) (e : EmitError) → FailsBy e P → IfNameMissing e P
+pub names_missing : (P : ℕ → ℕ → Type 0) (e : EmitError) → IsMemoryOrMissing e P → IfNameMissing e P
 names_missing P (emit.NoIndex i k) h = h
 names_missing P emit.TooMany h = absurd h
 names_missing P emit.Memory h = tt
 
-pub not_too_many : (P : ℕ → ℕ → Type 0) (e : EmitError) → FailsBy e P → ¬ (e ≡ emit.TooMany)
+pub not_too_many : (P : ℕ → ℕ → Type 0) (e : EmitError) → IsMemoryOrMissing e P → ¬ (e ≡ emit.TooMany)
 not_too_many P (emit.NoIndex i k) h f = cc
 not_too_many P emit.TooMany h f = h
 not_too_many P emit.Memory h f = cc
@@ -154,8 +175,10 @@ module _ (t : Table) (known : IsTable t) where
       let gs : List TypeGroup = type_groups t.groups in
       let h : Home gs p i = home gs p i at_p in
       let k : Home gs q i = home gs q i at_q in
-      let same : _ = same_member t known h.group h.place k.group k.place i (to_member gs h.group h.place i h.is) (to_member gs k.group k.place i k.is) in
-      h.at ∙ (ap (λ (a : ℕ). length (ids_in (take a gs)) + h.place) same.0 ∙ (ap (λ (u : ℕ). length (ids_in (take k.group gs)) + u) same.1 ∙ sym k.at))
+      let same : _ = same_member t known h.group h.place k.group k.place i
+      (to_member gs h.group h.place i h.is) (to_member gs k.group k.place i k.is) in
+      h.at ∙ (ap (λ (a : ℕ). length (ids_in (take a gs)) + h.place) same.0
+      ∙ (ap (λ (u : ℕ). length (ids_in (take k.group gs)) + u) same.1 ∙ sym k.at))
 
   all_below : (i : ℕ) → list_any (nat_eq i) all_ids ≡ true → i < length t.types.slots
   all_below i h =
@@ -166,6 +189,9 @@ module _ (t : Table) (known : IsTable t) where
 
   pub few_written : written_types t ≤ length t.types.slots
   few_written =
-      let ids_few : length all_ids ≤ length t.types.slots = length-le_from_distinct_below all_ids (length t.types.slots) (distinct_from_once all_ids all_apart) all_below in
-      let fewer : written_types t ≤ length all_ids = count_ids (is_entry_at t.types.slots) (type_groups t.groups) in
+      let ids_few : length all_ids ≤ length t.types.slots =
+      length-le_from_distinct_below all_ids (length t.types.slots) (distinct_from_once all_ids all_apart)
+      all_below in
+      let fewer : written_types t ≤ length all_ids =
+      count_ids (is_entry_at t.types.slots) (type_groups t.groups) in
       omega (arith, ids_few, fewer)

@@ -12,4 +12,5 @@ pub list_all_flat_map :
     {X Y : Type 0} (p : Y → Bool) (f : X → List Y) (xs : List X) →
     list_all p (flat_map f xs) ≡ list_all (λ x. list_all p (f x)) xs
 list_all_flat_map p f [] = refl
-list_all_flat_map p f (x ∷ xs) = list_all-append p (f x) (flat_map f xs) ∙ ap (λ b. list_all p (f x) && b) (list_all_flat_map p f xs)
+list_all_flat_map p f (x ∷ xs) = list_all-append p (f x) (flat_map f xs)
+    ∙ ap (λ b. list_all p (f x) && b) (list_all_flat_map p f xs)

@@ -48,24 +48,38 @@ later ps rest n p q d s long same at h = record {
 }
 
 module _ (d : ℕ → Definition) where
-  rec_length : (ids : List ℕ) (end k t : ℕ) (rest : List Place) → length (rec_places (map d ids) end k t rest) ≡ length ids + length rest
+  rec_length : (ids : List ℕ) (end k t : ℕ) (rest : List Place) →
+      length (rec_places (map d ids) end k t rest) ≡ length ids + length rest
   rec_length [] end k t rest = sym (zero-add (length rest))
   rec_length (i ∷ ids) end k t rest = omega (arith, rec_length ids end k (suc t) rest)
 
-  rec_rest : (ids : List ℕ) (end k t : ℕ) (rest : List Place) (p q : ℕ) → q ≡ length ids + p → slice_index_or (rec_places (map d ids) end k t rest) q no_place ≡ slice_index_or rest p no_place
+  rec_rest : (ids : List ℕ) (end k t : ℕ) (rest : List Place) (p q : ℕ) → q ≡ length ids + p →
+      slice_index_or (rec_places (map d ids) end k t rest) q no_place ≡ slice_index_or rest p no_place
   rec_rest [] end k t rest p q e = ap (λ (n : ℕ). slice_index_or rest n no_place) (e ∙ zero-add p)
   rec_rest (i ∷ ids) end k t rest p zero e = absurd (omega (arith, e))
   rec_rest (i ∷ ids) end k t rest p (suc q) e = rec_rest ids end k (suc t) rest p q (omega (arith, e))
 
-  rec_stands : (ids : List ℕ) (end k t : ℕ) (rest : List Place) (u i : ℕ) → slice_get ids u ≡ Some i → Stands (rec_places (map d ids) end k t rest) u (d i) (Some (k, t + u))
+  rec_stands : (ids : List ℕ) (end k t : ℕ) (rest : List Place) (u i : ℕ) → slice_get ids u ≡ Some i →
+      Stands (rec_places (map d ids) end k t rest) u (d i) (Some (k, t + u))
   rec_stands [] end k t rest u i h = cc
   rec_stands (x ∷ ids) end k t rest zero i h =
       let e : t ≡ t + 0 = omega arith in
-      record { within = omega arith; definition = ap d (some_inj h); rec_position = ap (λ (n : ℕ). Some (k, n)) e }
+      record {
+        within = omega arith;
+        definition = ap d (some_inj h);
+        rec_position =
+            ap (λ (n : ℕ). Some (k, n)) e;
+      }
   rec_stands (x ∷ ids) end k t rest (suc u) i h =
-      let r : Stands (rec_places (map d ids) end k (suc t) rest) u (d i) (Some (k, suc t + u)) = rec_stands ids end k (suc t) rest u i h in
+      let r : Stands (rec_places (map d ids) end k (suc t) rest) u (d i) (Some (k, suc t + u)) =
+      rec_stands ids end k (suc t) rest u i h in
       let e : suc t + u ≡ t + suc u = omega arith in
-      record { within = omega (arith, r.within); definition = r.definition; rec_position = r.rec_position ∙ ap (λ (n : ℕ). Some (k, n)) e }
+      record {
+        within = omega (arith, r.within);
+        definition = r.definition;
+        rec_position = r.rec_position
+            ∙ ap (λ (n : ℕ). Some (k, n)) e;
+      }
 
   after_map : (ids : List ℕ) (k : ℕ) → 0 < length ids → recs_after (map d ids) k ≡ suc k
   after_map [] k h = absurd (omega (arith, h))
@@ -78,15 +92,28 @@ module _ (d : ℕ → Definition) where
   abbrev past : List ℕ → ℕ → ℕ
   past ids b = length (map d ids) + b
 
-  one_stands : (e : Bool) (ids : List ℕ) (rest : Section) (b k u i : ℕ) → (e ≡ false → length ids ≡ 1) → slice_get ids u ≡ Some i → Stands (one e ids rest b k) u (d i) (rec_position_of e k u)
+  one_stands : (e : Bool) (ids : List ℕ) (rest : Section) (b k u i : ℕ) → (e ≡ false → length ids ≡ 1) →
+      slice_get ids u ≡ Some i → Stands (one e ids rest b k) u (d i) (rec_position_of e k u)
   one_stands true ids rest b k u i single h =
-      let r : Stands (one true ids rest b k) u (d i) (Some (k, 0 + u)) = rec_stands ids (past ids b) k 0 (places_from (past ids b) (recs_after (map d ids) k) rest) u i h in
-      record { within = r.within; definition = r.definition; rec_position = r.rec_position ∙ ap (λ (n : ℕ). Some (k, n)) (zero-add u) }
+      let r : Stands (one true ids rest b k) u (d i) (Some (k, 0 + u)) =
+      rec_stands ids (past ids b) k 0 (places_from (past ids b) (recs_after (map d ids) k) rest) u i h in
+      record {
+        within = r.within;
+        definition = r.definition;
+        rec_position = r.rec_position
+            ∙ ap (λ (n : ℕ). Some (k, n)) (zero-add u);
+      }
   one_stands false ids rest b k u i single h = alone ids u (single refl) h
     where
-      alone : (ids : List ℕ) (u : ℕ) → length ids ≡ 1 → slice_get ids u ≡ Some i → Stands (one false ids rest b k) u (d i) None
+      alone : (ids : List ℕ) (u : ℕ) → length ids ≡ 1 → slice_get ids u ≡ Some i →
+          Stands (one false ids rest b k) u (d i) None
       alone [] u e h = absurd (omega (arith, e))
-      alone (x ∷ []) zero e h = record { within = omega arith; definition = ap d (some_inj h); rec_position = refl }
+      alone (x ∷ []) zero e h = record {
+        within = omega arith;
+        definition = ap d (some_inj h);
+        rec_position =
+            refl;
+      }
       alone (x ∷ []) (suc u) e h = cc
       alone (x ∷ y ∷ ids) u e h = absurd (omega (arith, e))
 
@@ -95,34 +122,54 @@ module _ (d : ℕ → Definition) where
   behind true ids rest b k = places_from (past ids b) (recs_after (map d ids) k) rest
   behind false ids rest b k = places_from (suc b) k rest
 
-  one_length : (e : Bool) (ids : List ℕ) (rest : Section) (b k : ℕ) → (e ≡ false → length ids ≡ 1) → length (one e ids rest b k) ≡ length ids + length (behind e ids rest b k)
-  one_length true ids rest b k single = rec_length ids (past ids b) k 0 (places_from (past ids b) (recs_after (map d ids) k) rest)
+  one_length : (e : Bool) (ids : List ℕ) (rest : Section) (b k : ℕ) → (e ≡ false → length ids ≡ 1) →
+      length (one e ids rest b k) ≡ length ids + length (behind e ids rest b k)
+  one_length true ids rest b k single = rec_length ids (past ids b) k 0
+      (places_from (past ids b) (recs_after (map d ids) k) rest)
   one_length false ids rest b k single = omega (arith, single refl)
 
-  one_rest : (e : Bool) (ids : List ℕ) (rest : Section) (b k p q : ℕ) → (e ≡ false → length ids ≡ 1) → q ≡ length ids + p → slice_index_or (one e ids rest b k) q no_place ≡ slice_index_or (behind e ids rest b k) p no_place
-  one_rest true ids rest b k p q single at = rec_rest ids (past ids b) k 0 (places_from (past ids b) (recs_after (map d ids) k) rest) p q at
+  one_rest : (e : Bool) (ids : List ℕ) (rest : Section) (b k p q : ℕ) → (e ≡ false → length ids ≡ 1) →
+      q ≡ length ids + p → slice_index_or (one e ids rest b k) q no_place ≡ slice_index_or
+      (behind e ids rest b k) p no_place
+  one_rest true ids rest b k p q single at = rec_rest ids (past ids b) k 0
+      (places_from (past ids b) (recs_after (map d ids) k) rest) p q at
   one_rest false ids rest b k p zero single at = absurd (omega (arith, at, single refl))
-  one_rest false ids rest b k p (suc q) single at = let e : q ≡ p = omega (arith, at, single refl) in ap (λ (n : ℕ). slice_index_or (places_from (suc b) k rest) n no_place) e
+  one_rest false ids rest b k p (suc q) single at = let e : q ≡ p = omega (arith, at, single refl) in
+      ap (λ (n : ℕ). slice_index_or (places_from (suc b) k rest) n no_place) e
 
   -- the rest begins at some index, behind so many more `Rec`s
-  behind_is : (e : Bool) (ids : List ℕ) (rest : Section) (b k : ℕ) → 0 < length ids → (c : ℕ) × (behind e ids rest b k ≡ places_from c (k + rec_one e) rest)
-  behind_is true ids rest b k some = let e : suc k ≡ k + 1 = omega arith in (past ids b, ap (λ (n : ℕ). places_from (past ids b) n rest) (after_map ids k some ∙ e))
-  behind_is false ids rest b k some = let e : k ≡ k + 0 = omega arith in (suc b, ap (λ (n : ℕ). places_from (suc b) n rest) e)
+  behind_is : (e : Bool) (ids : List ℕ) (rest : Section) (b k : ℕ) → 0 < length ids → (c : ℕ)
+      × (behind e ids rest b k ≡ places_from c (k + rec_one e) rest)
+  behind_is true ids rest b k some = let e : suc k ≡ k + 1 = omega arith in
+      (past ids b, ap (λ (n : ℕ). places_from (past ids b) n rest) (after_map ids k some ∙ e))
+  behind_is false ids rest b k some = let e : k ≡ k + 0 = omega arith in
+      (suc b, ap (λ (n : ℕ). places_from (suc b) n rest) e)
 
-  pub count : (ws : List TypeGroup) → AllTidy ws → (b k : ℕ) → length (places_from b k (map (written_group d) ws)) ≡ length (ids_in ws)
+  pub count : (ws : List TypeGroup) → AllTidy ws → (b k : ℕ) →
+      length (places_from b k (map (written_group d) ws)) ≡ length (ids_in ws)
   count [] tidy b k = refl
   count (w ∷ ws) tidy b k =
       let rest : Section = map (written_group d) ws in
       let where_ : _ = behind_is w.is_explicit w.ids rest b k tidy.0.filled in
-      let long : length (behind w.is_explicit w.ids rest b k) ≡ length (ids_in ws) = ap length where_.1 ∙ count ws tidy.1 where_.0 (k + rec_one w.is_explicit) in
-      omega (arith, one_length w.is_explicit w.ids rest b k tidy.0.single, long, length-append w.ids (ids_in ws))
+      let long : length (behind w.is_explicit w.ids rest b k) ≡ length (ids_in ws) = ap length where_.1
+      ∙ count ws tidy.1 where_.0 (k + rec_one w.is_explicit) in
+      omega (
+        arith,
+        one_length w.is_explicit w.ids rest b k tidy.0.single,
+        long,
+        length-append w.ids (ids_in ws),
+      )
 
   -- the u-th id of the a-th group stands behind the ids of the groups before it
-  pub stands : (ws : List TypeGroup) → AllTidy ws → (b k a u i : ℕ) → slice_get (group_at ws a).ids u ≡ Some i → Stands (places_from b k (map (written_group d) ws)) (length (ids_in (take a ws)) + u) (d i) (rec_position_of (group_at ws a).is_explicit (k + recs (take a ws)) u)
+  pub stands : (ws : List TypeGroup) → AllTidy ws → (b k a u i : ℕ) →
+      slice_get (group_at ws a).ids u ≡ Some i →
+      Stands (places_from b k (map (written_group d) ws)) (length (ids_in (take a ws)) + u) (d i)
+      (rec_position_of (group_at ws a).is_explicit (k + recs (take a ws)) u)
   stands [] tidy b k a u i h = cc
   stands (w ∷ ws) tidy b k zero u i h =
       let r : _ = one_stands w.is_explicit w.ids (map (written_group d) ws) b k u i tidy.0.single h in
-      let P : ℕ → ℕ → Type 0 = λ p n. Stands (places_from b k (map (written_group d) (w ∷ ws))) p (d i) (rec_position_of w.is_explicit n u) in
+      let P : ℕ → ℕ → Type 0 = λ p n. Stands (places_from b k (map (written_group d) (w ∷ ws))) p (d i)
+      (rec_position_of w.is_explicit n u) in
       let e : u ≡ 0 + u = sym (zero-add u) in
       let f : k ≡ k + 0 = omega arith in
       subst (λ (p : ℕ). P p (k + 0)) e (subst (λ (n : ℕ). P u n) f r)
@@ -130,12 +177,21 @@ module _ (d : ℕ → Definition) where
       let rest : Section = map (written_group d) ws in
       let p : ℕ = length (ids_in (take a ws)) + u in
       let where_ : _ = behind_is w.is_explicit w.ids rest b k tidy.0.filled in
-      let s : Option (ℕ × ℕ) = rec_position_of (group_at ws a).is_explicit (k + recs (take (suc a) (w ∷ ws))) u in
-      let e : k + rec_one w.is_explicit + recs (take a ws) ≡ k + (rec_one w.is_explicit + recs (take a ws)) = omega arith in
-      let at : length (ids_in (take (suc a) (w ∷ ws))) + u ≡ length w.ids + p = omega (arith, length-append w.ids (ids_in (take a ws))) in
-      let r : Stands (places_from where_.0 (k + rec_one w.is_explicit) rest) p (d i) s = subst (λ (n : ℕ). Stands (places_from where_.0 (k + rec_one w.is_explicit) rest) p (d i) (rec_position_of (group_at ws a).is_explicit n u)) e (stands ws tidy.1 where_.0 (k + rec_one w.is_explicit) a u i h) in
-      let r' : Stands (behind w.is_explicit w.ids rest b k) p (d i) s = subst (λ (ps : List Place). Stands ps p (d i) s) (sym where_.1) r in
-      later (one w.is_explicit w.ids rest b k) (behind w.is_explicit w.ids rest b k) (length w.ids) p _ (d i) s (one_length w.is_explicit w.ids rest b k tidy.0.single) (one_rest w.is_explicit w.ids rest b k p _ tidy.0.single at) at r'
+      let s : Option (ℕ × ℕ) = rec_position_of (group_at ws a).is_explicit (k + recs (take (suc a) (w ∷ ws)))
+      u in
+      let e : k + rec_one w.is_explicit + recs (take a ws) ≡ k + (rec_one w.is_explicit + recs (take a ws)) =
+      omega arith in
+      let at : length (ids_in (take (suc a) (w ∷ ws))) + u ≡ length w.ids + p =
+      omega (arith, length-append w.ids (ids_in (take a ws))) in
+      let r : Stands (places_from where_.0 (k + rec_one w.is_explicit) rest) p (d i) s =
+      subst (λ (n : ℕ). Stands (places_from where_.0 (k + rec_one w.is_explicit) rest) p (d i)
+      (rec_position_of (group_at ws a).is_explicit n u)) e
+      (stands ws tidy.1 where_.0 (k + rec_one w.is_explicit) a u i h) in
+      let r' : Stands (behind w.is_explicit w.ids rest b k) p (d i) s =
+      subst (λ (ps : List Place). Stands ps p (d i) s) (sym where_.1) r in
+      later (one w.is_explicit w.ids rest b k) (behind w.is_explicit w.ids rest b k) (length w.ids) p _ (d i)
+      s (one_length w.is_explicit w.ids rest b k tidy.0.single)
+      (one_rest w.is_explicit w.ids rest b k p _ tidy.0.single at) at r'
 
 -- the group and the place in it of what stands at p among the ids of all
 pub record Home (ws : List TypeGroup) (p x : ℕ) : Type 0 where
@@ -151,7 +207,14 @@ home (w ∷ ws) p x h = elim (slice_get-parts w.ids (ids_in ws) p x h) [
   | inl at ↦ record { group = 0; place = p; within = omega arith; at = omega arith; is = at }
   | inr at ↦
       let r : Home ws at.0 x = home ws at.0 x at.2 in
-      record { group = suc r.group; place = r.place; within = omega (arith, r.within); at = omega (arith, at.1, r.at, length-append w.ids (ids_in (take r.group ws))); is = r.is }
+      record {
+        group = suc r.group;
+        place = r.place;
+        within = omega (arith, r.within);
+        at =
+            omega (arith, at.1, r.at, length-append w.ids (ids_in (take r.group ws)));
+        is = r.is;
+      }
 ]
 
 -- a member stands among the ids of all, behind those of the groups before its own
@@ -166,9 +229,12 @@ member_at (w ∷ ws) zero u x h = ap (slice_get (ids_in (w ∷ ws))) (zero-add u
     front (y ∷ xs) ys zero x h = h
     front (y ∷ xs) ys (suc i) x h = front xs ys i x h
 member_at (w ∷ ws) (suc a) u x h =
-    let e : length (ids_in (take (suc a) (w ∷ ws))) + u ≡ length w.ids + (length (ids_in (take a ws)) + u) = omega (arith, length-append w.ids (ids_in (take a ws))) in
-    ap (slice_get (ids_in (w ∷ ws))) e ∙ (behind_front w.ids (ids_in ws) (length (ids_in (take a ws)) + u) ∙ member_at ws a u x h)
+    let e : length (ids_in (take (suc a) (w ∷ ws))) + u ≡ length w.ids + (length (ids_in (take a ws)) + u) =
+    omega (arith, length-append w.ids (ids_in (take a ws))) in
+    ap (slice_get (ids_in (w ∷ ws))) e ∙ (behind_front w.ids (ids_in ws) (length (ids_in (take a ws)) + u)
+    ∙ member_at ws a u x h)
   where
     behind_front : (xs ys : List ℕ) (i : ℕ) → slice_get (xs ++ ys) (length xs + i) ≡ slice_get ys i
     behind_front [] ys i = ap (slice_get ys) (zero-add i)
-    behind_front (y ∷ xs) ys i = let e : length (y ∷ xs) + i ≡ suc (length xs + i) = omega arith in ap (slice_get (y ∷ xs ++ ys)) e ∙ behind_front xs ys i
+    behind_front (y ∷ xs) ys i = let e : length (y ∷ xs) + i ≡ suc (length xs + i) = omega arith in
+        ap (slice_get (y ∷ xs ++ ys)) e ∙ behind_front xs ys i

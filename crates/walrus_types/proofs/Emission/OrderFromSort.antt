@@ -53,7 +53,8 @@ all_from :
     {X : Type 0} (p : X → Bool) (xs : List X) →
     ((u : ℕ) (x : X) → slice_get xs u ≡ Some x → p x ≡ true) → list_all p xs ≡ true
 all_from p [] each = refl
-all_from p (y ∷ xs) each = both (p y) (list_all p xs) (each 0 y refl) (all_from p xs (λ u x h. each (suc u) x h))
+all_from p (y ∷ xs) each = both (p y) (list_all p xs) (each 0 y refl)
+    (all_from p xs (λ u x h. each (suc u) x h))
   where
     both : (a b : Bool) → a ≡ true → b ≡ true → (a && b) ≡ true
     both a b e f = rw (e, f) refl
@@ -64,7 +65,9 @@ any_at :
 any_at p [] h = cc
 any_at {X = X} p (y ∷ xs) h = by (p y) refl h (λ f. any_at p xs f)
   where
-    by : (b : Bool) → p y ≡ b → (b || list_any p xs) ≡ true → (list_any p xs ≡ true → (u : ℕ) × (x : X) × (slice_get xs u ≡ Some x) × (p x ≡ true)) → (u : ℕ) × (x : X) × (slice_get (y ∷ xs) u ≡ Some x) × (p x ≡ true)
+    by : (b : Bool) → p y ≡ b → (b || list_any p xs) ≡ true →
+        (list_any p xs ≡ true → (u : ℕ) × (x : X) × (slice_get xs u ≡ Some x) × (p x ≡ true)) → (u : ℕ)
+        × (x : X) × (slice_get (y ∷ xs) u ≡ Some x) × (p x ≡ true)
     by true e f rest = (0, y, refl, e)
     by false e f rest = let r : _ = rest f in (suc r.0, r.1, r.2, r.3)
 
@@ -124,14 +127,21 @@ no_names :
     (o : Option ModuleType) (slots : Slots ModuleType) (i k : ℕ) →
     slot_names_none_other slots i o ≡ true → Names (slot_definition o) k → IsLive slots k → k ≡ i
 no_names None slots i k h n live = absurd (omega (arith, n.1))
-no_names (Some t) slots i k h n live = own_or_dead slots i k (all_at (is_own_or_dead slots i) (names_of (type_definition t)) n.0 k h (slice_get-get_or (names_of (type_definition t)) n.0 k n.1 ∙ ap (λ (m : ℕ). Some m) n.2)) live
+no_names (Some t) slots i k h n live = own_or_dead slots i k
+    (all_at (is_own_or_dead slots i) (names_of (type_definition t)) n.0 k h
+    (slice_get-get_or (names_of (type_definition t)) n.0 k n.1 ∙ ap (λ (m : ℕ). Some m) n.2)) live
 
 from_names :
     (o : Option ModuleType) (slots : Slots ModuleType) (i : ℕ) →
     ((k : ℕ) → Names (slot_definition o) k → IsLive slots k → k ≡ i) →
     slot_names_none_other slots i o ≡ true
 from_names None slots i h = refl
-from_names (Some t) slots i h = all_from (is_own_or_dead slots i) (names_of (type_definition t)) (λ u k at. from_own_or_dead slots i k (λ live. h k (u, slice_get_within (names_of (type_definition t)) u k at, get_or_from_slice_get (names_of (type_definition t)) u k k at) live))
+from_names (Some t) slots i h = all_from (is_own_or_dead slots i) (names_of (type_definition t)) (λ u k at.
+    from_own_or_dead slots i k (λ live. h k (
+      u,
+      slice_get_within (names_of (type_definition t)) u k at,
+      get_or_from_slice_get (names_of (type_definition t)) u k k at,
+    ) live))
 
 and_left : (a b : Bool) → (not a && b) ≡ true → a ≡ false
 and_left true b h = cc
@@ -158,7 +168,8 @@ free_list slots e (j ∷ []) zero i h at =
       implicit = and_left e (slot_names_none_other slots j (get slots j)) h;
       first = refl;
       only = one;
-      own = subst (λ (n : ℕ). slot_names_none_other slots n (get slots n) ≡ true) same (and_right e (slot_names_none_other slots j (get slots j)) h);
+      own = subst (λ (n : ℕ). slot_names_none_other slots n (get slots n) ≡ true) same
+          (and_right e (slot_names_none_other slots j (get slots j)) h);
     }
   where
     one : (v k : ℕ) → slice_get (j ∷ []) v ≡ Some k → k ≡ i
@@ -173,8 +184,10 @@ from_free_list :
     (e ≡ false) × (slot_names_none_other slots i (get slots i) ≡ true)) →
     (e ≡ false → length ids ≤ 1) → is_free_of slots e ids ≡ true
 from_free_list slots e [] each single = refl
-from_free_list slots e (j ∷ []) each single = let r : _ = each 0 j refl in let f : e ≡ false = r.0 in let own : slot_names_none_other slots j (get slots j) ≡ true = r.1 in rw (f, own) refl
-from_free_list slots e (j ∷ k ∷ ids) each single = let le : _ = single (each 0 j refl).0 in absurd (omega (arith, le))
+from_free_list slots e (j ∷ []) each single = let r : _ = each 0 j refl in let f : e ≡ false = r.0 in
+    let own : slot_names_none_other slots j (get slots j) ≡ true = r.1 in rw (f, own) refl
+from_free_list slots e (j ∷ k ∷ ids) each single = let le : _ = single (each 0 j refl).0 in
+    absurd (omega (arith, le))
 
 then_equal : (a : Ordering) → ordering_then a Equal ≡ Less → a ≡ Less
 then_equal Less h = refl
@@ -218,10 +231,13 @@ module _ (t : Table) (is : IsTable t) where
   in_groups : (g u i : ℕ) → IsMember gs g u i → g < length groups
   in_groups g u i m = omega (arith, m.group, many)
 
-  pub single : (g : ℕ) → (emission.group_at gs g).is_explicit ≡ false → length (emission.group_at gs g).ids ≤ 1
+  pub single : (g : ℕ) → (emission.group_at gs g).is_explicit ≡ false →
+      length (emission.group_at gs g).ids ≤ 1
   single g e = elim (cases_lt g (length groups)) [
-    | inl x ↦ (let le : _ = is.single g (sym (explicit_at groups g x) ∙ e) in let same : _ = ap length (ids_at groups g) in omega (arith, le, same))
-    | inr x ↦ nothing (emission.group_at gs g).ids (λ i h. (let m : IsMember gs g 0 i = to_member gs g 0 i h in omega (arith, in_groups g 0 i m, x)))
+    | inl x ↦ (let le : _ = is.single g (sym (explicit_at groups g x) ∙ e) in let same : _ =
+        ap length (ids_at groups g) in omega (arith, le, same))
+    | inr x ↦ nothing (emission.group_at gs g).ids (λ i h.
+        (let m : IsMember gs g 0 i = to_member gs g 0 i h in omega (arith, in_groups g 0 i m, x)))
   ]
     where
       nothing : (ids : List ℕ) → ((i : ℕ) → slice_get ids 0 ≡ Some i → ⊥) → length ids ≤ 1
@@ -235,30 +251,41 @@ module _ (t : Table) (is : IsTable t) where
 
   free_group : (a u i : ℕ) → free a ≡ true → IsMember gs a u i → IsFreeGroup gs def a
   free_group a u i h m =
-      let l : _ = free_list slots (table.rec_group_at groups a).is_explicit (table.rec_group_at groups a).types u i h (in_table a u i m) in
+      let l : _ = free_list slots (table.rec_group_at groups a).is_explicit
+      (table.rec_group_at groups a).types u i h (in_table a u i m) in
       record {
         implicit = explicit_at groups a (in_groups a u i m) ∙ l.implicit;
         own = λ v j mem k n x.
-            (let l' : _ = free_list slots (table.rec_group_at groups a).is_explicit (table.rec_group_at groups a).types v j h (in_table a v j mem) in
+            (let l' : _ = free_list slots (table.rec_group_at groups a).is_explicit
+            (table.rec_group_at groups a).types v j h (in_table a v j mem) in
             no_names (get slots j) slots j k l'.own n (live_grouped k x));
       }
 
-  from_free_group : (a : ℕ) → a < length groups → ((u i : ℕ) → IsMember gs a u i → IsFreeGroup gs def a) → free a ≡ true
+  from_free_group : (a : ℕ) → a < length groups → ((u i : ℕ) → IsMember gs a u i → IsFreeGroup gs def a) →
+      free a ≡ true
   from_free_group a below each =
-      from_free_list slots (table.rec_group_at groups a).is_explicit (table.rec_group_at groups a).types (λ u i at.
-      (let m : IsMember gs a u i = from_table a u i at in let f : IsFreeGroup gs def a = each u i m in
-      (sym (explicit_at groups a below) ∙ f.implicit, from_names (get slots i) slots i (λ k n live. f.own u i m k n (grouped_live k live))))) (is.single a)
+      from_free_list slots (table.rec_group_at groups a).is_explicit (table.rec_group_at groups a).types
+      (λ u i at.
+      (let m : IsMember gs a u i = from_table a u i at in let f : IsFreeGroup gs def a = each u i m in (
+        sym (explicit_at groups a below) ∙ f.implicit,
+        from_names (get slots i) slots i (λ k n live. f.own u i m k n (grouped_live k live)),
+      )))
+      (is.single a)
 
   only_member : (a u i v j : ℕ) → free a ≡ true → IsMember gs a u i → IsMember gs a v j → j ≡ i
   only_member a u i v j h m m' =
-      (free_list slots (table.rec_group_at groups a).is_explicit (table.rec_group_at groups a).types u i h (in_table a u i m)).only v j (in_table a v j m')
+      (free_list slots (table.rec_group_at groups a).is_explicit (table.rec_group_at groups a).types u i h
+      (in_table a u i m)).only v j (in_table a v j m')
 
   -- the type that stands for a group
 
-  heads_at : (g i : ℕ) (x : ModuleType) → IsMember gs g 0 i → get slots i ≡ Some x → head slots (table.rec_group_at groups g) ≡ Some x
+  heads_at : (g i : ℕ) (x : ModuleType) → IsMember gs g 0 i → get slots i ≡ Some x →
+      head slots (table.rec_group_at groups g) ≡ Some x
   heads_at g i x m at = first (table.rec_group_at groups g).types (in_table g 0 i m)
     where
-      first : (ids : List ℕ) → slice_get ids 0 ≡ Some i → head slots (record { types = ids; is_explicit = (table.rec_group_at groups g).is_explicit }) ≡ Some x
+      first : (ids : List ℕ) → slice_get ids 0 ≡ Some i →
+          head slots (record { types = ids; is_explicit = (table.rec_group_at groups g).is_explicit }) ≡ Some
+          x
       first [] h = cc
       first (j ∷ ids) h = ap (get slots) (some_inj h) ∙ at
 
@@ -281,42 +308,56 @@ module _ (t : Table) (is : IsTable t) where
       let m : IsMember gs g w.0 w.1 = w.2 in
       let i : ℕ = get_or (emission.group_at gs g).ids 0 0 in
       let some : 0 < length (emission.group_at gs g).ids = omega (arith, m.place) in
-      let m0 : IsMember gs g 0 i = to_member gs g 0 i (slice_get-get_or (emission.group_at gs g).ids 0 0 some) in
+      let m0 : IsMember gs g 0 i = to_member gs g 0 i (slice_get-get_or (emission.group_at gs g).ids 0 0 some)
+      in
       let x : _ = live_type i (live_member g 0 i m0) in
       record { id = i; type = x.0; member = m0; at = x.1 }
 
   -- a free group that is written has no mark of an entry
-  unmarked : (g : ℕ) (w : IsWritten gs entry g) (h : Headed g) → free g ≡ true → h.type.is_for_function_entry ≡ false
+  unmarked : (g : ℕ) (w : IsWritten gs entry g) (h : Headed g) → free g ≡ true →
+      h.type.is_for_function_entry ≡ false
   unmarked g w h f =
       let same : w.1 ≡ h.id = only_member g 0 h.id w.0 w.1 f h.member w.2 in
       ap slot_is_entry (sym h.at) ∙ (ap entry (sym same) ∙ w.3)
 
-  less_is : (i j : ℕ) (x y : ModuleType) → get slots i ≡ Some x → get slots j ≡ Some y → definition_cmp (def j) (def i) ≡ definition_cmp (type_definition y) (type_definition x)
+  less_is : (i j : ℕ) (x y : ModuleType) → get slots i ≡ Some x → get slots j ≡ Some y →
+      definition_cmp (def j) (def i) ≡ definition_cmp (type_definition y) (type_definition x)
   less_is i j x y at_i at_j = rw (at_i, at_j) refl
 
-  turned_round : (g h : ℕ) (a : Headed g) (b : Headed h) → IsInversion gs def g h → IsTurnedRound type_cmp free g a.type h b.type
+  turned_round : (g h : ℕ) (a : Headed g) (b : Headed h) → IsInversion gs def g h →
+      IsTurnedRound type_cmp free g a.type h b.type
   turned_round g h a b tr = record {
-    all_free = λ c low high. from_free_group c (omega (arith, high, in_groups h 0 b.id b.member)) (λ u i m. tr.free c low high u i m);
-    less = type_is b.type a.type ∙ then_less _ _ (sym (less_is a.id b.id a.type b.type a.at b.at) ∙ tr.less 0 a.id 0 b.id a.member b.member);
+    all_free = λ c low high. from_free_group c (omega (arith, high, in_groups h 0 b.id b.member)) (λ u i m.
+        tr.free c low high u i m);
+    less = type_is b.type a.type ∙ then_less _ _ (sym (less_is a.id b.id a.type b.type a.at b.at)
+        ∙ tr.less 0 a.id 0 b.id a.member b.member);
   }
 
-  from_turned_round : (g h : ℕ) (w : IsWritten gs entry g) (w' : IsWritten gs entry h) (a : Headed g) (b : Headed h) → g < h → IsTurnedRound type_cmp free g a.type h b.type → IsInversion gs def g h
+  from_turned_round : (g h : ℕ) (w : IsWritten gs entry g) (w' : IsWritten gs entry h) (a : Headed g)
+      (b : Headed h) → g < h → IsTurnedRound type_cmp free g a.type h b.type → IsInversion gs def g h
   from_turned_round g h w w' a b lt tr =
       let free_g : free g ≡ true = tr.all_free g (omega arith) (omega (arith, lt)) in
       let free_h : free h ≡ true = tr.all_free h (omega (arith, lt)) (omega arith) in
       let ea : a.type.is_for_function_entry ≡ false = unmarked g w a free_g in
       let eb : b.type.is_for_function_entry ≡ false = unmarked h w' b free_h in
-      let both : ordering_then (definition_cmp (type_definition b.type) (type_definition a.type)) Equal ≡ Less = ap (λ (p : Bool). ordering_then (definition_cmp (type_definition b.type) (type_definition a.type)) (bool_cmp false p)) (sym ea) ∙ (ap (λ (p : Bool). ordering_then (definition_cmp (type_definition b.type) (type_definition a.type)) (bool_cmp p a.type.is_for_function_entry)) (sym eb) ∙ (sym (type_is b.type a.type) ∙ tr.less)) in
-      let less : definition_cmp (def b.id) (def a.id) ≡ Less = less_is a.id b.id a.type b.type a.at b.at ∙ then_equal _ both in
+      let both : ordering_then (definition_cmp (type_definition b.type) (type_definition a.type)) Equal ≡ Less
+      = ap (λ (p : Bool). ordering_then (definition_cmp (type_definition b.type) (type_definition a.type))
+      (bool_cmp false p)) (sym ea) ∙ (ap (λ (p : Bool). ordering_then
+      (definition_cmp (type_definition b.type) (type_definition a.type))
+      (bool_cmp p a.type.is_for_function_entry)) (sym eb) ∙ (sym (type_is b.type a.type) ∙ tr.less)) in
+      let less : definition_cmp (def b.id) (def a.id) ≡ Less = less_is a.id b.id a.type b.type a.at b.at
+      ∙ then_equal _ both in
       record {
         free = λ c low high u i m. free_group c u i (tr.all_free c low high) m;
         less = λ u i v j m m'.
             (let e : i ≡ a.id = only_member g 0 a.id u i free_g a.member m in
             let f : j ≡ b.id = only_member h 0 b.id v j free_h b.member m' in
-            ap (λ (n : ℕ). definition_cmp (def n) (def i)) f ∙ (ap (λ (n : ℕ). definition_cmp (def b.id) (def n)) e ∙ less));
+            ap (λ (n : ℕ). definition_cmp (def n) (def i)) f
+            ∙ (ap (λ (n : ℕ). definition_cmp (def b.id) (def n)) e ∙ less));
       }
 
-  stands_from : (g h : ℕ) (w : IsWritten gs entry g) (w' : IsWritten gs entry h) (a : Headed g) (b : Headed h) → StandsBefore type_cmp free g a.type h b.type → IsWrittenBefore gs def g h
+  stands_from : (g h : ℕ) (w : IsWritten gs entry g) (w' : IsWritten gs entry h) (a : Headed g) (b : Headed h)
+      → StandsBefore type_cmp free g a.type h b.type → IsWrittenBefore gs def g h
   stands_from g h w w' a b (inl x) = inl (x.0, λ tr. x.1 (turned_round g h a b tr))
   stands_from g h w w' a b (inr x) = inr (x.0, from_turned_round h g w' w b a x.0 x.1)
 
@@ -335,44 +376,62 @@ module _ (t : Table) (is : IsTable t) where
       flip false e = refl
 
   is_written_to : (g : ℕ) → IsWritten gs entry g → written g ≡ true
-  is_written_to g w = any_from (λ i. not (entry i)) (table.rec_group_at groups g).types w.0 w.1 (in_table g w.0 w.1 w.2) (ap not w.3)
+  is_written_to g w = any_from (λ i. not (entry i)) (table.rec_group_at groups g).types w.0 w.1
+      (in_table g w.0 w.1 w.2) (ap not w.3)
 
   written_tests : (g : ℕ) → written g ≡ list_any (λ i. not (entry i)) (emission.group_at gs g).ids
   written_tests g = ap (list_any (λ i. not (entry i))) (sym (ids_at groups g))
 
   -- the order, from the groups that are written when they are sorted
 
-  module _ (ps : List PendingGroup) (perm : IsPermutation (pending_groups slots groups (length groups)) ps) where
-    abbrev order : List ℕ
-    order = places_of ps
+  module _ (ps : List PendingGroup) (perm : IsPermutation (pending_groups slots groups (length groups)) ps)
+    where
+      abbrev order : List ℕ
+      order = places_of ps
 
-    written_at : (a : ℕ) → a < length order → IsWritten gs entry (slice_index order a)
-    written_at a below = is_written_from (slice_index order a) (each_written free written (λ g. head slots (table.rec_group_at groups g)) (length groups) ps perm a below)
+      written_at : (a : ℕ) → a < length order → IsWritten gs entry (slice_index order a)
+      written_at a below = is_written_from (slice_index order a)
+          (each_written free written (λ g. head slots (table.rec_group_at groups g)) (length groups) ps perm a
+          below)
 
-    onto_at : (g : ℕ) → IsWritten gs entry g → (a : ℕ) × (a < length order) × (slice_index order a ≡ g)
-    onto_at g w = onto_written free written (λ g. head slots (table.rec_group_at groups g)) (length groups) ps perm g (in_groups g w.0 w.1 w.2) (is_written_to g w)
+      onto_at : (g : ℕ) → IsWritten gs entry g → (a : ℕ) × (a < length order) × (slice_index order a ≡ g)
+      onto_at g w = onto_written free written (λ g. head slots (table.rec_group_at groups g)) (length groups)
+          ps
+          perm g (in_groups g w.0 w.1 w.2) (is_written_to g w)
 
-    pub count_from_sort : id_count gs order ≡ written_count entry gs
-    count_from_sort =
-        let all : IsPermutation (filter written (range_with_len 0 (length groups))) order = moved free written (λ g. head slots (table.rec_group_at groups g)) (length groups) ps perm in
-        count_of_order entry gs written written_tests order (subst (λ (n : ℕ). IsPermutation (filter written (range_with_len 0 n)) order) (sym many) all)
+      pub count_from_sort : id_count gs order ≡ written_count entry gs
+      count_from_sort =
+          let all : IsPermutation (filter written (range_with_len 0 (length groups))) order =
+          moved free written (λ g. head slots (table.rec_group_at groups g)) (length groups) ps perm in
+          count_of_order entry gs written written_tests order
+          (subst (λ (n : ℕ). IsPermutation (filter written (range_with_len 0 n)) order) (sym many) all)
 
-    pub heads_from_sort : All (λ (p : PendingGroup). p.head ≡ head slots (table.rec_group_at groups p.place)) ps
-    heads_from_sort k d lt = ap (λ (p : PendingGroup). p.head) (each_group free written (λ g. head slots (table.rec_group_at groups g)) (length groups) ps perm k d lt)
+      pub heads_from_sort : All (λ (p : PendingGroup).
+          p.head ≡ head slots (table.rec_group_at groups p.place))
+          ps
+      heads_from_sort k d lt = ap (λ (p : PendingGroup). p.head)
+          (each_group free written (λ g. head slots (table.rec_group_at groups g)) (length groups) ps perm k d
+          lt)
 
-    pub order_from_sort : ((a b : ℕ) → a < b → b < length order → (x y : ModuleType) → head slots (table.rec_group_at groups (slice_index order a)) ≡ Some x → head slots (table.rec_group_at groups (slice_index order b)) ≡ Some y → StandsBefore type_cmp free (slice_index order a) x (slice_index order b) y) → IsWritingOrder gs def entry order
-    order_from_sort sorted = record {
-      written = written_at;
-      onto = onto_at;
-      stands = λ a b less below.
-          let g : ℕ = slice_index order a in
-          let h : ℕ = slice_index order b in
-          let w : IsWritten gs entry g = written_at a (omega (arith, less, below)) in
-          let w' : IsWritten gs entry h = written_at b below in
-          let x : Headed g = headed g w in
-          let y : Headed h = headed h w' in
-          stands_from g h w w' x y (sorted a b less below x.type y.type (heads_at g x.id x.type x.member x.at) (heads_at h y.id y.type y.member y.at));
-    }
+      pub order_from_sort : ((a b : ℕ) → a < b → b < length order → (x y : ModuleType) →
+          head slots (table.rec_group_at groups (slice_index order a)) ≡ Some x →
+          head slots (table.rec_group_at groups (slice_index order b)) ≡ Some y →
+          StandsBefore type_cmp free (slice_index order a) x (slice_index order b) y) →
+          IsWritingOrder gs def entry order
+      order_from_sort sorted = record {
+        written = written_at;
+        onto = onto_at;
+        stands = λ a b less below.
+            let g : ℕ = slice_index order a in
+            let h : ℕ = slice_index order b in
+            let w : IsWritten gs entry g = written_at a (omega (arith, less, below)) in
+            let w' : IsWritten gs entry h = written_at b below in
+            let x : Headed g = headed g w in
+            let y : Headed h = headed h w' in
+            stands_from g h w w' x y (sorted a b less below x.type y.type
+            (heads_at g x.id x.type x.member x.at)
+            (heads_at h y.id y.type y.member y.at));
+      }
 
   pub same_member : (g u h v i : ℕ) → IsMember gs g u i → IsMember gs h v i → (g ≡ h) × (u ≡ v)
   same_member g u h v i m n = is.once g u h v i (in_table g u i m) (in_table h v i n)
@@ -382,5 +441,6 @@ pub sorted_from :
     ps ≡ pending_groups t.types.slots groups (length groups) → IsPermutation ps qs →
     IsPermutation (pending_groups t.types.slots t.groups (length t.groups)) qs
 sorted_from t groups same ps qs is perm =
-    let all : ps ≡ pending_groups t.types.slots t.groups (length t.groups) = is ∙ ap (λ (gs : List RecGroup). pending_groups t.types.slots gs (length gs)) same in
+    let all : ps ≡ pending_groups t.types.slots t.groups (length t.groups) = is
+    ∙ ap (λ (gs : List RecGroup). pending_groups t.types.slots gs (length gs)) same in
     subst (λ (rs : List PendingGroup). IsPermutation rs qs) all perm

@@ -11,9 +11,9 @@ use Rattle.walrus_sections.specs.Section.{places_from, index_space, IsFilled}
 use Rattle.walrus_sections.specs.SlotMap.{TypeGroup}
 use Rattle.walrus_sections.specs.Emission.{no_group, group_at, IsMember, IsWritten, WrittenMember, IsInversion, IsEmission}
 use Rattle.walrus_sections.specs.Emission.{IsWrittenBefore}
-use Rattle.walrus_sections.specs.Refusal.{HasIndexBy, IsMissing, Precedes, IsFirstMissing}
+use Rattle.walrus_sections.specs.Refusal.{HasIndexBy, IsMissing, NamePrecedes, IsFirstMissing}
 use Rattle.walrus_ty.specs.Indices.{IndexMap, Indexes}
-use Rattle.walrus_types.specs.Steps.WrittenGroups.{ids_in, in_order, written_group, with_indices, IsMissingIn, ComesBefore, IsFirstMissingIn, IsWritingOrder}
+use Rattle.walrus_types.specs.Steps.WrittenGroups.{ids_in, in_order, written_group, with_indices, IsMissingIn, IndexPrecedes, IsFirstMissingIn, IsWritingOrder}
 use Rattle.walrus_types.proofs.Emission.IndexOfId as places
 use Rattle.walrus_types.proofs.Emission.IndexOfId.{IsTidy, AllTidy, recs, rec_position_of, home, member_at}
 use Rattle.walrus_ty.proofs.Basics.{some_inj}
@@ -46,8 +46,18 @@ start_past :
     length (ids_in (take a ws)) + u < length (ids_in (take b ws))
 start_past [] a b u i lt h = cc
 start_past (w ∷ ws) a zero u i lt h = absurd (omega (arith, lt))
-start_past (w ∷ ws) zero (suc b) u i lt h = omega (arith, slice_get_within w.ids u i h, length-append w.ids (ids_in (take b ws)))
-start_past (w ∷ ws) (suc a) (suc b) u i lt h = omega (arith, start_past ws a b u i (omega (arith, lt)) h, length-append w.ids (ids_in (take a ws)), length-append w.ids (ids_in (take b ws)))
+start_past (w ∷ ws) zero (suc b) u i lt h = omega (
+  arith,
+  slice_get_within w.ids u i h,
+  length-append w.ids (ids_in (take b ws)),
+)
+start_past (w ∷ ws) (suc a) (suc b) u i lt h =
+    omega (
+      arith,
+      start_past ws a b u i (omega (arith, lt)) h,
+      length-append w.ids (ids_in (take a ws)),
+      length-append w.ids (ids_in (take b ws)),
+    )
 
 recs_cons :
     (w : TypeGroup) (ws : List TypeGroup) → w.is_explicit ≡ true → recs (w ∷ ws) ≡ 1 + recs ws
@@ -70,8 +80,14 @@ contains_up :
     Contains (ids_in (take n ws)) k
 contains_up [] n b v k lt h = cc
 contains_up (w ∷ ws) zero b v k lt h = absurd (omega (arith, lt))
-contains_up (w ∷ ws) (suc n) zero v k lt h = Contains-append_left w.ids (ids_in (take n ws)) k (v, slice_get_within w.ids v k h, get_or_from_slice_get w.ids v k k h)
-contains_up (w ∷ ws) (suc n) (suc b) v k lt h = Contains-append_right w.ids (ids_in (take n ws)) k (contains_up ws n b v k (omega (arith, lt)) h)
+contains_up (w ∷ ws) (suc n) zero v k lt h =
+    Contains-append_left w.ids (ids_in (take n ws)) k (
+      v,
+      slice_get_within w.ids v k h,
+      get_or_from_slice_get w.ids v k k h,
+    )
+contains_up (w ∷ ws) (suc n) (suc b) v k lt h =
+    Contains-append_right w.ids (ids_in (take n ws)) k (contains_up ws n b v k (omega (arith, lt)) h)
 
 contains_down :
     (ws : List TypeGroup) (n k : ℕ) → Contains (ids_in (take n ws)) k →
@@ -93,12 +109,14 @@ filled_all :
 filled_all d [] tidy = tt
 filled_all d (w ∷ ws) tidy = one w.is_explicit w.ids tidy.0.filled (filled_all d ws tidy.1)
   where
-    one : (e : Bool) (ids : List ℕ) → 0 < length ids → IsFilled (map (written_group d) ws) → IsFilled (written_group d (record { ids = ids; is_explicit = e }) ∷ map (written_group d) ws)
+    one : (e : Bool) (ids : List ℕ) → 0 < length ids → IsFilled (map (written_group d) ws) →
+        IsFilled (written_group d (record { ids = ids; is_explicit = e }) ∷ map (written_group d) ws)
     one false ids some rest = rest
     one true [] some rest = absurd (omega (arith, some))
     one true (i ∷ ids) some rest = rest
 
-module _ (gs : List TypeGroup) (definition : ℕ → Definition) (is_entry : ℕ → Bool) (order : List ℕ) (ord : IsWritingOrder gs definition is_entry order) where
+module _ (gs : List TypeGroup) (definition : ℕ → Definition) (is_entry : ℕ → Bool) (order : List ℕ)
+    (ord : IsWritingOrder gs definition is_entry order) where
   abbrev ws : List TypeGroup
   ws = in_order gs order
 
@@ -123,11 +141,14 @@ module _ (gs : List TypeGroup) (definition : ℕ → Definition) (is_entry : ℕ
   group_is : (g : ℕ) (w : IsWritten gs is_entry g) → group_at ws (place_of g w) ≡ group_at gs g
   group_is g w = at_place (place_of g w) (place_below g w) ∙ ap (group_at gs) (place_is g w)
 
-  member_in : (g u i : ℕ) (w : IsWritten gs is_entry g) → IsMember gs g u i → slice_get (group_at ws (place_of g w)).ids u ≡ Some i
+  member_in : (g u i : ℕ) (w : IsWritten gs is_entry g) → IsMember gs g u i →
+      slice_get (group_at ws (place_of g w)).ids u ≡ Some i
   member_in g u i w m = ap (λ (x : TypeGroup). slice_get x.ids u) (group_is g w) ∙ at_member gs g u i m
 
-  member_from : (a u i : ℕ) → a < length order → slice_get (group_at ws a).ids u ≡ Some i → IsMember gs (slice_index order a) u i
-  member_from a u i below h = to_member gs (slice_index order a) u i (ap (λ (x : TypeGroup). slice_get x.ids u) (sym (at_place a below)) ∙ h)
+  member_from : (a u i : ℕ) → a < length order → slice_get (group_at ws a).ids u ≡ Some i →
+      IsMember gs (slice_index order a) u i
+  member_from a u i below h = to_member gs (slice_index order a) u i
+      (ap (λ (x : TypeGroup). slice_get x.ids u) (sym (at_place a below)) ∙ h)
 
   stands_both : (g h : ℕ) → IsWrittenBefore gs definition g h → IsWrittenBefore gs definition h g → ⊥
   stands_both g h (inl x) (inl y) = omega (arith, x.0, y.0)
@@ -140,45 +161,62 @@ module _ (gs : List TypeGroup) (definition : ℕ → Definition) (is_entry : ℕ
   stands_self g (inr x) = omega (arith, x.0)
 
   -- the order of places
-  before_from : (a b : ℕ) → a < length order → b < length order → IsWrittenBefore gs definition (slice_index order a) (slice_index order b) → a < b
+  before_from : (a b : ℕ) → a < length order → b < length order →
+      IsWrittenBefore gs definition (slice_index order a) (slice_index order b) → a < b
   before_from a b in_a in_b s = elim (cases_lt a b) [
     | inl x ↦ x
     | inr x ↦ (elim (cases_eq a b) [
-      | inl y ↦ absurd (stands_self (slice_index order b) (subst (λ (n : ℕ). IsWrittenBefore gs definition (slice_index order n) (slice_index order b)) y s))
-      | inr y ↦ absurd (stands_both (slice_index order a) (slice_index order b) s (ord.stands b a (omega (arith, x, y)) in_a))
+      | inl y ↦ absurd (stands_self (slice_index order b)
+          (subst (λ (n : ℕ). IsWrittenBefore gs definition (slice_index order n) (slice_index order b)) y s))
+      | inr y ↦ absurd (stands_both (slice_index order a) (slice_index order b) s
+          (ord.stands b a (omega (arith, x, y)) in_a))
     ])
   ]
 
-  same_from : (a b : ℕ) → a < length order → b < length order → slice_index order a ≡ slice_index order b → a ≡ b
+  same_from : (a b : ℕ) → a < length order → b < length order → slice_index order a ≡ slice_index order b →
+      a ≡ b
   same_from a b in_a in_b e = elim (cases_eq a b) [
     | inl x ↦ x
     | inr x ↦ (elim (cases_lt a b) [
-      | inl y ↦ absurd (stands_self (slice_index order b) (subst (λ (n : ℕ). IsWrittenBefore gs definition n (slice_index order b)) e (ord.stands a b y in_b)))
-      | inr y ↦ absurd (stands_self (slice_index order b) (subst (λ (n : ℕ). IsWrittenBefore gs definition (slice_index order b) n) e (ord.stands b a (omega (arith, x, y)) in_a)))
+      | inl y ↦ absurd (stands_self (slice_index order b)
+          (subst (λ (n : ℕ). IsWrittenBefore gs definition n (slice_index order b)) e
+          (ord.stands a b y in_b)))
+      | inr y ↦ absurd (stands_self (slice_index order b)
+          (subst (λ (n : ℕ). IsWrittenBefore gs definition (slice_index order b) n) e
+          (ord.stands b a (omega (arith, x, y)) in_a)))
     ])
   ]
 
   -- a member of a group in the order, and that the group stands there alone
-  pub placed_member : (a u i : ℕ) → slice_get (group_at ws a).ids u ≡ Some i → (a < length order) × IsMember gs (slice_index order a) u i × ((b : ℕ) → b < length order → slice_index order a ≡ slice_index order b → a ≡ b)
+  pub placed_member : (a u i : ℕ) → slice_get (group_at ws a).ids u ≡ Some i → (a < length order)
+      × IsMember gs (slice_index order a) u i × ((b : ℕ) → b < length order →
+      slice_index order a ≡ slice_index order b → a ≡ b)
   placed_member a u i h =
       let below : a < length order = omega (arith, in_list ws a u i h, as_many) in
       (below, member_from a u i below h, λ b in_b e. same_from a b below in_b e)
 
-  places_stand : (g h : ℕ) (w : IsWritten gs is_entry g) (w' : IsWritten gs is_entry h) → IsWrittenBefore gs definition g h → place_of g w < place_of h w'
-  places_stand g h w w' s = before_from (place_of g w) (place_of h w') (place_below g w) (place_below h w') (rw (place_is g w, place_is h w') s)
+  places_stand : (g h : ℕ) (w : IsWritten gs is_entry g) (w' : IsWritten gs is_entry h) →
+      IsWrittenBefore gs definition g h → place_of g w < place_of h w'
+  places_stand g h w w' s = before_from (place_of g w) (place_of h w') (place_below g w) (place_below h w')
+      (rw (place_is g w, place_is h w') s)
 
   -- names that have no index
 
-  has_index : (a k : ℕ) → a < length order → HasIndexBy gs definition is_entry (slice_index order a) k → Contains (ids_in (take (a + 1) ws)) k
+  has_index : (a k : ℕ) → a < length order → HasIndexBy gs definition is_entry (slice_index order a) k →
+      Contains (ids_in (take (a + 1) ws)) k
   has_index a k below h =
       let b : ℕ = place_of h.home h.written in
       let le : b < a + 1 = elim h.by [
-        | inl e ↦ (let same : b ≡ a = same_from b a (place_below h.home h.written) below (place_is h.home h.written ∙ e) in omega (arith, same))
-        | inr s ↦ (let lt : b < a = before_from b a (place_below h.home h.written) below (subst (λ (n : ℕ). IsWrittenBefore gs definition n (slice_index order a)) (sym (place_is h.home h.written)) s) in omega (arith, lt))
+        | inl e ↦ (let same : b ≡ a = same_from b a (place_below h.home h.written) below
+            (place_is h.home h.written ∙ e) in omega (arith, same))
+        | inr s ↦ (let lt : b < a = before_from b a (place_below h.home h.written) below
+            (subst (λ (n : ℕ). IsWrittenBefore gs definition n (slice_index order a))
+            (sym (place_is h.home h.written)) s) in omega (arith, lt))
       ] in
       contains_up ws (a + 1) b h.place k le (member_in h.home h.place k h.written h.member)
 
-  has_index_from : (a k : ℕ) → a < length order → Contains (ids_in (take (a + 1) ws)) k → HasIndexBy gs definition is_entry (slice_index order a) k
+  has_index_from : (a k : ℕ) → a < length order → Contains (ids_in (take (a + 1) ws)) k →
+      HasIndexBy gs definition is_entry (slice_index order a) k
   has_index_from a k below c =
       let r : _ = contains_down ws (a + 1) k c in
       let in_b : r.0 < length order = omega (arith, r.2, below) in
@@ -193,15 +231,18 @@ module _ (gs : List TypeGroup) (definition : ℕ → Definition) (is_entry : ℕ
         ];
       }
 
-  missing_in : (g u t i k : ℕ) (m : IsMissing gs definition is_entry g u t i k) → IsMissingIn definition ws (place_of g m.written) u t i k
+  missing_in : (g u t i k : ℕ) (m : IsMissing gs definition is_entry g u t i k) →
+      IsMissingIn definition ws (place_of g m.written) u t i k
   missing_in g u t i k m = record {
     group = omega (arith, place_below g m.written, as_many);
     member = member_in g u i m.written m.member;
     name = m.name;
-    missing = λ c. m.missing (subst (λ (n : ℕ). HasIndexBy gs definition is_entry n k) (place_is g m.written) (has_index_from (place_of g m.written) k (place_below g m.written) c));
+    missing = λ c. m.missing (subst (λ (n : ℕ). HasIndexBy gs definition is_entry n k) (place_is g m.written)
+        (has_index_from (place_of g m.written) k (place_below g m.written) c));
   }
 
-  missing_from : (a u t i k : ℕ) → IsMissingIn definition ws a u t i k → IsMissing gs definition is_entry (slice_index order a) u t i k
+  missing_from : (a u t i k : ℕ) → IsMissingIn definition ws a u t i k →
+      IsMissing gs definition is_entry (slice_index order a) u t i k
   missing_from a u t i k m =
       let below : a < length order = omega (arith, m.group, as_many) in
       record {
@@ -211,14 +252,23 @@ module _ (gs : List TypeGroup) (definition : ℕ → Definition) (is_entry : ℕ
         missing = λ h. m.missing (has_index a k below h);
       }
 
-  pub none_missing : ((a u t i k : ℕ) → ¬ (IsMissingIn definition ws a u t i k)) → (g u t i k : ℕ) → ¬ (IsMissing gs definition is_entry g u t i k)
+  pub none_missing : ((a u t i k : ℕ) → ¬ (IsMissingIn definition ws a u t i k)) → (g u t i k : ℕ) →
+      ¬ (IsMissing gs definition is_entry g u t i k)
   none_missing none g u t i k m = none (place_of g m.written) u t i k (missing_in g u t i k m)
 
-  precedes : (g u t b v s : ℕ) (w : IsWritten gs is_entry g) → b < length order → Precedes gs definition is_entry g u t (slice_index order b) v s → ComesBefore (place_of g w) u t b v s
-  precedes g u t b v s w below (inl x) = inl (before_from (place_of g w) b (place_below g w) below (subst (λ (n : ℕ). IsWrittenBefore gs definition n (slice_index order b)) (sym (place_is g w)) x))
-  precedes g u t b v s w below (inr x) = inr (same_from (place_of g w) b (place_below g w) below (place_is g w ∙ x.0), x.1)
+  precedes : (g u t b v s : ℕ) (w : IsWritten gs is_entry g) → b < length order →
+      NamePrecedes gs definition is_entry g u t (slice_index order b) v s →
+      IndexPrecedes (place_of g w) u t b v s
+  precedes g u t b v s w below (inl x) = inl (before_from (place_of g w) b (place_below g w) below
+      (subst (λ (n : ℕ). IsWrittenBefore gs definition n (slice_index order b)) (sym (place_is g w)) x))
+  precedes g u t b v s w below (inr x) = inr (
+    same_from (place_of g w) b (place_below g w) below (place_is g w
+        ∙ x.0),
+    x.1,
+  )
 
-  pub first_missing : (i k : ℕ) → IsFirstMissingIn definition ws i k → IsFirstMissing gs definition is_entry i k
+  pub first_missing : (i k : ℕ) → IsFirstMissingIn definition ws i k →
+      IsFirstMissing gs definition is_entry i k
   first_missing i k f =
       let below : f.group < length order = omega (arith, f.is.group, as_many) in
       record {
@@ -226,12 +276,14 @@ module _ (gs : List TypeGroup) (definition : ℕ → Definition) (is_entry : ℕ
         place = f.place;
         name = f.name;
         is = missing_from f.group f.place f.name i k f.is;
-        first = λ g u t j l m p. f.first (place_of g m.written) u t j l (missing_in g u t j l m) (precedes g u t f.group f.place f.name m.written below p);
+        first = λ g u t j l m p. f.first (place_of g m.written) u t j l (missing_in g u t j l m)
+            (precedes g u t f.group f.place f.name m.written below p);
       }
 
   -- the section
 
-  module _ (single : (g : ℕ) → (group_at gs g).is_explicit ≡ false → length (group_at gs g).ids ≤ 1) (x : IndexMap) (is : Indexes (ids_in ws) x) where
+  module _ (single : (g : ℕ) → (group_at gs g).is_explicit ≡ false → length (group_at gs g).ids ≤ 1)
+      (x : IndexMap) (is : Indexes (ids_in ws) x) where
     abbrev m : ℕ → ℕ
     m i = unwrap_or (x.index i) 0
 
@@ -249,15 +301,22 @@ module _ (gs : List TypeGroup) (definition : ℕ → Definition) (is_entry : ℕ
         let below : a < length order = omega (arith, h, as_many) in
         let w : _ = ord.written a below in
         let some : 0 < length (group_at gs (slice_index order a)).ids = omega (arith, w.2.place) in
-        rw (at_place a below) (record { filled = some; single = λ e. (let le : _ = single (slice_index order a) e in omega (arith, some, le)) })
+        rw (at_place a below) (record {
+          filled = some;
+          single = λ e.
+              (let le : _ = single (slice_index order a) e in omega (arith, some, le));
+        })
 
     tidy : AllTidy ws
     tidy = all_tidy ws tidy_at
 
     index_at : (a u i : ℕ) → slice_get (group_at ws a).ids u ≡ Some i → m i ≡ start a + u
-    index_at a u i h = ap (λ (o : Option ℕ). unwrap_or o 0) ((is.index i (start a + u)).1 (member_at ws a u i h))
+    index_at a u i h = ap (λ (o : Option ℕ). unwrap_or o 0)
+        ((is.index i (start a + u)).1 (member_at ws a u i h))
 
-    stands_at : (a u i : ℕ) → slice_get (group_at ws a).ids u ≡ Some i → places.Stands (places_from 0 0 n) (start a + u) (d i) (rec_position_of (group_at ws a).is_explicit (0 + recs (take a ws)) u)
+    stands_at : (a u i : ℕ) → slice_get (group_at ws a).ids u ≡ Some i →
+        places.Stands (places_from 0 0 n) (start a + u) (d i)
+        (rec_position_of (group_at ws a).is_explicit (0 + recs (take a ws)) u)
     stands_at a u i h = places.stands d ws tidy 0 0 a u i h
 
     -- what stands at the index of a member
@@ -278,10 +337,15 @@ module _ (gs : List TypeGroup) (definition : ℕ → Definition) (is_entry : ℕ
       below_at = let s : _ = stands_at group_place y.place y.id member_there in omega (arith, at, s.within)
 
       same_at : (index_space n).definition (m y.id) ≡ rename m (definition y.id)
-      same_at = ap (index_space n).definition at ∙ (stands_at group_place y.place y.id member_there).definition
+      same_at = ap (index_space n).definition at
+          ∙ (stands_at group_place y.place y.id member_there).definition
 
-      rec_position_at : (e : Bool) → explicit_as e → (index_space n).rec_position (m y.id) ≡ rec_position_of e (0 + recs (take group_place ws)) y.place
-      rec_position_at e is_e = ap (index_space n).rec_position at ∙ ((stands_at group_place y.place y.id member_there).rec_position ∙ ap (λ (b : Bool). rec_position_of b (0 + recs (take group_place ws)) y.place) (ap (λ (g : TypeGroup). g.is_explicit) (group_is y.group y.is_written) ∙ is_e))
+      rec_position_at : (e : Bool) → explicit_as e →
+          (index_space n).rec_position (m y.id) ≡ rec_position_of e (0 + recs (take group_place ws)) y.place
+      rec_position_at e is_e = ap (index_space n).rec_position at
+          ∙ ((stands_at group_place y.place y.id member_there).rec_position
+          ∙ ap (λ (b : Bool). rec_position_of b (0 + recs (take group_place ws)) y.place)
+          (ap (λ (g : TypeGroup). g.is_explicit) (group_is y.group y.is_written) ∙ is_e))
 
       explicit_from : (k : ℕ) → (index_space n).rec_position (m y.id) ≡ Some (k, y.place) → explicit_as true
       explicit_from k h = by (group_at gs y.group).is_explicit refl
@@ -290,30 +354,51 @@ module _ (gs : List TypeGroup) (definition : ℕ → Definition) (is_entry : ℕ
           by true f = f
           by false f = let k' : ⊥ = (let z = sym (rec_position_at false f) ∙ h in cc) in absurd k'
 
-      number_from : (k : ℕ) → (index_space n).rec_position (m y.id) ≡ Some (k, y.place) → k ≡ 0 + recs (take group_place ws)
-      number_from k h = let e : Some (k, y.place) ≡ Some (0 + recs (take group_place ws), y.place) = sym h ∙ rec_position_at true (explicit_from k h) in ap (λ (a : ℕ × ℕ). a.0) (some_inj e)
+      number_from : (k : ℕ) → (index_space n).rec_position (m y.id) ≡ Some (k, y.place) →
+          k ≡ 0 + recs (take group_place ws)
+      number_from k h = let e : Some (k, y.place) ≡ Some (0 + recs (take group_place ws), y.place) = sym h
+          ∙ rec_position_at true (explicit_from k h) in ap (λ (a : ℕ × ℕ). a.0) (some_inj e)
 
     same_place : (y z : WrittenMember gs is_entry) → y.group ≡ z.group → group_place y ≡ group_place z
-    same_place y z e = same_from (group_place y) (group_place z) (place_below y.group y.is_written) (place_below z.group z.is_written) (place_is y.group y.is_written ∙ (e ∙ sym (place_is z.group z.is_written)))
+    same_place y z e = same_from (group_place y) (group_place z) (place_below y.group y.is_written)
+        (place_below z.group z.is_written) (place_is y.group y.is_written
+        ∙ (e ∙ sym (place_is z.group z.is_written)))
 
     -- of two members, the one whose group stands first has the lesser index
-    earlier : (y z : WrittenMember gs is_entry) → IsWrittenBefore gs definition y.group z.group → m y.id < m z.id
+    earlier : (y z : WrittenMember gs is_entry) → IsWrittenBefore gs definition y.group z.group →
+        m y.id < m z.id
     earlier y z s =
         let lt : group_place y < group_place z = places_stand y.group z.group y.is_written z.is_written s in
-        omega (arith, at y, at z, start_past ws (group_place y) (group_place z) y.place y.id lt (member_there y))
+        omega (
+          arith,
+          at y,
+          at z,
+          start_past ws (group_place y) (group_place z) y.place y.id lt
+              (member_there y),
+        )
 
-    whole : (y z : WrittenMember gs is_entry) (k : ℕ) → y.group ≡ z.group → explicit_as y true → (index_space n).rec_position (m y.id) ≡ Some (k, y.place) → (index_space n).rec_position (m z.id) ≡ Some (k, z.place)
+    whole : (y z : WrittenMember gs is_entry) (k : ℕ) → y.group ≡ z.group → explicit_as y true →
+        (index_space n).rec_position (m y.id) ≡ Some (k, y.place) →
+        (index_space n).rec_position (m z.id) ≡ Some (k, z.place)
     whole y z k e ex f =
         let ez : explicit_as z true = ap (λ (g : ℕ). (group_at gs g).is_explicit) (sym e) ∙ ex in
-        let number : k ≡ 0 + recs (take (group_place z) ws) = number_from y k f ∙ ap (λ (a : ℕ). 0 + recs (take a ws)) (same_place y z e) in
+        let number : k ≡ 0 + recs (take (group_place z) ws) = number_from y k f
+        ∙ ap (λ (a : ℕ). 0 + recs (take a ws)) (same_place y z e) in
         rec_position_at z true ez ∙ ap (λ (a : ℕ). Some (a, z.place)) (sym number)
 
-    recs_in_order : (y z : WrittenMember gs is_entry) (k l : ℕ) → y.group < z.group → (index_space n).rec_position (m y.id) ≡ Some (k, y.place) → (index_space n).rec_position (m z.id) ≡ Some (l, z.place) → k < l
+    recs_in_order : (y z : WrittenMember gs is_entry) (k l : ℕ) → y.group < z.group →
+        (index_space n).rec_position (m y.id) ≡ Some (k, y.place) →
+        (index_space n).rec_position (m z.id) ≡ Some (l, z.place) → k < l
     recs_in_order y z k l lt e f =
         let ex : explicit_as y true = explicit_from y k e in
-        let not_turned : ¬ (IsInversion gs definition y.group z.group) = λ t. (let i = (t.free y.group (omega arith) (omega (arith, lt)) y.place y.id y.is_member).implicit in let j = sym ex ∙ i in cc) in
-        let a_b : group_place y < group_place z = places_stand y.group z.group y.is_written z.is_written (inl (lt, not_turned)) in
-        let more : recs (take (group_place y) ws) < recs (take (group_place z) ws) = recs_past ws (group_place y) (group_place z) a_b (ap (λ (g : TypeGroup). g.is_explicit) (group_is y.group y.is_written) ∙ ex) in
+        let not_turned : ¬ (IsInversion gs definition y.group z.group) = λ t.
+        (let i = (t.free y.group (omega arith) (omega (arith, lt)) y.place y.id y.is_member).implicit in
+        let j = sym ex ∙ i in cc) in
+        let a_b : group_place y < group_place z =
+        places_stand y.group z.group y.is_written z.is_written (inl (lt, not_turned)) in
+        let more : recs (take (group_place y) ws) < recs (take (group_place z) ws) =
+        recs_past ws (group_place y) (group_place z) a_b
+        (ap (λ (g : TypeGroup). g.is_explicit) (group_is y.group y.is_written) ∙ ex) in
         omega (arith, number_from y k e, number_from z l f, more)
 
     pub emission : IsEmission gs definition is_entry n m
@@ -324,8 +409,10 @@ module _ (gs : List TypeGroup) (definition : ℕ → Definition) (is_entry : ℕ
           let i : ℕ = slice_index (ids_in ws) p in
           let there : slice_get (ids_in ws) p ≡ Some i = slice_get-get_or (ids_in ws) p 0 long in
           let r : places.Home ws p i = home ws p i there in
-          let in_a : r.group < length order = omega (arith, r.within, as_many) in
-          (written_member (ord.written r.group in_a) (member_from r.group r.place i in_a r.is), ap (λ (o : Option ℕ). unwrap_or o 0) ((is.index i p).1 there)));
+          let in_a : r.group < length order = omega (arith, r.within, as_many) in (
+            written_member (ord.written r.group in_a) (member_from r.group r.place i in_a r.is),
+            ap (λ (o : Option ℕ). unwrap_or o 0) ((is.index i p).1 there),
+          ));
       same = λ y. same_at y;
       filled = filled_all d ws tidy;
       single = λ y e. rec_position_at y false e;

@@ -17,8 +17,13 @@ run_free :
 run_free free zero a low high = absurd (omega (arith, high))
 run_free free (suc g) a low high = by (free g) refl (run_free free g a) low
   where
-    by : (b : Bool) → free g ≡ b → (run_start free g ≤ a → a < g → free a ≡ true) → cond b (run_start free g) (suc g) ≤ a → free a ≡ true
-    by true e rest le = elim (cases_lt a g) [ inl w ↦ rest le w | inr w ↦ (let same : g ≡ a = omega (arith, w, high) in subst (λ (n : ℕ). free n ≡ true) same e) ]
+    by : (b : Bool) → free g ≡ b → (run_start free g ≤ a → a < g → free a ≡ true) →
+        cond b (run_start free g) (suc g) ≤ a → free a ≡ true
+    by true e rest le = elim (cases_lt a g) [
+      | inl w ↦ rest le w
+      | inr w ↦
+          (let same : g ≡ a = omega (arith, w, high) in subst (λ (n : ℕ). free n ≡ true) same e)
+    ]
     by false e rest le = absurd (omega (arith, le, high))
 
 -- a run begins where it began before
@@ -28,7 +33,9 @@ run_same :
 run_same free g zero le all = let same : g ≡ zero = omega (arith, le) in sym (ap (run_start free) same)
 run_same free g (suc h) le all = elim (cases_lt h g) [
   | inl w ↦ (let same : g ≡ suc h = omega (arith, le, w) in sym (ap (run_start free) same))
-  | inr w ↦ (let here : free h ≡ true = all h (omega (arith, w)) (omega arith) in ap (λ (b : Bool). cond b (run_start free h) (suc h)) here ∙ run_same free g h (omega (arith, w)) (λ a low high. all a low (omega (arith, high))))
+  | inr w ↦ (let here : free h ≡ true = all h (omega (arith, w)) (omega arith) in
+      ap (λ (b : Bool). cond b (run_start free h) (suc h)) here
+      ∙ run_same free g h (omega (arith, w)) (λ a low high. all a low (omega (arith, high))))
 ]
 
 start_free : (free : ℕ → Bool) (g : ℕ) → free g ≡ true → start_of free g ≡ run_start free g
@@ -45,8 +52,10 @@ start_le free g = by (free g)
 pub together :
     (free : ℕ → Bool) (g h : ℕ) → g < h → AllFree free g h → start_of free g ≡ start_of free h
 together free g h less all =
-    let same : run_start free h ≡ run_start free g = run_same free g h (omega (arith, less)) (λ a low high. all a low (omega (arith, high))) in
-    start_free free g (all g (omega arith) (omega (arith, less))) ∙ (sym same ∙ sym (start_free free h (all h (omega (arith, less)) (omega arith))))
+    let same : run_start free h ≡ run_start free g =
+    run_same free g h (omega (arith, less)) (λ a low high. all a low (omega (arith, high))) in
+    start_free free g (all g (omega arith) (omega (arith, less)))
+    ∙ (sym same ∙ sym (start_free free h (all h (omega (arith, less)) (omega arith))))
 
 -- and of others the later has the greater one
 pub apart :
@@ -57,7 +66,10 @@ apart free g h less = by (free h) refl
     by false e = inr (omega (arith, start_le free g, less))
     by true e = elim (cases_lt g (run_start free h)) [
       | inl w ↦ inr (omega (arith, w, start_le free g))
-      | inr w ↦ inl (λ a low high. elim (cases_lt a h) [ inl u ↦ run_free free h a (omega (arith, w, low)) u | inr u ↦ (let same : h ≡ a = omega (arith, u, high) in subst (λ (n : ℕ). free n ≡ true) same e) ])
+      | inr w ↦ inl (λ a low high. elim (cases_lt a h) [
+        | inl u ↦ run_free free h a (omega (arith, w, low)) u
+        | inr u ↦ (let same : h ≡ a = omega (arith, u, high) in subst (λ (n : ℕ). free n ≡ true) same e)
+      ])
     ]
 
 -- where the run begins that ends before the next place
@@ -66,4 +78,6 @@ pub run_more :
     next ≡ cond b run (i + 1) → next ≡ run_start free (i + 1)
 run_more free i b run next is_free is_run is =
     let e : i + 1 ≡ suc i = omega arith in
-    is ∙ (ap (λ (c : Bool). cond c run (i + 1)) is_free ∙ (ap (λ (n : ℕ). cond (free i) n (i + 1)) is_run ∙ (ap (λ (n : ℕ). cond (free i) (run_start free i) n) e ∙ ap (run_start free) (sym e))))
+    is ∙ (ap (λ (c : Bool). cond c run (i + 1)) is_free
+    ∙ (ap (λ (n : ℕ). cond (free i) n (i + 1)) is_run
+    ∙ (ap (λ (n : ℕ). cond (free i) (run_start free i) n) e ∙ ap (run_start free) (sym e))))

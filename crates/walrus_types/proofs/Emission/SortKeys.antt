@@ -144,11 +144,16 @@ val_less (val.Ref r) val.I64 h = absurd (omega (arith, h))
 val_less (val.Ref r) val.F32 h = absurd (omega (arith, h))
 val_less (val.Ref r) val.F64 h = absurd (omega (arith, h))
 val_less (val.Ref r) val.V128 h = absurd (omega (arith, h))
-val_less (val.Ref r) (val.Ref q) h = nullable_less r.nullable q.nullable r.heap_type q.heap_type (omega (arith, h))
+val_less (val.Ref r) (val.Ref q) h = nullable_less r.nullable q.nullable r.heap_type q.heap_type
+    (omega (arith, h))
 
 -- a place that is not that of a reference to a type
 pub unnamed : (i : ℕ) → is_named i ≡ false → (¬ (i ≡ 17)) × (¬ (i ≡ 30))
-unnamed i h = (λ e. (let k : true ≡ false = sym (ap is_named e) ∙ h in cc), λ e. (let k : true ≡ false = sym (ap is_named e) ∙ h in cc))
+unnamed i h = (
+  λ e. (let k : true ≡ false = sym (ap is_named e) ∙ h in cc),
+  λ e.
+      (let k : true ≡ false = sym (ap is_named e) ∙ h in cc),
+)
 
 -- the place of a reference to a type
 named : (b c : Bool) (i : ℕ) → (i == 17) ≡ b → (i == 30) ≡ c → cond b true c ≡ true →
@@ -196,7 +201,8 @@ val_tied (val.Ref r) val.F64 e h = absurd (omega (arith, e))
 val_tied (val.Ref r) val.V128 e h = absurd (omega (arith, e))
 val_tied (val.Ref r) (val.Ref q) e h =
     let apart = unnamed (val_place (val.Ref r)) h in
-    nullable_tied r.nullable q.nullable r.heap_type q.heap_type (omega (arith, e)) (λ k. apart.0 (omega (arith, k))) (λ k. apart.1 (omega (arith, k)))
+    nullable_tied r.nullable q.nullable r.heap_type q.heap_type (omega (arith, e)) (λ k.
+    apart.0 (omega (arith, k))) (λ k. apart.1 (omega (arith, k)))
 
 storage_less : (s t : Storage ℕ) → storage_place s < storage_place t → storage_cmp s t ≡ Less
 storage_less (storage.Val v) (storage.Val w) h = val_less v w h
@@ -232,7 +238,8 @@ same_place :
     2 * (i + 1) + cond b 0 (bool_index m) < 2 * (j + 1) + cond c 0 (bool_index n) → RankedBy i j m n
 same_place i j true true m n e f w h = absurd (omega (arith, w, h))
 same_place i j true false m false e f w h = absurd (omega (arith, w, h))
-same_place i j true false m true e f w h = let s : i ≡ j = omega (arith, w, h) in let k : true ≡ false = sym e ∙ (ap is_named s ∙ f) in cc
+same_place i j true false m true e f w h = let s : i ≡ j = omega (arith, w, h) in let k : true ≡ false = sym e
+    ∙ (ap is_named s ∙ f) in cc
 same_place i j false true true n e f w h = absurd (omega (arith, w, h))
 same_place i j false true false n e f w h = absurd (omega (arith, w, h))
 same_place i j false false true true e f w h = absurd (omega (arith, w, h))
@@ -243,7 +250,8 @@ same_place i j false false false true e f w h = by_mutability (omega (arith, w, 
 rank_less : (i j : ℕ) (m n : Bool) → nat_cmp (rank i m) (rank j n) ≡ Less → RankedBy i j m n
 rank_less i j m n h = elim (cases_lt i j) [
   | inl w ↦ by_place w
-  | inr w ↦ same_place i j (is_named i) (is_named j) m n refl refl (omega (arith, w)) (below (rank i m) (rank j n) h)
+  | inr w ↦ same_place i j (is_named i) (is_named j) m n refl refl (omega (arith, w))
+      (below (rank i m) (rank j n) h)
 ]
 
 -- the rank of what names a type is known by itself
@@ -261,7 +269,8 @@ rank_same_at :
     (i ≡ j) × (is_named i ≡ false) × (bool_cmp m n ≡ Equal)
 rank_same_at i j true c m n e f s h = let k : true ≡ false = sym (named_is_open i e) ∙ h in cc
 rank_same_at i j false true true n e f s h = absurd (omega (arith, s))
-rank_same_at i j false true false n e f s h = let same : i ≡ j = omega (arith, s) in let k : true ≡ false = sym f ∙ (ap is_named (sym same) ∙ e) in cc
+rank_same_at i j false true false n e f s h = let same : i ≡ j = omega (arith, s) in let k : true ≡ false =
+    sym f ∙ (ap is_named (sym same) ∙ e) in cc
 rank_same_at i j false false true true e f s h = (omega (arith, s), e, refl)
 rank_same_at i j false false true false e f s h = absurd (omega (arith, s))
 rank_same_at i j false false false true e f s h = absurd (omega (arith, s))
@@ -282,30 +291,38 @@ pub record IsRanking {A : Type 0} (r : A → ℕ) (cmp : A → A → Ordering) :
   pub same : (x y : A) → r x ≡ r y → is_open (r x) ≡ false → cmp x y ≡ Equal
 
 module _ {A : Type 0} (r : A → ℕ) (cmp : A → A → Ordering) (ranking : IsRanking r cmp) where
-  first_less : (xs ys : List A) → nat_cmp (first_rank r xs) (first_rank r ys) ≡ Less → slice_cmp cmp xs ys ≡ Less
+  first_less : (xs ys : List A) → nat_cmp (first_rank r xs) (first_rank r ys) ≡ Less →
+      slice_cmp cmp xs ys ≡ Less
   first_less [] [] h = cc
   first_less [] (y ∷ ys) h = refl
   first_less (x ∷ xs) [] h = let k : Greater ≡ Less = sym (ranking.some x) ∙ h in cc
   first_less (x ∷ xs) (y ∷ ys) h = ap (λ o. ordering_then o (slice_cmp cmp xs ys)) (ranking.less x y h)
 
-  lossless_key : (b c : Bool) (x y : A) (xs ys : List A) → r x ≡ r y → is_open (r x) ≡ b → is_open (r y) ≡ c → slice_cmp cmp (cond b [] xs) (cond c [] ys) ≡ Less → slice_cmp cmp (x ∷ xs) (y ∷ ys) ≡ Less
+  lossless_key : (b c : Bool) (x y : A) (xs ys : List A) → r x ≡ r y → is_open (r x) ≡ b → is_open (r y) ≡ c →
+      slice_cmp cmp (cond b [] xs) (cond c [] ys) ≡ Less → slice_cmp cmp (x ∷ xs) (y ∷ ys) ≡ Less
   lossless_key true true x y xs ys e f g h = cc
-  lossless_key false false x y xs ys e f g h = ap (λ o. ordering_then o (slice_cmp cmp xs ys)) (ranking.same x y e f) ∙ h
+  lossless_key false false x y xs ys e f g h =
+      ap (λ o. ordering_then o (slice_cmp cmp xs ys)) (ranking.same x y e f) ∙ h
   lossless_key true false x y xs ys e f g h = let k : true ≡ false = sym f ∙ (ap is_open e ∙ g) in cc
   lossless_key false true x y xs ys e f g h = let k : false ≡ true = sym f ∙ (ap is_open e ∙ g) in cc
 
-  rest_less : (xs ys : List A) → first_rank r xs ≡ first_rank r ys → slice_cmp cmp (after_first r xs) (after_first r ys) ≡ Less → slice_cmp cmp xs ys ≡ Less
+  rest_less : (xs ys : List A) → first_rank r xs ≡ first_rank r ys →
+      slice_cmp cmp (after_first r xs) (after_first r ys) ≡ Less → slice_cmp cmp xs ys ≡ Less
   rest_less [] [] e h = cc
   rest_less [] (y ∷ ys) e h = refl
-  rest_less (x ∷ xs) [] e h = let k : Greater ≡ Equal = sym (ranking.some x) ∙ ap (λ (n : ℕ). nat_cmp n 0) e in cc
+  rest_less (x ∷ xs) [] e h = let k : Greater ≡ Equal = sym (ranking.some x)
+      ∙ ap (λ (n : ℕ). nat_cmp n 0) e in cc
   rest_less (x ∷ xs) (y ∷ ys) e h = lossless_key (is_open (r x)) (is_open (r y)) x y xs ys e refl refl h
 
-  step : (o more : Ordering) (xs ys : List A) → nat_cmp (first_rank r xs) (first_rank r ys) ≡ o → (more ≡ Less → slice_cmp cmp (after_first r xs) (after_first r ys) ≡ Less) → ordering_then o more ≡ Less → slice_cmp cmp xs ys ≡ Less
+  step : (o more : Ordering) (xs ys : List A) → nat_cmp (first_rank r xs) (first_rank r ys) ≡ o →
+      (more ≡ Less → slice_cmp cmp (after_first r xs) (after_first r ys) ≡ Less) → ordering_then
+      o more ≡ Less → slice_cmp cmp xs ys ≡ Less
   step Less more xs ys e f h = first_less xs ys e
   step Equal more xs ys e f h = rest_less xs ys (nat_exact (first_rank r xs) (first_rank r ys) e) (f h)
   step Greater more xs ys e f h = cc
 
-  ranks_less : (k : ℕ) (xs ys : List A) → sort_key_cmp (ranks k r xs) (ranks k r ys) ≡ Less → slice_cmp cmp xs ys ≡ Less
+  ranks_less : (k : ℕ) (xs ys : List A) → sort_key_cmp (ranks k r xs) (ranks k r ys) ≡ Less →
+      slice_cmp cmp xs ys ≡ Less
   ranks_less k xs ys h =
       let xs1 = after_first r xs in
       let ys1 = after_first r ys in
@@ -324,7 +341,8 @@ module _ {A : Type 0} (r : A → ℕ) (cmp : A → A → Ordering) (ranking : Is
       let third = step o3 (ordering_then o4 o5) xs2 ys2 refl fourth in
       let second = step o2 (ordering_then o3 (ordering_then o4 o5)) xs1 ys1 refl third in
       let all = ordering_then o1 (ordering_then o2 (ordering_then o3 (ordering_then o4 o5))) in
-      step o1 (ordering_then o2 (ordering_then o3 (ordering_then o4 o5))) xs ys refl second (sym (ap (λ o. ordering_then o all) (nat_same k)) ∙ h)
+      step o1 (ordering_then o2 (ordering_then o3 (ordering_then o4 o5))) xs ys refl second
+      (sym (ap (λ o. ordering_then o all) (nat_same k)) ∙ h)
 
 pub val_ranking : IsRanking val_rank val_cmp
 val_ranking = record {
@@ -340,13 +358,19 @@ val_ranking = record {
 pub field_ranking : IsRanking field_rank field_cmp
 field_ranking = record {
   some = λ f. rank_some (storage_place f.element_type) f.mutable;
-  less = λ f g h. by_field f g (rank_less (storage_place f.element_type) (storage_place g.element_type) f.mutable g.mutable h);
-  same = λ f g e h. let s = rank_same (storage_place f.element_type) (storage_place g.element_type) f.mutable g.mutable e h in ap (λ o. ordering_then o (bool_cmp f.mutable g.mutable)) (storage_tied f.element_type g.element_type s.0 s.1) ∙ s.2;
+  less = λ f g h. by_field f g (rank_less (storage_place f.element_type) (storage_place g.element_type)
+      f.mutable g.mutable h);
+  same = λ f g e h. let s = rank_same (storage_place f.element_type) (storage_place g.element_type) f.mutable
+      g.mutable e h in ap (λ o. ordering_then o (bool_cmp f.mutable g.mutable))
+      (storage_tied f.element_type g.element_type s.0 s.1) ∙ s.2;
 }
   where
-    by_field : (f g : Field ℕ) → RankedBy (storage_place f.element_type) (storage_place g.element_type) f.mutable g.mutable → field_cmp f g ≡ Less
-    by_field f g (by_place h) = ap (λ o. ordering_then o (bool_cmp f.mutable g.mutable)) (storage_less f.element_type g.element_type h)
-    by_field f g (by_mutability e t h) = ap (λ o. ordering_then o (bool_cmp f.mutable g.mutable)) (storage_tied f.element_type g.element_type e t) ∙ h
+    by_field : (f g : Field ℕ) → RankedBy (storage_place f.element_type) (storage_place g.element_type)
+        f.mutable g.mutable → field_cmp f g ≡ Less
+    by_field f g (by_place h) = ap (λ o. ordering_then o (bool_cmp f.mutable g.mutable))
+        (storage_less f.element_type g.element_type h)
+    by_field f g (by_mutability e t h) = ap (λ o. ordering_then o (bool_cmp f.mutable g.mutable))
+        (storage_tied f.element_type g.element_type e t) ∙ h
 
 -- the mark is less than each value
 abbrev pub item_cmp : Option (Val ℕ) → Option (Val ℕ) → Ordering
@@ -371,10 +395,13 @@ item_ranking = record { some = some_item; less = less_item; same = same_item }
     less_item (Some v) None h = let k : Greater ≡ Less = sym (value_more (val_place v)) ∙ h in cc
     less_item (Some v) (Some w) h = val_ranking.less v w h
 
-    same_item : (x y : Option (Val ℕ)) → item_rank x ≡ item_rank y → is_open (item_rank x) ≡ false → item_cmp x y ≡ Equal
+    same_item : (x y : Option (Val ℕ)) → item_rank x ≡ item_rank y → is_open (item_rank x) ≡ false →
+        item_cmp x y ≡ Equal
     same_item None None e h = refl
-    same_item None (Some w) e h = let k : Greater ≡ Equal = sym (value_more (val_place w)) ∙ alike (val_rank w) 1 (sym e) in cc
-    same_item (Some v) None e h = let k : Greater ≡ Equal = sym (value_more (val_place v)) ∙ alike (val_rank v) 1 e in cc
+    same_item None (Some w) e h = let k : Greater ≡ Equal = sym (value_more (val_place w))
+        ∙ alike (val_rank w) 1 (sym e) in cc
+    same_item (Some v) None e h = let k : Greater ≡ Equal = sym (value_more (val_place v))
+        ∙ alike (val_rank v) 1 e in cc
     same_item (Some v) (Some w) e h = val_ranking.same v w e h
 
 values_cmp :
@@ -399,7 +426,8 @@ signatures_cmp :
 signatures_cmp [] [] rs ss = values_cmp rs ss
 signatures_cmp [] (q ∷ qs) rs ss = refl
 signatures_cmp (p ∷ ps) [] rs ss = refl
-signatures_cmp (p ∷ ps) (q ∷ qs) rs ss = ap (ordering_then (val_cmp p q)) (signatures_cmp ps qs rs ss) ∙ then_twice (val_cmp p q) (slice_cmp val_cmp ps qs) (slice_cmp val_cmp rs ss)
+signatures_cmp (p ∷ ps) (q ∷ qs) rs ss = ap (ordering_then (val_cmp p q)) (signatures_cmp ps qs rs ss)
+    ∙ then_twice (val_cmp p q) (slice_cmp val_cmp ps qs) (slice_cmp val_cmp rs ss)
 
 -- the array's one field
 array_less : (f g : Field ℕ) → slice_cmp field_cmp (f ∷ []) (g ∷ []) ≡ Less → field_cmp f g ≡ Less
@@ -413,15 +441,19 @@ array_less f g h = alone (field_cmp f g) h
 kind_less :
     (c d : CompositeType) → sort_key_cmp (kind_sort_key c) (kind_sort_key d) ≡ Less →
     composite_cmp (kind_composite c) (kind_composite d) ≡ Less
-kind_less (kind.Function f) (kind.Function g) h = sym (signatures_cmp f.params g.params f.results g.results) ∙ ranks_less item_rank item_cmp item_ranking 0 (marked_items f.params true f.results) (marked_items g.params true g.results) h
+kind_less (kind.Function f) (kind.Function g) h = sym (signatures_cmp f.params g.params f.results g.results)
+    ∙ ranks_less item_rank item_cmp item_ranking 0 (marked_items f.params true f.results)
+    (marked_items g.params true g.results) h
 kind_less (kind.Function f) (kind.Struct t) h = refl
 kind_less (kind.Function f) (kind.Array b) h = refl
 kind_less (kind.Struct s) (kind.Function g) h = cc
-kind_less (kind.Struct s) (kind.Struct t) h = ranks_less field_rank field_cmp field_ranking 1 s.fields t.fields h
+kind_less (kind.Struct s) (kind.Struct t) h =
+    ranks_less field_rank field_cmp field_ranking 1 s.fields t.fields h
 kind_less (kind.Struct s) (kind.Array b) h = refl
 kind_less (kind.Array a) (kind.Function g) h = cc
 kind_less (kind.Array a) (kind.Struct t) h = cc
-kind_less (kind.Array a) (kind.Array b) h = array_less a.field b.field (ranks_less field_rank field_cmp field_ranking 2 (a.field ∷ []) (b.field ∷ []) h)
+kind_less (kind.Array a) (kind.Array b) h = array_less a.field b.field
+    (ranks_less field_rank field_cmp field_ranking 2 (a.field ∷ []) (b.field ∷ []) h)
 
 type_less :
     (t u : ModuleType) → sort_key_cmp (type_sort_key t) (type_sort_key u) ≡ Less →
@@ -435,12 +467,19 @@ by_both :
 by_both a b = then_total a b
 
 keys_total : IsTotalOrder sort_key_cmp
-keys_total = by_both (on_total (λ (w : SortKey). w.0) nat_cmp_total) (by_both (on_total (λ (w : SortKey). w.1) nat_cmp_total) (by_both (on_total (λ (w : SortKey). w.2) nat_cmp_total) (by_both (on_total (λ (w : SortKey). w.3) nat_cmp_total) (by_both (on_total (λ (w : SortKey). w.4) nat_cmp_total) (on_total (λ (w : SortKey). w.5) nat_cmp_total)))))
+keys_total = by_both (on_total (λ (w : SortKey). w.0) nat_cmp_total)
+    (by_both (on_total (λ (w : SortKey). w.1) nat_cmp_total)
+    (by_both (on_total (λ (w : SortKey). w.2) nat_cmp_total)
+    (by_both (on_total (λ (w : SortKey). w.3) nat_cmp_total)
+    (by_both (on_total (λ (w : SortKey). w.4) nat_cmp_total)
+    (on_total (λ (w : SortKey). w.5) nat_cmp_total)))))
 
 type_greater :
     (t u : ModuleType) → sort_key_cmp (type_sort_key t) (type_sort_key u) ≡ Greater →
     type_cmp t u ≡ Greater
-type_greater t u h = type_laws.total-law.antisymm t u ∙ ap ordering_reverse (type_less u t (keys_total.antisymm (type_sort_key u) (type_sort_key t) ∙ ap ordering_reverse h))
+type_greater t u h = type_laws.total-law.antisymm t u
+    ∙ ap ordering_reverse (type_less u t (keys_total.antisymm (type_sort_key u) (type_sort_key t)
+    ∙ ap ordering_reverse h))
 
 regrouped :
     (a b c d e f : Ordering) →
@@ -460,16 +499,20 @@ regrouped Equal Equal Equal Equal Equal f = refl
 
 -- the order of tuples is that of keys
 abbrev tuple_cmp : SortKey → SortKey → Ordering
-tuple_cmp v w = ordering_then (ordering_then (ordering_then (ordering_then (ordering_then (nat_cmp v.0 w.0) (nat_cmp v.1 w.1)) (nat_cmp v.2 w.2)) (nat_cmp v.3 w.3)) (nat_cmp v.4 w.4)) (nat_cmp v.5 w.5)
+tuple_cmp v w = ordering_then (ordering_then
+    (ordering_then (ordering_then (ordering_then (nat_cmp v.0 w.0) (nat_cmp v.1 w.1)) (nat_cmp v.2 w.2))
+    (nat_cmp v.3 w.3)) (nat_cmp v.4 w.4)) (nat_cmp v.5 w.5)
 
 tuples_are : (v w : SortKey) → tuple_cmp v w ≡ sort_key_cmp v w
-tuples_are v w = regrouped (nat_cmp v.0 w.0) (nat_cmp v.1 w.1) (nat_cmp v.2 w.2) (nat_cmp v.3 w.3) (nat_cmp v.4 w.4) (nat_cmp v.5 w.5)
+tuples_are v w = regrouped (nat_cmp v.0 w.0) (nat_cmp v.1 w.1) (nat_cmp v.2 w.2) (nat_cmp v.3 w.3)
+    (nat_cmp v.4 w.4) (nat_cmp v.5 w.5)
 
 compared :
     (v w : SortKey) (t u : ModuleType) (o p : Ordering) → v ≡ type_sort_key t →
     w ≡ type_sort_key u → o ≡ tuple_cmp v w → o ≡ p →
     sort_key_cmp (type_sort_key t) (type_sort_key u) ≡ p
-compared v w t u o p a b of is = ap (sort_key_cmp (type_sort_key t)) (sym b) ∙ (ap (λ x. sort_key_cmp x w) (sym a) ∙ (sym (tuples_are v w) ∙ (sym of ∙ is)))
+compared v w t u o p a b of is = ap (sort_key_cmp (type_sort_key t)) (sym b)
+    ∙ (ap (λ x. sort_key_cmp x w) (sym a) ∙ (sym (tuples_are v w) ∙ (sym of ∙ is)))
 
 -- what the comparison of two keys ranking of their types
 

@@ -27,17 +27,17 @@ use Rattle.walrus_types.specs.Steps.PendingGroups.{groups_of, places_of}
 use Rattle.walrus_types.specs.Steps.SortKeys.{SortKey}
 use Rattle.walrus_types.proofs.Emission.DecodedTypes.{head_key}
 use Rattle.walrus_ty.specs.Records.{group_of, section_of}
-use Rattle.walrus_types.specs.Steps.WrittenGroups.{AllIndexed, AreWritten, FailsBy, IsApart, IsFirstMissingIn, IsFirstUnindexed, IsMissingIn, DecodesToType, ids_in, with_indices, written_group}
+use Rattle.walrus_types.specs.Steps.WrittenGroups.{AllIndexed, AreWritten, IsMemoryOrMissing, IsApart, IsFirstMissingIn, IsFirstUnindexed, IsMissingIn, DecodesToType, ids_in, with_indices, written_group}
 use Rattle.walrus_ty.proofs.Names.Definitions.{rename_agree}
 use Rattle.walrus_types.proofs.Emission.IndexOfId.{member_at}
 use Rattle.walrus_ty.proofs.Basics.{some_inj, slice_get-left}
 
-pub FailsBy-weaker :
-    (P Q : ℕ → ℕ → Type 0) → ((i k : ℕ) → P i k → Q i k) → (e : EmitError) → FailsBy e P →
-    FailsBy e Q
-FailsBy-weaker P Q f (emit.NoIndex i k) h = f i k h
-FailsBy-weaker P Q f emit.TooMany h = h
-FailsBy-weaker P Q f emit.Memory h = h
+pub IsMemoryOrMissing-weaker :
+    (P Q : ℕ → ℕ → Type 0) → ((i k : ℕ) → P i k → Q i k) → (e : EmitError) → IsMemoryOrMissing e P →
+    IsMemoryOrMissing e Q
+IsMemoryOrMissing-weaker P Q f (emit.NoIndex i k) h = f i k h
+IsMemoryOrMissing-weaker P Q f emit.TooMany h = h
+IsMemoryOrMissing-weaker P Q f emit.Memory h = h
 
 -- the first name that passes a test
 
@@ -59,8 +59,15 @@ found_at : (p : ℕ → Bool) (xs : List ℕ) (k : ℕ) → find p xs ≡ Some k
 found_at p [] k h = cc
 found_at p (y ∷ xs) k h = by (p y) refl h (λ f. found_at p xs k f)
   where
-    by : (b : Bool) → p y ≡ b → cond b (Some y) (find p xs) ≡ Some k → (find p xs ≡ Some k → Found p xs k) → Found p (y ∷ xs) k
-    by true e f rest = record { place = 0; at = f; passes = ap p (sym (some_inj f)) ∙ e; earlier = λ s l lt g. absurd (omega (arith, lt)) }
+    by : (b : Bool) → p y ≡ b → cond b (Some y) (find p xs) ≡ Some k → (find p xs ≡ Some k → Found p xs k) →
+        Found p (y ∷ xs) k
+    by true e f rest = record {
+      place = 0;
+      at = f;
+      passes = ap p (sym (some_inj f)) ∙ e;
+      earlier = λ s l lt g.
+          absurd (omega (arith, lt));
+    }
     by false e f rest = found_later p y xs k e (rest f)
 
 none_found :
@@ -69,7 +76,8 @@ none_found :
 none_found p [] t k h at = cc
 none_found p (y ∷ xs) t k h at = by (p y) t refl h at (λ f u g. none_found p xs u k f g)
   where
-    by : (b : Bool) (t : ℕ) → p y ≡ b → cond b (Some y) (find p xs) ≡ None → slice_get (y ∷ xs) t ≡ Some k → (find p xs ≡ None → (u : ℕ) → slice_get xs u ≡ Some k → p k ≡ false) → p k ≡ false
+    by : (b : Bool) (t : ℕ) → p y ≡ b → cond b (Some y) (find p xs) ≡ None → slice_get (y ∷ xs) t ≡ Some k →
+        (find p xs ≡ None → (u : ℕ) → slice_get xs u ≡ Some k → p k ≡ false) → p k ≡ false
     by true t e f g rest = cc
     by false zero e f g rest = ap p (sym (some_inj g)) ∙ e
     by false (suc t) e f g rest = rest f t g
@@ -94,16 +102,22 @@ contains_indexed known x k is h =
 indexed_contains :
     (known : List ℕ) (x : IndexMap) (k : ℕ) → Indexes known x → Contains known k →
     is_none (x.index k) ≡ true → ⊥
-indexed_contains known x k is c = not_none c.0 (x.index k) ((is.index k c.0).1 (slice_get-get_or known c.0 k c.1 ∙ ap (λ (n : ℕ). Some n) c.2))
+indexed_contains known x k is c = not_none c.0 (x.index k)
+    ((is.index k c.0).1 (slice_get-get_or known c.0 k c.1 ∙ ap (λ (n : ℕ). Some n) c.2))
 
 -- two ways to write the ids of these groups that agree
 
-group_same : (f h : ℕ → Definition) (e : Bool) (ids : List ℕ) → 0 < length ids → ((u i : ℕ) → slice_get ids u ≡ Some i → f i ≡ h i) → written_group f (record { ids = ids; is_explicit = e }) ≡ written_group h (record { ids = ids; is_explicit = e })
+group_same : (f h : ℕ → Definition) (e : Bool) (ids : List ℕ) → 0 < length ids →
+    ((u i : ℕ) → slice_get ids u ≡ Some i → f i ≡ h i) →
+    written_group f (record { ids = ids; is_explicit = e }) ≡ written_group h
+    (record { ids = ids; is_explicit = e })
 group_same f h true ids some each = ap Rec (all ids each)
   where
     all : (is : List ℕ) → ((u i : ℕ) → slice_get is u ≡ Some i → f i ≡ h i) → map f is ≡ map h is
     all [] g = refl
-    all (i ∷ is) g = let one : f i ≡ h i = g 0 i refl in let rest : map f is ≡ map h is = all is (λ u j k. g (suc u) j k) in ap (λ (d : Definition). d ∷ map f is) one ∙ ap (λ (ds : List Definition). h i ∷ ds) rest
+    all (i ∷ is) g = let one : f i ≡ h i = g 0 i refl in let rest : map f is ≡ map h is =
+        all is (λ u j k. g (suc u) j k) in ap (λ (d : Definition). d ∷ map f is) one
+        ∙ ap (λ (ds : List Definition). h i ∷ ds) rest
 group_same f h false [] some each = absurd (omega (arith, some))
 group_same f h false (i ∷ ids) some each = ap Single (each 0 i refl)
 
@@ -114,8 +128,10 @@ groups_same :
     map (written_group f) ws ≡ map (written_group h) ws
 groups_same f h [] filled each = refl
 groups_same f h (w ∷ ws) filled each =
-    let one : written_group f w ≡ written_group h w = group_same f h w.is_explicit w.ids (filled 0 (omega arith)) (each 0) in
-    let rest : map (written_group f) ws ≡ map (written_group h) ws = groups_same f h ws (λ a lt. filled (suc a) (omega (arith, lt))) (λ a. each (suc a)) in
+    let one : written_group f w ≡ written_group h w =
+    group_same f h w.is_explicit w.ids (filled 0 (omega arith)) (each 0) in
+    let rest : map (written_group f) ws ≡ map (written_group h) ws =
+    groups_same f h ws (λ a lt. filled (suc a) (omega (arith, lt))) (λ a. each (suc a)) in
     ap (λ (g : Group). g ∷ map (written_group f) ws) one ∙ ap (λ (gs : Section). written_group h w ∷ gs) rest
 
 at_take :
@@ -134,7 +150,8 @@ filled_take [] zero filled a h = absurd (omega (arith, h))
 filled_take [] (suc n) filled a h = absurd (omega (arith, h))
 filled_take (w ∷ ws) zero filled a h = absurd (omega (arith, h))
 filled_take (w ∷ ws) (suc n) filled zero h = filled 0 (omega arith)
-filled_take (w ∷ ws) (suc n) filled (suc a) h = filled_take ws n (λ b lt. filled (suc b) (omega (arith, lt))) a (omega (arith, h))
+filled_take (w ∷ ws) (suc n) filled (suc a) h =
+    filled_take ws n (λ b lt. filled (suc b) (omega (arith, lt))) a (omega (arith, h))
 
 take_all : (ws : List TypeGroup) (n : ℕ) → n ≡ length ws → take n ws ≡ ws
 take_all [] zero e = refl
@@ -146,27 +163,33 @@ take_all (w ∷ ws) (suc n) e = ap (λ (gs : List TypeGroup). w ∷ gs) (take_al
 contains_further :
     (ws : List TypeGroup) (m n k : ℕ) → m ≤ n → Contains (ids_in (take m ws)) k →
     (p : ℕ) × (slice_get (ids_in (take n ws)) p ≡ Some k)
-contains_further ws m n k le c = go ws m n le (c.0) (slice_get-get_or (ids_in (take m ws)) c.0 k c.1 ∙ ap (λ (i : ℕ). Some i) c.2)
+contains_further ws m n k le c = go ws m n le (c.0) (slice_get-get_or (ids_in (take m ws)) c.0 k c.1
+    ∙ ap (λ (i : ℕ). Some i) c.2)
   where
     -- the same place
-    go : (ws : List TypeGroup) (m n : ℕ) → m ≤ n → (p : ℕ) → slice_get (ids_in (take m ws)) p ≡ Some k → (q : ℕ) × (slice_get (ids_in (take n ws)) q ≡ Some k)
+    go : (ws : List TypeGroup) (m n : ℕ) → m ≤ n → (p : ℕ) → slice_get (ids_in (take m ws)) p ≡ Some k →
+        (q : ℕ) × (slice_get (ids_in (take n ws)) q ≡ Some k)
     go [] zero n lt p h = cc
     go [] (suc m) n lt p h = cc
     go (w ∷ ws) zero n lt p h = cc
     go (w ∷ ws) (suc m) zero lt p h = absurd (omega (arith, lt))
     go (w ∷ ws) (suc m) (suc n) lt p h = elim (parts w.ids (ids_in (take m ws)) p h) [
       | inl at ↦ (p, slice_get-left w.ids (ids_in (take n ws)) p k at)
-      | inr at ↦ (let r : _ = go ws m n (omega (arith, lt)) at.0 at.1 in (length w.ids + r.0, behind w.ids (ids_in (take n ws)) r.0 r.1))
+      | inr at ↦ (let r : _ = go ws m n (omega (arith, lt)) at.0 at.1 in
+          (length w.ids + r.0, behind w.ids (ids_in (take n ws)) r.0 r.1))
     ]
       where
-        parts : (xs ys : List ℕ) (i : ℕ) → slice_get (xs ++ ys) i ≡ Some k → (slice_get xs i ≡ Some k) ⊎ ((j : ℕ) × (slice_get ys j ≡ Some k))
+        parts : (xs ys : List ℕ) (i : ℕ) → slice_get (xs ++ ys) i ≡ Some k → (slice_get xs i ≡ Some k)
+            ⊎ ((j : ℕ) × (slice_get ys j ≡ Some k))
         parts [] ys i h = inr (i, h)
         parts (y ∷ xs) ys zero h = inl h
         parts (y ∷ xs) ys (suc i) h = parts xs ys i h
 
-        behind : (xs ys : List ℕ) (i : ℕ) → slice_get ys i ≡ Some k → slice_get (xs ++ ys) (length xs + i) ≡ Some k
+        behind : (xs ys : List ℕ) (i : ℕ) → slice_get ys i ≡ Some k →
+            slice_get (xs ++ ys) (length xs + i) ≡ Some k
         behind [] ys i h = let e : 0 + i ≡ i = omega arith in ap (slice_get ys) e ∙ h
-        behind (y ∷ xs) ys i h = let e : length (y ∷ xs) + i ≡ suc (length xs + i) = omega arith in ap (slice_get (y ∷ xs ++ ys)) e ∙ behind xs ys i h
+        behind (y ∷ xs) ys i h = let e : length (y ∷ xs) + i ≡ suc (length xs + i) = omega arith in
+            ap (slice_get (y ∷ xs ++ ys)) e ∙ behind xs ys i h
 
 -- the first j groups are written
 pub record IsProgress (def : ℕ → Definition) (ws : List TypeGroup) (j : ℕ) (out : List GroupAt)
@@ -175,15 +198,21 @@ pub record IsProgress (def : ℕ → Definition) (ws : List TypeGroup) (j : ℕ)
   pub section : section_of out ≡ map (written_group (with_indices x.index def)) (take j ws)
   pub complete : (a u t i k : ℕ) → a < j → ¬ (IsMissingIn def ws a u t i k)
 
-module _ (def : ℕ → Definition) (ws : List TypeGroup) (filled : (a : ℕ) → a < length ws → 0 < length (group_at ws a).ids) where
+module _ (def : ℕ → Definition) (ws : List TypeGroup) (filled : (a : ℕ) → a < length ws →
+    0 < length (group_at ws a).ids) where
   pub begins : (x : IndexMap) → IsEmpty x → IsProgress def ws 0 [] x
   begins x e = record {
-    indexes = record { count = e.count; index = λ id k. ((λ h. (let z : ⊥ = (let y = sym (e.index id) ∙ h in cc) in absurd z)), (λ h. cc)) };
+    indexes = record {
+      count = e.count;
+      index = λ id k.
+          ((λ h. (let z : ⊥ = (let y = sym (e.index id) ∙ h in cc) in absurd z)), (λ h. cc));
+    };
     section = refl;
     complete = λ a u t i k lt. absurd (omega (arith, lt));
   }
 
-  pub finishes : (j : ℕ) (out : List GroupAt) (x : IndexMap) → j ≡ length ws → IsProgress def ws j out x → AreWritten def ws out x
+  pub finishes : (j : ℕ) (out : List GroupAt) (x : IndexMap) → j ≡ length ws → IsProgress def ws j out x →
+      AreWritten def ws out x
   finishes j out x e p = record {
     indexes = subst (λ (gs : List TypeGroup). Indexes (ids_in gs) x) (take_all ws j e) p.indexes;
     section = p.section ∙ ap (map (written_group (with_indices x.index def))) (take_all ws j e);
@@ -191,17 +220,21 @@ module _ (def : ℕ → Definition) (ws : List TypeGroup) (filled : (a : ℕ) �
   }
 
   -- one group more, w
-  module _ (j : ℕ) (w : TypeGroup) (below : j < length ws) (at : group_at ws j ≡ w) (out : List GroupAt) (old : IndexMap) (so_far : IsProgress def ws j out old) where
+  module _ (j : ℕ) (w : TypeGroup) (below : j < length ws) (at : group_at ws j ≡ w) (out : List GroupAt)
+      (old : IndexMap) (so_far : IsProgress def ws j out old) where
     more : take (j + 1) ws ≡ take j ws ++ w ∷ []
     more = take_more ws j no_group below ∙ ap (λ (g : TypeGroup). take j ws ++ g ∷ []) at
 
     known : ids_in (take (j + 1) ws) ≡ ids_in (take j ws) ++ w.ids
-    known = ap ids_in more ∙ (flat_map-append (λ (g : TypeGroup). g.ids) (take j ws) (w ∷ []) ∙ ap (λ (is : List ℕ). ids_in (take j ws) ++ is) (append-nil w.ids))
+    known = ap ids_in more ∙ (flat_map-append (λ (g : TypeGroup). g.ids) (take j ws) (w ∷ [])
+        ∙ ap (λ (is : List ℕ). ids_in (take j ws) ++ is) (append-nil w.ids))
 
     all : ids_in ws ≡ ids_in (take j ws) ++ ids_in (drop j ws)
-    all = ap ids_in (sym (take-append-drop j ws)) ∙ flat_map-append (λ (g : TypeGroup). g.ids) (take j ws) (drop j ws)
+    all = ap ids_in (sym (take-append-drop j ws))
+        ∙ flat_map-append (λ (g : TypeGroup). g.ids) (take j ws) (drop j ws)
 
-    here : (u i : ℕ) → slice_get w.ids u ≡ Some i → slice_get (ids_in ws) (length (ids_in (take j ws)) + u) ≡ Some i
+    here : (u i : ℕ) → slice_get w.ids u ≡ Some i →
+        slice_get (ids_in ws) (length (ids_in (take j ws)) + u) ≡ Some i
     here u i h = member_at ws j u i (ap (λ (g : TypeGroup). slice_get g.ids u) at ∙ h)
 
     pub fresh : IsApart (ids_in ws) → All (λ i. old.index i ≡ None) w.ids
@@ -210,8 +243,13 @@ module _ (def : ℕ → Definition) (ws : List TypeGroup) (filled : (a : ℕ) �
         none : (o : Option ℕ) → old.index (get_or w.ids u i) ≡ o → old.index (get_or w.ids u i) ≡ None
         none None e = e
         none (Some p) e =
-            let at_p : slice_get (ids_in (take j ws)) p ≡ Some (get_or w.ids u i) = (so_far.indexes.index (get_or w.ids u i) p).0 e in
-            let same : p ≡ length (ids_in (take j ws)) + u = apart p (length (ids_in (take j ws)) + u) (get_or w.ids u i) (ap (λ (is : List ℕ). slice_get is p) all ∙ slice_get-left (ids_in (take j ws)) (ids_in (drop j ws)) p (get_or w.ids u i) at_p) (here u (get_or w.ids u i) (slice_get-get_or w.ids u i lt)) in
+            let at_p : slice_get (ids_in (take j ws)) p ≡ Some (get_or w.ids u i) =
+            (so_far.indexes.index (get_or w.ids u i) p).0 e in
+            let same : p ≡ length (ids_in (take j ws)) + u =
+            apart p (length (ids_in (take j ws)) + u) (get_or w.ids u i)
+            (ap (λ (is : List ℕ). slice_get is p) all
+            ∙ slice_get-left (ids_in (take j ws)) (ids_in (drop j ws)) p (get_or w.ids u i) at_p)
+            (here u (get_or w.ids u i) (slice_get-get_or w.ids u i lt)) in
             absurd (omega (arith, same, slice_get_within (ids_in (take j ws)) p (get_or w.ids u i) at_p))
 
     pub distinct : IsApart (ids_in ws) → IsDistinct nat_eq w.ids
@@ -220,90 +258,132 @@ module _ (def : ℕ → Definition) (ws : List TypeGroup) (filled : (a : ℕ) �
         differ : (p q d : ℕ) → p < q → q < length w.ids → nat_eq (get_or w.ids p d) (get_or w.ids q d) ≡ false
         differ p q d lt in_q = by (nat_eq (get_or w.ids p d) (get_or w.ids q d)) refl
           where
-            by : (b : Bool) → nat_eq (get_or w.ids p d) (get_or w.ids q d) ≡ b → nat_eq (get_or w.ids p d) (get_or w.ids q d) ≡ false
+            by : (b : Bool) → nat_eq (get_or w.ids p d) (get_or w.ids q d) ≡ b →
+                nat_eq (get_or w.ids p d) (get_or w.ids q d) ≡ false
             by false e = e
             by true e =
-                let same : get_or w.ids p d ≡ get_or w.ids q d = eqb-true (get_or w.ids p d) (get_or w.ids q d) e in
-                let at_p : slice_get w.ids p ≡ Some (get_or w.ids q d) = slice_get-get_or w.ids p d (omega (arith, lt, in_q)) ∙ ap (λ (n : ℕ). Some n) same in
-                let z : length (ids_in (take j ws)) + p ≡ length (ids_in (take j ws)) + q = apart _ _ (get_or w.ids q d) (here p (get_or w.ids q d) at_p) (here q (get_or w.ids q d) (slice_get-get_or w.ids q d in_q)) in
+                let same : get_or w.ids p d ≡ get_or w.ids q d =
+                eqb-true (get_or w.ids p d) (get_or w.ids q d) e in
+                let at_p : slice_get w.ids p ≡ Some (get_or w.ids q d) =
+                slice_get-get_or w.ids p d (omega (arith, lt, in_q)) ∙ ap (λ (n : ℕ). Some n) same in
+                let z : length (ids_in (take j ws)) + p ≡ length (ids_in (take j ws)) + q =
+                apart _ _ (get_or w.ids q d) (here p (get_or w.ids q d) at_p)
+                (here q (get_or w.ids q d) (slice_get-get_or w.ids q d in_q)) in
                 absurd (omega (arith, z, lt))
 
     pub room : length (ids_in ws) < 2 ^ 32 → old.count + length w.ids ≤ 2 ^ 32
     room few =
-        let split : ids_in ws ≡ ids_in (take (j + 1) ws) ++ ids_in (drop (j + 1) ws) = ap ids_in (sym (take-append-drop (j + 1) ws)) ∙ flat_map-append (λ (g : TypeGroup). g.ids) (take (j + 1) ws) (drop (j + 1) ws) in
-        omega (arith, few, so_far.indexes.count, ap length known, ap length split, length-append (ids_in (take (j + 1) ws)) (ids_in (drop (j + 1) ws)), length-append (ids_in (take j ws)) w.ids)
+        let split : ids_in ws ≡ ids_in (take (j + 1) ws) ++ ids_in (drop (j + 1) ws) = ap ids_in
+        (sym (take-append-drop (j + 1) ws)) ∙ flat_map-append (λ (g : TypeGroup). g.ids) (take (j + 1) ws)
+        (drop (j + 1) ws) in
+        omega (
+          arith,
+          few,
+          so_far.indexes.count,
+          ap length known,
+          ap length split,
+          length-append (ids_in (take (j + 1) ws)) (ids_in (drop (j + 1) ws)),
+          length-append (ids_in (take j ws)) w.ids,
+        )
 
-    module _ (new : IndexMap) (gives : (known : List ℕ) → Indexes known old → Indexes (known ++ w.ids) new) where
-      indexes : Indexes (ids_in (take j ws) ++ w.ids) new
-      indexes = gives (ids_in (take j ws)) so_far.indexes
+    module _ (new : IndexMap) (gives : (known : List ℕ) → Indexes known old → Indexes (known ++ w.ids) new)
+      where
+        indexes : Indexes (ids_in (take j ws) ++ w.ids) new
+        indexes = gives (ids_in (take j ws)) so_far.indexes
 
-      indexes' : Indexes (ids_in (take (j + 1) ws)) new
-      indexes' = subst (λ (is : List ℕ). Indexes is new) (sym known) indexes
+        indexes' : Indexes (ids_in (take (j + 1) ws)) new
+        indexes' = subst (λ (is : List ℕ). Indexes is new) (sym known) indexes
 
-      -- what is written already stays as it is
-      value_kept : (a u i k : ℕ) → a < j → slice_get (group_at ws a).ids u ≡ Some i → Names (def i) k → unwrap_or (old.index k) 0 ≡ unwrap_or (new.index k) 0
-      value_kept a u i k lt m n = by (old.index k) refl
-        where
-          by : (o : Option ℕ) → old.index k ≡ o → unwrap_or (old.index k) 0 ≡ unwrap_or (new.index k) 0
-          by (Some p) e =
-              let at_p : slice_get (ids_in (take j ws)) p ≡ Some k = (so_far.indexes.index k p).0 e in
-              let then_p : new.index k ≡ Some p = (indexes.index k p).1 (slice_get-left (ids_in (take j ws)) w.ids p k at_p) in
-              ap (λ (o : Option ℕ). unwrap_or o 0) (e ∙ sym then_p)
-          by None e = absurd (so_far.complete a u n.0 i k lt (record {
-            group = omega (arith, lt, below);
-            member = m;
-            name = slice_get-get_or (names_of (def i)) n.0 k n.1 ∙ ap (λ (x : ℕ). Some x) n.2;
-            missing = λ c. (let r : _ = contains_further ws (a + 1) j k (omega (arith, lt)) c in let f : old.index k ≡ Some r.0 = (so_far.indexes.index k r.0).1 r.1 in (let y = sym e ∙ f in cc));
-          }))
+        -- what is written already stays as it is
+        value_kept : (a u i k : ℕ) → a < j → slice_get (group_at ws a).ids u ≡ Some i → Names (def i) k →
+            unwrap_or (old.index k) 0 ≡ unwrap_or (new.index k) 0
+        value_kept a u i k lt m n = by (old.index k) refl
+          where
+            by : (o : Option ℕ) → old.index k ≡ o → unwrap_or (old.index k) 0 ≡ unwrap_or (new.index k) 0
+            by (Some p) e =
+                let at_p : slice_get (ids_in (take j ws)) p ≡ Some k = (so_far.indexes.index k p).0 e in
+                let then_p : new.index k ≡ Some p = (indexes.index k p).1
+                (slice_get-left (ids_in (take j ws)) w.ids p k at_p) in
+                ap (λ (o : Option ℕ). unwrap_or o 0) (e ∙ sym then_p)
+            by None e = absurd (so_far.complete a u n.0 i k lt (record {
+              group = omega (arith, lt, below);
+              member = m;
+              name = slice_get-get_or (names_of (def i)) n.0 k n.1 ∙ ap (λ (x : ℕ). Some x) n.2;
+              missing = λ c. (let r : _ = contains_further ws (a + 1) j k (omega (arith, lt)) c in
+                  let f : old.index k ≡ Some r.0 = (so_far.indexes.index k r.0).1 r.1 in
+                  (let y = sym e ∙ f in cc));
+            }))
 
-      kept : map (written_group (with_indices old.index def)) (take j ws) ≡ map (written_group (with_indices new.index def)) (take j ws)
-      kept = groups_same (with_indices old.index def) (with_indices new.index def) (take j ws) (filled_take ws j filled) (λ a u i h. (let r : _ = at_take ws j a u i h in rename_agree (λ k. unwrap_or (old.index k) 0) (λ k. unwrap_or (new.index k) 0) (def i) (λ k n. value_kept a u i k r.0 r.1 n)))
+        kept : map (written_group (with_indices old.index def)) (take j ws) ≡ map
+            (written_group (with_indices new.index def)) (take j ws)
+        kept = groups_same (with_indices old.index def) (with_indices new.index def) (take j ws)
+            (filled_take ws j filled) (λ a u i h. (let r : _ = at_take ws j a u i h in
+            rename_agree (λ k. unwrap_or (old.index k) 0) (λ k. unwrap_or (new.index k) 0) (def i) (λ k n.
+            value_kept a u i k r.0 r.1 n)))
 
-      none_missing : AllIndexed new.index def w.ids → (u t i k : ℕ) → ¬ (IsMissingIn def ws j u t i k)
-      none_missing each u t i k m =
-          let member : slice_get w.ids u ≡ Some i = ap (λ (g : TypeGroup). slice_get g.ids u) (sym at) ∙ m.member in
-          m.missing (contains_indexed (ids_in (take (j + 1) ws)) new k indexes' (none_found (λ l. is_none (new.index l)) (names_of (def i)) t k (each u i member) m.name))
+        none_missing : AllIndexed new.index def w.ids → (u t i k : ℕ) → ¬ (IsMissingIn def ws j u t i k)
+        none_missing each u t i k m =
+            let member : slice_get w.ids u ≡ Some i = ap (λ (g : TypeGroup). slice_get g.ids u) (sym at)
+            ∙ m.member in
+            m.missing (contains_indexed (ids_in (take (j + 1) ws)) new k indexes'
+            (none_found (λ l. is_none (new.index l)) (names_of (def i)) t k (each u i member) m.name))
 
-      pub advances : (g : GroupAt) → group_of g ≡ written_group (with_indices new.index def) w → AllIndexed new.index def w.ids → IsProgress def ws (j + 1) (out ++ g ∷ []) new
-      advances g is each = record {
-        indexes = indexes';
-        section = map-append group_of out (g ∷ []) ∙ (ap (λ (s : Section). s ++ group_of g ∷ []) (so_far.section ∙ kept) ∙ (ap (λ (x : Group). map (written_group (with_indices new.index def)) (take j ws) ++ x ∷ []) is ∙ (sym (map-append (written_group (with_indices new.index def)) (take j ws) (w ∷ [])) ∙ ap (map (written_group (with_indices new.index def))) (sym more))));
-        complete = λ a u t i k lt. (elim (cases_lt a j) [
-          | inl x ↦ so_far.complete a u t i k x
-          | inr x ↦ (let e : j ≡ a = omega (arith, x, lt) in subst (λ (n : ℕ). ¬ (IsMissingIn def ws n u t i k)) e (none_missing each u t i k))
-        ]);
-      }
+        pub advances : (g : GroupAt) → group_of g ≡ written_group (with_indices new.index def) w →
+            AllIndexed new.index def w.ids → IsProgress def ws (j + 1) (out ++ g ∷ []) new
+        advances g is each = record {
+          indexes = indexes';
+          section = map-append group_of out (g ∷ [])
+              ∙ (ap (λ (s : Section). s ++ group_of g ∷ []) (so_far.section ∙ kept)
+              ∙ (ap (λ (x : Group). map (written_group (with_indices new.index def)) (take j ws) ++ x ∷ []) is
+              ∙ (sym (map-append (written_group (with_indices new.index def)) (take j ws) (w ∷ []))
+              ∙ ap (map (written_group (with_indices new.index def))) (sym more))));
+          complete = λ a u t i k lt. (elim (cases_lt a j) [
+            | inl x ↦ so_far.complete a u t i k x
+            | inr x ↦ (let e : j ≡ a = omega (arith, x, lt) in
+                subst (λ (n : ℕ). ¬ (IsMissingIn def ws n u t i k)) e (none_missing each u t i k))
+          ]);
+        }
 
-      pub stops : (i k : ℕ) → IsFirstUnindexed new.index def w.ids i k → IsFirstMissingIn def ws i k
-      stops i k f =
-          let r : Found (λ l. is_none (new.index l)) (names_of (def i)) k = found_at (λ l. is_none (new.index l)) (names_of (def i)) k f.name in
-          record {
-            group = j;
-            place = f.place;
-            name = r.place;
-            is = record {
-              group = below;
-              member = ap (λ (g : TypeGroup). slice_get g.ids f.place) at ∙ f.member;
-              name = r.at;
-              missing = λ c. indexed_contains (ids_in (take (j + 1) ws)) new k indexes' c r.passes;
-            };
-            first = λ a u t i' l m before. elim before [
-              | inl x ↦ so_far.complete a u t i' l x m
-              | inr x ↦ first a u t i' l r m x.0 x.1
-            ];
-          }
-        where
-          first : (a u t i' l : ℕ) → (r : Found (λ l. is_none (new.index l)) (names_of (def i)) k) → IsMissingIn def ws a u t i' l → a ≡ j → (u < f.place) ⊎ ((u ≡ f.place) × (t < r.place)) → ⊥
-          first a u t i' l r m e (inl lt) =
-              let m' : IsMissingIn def ws j u t i' l = subst (λ (n : ℕ). IsMissingIn def ws n u t i' l) e m in
-              let member : slice_get w.ids u ≡ Some i' = ap (λ (g : TypeGroup). slice_get g.ids u) (sym at) ∙ m'.member in
-              m'.missing (contains_indexed (ids_in (take (j + 1) ws)) new l indexes' (none_found (λ l. is_none (new.index l)) (names_of (def i')) t l (f.earlier u i' lt member) m'.name))
-          first a u t i' l r m e (inr x) =
-              let m' : IsMissingIn def ws j u t i' l = subst (λ (n : ℕ). IsMissingIn def ws n u t i' l) e m in
-              let member : slice_get w.ids u ≡ Some i' = ap (λ (g : TypeGroup). slice_get g.ids u) (sym at) ∙ m'.member in
-              let same : i' ≡ i = some_inj (sym member ∙ ap (slice_get w.ids) x.0 ∙ f.member) in
-              let name : slice_get (names_of (def i)) t ≡ Some l = subst (λ (n : ℕ). slice_get (names_of (def n)) t ≡ Some l) same m'.name in
-              m'.missing (contains_indexed (ids_in (take (j + 1) ws)) new l indexes' (r.earlier t l x.1 name))
+        pub stops : (i k : ℕ) → IsFirstUnindexed new.index def w.ids i k → IsFirstMissingIn def ws i k
+        stops i k f =
+            let r : Found (λ l. is_none (new.index l)) (names_of (def i)) k =
+            found_at (λ l. is_none (new.index l)) (names_of (def i)) k f.name in
+            record {
+              group = j;
+              place = f.place;
+              name = r.place;
+              is = record {
+                group = below;
+                member = ap (λ (g : TypeGroup). slice_get g.ids f.place) at ∙ f.member;
+                name = r.at;
+                missing = λ c. indexed_contains (ids_in (take (j + 1) ws)) new k indexes' c r.passes;
+              };
+              first = λ a u t i' l m before. elim before [
+                | inl x ↦ so_far.complete a u t i' l x m
+                | inr x ↦ first a u t i' l r m x.0 x.1
+              ];
+            }
+          where
+            first : (a u t i' l : ℕ) → (r : Found (λ l. is_none (new.index l)) (names_of (def i)) k) →
+                IsMissingIn def ws a u t i' l → a ≡ j → (u < f.place) ⊎ ((u ≡ f.place) × (t < r.place)) → ⊥
+            first a u t i' l r m e (inl lt) =
+                let m' : IsMissingIn def ws j u t i' l =
+                subst (λ (n : ℕ). IsMissingIn def ws n u t i' l) e m in
+                let member : slice_get w.ids u ≡ Some i' = ap (λ (g : TypeGroup). slice_get g.ids u) (sym at)
+                ∙ m'.member in
+                m'.missing (contains_indexed (ids_in (take (j + 1) ws)) new l indexes'
+                (none_found (λ l. is_none (new.index l)) (names_of (def i')) t l (f.earlier u i' lt member)
+                m'.name))
+            first a u t i' l r m e (inr x) =
+                let m' : IsMissingIn def ws j u t i' l =
+                subst (λ (n : ℕ). IsMissingIn def ws n u t i' l) e m in
+                let member : slice_get w.ids u ≡ Some i' = ap (λ (g : TypeGroup). slice_get g.ids u) (sym at)
+                ∙ m'.member in
+                let same : i' ≡ i = some_inj (sym member ∙ ap (slice_get w.ids) x.0 ∙ f.member) in
+                let name : slice_get (names_of (def i)) t ≡ Some l =
+                subst (λ (n : ℕ). slice_get (names_of (def n)) t ≡ Some l) same m'.name in
+                m'.missing (contains_indexed (ids_in (take (j + 1) ws)) new l indexes'
+                (r.earlier t l x.1 name))
 
 -- groups that are to be written
 
@@ -316,29 +396,44 @@ filled_at ws filled a lt = filled a no_group lt
 
 pub groups_count :
     (groups : List RecGroup) (ps : List PendingGroup) → length (groups_of groups ps) ≡ length ps
-groups_count groups ps = length-map (places_of ps) (group_at (type_groups groups)) ∙ length-map ps (λ (p : PendingGroup). p.place)
+groups_count groups ps = length-map (places_of ps) (group_at (type_groups groups))
+    ∙ length-map ps (λ (p : PendingGroup). p.place)
 
-module _ (groups : List RecGroup) (ps : List PendingGroup) (j : ℕ) (p : PendingGroup) (g : RecGroup) (lt : j < length ps) (p_is : p ≡ get_or ps j p) (g_is : g ≡ get_or groups p.place g) (within : All (λ (q : PendingGroup). q.place < length groups) ps) where
+module _ (groups : List RecGroup) (ps : List PendingGroup) (j : ℕ) (p : PendingGroup) (g : RecGroup)
+    (lt : j < length ps) (p_is : p ≡ get_or ps j p) (g_is : g ≡ get_or groups p.place g) (within
+    : All (λ (q : PendingGroup). q.place < length groups) ps) where
   in_groups : p.place < length groups
   in_groups = subst (λ (q : PendingGroup). q.place < length groups) (sym p_is) (within j p lt)
 
   pub picked : group_at (groups_of groups ps) j ≡ contents g
   picked =
-      let in_places : j < length (places_of ps) = omega (arith, lt, length-map ps (λ (q : PendingGroup). q.place)) in
-      let place : slice_index (places_of ps) j ≡ p.place = get_or-map (λ (q : PendingGroup). q.place) ps j p 0 lt ∙ ap (λ (q : PendingGroup). q.place) (sym p_is) in
-      get_or-map (group_at (type_groups groups)) (places_of ps) j 0 no_group in_places ∙ (ap (group_at (type_groups groups)) place ∙ (get_or-map contents groups p.place g no_group in_groups ∙ ap contents (sym g_is)))
+      let in_places : j < length (places_of ps) =
+      omega (arith, lt, length-map ps (λ (q : PendingGroup). q.place)) in
+      let place : slice_index (places_of ps) j ≡ p.place =
+      get_or-map (λ (q : PendingGroup). q.place) ps j p 0 lt
+      ∙ ap (λ (q : PendingGroup). q.place) (sym p_is) in
+      get_or-map (group_at (type_groups groups)) (places_of ps) j 0 no_group in_places
+      ∙ (ap (group_at (type_groups groups)) place
+      ∙ (get_or-map contents groups p.place g no_group in_groups ∙ ap contents (sym g_is)))
 
   pub all_of : (P : RecGroup → Type 0) → All P groups → P g
   all_of P each = subst P (sym g_is) (each p.place g in_groups)
 
   pub filled_of : All (λ (w : TypeGroup). 0 < length w.ids) (groups_of groups ps) → 0 < length g.types
-  filled_of each = subst (λ (w : TypeGroup). 0 < length w.ids) picked (each j no_group (omega (arith, lt, groups_count groups ps)))
+  filled_of each = subst (λ (w : TypeGroup). 0 < length w.ids) picked
+      (each j no_group (omega (arith, lt, groups_count groups ps)))
 
-  pub key_of : (slots : TypeSlots) (o : Option SortKey) → All (λ (q : PendingGroup). q.head ≡ head slots (rec_group_at groups q.place)) ps → IfSome o (λ w. IsSomeAnd p.head (IsLosslessKey w)) → DecodesToType slots (slice_index g.types 0) o
+  pub key_of : (slots : TypeSlots) (o : Option SortKey) →
+      All (λ (q : PendingGroup). q.head ≡ head slots (rec_group_at groups q.place)) ps →
+      IfSome o (λ w. IsSomeAnd p.head (IsLosslessKey w)) → DecodesToType slots (slice_index g.types 0) o
   key_of slots o heads key =
-      let there : p.head ≡ head slots (rec_group_at groups p.place) = subst (λ (q : PendingGroup). q.head ≡ head slots (rec_group_at groups q.place)) (sym p_is) (heads j p lt) in
-      let here : p.head ≡ head slots g = there ∙ ap (head slots) (get_or_default groups p.place no_rec_group g in_groups ∙ sym g_is) in
-      head_key slots g.types o (subst (λ (t : Option ModuleType). IfSome o (λ w. IsSomeAnd t (IsLosslessKey w))) here key)
+      let there : p.head ≡ head slots (rec_group_at groups p.place) =
+      subst (λ (q : PendingGroup). q.head ≡ head slots (rec_group_at groups q.place)) (sym p_is)
+      (heads j p lt) in
+      let here : p.head ≡ head slots g = there ∙ ap (head slots)
+      (get_or_default groups p.place no_rec_group g in_groups ∙ sym g_is) in
+      head_key slots g.types o (subst (λ (t : Option ModuleType).
+      IfSome o (λ w. IsSomeAnd t (IsLosslessKey w))) here key)
 
 pub empty_same : (old new : IndexMap) → IsEmpty old → IsSame old new → IsEmpty new
 empty_same old new e s = record { count = s.count ∙ e.count; index = λ id. s.index id ∙ e.index id }

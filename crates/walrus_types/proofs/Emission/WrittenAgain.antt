@@ -42,7 +42,8 @@ module _ (s : Section) (t : Table) (ids : List ℕ) (has : IsReadInto s t ids) w
   all = groups 0 0 r s (λ i x h o. ap r (none i) ∙ (has.rule.recs i h (x, o) ∙ sym (none i)))
 
   -- the members of the groups are the live slots
-  member_is : (g u x : ℕ) → IsMember S g u x → (x < (index_space s).count) × (r x ≡ x) × Kind (group_at S g) (at (places_from 0 0 s) x) u
+  member_is : (g u x : ℕ) → IsMember S g u x → (x < (index_space s).count) × (r x ≡ x)
+      × Kind (group_at S g) (at (places_from 0 0 s) x) u
   member_is g u x m =
       let q = all.is g u x m in
       let q1 = q.1 in let q2 = q.2 in
@@ -54,23 +55,32 @@ module _ (s : Section) (t : Table) (ids : List ℕ) (has : IsReadInto s t ids) w
       let m = all.has i h (ap r (none i) ∙ (v ∙ sym (none i))) in
       (m.0, m.1, subst (IsMember S m.0 m.1) (none i) m.2)
 
-  slot_of : (g u i : ℕ) → IsMember S g u i → get t.types.slots i ≡ Some (type_of_definition (read_definition (index_space s) r i) i)
+  slot_of : (g u i : ℕ) → IsMember S g u i → get t.types.slots i ≡ Some
+      (type_of_definition (read_definition (index_space s) r i) i)
   slot_of g u i m = let w = member_is g u i m in has.live i w.0 w.1
 
-  defines : (g u i : ℕ) → IsMember S g u i → definition_at t.types.slots i ≡ read_definition (index_space s) r i
-  defines g u i m = ap slot_definition (slot_of g u i m) ∙ stored_definition (read_definition (index_space s) r i) i
+  defines : (g u i : ℕ) → IsMember S g u i → definition_at t.types.slots i ≡ read_definition (index_space s) r
+      i
+  defines g u i m = ap slot_definition (slot_of g u i m)
+      ∙ stored_definition (read_definition (index_space s) r i) i
 
   no_entry : (g u i : ℕ) → IsMember S g u i → is_entry_at t.types.slots i ≡ false
   no_entry g u i m = rw (slot_of g u i m) refl
 
   -- what is written is the normal form, and each index goes where its slot goes
-  pub normal_again : (out : List GroupAt) (x : IndexMap) → IsEmitted t out x → IsNormalForm s (section_of out) (slots_through s r (value_or_zero x.index))
+  pub normal_again : (out : List GroupAt) (x : IndexMap) → IsEmitted t out x →
+      IsNormalForm s (section_of out) (slots_through s r (value_or_zero x.index))
   normal_again out x em =
-      let on : IsEmission S (definition_at t.types.slots) (is_entry_at t.types.slots) (section_of out) (value_or_zero x.index) = subst (λ (gs : List TypeGroup). IsEmission gs (definition_at t.types.slots) (is_entry_at t.types.slots) (section_of out) (value_or_zero x.index)) has.grouping em.section in
-      read_then_emitted s (section_of out) r (value_or_zero x.index) has.well_named has.rule (same_emission S _ _ _ _ (section_of out) (value_or_zero x.index) defines no_entry on)
+      let on : IsEmission S (definition_at t.types.slots) (is_entry_at t.types.slots) (section_of out)
+      (value_or_zero x.index) = subst (λ (gs : List TypeGroup).
+      IsEmission gs (definition_at t.types.slots) (is_entry_at t.types.slots) (section_of out)
+      (value_or_zero x.index)) has.grouping em.section in
+      read_then_emitted s (section_of out) r (value_or_zero x.index) has.well_named has.rule
+      (same_emission S _ _ _ _ (section_of out) (value_or_zero x.index) defines no_entry on)
 
   -- what a member names has an index by the time its group is written
-  named_has_index : (g u i k : ℕ) → IsMember S g u i → Names (read_definition (index_space s) r i) k → HasIndexBy S (definition_at t.types.slots) (is_entry_at t.types.slots) g k
+  named_has_index : (g u i k : ℕ) → IsMember S g u i → Names (read_definition (index_space s) r i) k →
+      HasIndexBy S (definition_at t.types.slots) (is_entry_at t.types.slots) g k
   named_has_index g u i k m names =
       let home = names_stand s r has.well_named.below_ends has.rule g u i k m names in
       record {
@@ -80,33 +90,49 @@ module _ (s : Section) (t : Table) (ids : List ℕ) (has : IsReadInto s t ids) w
         member = home.2;
         by = elim home.3 [
           | inl e ↦ inl e
-          | inr stands ↦ inr (same_stands S (read_definition (index_space s) r) (definition_at t.types.slots) (λ a v x n. sym (defines a v x n)) home.0 g stands)
+          | inr stands ↦ inr (same_stands S (read_definition (index_space s) r) (definition_at t.types.slots)
+              (λ a v x n. sym (defines a v x n)) home.0 g stands)
         ];
       }
 
   -- so no name lacks its index
-  none_missing : (g u n i k : ℕ) → ¬ (IsMissing S (definition_at t.types.slots) (is_entry_at t.types.slots) g u n i k)
+  none_missing : (g u n i k : ℕ) → ¬ (IsMissing S (definition_at t.types.slots) (is_entry_at t.types.slots) g
+      u n i k)
   none_missing g u n i k x =
-      let names : Names (definition_at t.types.slots i) k = (n, slice_get_within (names_of (definition_at t.types.slots i)) n k x.name, get_or_from_slice_get (names_of (definition_at t.types.slots i)) n k k x.name) in
-      x.missing (named_has_index g u i k x.member (subst (λ (d : Definition). Names d k) (defines g u i x.member) names))
+      let names : Names (definition_at t.types.slots i) k = (
+        n,
+        slice_get_within (names_of (definition_at t.types.slots i)) n k x.name,
+        get_or_from_slice_get (names_of (definition_at t.types.slots i)) n k k x.name,
+      ) in
+      x.missing (named_has_index g u i k x.member
+      (subst (λ (d : Definition). Names d k) (defines g u i x.member) names))
 
-  pub never_missing : (i k : ℕ) → ¬ (IsFirstMissing (type_groups t.groups) (definition_at t.types.slots) (is_entry_at t.types.slots) i k)
-  never_missing i k x = subst (λ (gs : List TypeGroup). (g u n j l : ℕ) → ¬ (IsMissing gs (definition_at t.types.slots) (is_entry_at t.types.slots) g u n j l)) (sym has.grouping) none_missing x.group x.place x.name i k x.is
+  pub never_missing : (i k : ℕ) → ¬ (IsFirstMissing (type_groups t.groups) (definition_at t.types.slots)
+      (is_entry_at t.types.slots) i k)
+  never_missing i k x = subst (λ (gs : List TypeGroup). (g u n j l : ℕ) →
+      ¬ (IsMissing gs (definition_at t.types.slots) (is_entry_at t.types.slots) g u n j l)) (sym has.grouping)
+      none_missing x.group x.place x.name i k x.is
 
   -- the id that an index stands for has an index in what is written
-  pub each_indexed : (out : List GroupAt) (x : IndexMap) → IsEmitted t out x → (i d : ℕ) → i < length ids → IsSome (x.index (get_or ids i d))
+  pub each_indexed : (out : List GroupAt) (x : IndexMap) → IsEmitted t out x → (i d : ℕ) → i < length ids →
+      IsSome (x.index (get_or ids i d))
   each_indexed out x em i d below =
       let within : i < (index_space s).count = omega (arith, below, has.one_each) in
       let lower = down (index_space s) r has.rule i within in
       let home = member_of (r i) (omega (arith, within, lower)) (twice (index_space s) r has.rule i within) in
-      let written : IsWrittenId S (is_entry_at t.types.slots) (r i) = (written_member (home.1, r i, home.2, no_entry home.0 home.1 (r i) home.2) home.2, refl) in
-      let there : IsWrittenId (type_groups t.groups) (is_entry_at t.types.slots) (r i) = subst (λ (gs : List TypeGroup). IsWrittenId gs (is_entry_at t.types.slots) (r i)) (sym has.grouping) written in
+      let written : IsWrittenId S (is_entry_at t.types.slots) (r i) =
+      (written_member (home.1, r i, home.2, no_entry home.0 home.1 (r i) home.2) home.2, refl) in
+      let there : IsWrittenId (type_groups t.groups) (is_entry_at t.types.slots) (r i) =
+      subst (λ (gs : List TypeGroup). IsWrittenId gs (is_entry_at t.types.slots) (r i)) (sym has.grouping)
+      written in
       subst (λ (k : ℕ). IsSome (x.index k)) (get_or_default ids i 0 d below) ((em.has_index (r i)).1 there)
 
   -- the indices of the ids are where the indices of the section go
   pub sent_by_ids : (f : ℕ → ℕ) → map f ids ≡ slots_through s r f
   sent_by_ids f =
-      ext_get_or 0 (map f ids) (slots_through s r f) (length-map ids f ∙ has.one_each ∙ sym (length-map-range_with_len (λ i. f (r i)) 0 (index_space s).count))
+      ext_get_or 0 (map f ids) (slots_through s r f) (length-map ids f ∙ has.one_each
+      ∙ sym (length-map-range_with_len (λ i. f (r i)) 0 (index_space s).count))
       (λ i below.
       let within : i < length ids = omega (arith, below, length-map ids f) in
-      get_or-map f ids i 0 0 within ∙ sym (get_or-map-range_with_len (λ i. f (r i)) 0 (index_space s).count i i 0 (omega (arith, within, has.one_each)) (none i)))
+      get_or-map f ids i 0 0 within ∙ sym (get_or-map-range_with_len (λ i. f (r i)) 0 (index_space s).count i
+      i 0 (omega (arith, within, has.one_each)) (none i)))

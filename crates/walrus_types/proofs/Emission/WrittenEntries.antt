@@ -9,14 +9,17 @@ use Rattle.walrus_ty.specs.declared.error.ToRecordError.TheVariants as to_record
 use Rattle.walrus_ty.specs.declared.error.NoIndex.TheVariants.{OfType, OfFunc, OfGlobal}
 use Rattle.walrus_ty.specs.Definition.{Definition}
 use Rattle.walrus_ty.specs.Lookups.{IfNoIndex}
-use Rattle.walrus_types.specs.Steps.WrittenGroups.{FailsBy, RefusesType, emit_error}
+use Rattle.walrus_types.specs.Steps.WrittenGroups.{IsMemoryOrMissing, RefusesType, emit_error}
 
 pub done_more :
     {E : Type 0} (f : E → Definition) (d : ℕ → Definition) (es : List E) (ids : List ℕ) (i x : ℕ)
     (e : E) → i < length ids → x ≡ get_or ids i x → map f es ≡ map d (take i ids) → f e ≡ d x →
     map f (es ++ e ∷ []) ≡ map d (take (i + 1) ids)
 done_more f d es ids i x e below at so_far is =
-    map-append f es (e ∷ []) ∙ (ap (λ (ds : List Definition). ds ++ f e ∷ []) so_far ∙ (ap (λ (y : Definition). map d (take i ids) ++ y ∷ []) (is ∙ ap d at) ∙ (sym (map-append d (take i ids) (get_or ids i x ∷ [])) ∙ ap (map d) (sym (take_more ids i x below)))))
+    map-append f es (e ∷ []) ∙ (ap (λ (ds : List Definition). ds ++ f e ∷ []) so_far
+    ∙ (ap (λ (y : Definition). map d (take i ids) ++ y ∷ []) (is ∙ ap d at)
+    ∙ (sym (map-append d (take i ids) (get_or ids i x ∷ []))
+    ∙ ap (map d) (sym (take_more ids i x below)))))
 
 pub each_more :
     (P : ℕ → Type 0) (ids : List ℕ) (n x : ℕ) → x ≡ get_or ids n x →
@@ -24,7 +27,8 @@ pub each_more :
     slice_get ids u ≡ Some i → P i
 each_more P ids n x at so_far here u i lt h = elim (cases_lt u n) [
   | inl y ↦ so_far u i y h
-  | inr y ↦ (let e : u ≡ n = omega (arith, y, lt) in let same : x ≡ i = at ∙ (ap (λ (m : ℕ). get_or ids m x) (sym e) ∙ get_or_from_slice_get ids u i x h) in subst P same here)
+  | inr y ↦ (let e : u ≡ n = omega (arith, y, lt) in let same : x ≡ i = at
+      ∙ (ap (λ (m : ℕ). get_or ids m x) (sym e) ∙ get_or_from_slice_get ids u i x h) in subst P same here)
 ]
 
 -- the only refusal of a type's names is that a type has no index
@@ -41,9 +45,10 @@ refuses_from o to_record.Memory h = tt
 
 pub fails_from :
     (o : Option ℕ) (id : ℕ) (e : ToRecordError) → IfNoIndex e (λ n. option_map OfType o ≡ Some n) →
-    FailsBy (emit_error id e) (λ i k. (i ≡ id) × (o ≡ Some k))
+    IsMemoryOrMissing (emit_error id e) (λ i k. (i ≡ id) × (o ≡ Some k))
 fails_from None id (to_record.NoIndex (OfType to)) h = let k : ⊥ = cc in absurd k
-fails_from (Some l) id (to_record.NoIndex (OfType to)) h = (refl, let e : l ≡ to = cc in ap (λ (m : ℕ). Some m) e)
+fails_from (Some l) id (to_record.NoIndex (OfType to)) h =
+    (refl, let e : l ≡ to = cc in ap (λ (m : ℕ). Some m) e)
 fails_from None id (to_record.NoIndex (OfFunc func)) h = tt
 fails_from (Some l) id (to_record.NoIndex (OfFunc func)) h = tt
 fails_from o id (to_record.NoIndex (OfGlobal global)) h = tt

@@ -32,14 +32,21 @@ stored_each :
 stored_each f b [] q h = refl
 stored_each f b (d ∷ ds) q h =
     let here : b + 0 ≡ b = omega arith in
-    let first : q b ≡ type_of_definition (rename f d) b = ap q (sym here) ∙ (h 0 d (omega arith) ∙ ap (type_of_definition (rename f d)) here) in
-    let rest : live_slots (types_of_definitions f (b + 1) ds) ≡ members_slots q (b + 1) (length ds) = stored_each f (b + 1) ds q (λ u e w. ap q (shift b u) ∙ (h (suc u) e (omega arith) ∙ ap (type_of_definition (rename f (get_or ds u e))) (sym (shift b u)))) in
-    ap (λ (x : ModuleType). Some x ∷ live_slots (types_of_definitions f (b + 1) ds)) (sym first) ∙ ap (λ (xs : Slots ModuleType). Some (q b) ∷ xs) rest
+    let first : q b ≡ type_of_definition (rename f d) b = ap q (sym here)
+    ∙ (h 0 d (omega arith) ∙ ap (type_of_definition (rename f d)) here) in
+    let rest : live_slots (types_of_definitions f (b + 1) ds) ≡ members_slots q (b + 1) (length ds) =
+    stored_each f (b + 1) ds q (λ u e w. ap q (shift b u)
+    ∙ (h (suc u) e (omega arith) ∙ ap (type_of_definition (rename f (get_or ds u e))) (sym (shift b u))))
+    in
+    ap (λ (x : ModuleType). Some x ∷ live_slots (types_of_definitions f (b + 1) ds)) (sym first)
+    ∙ ap (λ (xs : Slots ModuleType). Some (q b) ∷ xs) rest
   where
     shift : (b u : ℕ) → b + 1 + u ≡ b + suc u
     shift b u = omega arith
 
-module _ (eq : ModuleType → ModuleType → Bool) (tells : TellsTypes eq) (s : Section) (r : List ℕ) (slots : Slots ModuleType) (map : ModuleType → Option ℕ) (groups : List TypeGroup) (is : IsReadResult s r slots map groups) where
+module _ (eq : ModuleType → ModuleType → Bool) (tells : TellsTypes eq) (s : Section) (r : List ℕ)
+    (slots : Slots ModuleType) (map : ModuleType → Option ℕ) (groups : List TypeGroup)
+    (is : IsReadResult s r slots map groups) where
   abbrev n : IndexSpace
   n = index_space s
 
@@ -56,22 +63,30 @@ module _ (eq : ModuleType → ModuleType → Bool) (tells : TellsTypes eq) (s : 
     next : Follows n now ds
     next = follows s g
 
-    new_definition : (i : ℕ) (d : Definition) → n.count ≤ i → i < now.count → now.definition i ≡ get_or ds (i - n.count) d
-    new_definition i d h w = let e = add_rest n.count i h in let c = next.count in ap now.definition (sym e) ∙ next.new_definition (i - n.count) d (omega arith)
+    new_definition : (i : ℕ) (d : Definition) → n.count ≤ i → i < now.count →
+        now.definition i ≡ get_or ds (i - n.count) d
+    new_definition i d h w = let e = add_rest n.count i h in let c = next.count in ap now.definition (sym e)
+        ∙ next.new_definition (i - n.count) d (omega arith)
 
     new_end : (i : ℕ) → n.count ≤ i → i < now.count → now.end i ≡ n.count + length ds
-    new_end i h w = let e = add_rest n.count i h in let c = next.count in ap now.end (sym e) ∙ next.new_end (i - n.count) (omega arith)
+    new_end i h w = let e = add_rest n.count i h in let c = next.count in ap now.end (sym e)
+        ∙ next.new_end (i - n.count) (omega arith)
 
-    names_below : (i k : ℕ) → n.count ≤ i → i < now.count → Names (now.definition i) k → k < n.count + length ds
+    names_below : (i k : ℕ) → n.count ≤ i → i < now.count → Names (now.definition i) k →
+        k < n.count + length ds
     names_below i k h w named =
         let c = next.count in
-        (sound_from_no_error n.count ds fine).below (i - n.count) k (now.definition i) (omega arith) (subst (λ (d : Definition). Names d k) (new_definition i (now.definition i) h w) named)
+        (sound_from_no_error n.count ds fine).below (i - n.count) k (now.definition i) (omega arith)
+        (subst (λ (d : Definition). Names d k) (new_definition i (now.definition i) h w) named)
 
     pub still_well_named : IsWellNamed t
     still_well_named = record {
-      few = (let c = next.count in let f = (sound_from_no_error n.count ds fine).few in subst (λ (x : ℕ). x < 2 ^ 32) (sym c) f);
+      few = (let c = next.count in let f = (sound_from_no_error n.count ds fine).few in
+          subst (λ (x : ℕ). x < 2 ^ 32) (sym c) f);
       below_ends = λ i h k named. elim (cases_lt i n.count) [
-        | inl w ↦ (let e = next.end i w in let b = is.well_named.below_ends i w k (subst (λ (d : Definition). Names d k) (next.definition i w) named) in omega arith)
+        | inl w ↦ (let e = next.end i w in let b =
+            is.well_named.below_ends i w k (subst (λ (d : Definition). Names d k) (next.definition i w) named)
+            in omega arith)
         | inr w ↦ (let e = new_end i w h in let b = names_below i k w h named in omega arith)
       ];
     }
@@ -85,16 +100,23 @@ module _ (eq : ModuleType → ModuleType → Bool) (tells : TellsTypes eq) (s : 
       agree k h = get_or_append_left r x 0 k (omega (arith, h, is.one_each))
 
       type_same : (i : ℕ) → i < n.count → read_type n r i ≡ read_type now r' i
-      type_same i h = ap (λ (d : Definition). type_of_definition d i) (rename_agree (image r) (image r') (n.definition i) (λ k named. sym (agree k (below_count eq tells s r slots map groups is i h k named))) ∙ ap (rename (image r')) (sym (next.definition i h)))
+      type_same i h = ap (λ (d : Definition). type_of_definition d i)
+          (rename_agree (image r) (image r') (n.definition i) (λ k named.
+          sym (agree k (below_count eq tells s r slots map groups is i h k named)))
+          ∙ ap (rename (image r')) (sym (next.definition i h)))
 
       kept : Holds eq n.count (is_single now) (read_type now r') r slots map
-      kept = holds_same eq n.count (is_single n) (is_single now) (read_type n r) (read_type now r') r slots map (λ i h. ap is_none (sym (next.rec_position i h))) type_same (held eq tells s r slots map groups is).holds
+      kept = holds_same eq n.count (is_single n) (is_single now) (read_type n r) (read_type now r') r slots
+          map (λ i h. ap is_none (sym (next.rec_position i h))) type_same
+          (held eq tells s r slots map groups is).holds
 
       old_selfs : (i : ℕ) → i < n.count → IsSingle now i → Names (now.definition i) i → image r' i ≡ i
-      old_selfs i h one named = agree i h ∙ is.rule.selfs i h (sym (next.rec_position i h) ∙ one) (subst (λ (d : Definition). Names d i) (next.definition i h) named)
+      old_selfs i h one named = agree i h ∙ is.rule.selfs i h (sym (next.rec_position i h) ∙ one)
+          (subst (λ (d : Definition). Names d i) (next.definition i h) named)
 
       grouping : read_groups 0 (image r') t ≡ groups ++ read_groups n.count (image r') (g ∷ [])
-      grouping = groups_next (image r) (image r') s g agree ∙ ap (λ (gs : List TypeGroup). gs ++ read_groups n.count (image r') (g ∷ [])) (sym is.grouping)
+      grouping = groups_next (image r) (image r') s g agree
+          ∙ ap (λ (gs : List TypeGroup). gs ++ read_groups n.count (image r') (g ∷ [])) (sym is.grouping)
 
   -- the next group is a `Single`, which reads as ty where its index stands for itself
   module _ (d : Definition) (fine : group_error n.count (d ∷ []) ≡ None) where
@@ -105,7 +127,8 @@ module _ (eq : ModuleType → ModuleType → Bool) (tells : TellsTypes eq) (s : 
     ty = type_of_definition (rename (image (r ++ n.count ∷ [])) d) n.count
 
     here : (index_space one).definition n.count ≡ d
-    here = new_definition (Single d) fine n.count d (omega arith) (let c = (next (Single d) fine).count in omega arith) ∙ first (n.count - n.count) (omega arith)
+    here = new_definition (Single d) fine n.count d (omega arith) (let c = (next (Single d) fine).count in
+        omega arith) ∙ first (n.count - n.count) (omega arith)
       where
         first : (u : ℕ) → u ≡ 0 → get_or (d ∷ []) u d ≡ d
         first u e = ap (λ (u : ℕ). get_or (d ∷ []) u d) e
@@ -120,7 +143,11 @@ module _ (eq : ModuleType → ModuleType → Bool) (tells : TellsTypes eq) (s : 
     last j = get_or_at r j [] 0 n.count is.one_each
 
     below_or_here : (i : ℕ) → i < (index_space one).count → (i < n.count) ⊎ (i ≡ n.count)
-    below_or_here i h = elim (cases_lt i n.count) [ inl w ↦ inl w | inr w ↦ inr (let c = one_more in omega arith) ]
+    below_or_here i h = elim (cases_lt i n.count) [
+      | inl w ↦ inl w
+      | inr w ↦
+          inr (let c = one_more in omega arith)
+    ]
 
     -- it reads as a `Single` that is found
     module _ (j : ℕ) (found : map ty ≡ Some j) where
@@ -129,65 +156,99 @@ module _ (eq : ModuleType → ModuleType → Bool) (tells : TellsTypes eq) (s : 
 
       names_old : (k : ℕ) → Names d k → k < n.count
       names_old k named =
-          let b = names_below (Single d) fine n.count k (omega arith) (let c = one_more in omega arith) (subst (λ (e : Definition). Names e k) (sym here) named) in
+          let b = names_below (Single d) fine n.count k (omega arith) (let c = one_more in omega arith)
+          (subst (λ (e : Definition). Names e k) (sym here) named) in
           elim (cases_lt k n.count) [
             | inl w ↦ w
-            | inr w ↦ (let e : k ≡ n.count = omega arith in absurd (self (subst (λ (i : ℕ). Names d i) e named)))
+            | inr w ↦ (let e : k ≡ n.count = omega arith in
+                absurd (self (subst (λ (i : ℕ). Names d i) e named)))
           ]
         where
           self : ¬ (Names d n.count)
           self named =
-              let a = subst (λ (i : ℕ). Names (rename (image (r ++ n.count ∷ [])) d) i) (last n.count) (Names-rename (image (r ++ n.count ∷ [])) d n.count named) in
-              let e : rename (image (r ++ n.count ∷ [])) d ≡ read_definition n (image r) j = sym (stored_definition _ n.count) ∙ candidate.same in
-              let le = single_names eq tells s r slots map groups is j n.count candidate.below candidate.single (subst (λ (e : Definition). Names e n.count) e a) in
+              let a = subst (λ (i : ℕ). Names (rename (image (r ++ n.count ∷ [])) d) i) (last n.count)
+              (Names-rename (image (r ++ n.count ∷ [])) d n.count named) in
+              let e : rename (image (r ++ n.count ∷ [])) d ≡ read_definition n (image r) j =
+              sym (stored_definition _ n.count) ∙ candidate.same in
+              let le = single_names eq tells s r slots map groups is j n.count candidate.below
+              candidate.single (subst (λ (e : Definition). Names e n.count) e a) in
               let b = candidate.below in
               omega arith
 
       same_type : ty ≡ read_type (index_space one) (r ++ j ∷ []) n.count
-      same_type = ap (λ (e : Definition). type_of_definition e n.count) (rename_agree (image (r ++ n.count ∷ [])) (image (r ++ j ∷ [])) d (λ k named. (let w = names_old k named in agree (Single d) fine (n.count ∷ []) k w ∙ sym (agree (Single d) fine (j ∷ []) k w))) ∙ ap (rename (image (r ++ j ∷ []))) (sym here))
+      same_type = ap (λ (e : Definition). type_of_definition e n.count)
+          (rename_agree (image (r ++ n.count ∷ [])) (image (r ++ j ∷ [])) d (λ k named.
+          (let w = names_old k named in agree (Single d) fine (n.count ∷ []) k w
+          ∙ sym (agree (Single d) fine (j ∷ []) k w))) ∙ ap (rename (image (r ++ j ∷ []))) (sym here))
 
-      held_found : Holds eq (n.count + 1) (is_single (index_space one)) (read_type (index_space one) (r ++ j ∷ [])) (r ++ j ∷ []) (slots ++ None ∷ []) map
-      held_found = read_found eq tells.laws n.count (is_single (index_space one)) (read_type (index_space one) (r ++ j ∷ [])) r slots map (found_alike eq tells s r slots map groups is) (kept (Single d) fine (j ∷ [])) alone j (subst (λ (q : ModuleType). map q ≡ Some j) same_type found)
+      held_found : Holds eq (n.count + 1) (is_single (index_space one))
+          (read_type (index_space one) (r ++ j ∷ [])) (r ++ j ∷ []) (slots ++ None ∷ []) map
+      held_found = read_found eq tells.laws n.count (is_single (index_space one))
+          (read_type (index_space one) (r ++ j ∷ [])) r slots map
+          (found_alike eq tells s r slots map groups is) (kept (Single d) fine (j ∷ [])) alone j
+          (subst (λ (q : ModuleType). map q ≡ Some j) same_type found)
 
       not_here : image (r ++ j ∷ []) n.count == n.count ≡ false
-      not_here = let b = candidate.below in ap (λ (i : ℕ). i == n.count) (last j) ∙ ne_eqb j n.count (λ e. omega (arith, e, b))
+      not_here = let b = candidate.below in ap (λ (i : ℕ). i == n.count) (last j)
+          ∙ ne_eqb j n.count (λ e. omega (arith, e, b))
 
       -- its index stands for that one, and its own slot is dead
       pub reads_found : IsReadResult one (r ++ j ∷ []) (slots ++ None ∷ []) map groups
       reads_found =
-          reads_of eq tells one (r ++ j ∷ []) (slots ++ None ∷ []) map groups (still_well_named (Single d) fine) (found_alike eq tells s r slots map groups is)
+          reads_of eq tells one (r ++ j ∷ []) (slots ++ None ∷ []) map groups
+          (still_well_named (Single d) fine) (found_alike eq tells s r slots map groups is)
           (record {
-            holds = subst (λ (c : ℕ). Holds eq c (is_single (index_space one)) (read_type (index_space one) (r ++ j ∷ [])) (r ++ j ∷ []) (slots ++ None ∷ []) map) (sym one_more) held_found;
+            holds = subst (λ (c : ℕ). Holds eq c (is_single (index_space one))
+                (read_type (index_space one) (r ++ j ∷ [])) (r ++ j ∷ []) (slots ++ None ∷ []) map)
+                (sym one_more) held_found;
             selfs = λ i h single named. elim (below_or_here i h) [
               | inl w ↦ old_selfs (Single d) fine (j ∷ []) i w single named
-              | inr e ↦ (let w = names_old i (subst (λ (f : Definition). Names f i) (ap (index_space one).definition e ∙ here) named) in omega arith)
+              | inr e ↦ (let w = names_old i (subst (λ (f : Definition). Names f i)
+                  (ap (index_space one).definition e ∙ here) named) in omega arith)
             ];
           })
           (sym (grouping (Single d) fine (j ∷ []) ∙ rw not_here (append-nil groups)))
 
     -- nothing is found for it: its index stands for itself, and it is found from now on
-    module _ (absent : map ty ≡ None) (map' : ModuleType → Option ℕ) (maps : (q : ModuleType) → map' q ≡ cond (eq ty q) (Some n.count) (map q)) where
+    module _ (absent : map ty ≡ None) (map' : ModuleType → Option ℕ) (maps : (q : ModuleType) →
+        map' q ≡ cond (eq ty q) (Some n.count) (map q)) where
       own_type : ty ≡ read_type (index_space one) (r ++ n.count ∷ []) n.count
-      own_type = ap (λ (e : Definition). type_of_definition (rename (image (r ++ n.count ∷ [])) e) n.count) (sym here)
+      own_type = ap (λ (e : Definition). type_of_definition (rename (image (r ++ n.count ∷ [])) e) n.count)
+          (sym here)
 
-      held_new : Holds eq (n.count + 1) (is_single (index_space one)) (read_type (index_space one) (r ++ n.count ∷ [])) (r ++ n.count ∷ []) (slots ++ Some ty ∷ []) map'
+      held_new : Holds eq (n.count + 1) (is_single (index_space one))
+          (read_type (index_space one) (r ++ n.count ∷ [])) (r ++ n.count ∷ []) (slots ++ Some ty ∷ []) map'
       held_new =
-          subst (λ (q : ModuleType). Holds eq (n.count + 1) (is_single (index_space one)) (read_type (index_space one) (r ++ n.count ∷ [])) (r ++ n.count ∷ []) (slots ++ Some q ∷ []) map') (sym own_type)
-          (read_new eq tells.laws n.count (is_single (index_space one)) (read_type (index_space one) (r ++ n.count ∷ [])) r slots map (found_alike eq tells s r slots map groups is) (kept (Single d) fine (n.count ∷ [])) alone map' (subst (λ (q : ModuleType). map q ≡ None) own_type absent) (λ q. maps q ∙ ap (λ (e : ModuleType). cond (eq e q) (Some n.count) (map q)) own_type))
+          subst (λ (q : ModuleType). Holds eq (n.count + 1) (is_single (index_space one))
+          (read_type (index_space one) (r ++ n.count ∷ [])) (r ++ n.count ∷ []) (slots ++ Some q ∷ [])
+          map') (sym own_type)
+          (read_new eq tells.laws n.count (is_single (index_space one))
+          (read_type (index_space one) (r ++ n.count ∷ [])) r slots map
+          (found_alike eq tells s r slots map groups is) (kept (Single d) fine (n.count ∷ [])) alone map'
+          (subst (λ (q : ModuleType). map q ≡ None) own_type absent) (λ q. maps q
+          ∙ ap (λ (e : ModuleType). cond (eq e q) (Some n.count) (map q)) own_type))
 
       new_alike : (p q : ModuleType) → eq p q ≡ true → map' p ≡ map' q
       new_alike p q h =
-          let e : eq ty p ≡ eq ty q = tells.laws.symm ty p ∙ (tells.laws.congr p q ty h ∙ tells.laws.symm q ty) in
-          maps p ∙ (ap (λ (b : Bool). cond b (Some n.count) (map p)) e ∙ (ap (λ (o : Option ℕ). cond (eq ty q) (Some n.count) o) (found_alike eq tells s r slots map groups is p q h) ∙ sym (maps q)))
+          let e : eq ty p ≡ eq ty q = tells.laws.symm ty p
+          ∙ (tells.laws.congr p q ty h ∙ tells.laws.symm q ty) in
+          maps p ∙ (ap (λ (b : Bool). cond b (Some n.count) (map p)) e
+          ∙ (ap (λ (o : Option ℕ). cond (eq ty q) (Some n.count) o)
+          (found_alike eq tells s r slots map groups is p q h) ∙ sym (maps q)))
 
       is_here : image (r ++ n.count ∷ []) n.count == n.count ≡ true
       is_here = ap (λ (i : ℕ). i == n.count) (last n.count) ∙ eq-eqb n.count n.count refl
 
-      pub reads_new : IsReadResult one (r ++ n.count ∷ []) (slots ++ Some ty ∷ []) map' (groups ++ record { ids = n.count ∷ []; is_explicit = false } ∷ [])
+      pub reads_new : IsReadResult one (r ++ n.count ∷ []) (slots ++ Some ty ∷ []) map'
+          (groups ++ record { ids = n.count ∷ []; is_explicit = false } ∷ [])
       reads_new =
-          reads_of eq tells one (r ++ n.count ∷ []) (slots ++ Some ty ∷ []) map' (groups ++ record { ids = n.count ∷ []; is_explicit = false } ∷ []) (still_well_named (Single d) fine) new_alike
+          reads_of eq tells one (r ++ n.count ∷ []) (slots ++ Some ty ∷ []) map'
+          (groups ++ record { ids = n.count ∷ []; is_explicit = false } ∷ [])
+          (still_well_named (Single d) fine) new_alike
           (record {
-            holds = subst (λ (c : ℕ). Holds eq c (is_single (index_space one)) (read_type (index_space one) (r ++ n.count ∷ [])) (r ++ n.count ∷ []) (slots ++ Some ty ∷ []) map') (sym one_more) held_new;
+            holds = subst (λ (c : ℕ). Holds eq c (is_single (index_space one))
+                (read_type (index_space one) (r ++ n.count ∷ [])) (r ++ n.count ∷ []) (slots ++ Some ty ∷ [])
+                map') (sym one_more) held_new;
             selfs = λ i h single named. elim (below_or_here i h) [
               | inl w ↦ old_selfs (Single d) fine (n.count ∷ []) i w single named
               | inr e ↦ (ap (image (r ++ n.count ∷ [])) e ∙ (last n.count ∙ sym e))
@@ -209,23 +270,39 @@ module _ (eq : ModuleType → ModuleType → Bool) (tells : TellsTypes eq) (s : 
     abbrev members : Slots ModuleType
     members = live_slots (types_of_definitions (image ids) n.count ds)
 
-    member_type : (u : ℕ) (d : Definition) → u < length ds → read_type (index_space more) ids (n.count + u) ≡ type_of_definition (rename (image ids) (get_or ds u d)) (n.count + u)
-    member_type u d h = ap (λ (e : Definition). type_of_definition (rename (image ids) e) (n.count + u)) ((next (Rec ds) fine).new_definition u d h)
+    member_type : (u : ℕ) (d : Definition) → u < length ds →
+        read_type (index_space more) ids (n.count + u) ≡ type_of_definition
+        (rename (image ids) (get_or ds u d)) (n.count + u)
+    member_type u d h = ap (λ (e : Definition). type_of_definition (rename (image ids) e) (n.count + u))
+        ((next (Rec ds) fine).new_definition u d h)
 
     in_rec : (u : ℕ) → u < length ds → is_single (index_space more) (n.count + u) ≡ false
-    in_rec u h = let x = member_position s ds u h in some_single ((index_space more).rec_position (n.count + u)) x.0 x.1
+    in_rec u h = let x = member_position s ds u h in
+        some_single ((index_space more).rec_position (n.count + u)) x.0 x.1
 
-    held_members : Holds eq (n.count + length ds) (is_single (index_space more)) (read_type (index_space more) ids) ids (slots ++ members) map
-    held_members = subst (λ (xs : Slots ModuleType). Holds eq (n.count + length ds) (is_single (index_space more)) (read_type (index_space more) ids) ids (slots ++ xs) map) (sym (stored_each (image ids) n.count ds (read_type (index_space more) ids) member_type)) (read_members eq (is_single (index_space more)) (read_type (index_space more) ids) map (length ds) n.count r slots (kept (Rec ds) fine own) in_rec)
+    held_members : Holds eq (n.count + length ds) (is_single (index_space more))
+        (read_type (index_space more) ids) ids (slots ++ members) map
+    held_members = subst (λ (xs : Slots ModuleType).
+        Holds eq (n.count + length ds) (is_single (index_space more)) (read_type (index_space more) ids) ids
+        (slots ++ xs) map) (sym (stored_each (image ids) n.count ds (read_type (index_space more) ids)
+        member_type)) (read_members eq (is_single (index_space more)) (read_type (index_space more) ids) map
+        (length ds) n.count r slots (kept (Rec ds) fine own) in_rec)
 
-    pub reads_rec : IsReadResult more ids (slots ++ members) map (groups ++ record { ids = own; is_explicit = true } ∷ [])
+    pub reads_rec : IsReadResult more ids (slots ++ members) map
+        (groups ++ record { ids = own; is_explicit = true } ∷ [])
     reads_rec =
-        reads_of eq tells more ids (slots ++ members) map (groups ++ record { ids = own; is_explicit = true } ∷ []) (still_well_named (Rec ds) fine) (found_alike eq tells s r slots map groups is)
+        reads_of eq tells more ids (slots ++ members) map
+        (groups ++ record { ids = own; is_explicit = true } ∷ []) (still_well_named (Rec ds) fine)
+        (found_alike eq tells s r slots map groups is)
         (record {
-          holds = subst (λ (c : ℕ). Holds eq c (is_single (index_space more)) (read_type (index_space more) ids) ids (slots ++ members) map) (sym (next (Rec ds) fine).count) held_members;
+          holds = subst (λ (c : ℕ). Holds eq c (is_single (index_space more))
+              (read_type (index_space more) ids) ids (slots ++ members) map) (sym (next (Rec ds) fine).count)
+              held_members;
           selfs = λ i h single named. elim (cases_lt i n.count) [
             | inl w ↦ old_selfs (Rec ds) fine own i w single named
-            | inr w ↦ (let e = add_rest n.count i w in let c = (next (Rec ds) fine).count in let x = member_position s ds (i - n.count) (omega arith) in let both : None ≡ Some x.0 = sym single ∙ (ap (index_space more).rec_position (sym e) ∙ x.1) in absurd cc)
+            | inr w ↦ (let e = add_rest n.count i w in let c = (next (Rec ds) fine).count in let x =
+                member_position s ds (i - n.count) (omega arith) in let both : None ≡ Some x.0 = sym single
+                ∙ (ap (index_space more).rec_position (sym e) ∙ x.1) in absurd cc)
           ];
         })
         (sym (grouping (Rec ds) fine own))

@@ -29,14 +29,16 @@ use Rattle.walrus_types.proofs.Reading.Reader.{read_still, single_read, rec_read
 pub looked_up :
     (ids : List ℕ) (d : Definition) →
     rename (value_or_zero (slice_get ids)) d ≡ rename (image ids) d
-looked_up ids d = rename_agree (value_or_zero (slice_get ids)) (image ids) d (λ k named. unwrap_or-slice_get ids k 0)
+looked_up ids d = rename_agree (value_or_zero (slice_get ids)) (image ids) d (λ k named.
+    unwrap_or-slice_get ids k 0)
 
 pub sub_type_stored :
     (sub : SubType) (ids : List ℕ) (d : Definition) (id : ℕ) →
     sub_type_definition sub ≡ rename (value_or_zero (slice_get ids)) d →
     unnamed_type sub.kind sub.is_final sub.supertype false id ≡
     type_of_definition (rename (image ids) d) id
-sub_type_stored sub ids d id h = member_stored (sub.kind, sub.is_final, sub.supertype) (rename (image ids) d) id (h ∙ looked_up ids d)
+sub_type_stored sub ids d id h = member_stored (sub.kind, sub.is_final, sub.supertype) (rename (image ids) d)
+    id (h ∙ looked_up ids d)
 
 entries_more :
     (es : List EntryAt) (i : ℕ) (e : EntryAt) → i < length es → e ≡ get_or es i e →
@@ -56,8 +58,11 @@ members_more ids ms sub es i e h at so_far one =
     let m : Member = (sub.kind, sub.is_final, sub.supertype) in
     map-append member_definition ms (m ∷ [])
     ∙ (ap (λ (ds : List Definition). ds ++ member_definition m ∷ []) so_far
-    ∙ (ap (λ (d : Definition). map f (map entry_definition (take i es)) ++ d ∷ []) (one ∙ looked_up ids (entry_definition e))
-    ∙ sym (ap (λ (xs : List EntryAt). map f (map entry_definition xs)) (entries_more es i e h at) ∙ (ap (map f) (map-append entry_definition (take i es) (e ∷ [])) ∙ map-append f (map entry_definition (take i es)) (entry_definition e ∷ [])))))
+    ∙ (ap (λ (d : Definition). map f (map entry_definition (take i es)) ++ d ∷ []) (one
+    ∙ looked_up ids (entry_definition e))
+    ∙ sym (ap (λ (xs : List EntryAt). map f (map entry_definition xs)) (entries_more es i e h at)
+    ∙ (ap (map f) (map-append entry_definition (take i es) (e ∷ []))
+    ∙ map-append f (map entry_definition (take i es)) (entry_definition e ∷ [])))))
 
 -- a `Single` is read, and its index is sent to where it stands
 pub single_pushed :
@@ -69,10 +74,17 @@ pub single_pushed :
 single_pushed s old new r ids ids' index id d is at pushed sent fine reads =
     let count : index ≡ (index_space s).count = at ∙ is.one_each in
     let slots : length old.types.slots ≡ (index_space s).count = is.slot_each in
-    let where_sent : r ++ id ∷ [] ≡ ids' = sym (sent ∙ (ap (λ (xs : List ℕ). set xs index id) pushed ∙ (ap (λ (i : ℕ). set (r ++ index ∷ []) i id) at ∙ set-append_seam r index [] id))) in
-    let own : type_of_definition (rename (image ids) d) (length old.types.slots) ≡ type_of_definition (rename (image (r ++ (index_space s).count ∷ [])) d) (index_space s).count = ap (λ (xs : List ℕ). type_of_definition (rename (image xs) d) (length old.types.slots)) (pushed ∙ ap (λ (i : ℕ). r ++ i ∷ []) count) ∙ ap (type_of_definition (rename (image (r ++ (index_space s).count ∷ [])) d)) slots in
+    let where_sent : r ++ id ∷ [] ≡ ids' = sym (sent
+    ∙ (ap (λ (xs : List ℕ). set xs index id) pushed
+    ∙ (ap (λ (i : ℕ). set (r ++ index ∷ []) i id) at ∙ set-append_seam r index [] id))) in
+    let own : type_of_definition (rename (image ids) d) (length old.types.slots) ≡ type_of_definition
+    (rename (image (r ++ (index_space s).count ∷ [])) d) (index_space s).count =
+    ap (λ (xs : List ℕ). type_of_definition (rename (image xs) d) (length old.types.slots)) (pushed
+    ∙ ap (λ (i : ℕ). r ++ i ∷ []) count) ∙ ap
+    (type_of_definition (rename (image (r ++ (index_space s).count ∷ [])) d)) slots in
     subst (λ (xs : List ℕ). IsReadInto (s ++ Single d ∷ []) new xs) where_sent
-    (single_read s old r is d (subst (λ (i : ℕ). group_error i (d ∷ []) ≡ None) count fine) new id (subst (λ (ty : ModuleType). ReadsSingle old new ty id) own reads))
+    (single_read s old r is d (subst (λ (i : ℕ). group_error i (d ∷ []) ≡ None) count fine) new id
+    (subst (λ (ty : ModuleType). ReadsSingle old new ty id) own reads))
 
 -- a `Rec` is read
 pub rec_pushed :
@@ -82,9 +94,11 @@ pub rec_pushed :
     IsReadInto (s ++ Rec ds ∷ []) new ids
 rec_pushed s old new r ids index ds is at pushed fine reads =
     let count : index ≡ (index_space s).count = at ∙ is.one_each in
-    let same : ids ≡ r ++ range_with_len (index_space s).count (length ds) = pushed ∙ ap (λ (i : ℕ). r ++ range_with_len i (length ds)) count in
+    let same : ids ≡ r ++ range_with_len (index_space s).count (length ds) = pushed
+    ∙ ap (λ (i : ℕ). r ++ range_with_len i (length ds)) count in
     subst (λ (xs : List ℕ). IsReadInto (s ++ Rec ds ∷ []) new xs) (sym same)
-    (rec_read s old r is ds (subst (λ (i : ℕ). group_error i ds ≡ None) count fine) new reads.0 (reads.2 ∙ ap (λ (xs : List ℕ). map (rename (image xs)) ds) same) reads.1)
+    (rec_read s old r is ds (subst (λ (i : ℕ). group_error i ds ≡ None) count fine) new reads.0 (reads.2
+    ∙ ap (λ (xs : List ℕ). map (rename (image xs)) ds) same) reads.1)
 
 groups_more :
     (gs : List GroupAt) (i : ℕ) (g : GroupAt) → i < length gs → g ≡ get_or gs i g →
@@ -108,7 +122,10 @@ first_error gs i g t ids e h at is (inr f) = inr (record {
   before = section_of (take i gs);
   group = group_of g;
   after = section_of (drop (i + 1) gs);
-  split = ap section_of (sym (take-append-drop (i + 1) gs)) ∙ (map-append group_of (take (i + 1) gs) (drop (i + 1) gs) ∙ (ap (λ (s : Section). s ++ section_of (drop (i + 1) gs)) (section_more gs i g h at) ∙ append_assoc (section_of (take i gs)) (group_of g ∷ []) (section_of (drop (i + 1) gs))));
+  split = ap section_of (sym (take-append-drop (i + 1) gs))
+      ∙ (map-append group_of (take (i + 1) gs) (drop (i + 1) gs)
+      ∙ (ap (λ (s : Section). s ++ section_of (drop (i + 1) gs)) (section_more gs i g h at)
+      ∙ append_assoc (section_of (take i gs)) (group_of g ∷ []) (section_of (drop (i + 1) gs))));
   well_named = is.well_named;
   is = subst (λ (n : ℕ). group_error n (definitions_of (group_of g)) ≡ Some e) is.one_each f;
 })
@@ -126,4 +143,5 @@ pub read_kept :
     OnErr r (IsSameState old new) → IsReadInto s old.table old.ids →
     OnErr r (IsReadInto s new.table new.ids)
 read_kept s old new (Ok x) h is = tt
-read_kept s old new (Err e) h is = subst (λ (ids : List ℕ). IsReadInto s new.table ids) (sym h.ids) (read_still s old.table new.table old.ids h.table is)
+read_kept s old new (Err e) h is = subst (λ (ids : List ℕ). IsReadInto s new.table ids) (sym h.ids)
+    (read_still s old.table new.table old.ids h.table is)

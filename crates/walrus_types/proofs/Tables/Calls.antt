@@ -57,8 +57,11 @@ live_written :
 live_written s at id x live h = elim (cases_lt id at) [
   | inl w ↦ subst IsSome (sym (get_or-set_other s at id (Some x) None (λ e. absurd (omega (arith, e, w))))) h
   | inr w ↦ elim (cases_lt at id) [
-    | inl v ↦ subst IsSome (sym (get_or-set_other s at id (Some x) None (λ e. absurd (omega (arith, e, v))))) h
-    | inr v ↦ (let e : at ≡ id = omega (arith, w, v) in subst IsSome (sym (ap (get (set s at (Some x))) (sym e) ∙ get_or-set_same s at (Some x) None (live_below s at live))) refl)
+    | inl v ↦ subst IsSome (sym (get_or-set_other s at id (Some x) None (λ e. absurd (omega (arith, e, v)))))
+        h
+    | inr v ↦ (let e : at ≡ id = omega (arith, w, v) in
+        subst IsSome (sym (ap (get (set s at (Some x))) (sym e)
+        ∙ get_or-set_same s at (Some x) None (live_below s at live))) refl)
   ]
 ]
 
@@ -73,7 +76,8 @@ indexed_written t go id ty is live = record {
   once = is.once;
   single = is.single;
   known_implicit = λ q i h l. is.known_implicit q i h (written_live t.types.slots id i ty live l);
-  known_below = λ q i h. (let below : i < length t.types.slots = is.known_below q i h in omega (arith, below, length-set t.types.slots id (Some ty)));
+  known_below = λ q i h. (let below : i < length t.types.slots = is.known_below q i h in
+      omega (arith, below, length-set t.types.slots id (Some ty)));
 }
 
 home_of_live :
@@ -95,10 +99,17 @@ group_end :
 group_end t new go id is live ends =
     let at : ℕ = slice_index go id in
     let g : RecGroup = rec_group_at t.groups (slice_index go id) in
-    let home : IsHome t id (slice_index go id) (rec_group_at t.groups (slice_index go id)) = home_of_live t go id is live in
-    let removes : LosesAll t.types (rec_group_at t.groups (slice_index go id)).types new.types = subst (λ (o : Option RecGroup). IsSomeAnd o (λ r. LosesAll t.types r.types new.types)) (sym (group_answer t id (slice_index go id) (rec_group_at t.groups (slice_index go id)) home)) ends.types in
-    let done : _ = table_ended t go id (slice_index go id) (rec_group_at t.groups (slice_index go id)) new.types is home removes in
-    subst (λ (gs : List RecGroup). IsIndexed (record { types = new.types; groups = gs }) go) (groups_are t go id (slice_index go id) (rec_group_at t.groups (slice_index go id)) new.types is home removes ∙ sym ends.groups) done
+    let home : IsHome t id (slice_index go id) (rec_group_at t.groups (slice_index go id)) =
+    home_of_live t go id is live in
+    let removes : LosesAll t.types (rec_group_at t.groups (slice_index go id)).types new.types =
+    subst (λ (o : Option RecGroup). IsSomeAnd o (λ r. LosesAll t.types r.types new.types))
+    (sym (group_answer t id (slice_index go id) (rec_group_at t.groups (slice_index go id)) home))
+    ends.types in
+    let done : _ = table_ended t go id (slice_index go id) (rec_group_at t.groups (slice_index go id))
+    new.types is home removes in
+    subst (λ (gs : List RecGroup). IsIndexed (record { types = new.types; groups = gs }) go)
+    (groups_are t go id (slice_index go id) (rec_group_at t.groups (slice_index go id)) new.types is home
+    removes ∙ sym ends.groups) done
 
 -- the table after an addition that found the type or made it
 found_or_added :
@@ -106,7 +117,10 @@ found_or_added :
     MatchOption o (AddsType old new ty id) (λ found. (id ≡ found) × IsSameTable old new) →
     IsSomewhere old → IsSomewhere new
 unfolding IsSomewhere
-found_or_added old new ty id None ok at = (at.0 ++ length old.groups ∷ [], table_added old new at.0 ty id at.1 ok)
+found_or_added old new ty id None ok at = (
+  at.0 ++ length old.groups ∷ [],
+  table_added old new at.0 ty id at.1 ok,
+)
 found_or_added old new ty id (Some found) ok at = (at.0, indexed_same old new at.0 at.1 ok.1)
 
 all_deleted :
@@ -117,7 +131,8 @@ all_deleted old new go [] is live distinct all = subst (λ (t : Table). IsIndexe
 all_deleted old new go (id ∷ ids) is live distinct (mid, all, last) =
     let rest : All (IsLive old.types.slots) ids = λ k d below. live (suc k) d (omega (arith, below)) in
     let before : IsIndexed mid go = all_deleted old mid go ids is rest distinct.1 all in
-    let still : IsLive mid.types.slots id = others_stay old mid ids id all distinct.0 (live 0 0 (omega arith)) in
+    let still : IsLive mid.types.slots id = others_stay old mid ids id all distinct.0 (live 0 0 (omega arith))
+    in
     table_deleted mid new go id before still last
 
 tried : (old new : Table) (go : List ℕ) (id : ℕ) (deleted : Bool) → IsIndexed old go →
@@ -132,43 +147,50 @@ after_call old new (Adds ty id ok) at = found_or_added old new ty id (found_id o
 after_call old new (AddFails err) at = (at.0, indexed_same old new at.0 at.1 err)
 after_call old new (AddsRec count members ok) at = (_, table_grouped old new at.0 members at.1 ok.1)
 after_call old new (AddRecFails err) at = (at.0, subst (λ (t : Table). IsIndexed t at.0) (sym err) at.1)
-after_call old new (Writes id ty live writes) at = (at.0, subst (λ (t : Table). IsIndexed t at.0) (sym writes) (indexed_written old at.0 id ty at.1 live))
+after_call old new (Writes id ty live writes) at =
+    (at.0, subst (λ (t : Table). IsIndexed t at.0) (sym writes) (indexed_written old at.0 id ty at.1 live))
 after_call old new (DeletesOne id live ok) at = (at.0, table_deleted old new at.0 id at.1 live ok)
-after_call old new (DeletesMany ids live distinct ok) at = (at.0, all_deleted old new at.0 ids at.1 live distinct ok)
+after_call old new (DeletesMany ids live distinct ok) at =
+    (at.0, all_deleted old new at.0 ids at.1 live distinct ok)
 after_call old new (TriesToDelete id deleted live ok) at = (at.0, tried old new at.0 id deleted at.1 live ok)
 after_call old new (DeletesWhole id live ok) at = (at.0, group_end old new at.0 id at.1 live ok)
 
 -- a table that a section was read into
 
-module _ (t : Table) (is : IsTable t) (known : (q : ModuleType) (id : ℕ) → known_id t.types q ≡ Some id → id < length t.types.slots) where
+module _ (t : Table) (is : IsTable t) (known : (q : ModuleType) (id : ℕ) → known_id t.types q ≡ Some id →
+    id < length t.types.slots) where
   abbrev InGroup : ℕ → ℕ → Type 0
   InGroup id k = (u : ℕ) × IsIdAt t.groups k u id
 
-  place : (id : ℕ) (o : Option ModuleType) → (IsSome o → (k : ℕ) × InGroup id k) → ℕ
-  place id None in_group = 0
-  place id (Some ty) in_group = (in_group refl).0
+  group-place : (id : ℕ) (o : Option ModuleType) → (IsSome o → (k : ℕ) × InGroup id k) → ℕ
+  group-place id None in_group = 0
+  group-place id (Some ty) in_group = (in_group refl).0
 
-  place_is : (id : ℕ) (o : Option ModuleType) (in_group : IsSome o → (k : ℕ) × InGroup id k) → IsSome o → InGroup id (place id o in_group)
-  unfolding place
+  place_is : (id : ℕ) (o : Option ModuleType) (in_group : IsSome o → (k : ℕ) × InGroup id k) → IsSome o →
+      InGroup id (group-place id o in_group)
+  unfolding group-place
   place_is id None in_group live = let c : ⊥ = cc in absurd c
   place_is id (Some ty) in_group live = (in_group refl).1
 
   home : ℕ → ℕ
-  home id = place id (get t.types.slots id) (λ live. (let p = is.grouping id live in (p.0, (p.1, p.2))))
+  home id = group-place id (get t.types.slots id) (λ live. (let p = is.grouping id live in (p.0, (p.1, p.2))))
 
   home_is : (id : ℕ) → IsLive t.types.slots id → InGroup id (home id)
   unfolding home
-  home_is id live = place_is id (get t.types.slots id) (λ live. (let p = is.grouping id live in (p.0, (p.1, p.2)))) live
+  home_is id live = place_is id (get t.types.slots id) (λ live.
+      (let p = is.grouping id live in (p.0, (p.1, p.2)))) live
 
   homes : List ℕ
   homes = map home (range_with_len 0 (length t.types.slots))
 
   at_home : (id : ℕ) → id < length t.types.slots → slice_index homes id ≡ home id
   unfolding homes
-  at_home id below = let e : 0 + id ≡ id = omega arith in get_or-map-range_with_len home 0 (length t.types.slots) id id 0 below e
+  at_home id below = let e : 0 + id ≡ id = omega arith in
+      get_or-map-range_with_len home 0 (length t.types.slots) id id 0 below e
 
   in_home : (id : ℕ) → IsLive t.types.slots id → InGroup id (slice_index homes id)
-  in_home id live = subst (λ (k : ℕ). InGroup id k) (sym (at_home id (live_below t.types.slots id live))) (home_is id live)
+  in_home id live = subst (λ (k : ℕ). InGroup id k) (sym (at_home id (live_below t.types.slots id live)))
+      (home_is id live)
 
   table_indexed : IsIndexed t homes
   unfolding homes
@@ -176,10 +198,12 @@ module _ (t : Table) (is : IsTable t) (known : (q : ModuleType) (id : ℕ) → k
     one_each = length-map-range_with_len home 0 (length t.types.slots);
     grouping = in_home;
     live = is.live;
-    own = λ k u id h. (let mine = in_home id (is.live k u id h) in (is.once (slice_index homes id) mine.0 k u id mine.1 h).0);
+    own = λ k u id h. (let mine = in_home id (is.live k u id h) in
+        (is.once (slice_index homes id) mine.0 k u id mine.1 h).0);
     once = λ k u v id h h'. (is.once k u k v id h h').1;
     single = is.single;
-    known_implicit = λ q id h live. (let mine = in_home id live in is.known_implicit q id (slice_index homes id) mine.0 h mine.1);
+    known_implicit = λ q id h live. (let mine = in_home id live in
+        is.known_implicit q id (slice_index homes id) mine.0 h mine.1);
     known_below = known;
   }
 
@@ -194,11 +218,13 @@ read_indexed s t ids has is = (homes t is known, table_indexed t is known)
 range_join :
     (first a b : ℕ) → range_with_len first a ++ range_with_len (first + a) b ≡
     range_with_len first (a + b)
-range_join first zero b = (let e : first + 0 ≡ first = omega arith in let f : b ≡ 0 + b = omega arith in ap (λ (n : ℕ). range_with_len n b) e ∙ ap (range_with_len first) f)
+range_join first zero b = (let e : first + 0 ≡ first = omega arith in let f : b ≡ 0 + b = omega arith in
+    ap (λ (n : ℕ). range_with_len n b) e ∙ ap (range_with_len first) f)
 range_join first (suc a) b =
     let e : first + suc a ≡ first + 1 + a = omega arith in
     let f : suc (a + b) ≡ suc a + b = omega arith in
-    ap (λ (n : ℕ). first ∷ (range_with_len (first + 1) a ++ range_with_len n b)) e ∙ ap (λ (ns : List ℕ). first ∷ ns) (range_join (first + 1) a b) ∙ ap (range_with_len first) f
+    ap (λ (n : ℕ). first ∷ (range_with_len (first + 1) a ++ range_with_len n b)) e
+    ∙ ap (λ (ns : List ℕ). first ∷ ns) (range_join (first + 1) a b) ∙ ap (range_with_len first) f
 
 -- the ids that a call gives come after those that were given before
 
@@ -213,9 +239,15 @@ added_ids :
     ids ≡ range_with_len 0 (next_id old) →
     ids ++ (if is_some o then [] else id ∷ []) ≡ range_with_len 0 (next_id new)
 added_ids old new ids ty id None ok e =
-    let one : id ∷ [] ≡ range_with_len (0 + next_id old) 1 = (let n : id ≡ 0 + next_id old = omega (arith, ok.types.is_next) in ap (λ (k : ℕ). k ∷ []) n) in
-    let many : next_id old + 1 ≡ next_id new = omega (arith, length_push old.types.slots (Some ty), ap length ok.types.slots) in
-    ap (λ (xs : List ℕ). xs ++ id ∷ []) e ∙ ap (λ (xs : List ℕ). range_with_len 0 (next_id old) ++ xs) one ∙ range_join 0 (next_id old) 1 ∙ ap (range_with_len 0) many
+    let one : id ∷ [] ≡ range_with_len (0 + next_id old) 1 =
+    (let n : id ≡ 0 + next_id old = omega (arith, ok.types.is_next) in ap (λ (k : ℕ). k ∷ []) n) in
+    let many : next_id old + 1 ≡ next_id new = omega (
+      arith,
+      length_push old.types.slots (Some ty),
+      ap length ok.types.slots,
+    ) in
+    ap (λ (xs : List ℕ). xs ++ id ∷ []) e ∙ ap (λ (xs : List ℕ). range_with_len 0 (next_id old) ++ xs) one
+    ∙ range_join 0 (next_id old) 1 ∙ ap (range_with_len 0) many
 added_ids old new ids ty id (Some found) ok e = same_ids old new ids e (ap length ok.1.types.slots)
 
 ids_after :
@@ -225,12 +257,19 @@ ids_after old new (Adds ty id ok) ids go is e = added_ids old new ids ty id (fou
 ids_after old new (AddFails err) ids go is e = same_ids old new ids e (ap length err.types.slots)
 ids_after old new (AddsRec count members ok) ids go is e =
     let zeroed : next_id old ≡ 0 + next_id old = omega arith in
-    let slots : length new.types.slots ≡ length old.types.slots + length (member_types (next_id old) members) = ap (λ s. length s.slots) ok.1.types ∙ many_grown old.types.slots (member_types (next_id old) members) in
-    let many : next_id old + count ≡ next_id new = omega (arith, slots, length-placed (next_id old) members, ok.0) in
-    ap (λ (xs : List ℕ). xs ++ range_with_len (next_id old) count) e ∙ ap (λ (n : ℕ). range_with_len 0 (next_id old) ++ range_with_len n count) zeroed ∙ range_join 0 (next_id old) count ∙ ap (range_with_len 0) many
+    let slots : length new.types.slots ≡ length old.types.slots + length (member_types (next_id old) members)
+    = ap (λ s. length s.slots) ok.1.types ∙ many_grown old.types.slots
+    (member_types (next_id old) members) in
+    let many : next_id old + count ≡ next_id new =
+    omega (arith, slots, length-placed (next_id old) members, ok.0) in
+    ap (λ (xs : List ℕ). xs ++ range_with_len (next_id old) count) e
+    ∙ ap (λ (n : ℕ). range_with_len 0 (next_id old) ++ range_with_len n count) zeroed ∙ range_join
+    0 (next_id old) count ∙ ap (range_with_len 0) many
 ids_after old new (AddRecFails err) ids go is e = same_ids old new ids e (ap next_id err)
-ids_after old new (Writes id ty live writes) ids go is e = same_ids old new ids e (ap (λ t. length t.types.slots) writes ∙ length-set old.types.slots id (Some ty))
-ids_after old new (DeletesOne id live ok) ids go is e = same_ids old new ids e (ap length ok.types.slots ∙ length-set old.types.slots id None)
+ids_after old new (Writes id ty live writes) ids go is e =
+    same_ids old new ids e (ap (λ t. length t.types.slots) writes ∙ length-set old.types.slots id (Some ty))
+ids_after old new (DeletesOne id live ok) ids go is e =
+    same_ids old new ids e (ap length ok.types.slots ∙ length-set old.types.slots id None)
 ids_after old new (DeletesMany gone live distinct ok) ids go is e =
     let after : IsIndexed new go = all_deleted old new go gone is live distinct ok in
     same_ids old new ids e (sym after.one_each ∙ is.one_each)

@@ -28,24 +28,30 @@ lived : {T : Type 0} (b : Bool) (o : Option T) → IsSome (cond b None o) → Is
 lived true o h = let k : ⊥ = cc in absurd k
 lived false o h = (h, refl)
 
-module _ (gone : ℕ → Bool) (t new : Table) (go : List ℕ) (is : IsIndexed t go) (shrinks : Shrinks gone t new) where
-  was_live : (i : ℕ) → IsLive new.types.slots i → IsLive t.types.slots i × (gone i ≡ false)
-  was_live i live = lived (gone i) (get t.types.slots i) (subst IsSome (shrinks.slot i) live)
+module _ (gone : ℕ → Bool) (t new : Table) (go : List ℕ) (is : IsIndexed t go) (shrinks : Shrinks gone t new)
+  where
+    was_live : (i : ℕ) → IsLive new.types.slots i → IsLive t.types.slots i × (gone i ≡ false)
+    was_live i live = lived (gone i) (get t.types.slots i) (subst IsSome (shrinks.slot i) live)
 
-  stays_live : (i : ℕ) → IsLive t.types.slots i → gone i ≡ false → IsLive new.types.slots i
-  stays_live i live here = subst IsSome (sym (shrinks.slot i ∙ ap (λ (b : Bool). cond b None (get t.types.slots i)) here)) live
+    stays_live : (i : ℕ) → IsLive t.types.slots i → gone i ≡ false → IsLive new.types.slots i
+    stays_live i live here = subst IsSome (sym (shrinks.slot i
+        ∙ ap (λ (b : Bool). cond b None (get t.types.slots i)) here)) live
 
-  pub table_shrunk : IsIndexed new go
-  table_shrunk = record {
-    one_each = is.one_each ∙ sym shrinks.count;
-    grouping = λ i live. (let was : _ = was_live i live in let p : _ = is.grouping i was.0 in shrinks.to (slice_index go i) p.0 i p.1 was.1);
-    live = λ k u i h. (let m : _ = shrinks.from k u i h in stays_live i (is.live k m.0 i m.1) m.2);
-    own = λ k u i h. (let m : _ = shrinks.from k u i h in is.own k m.0 i m.1);
-    once = shrinks.once;
-    single = λ k h. (let old : length (rec_group_at t.groups k).types ≤ 1 = is.single k (sym (shrinks.mark k) ∙ h) in omega (arith, old, shrinks.few k));
-    known_implicit = λ q i h live. shrinks.mark (slice_index go i) ∙ is.known_implicit q i (shrinks.map q i h) (was_live i live).0;
-    known_below = λ q i h. (let below : i < length t.types.slots = is.known_below q i (shrinks.map q i h) in omega (arith, below, shrinks.count));
-  }
+    pub table_shrunk : IsIndexed new go
+    table_shrunk = record {
+      one_each = is.one_each ∙ sym shrinks.count;
+      grouping = λ i live. (let was : _ = was_live i live in let p : _ = is.grouping i was.0 in
+          shrinks.to (slice_index go i) p.0 i p.1 was.1);
+      live = λ k u i h. (let m : _ = shrinks.from k u i h in stays_live i (is.live k m.0 i m.1) m.2);
+      own = λ k u i h. (let m : _ = shrinks.from k u i h in is.own k m.0 i m.1);
+      once = shrinks.once;
+      single = λ k h. (let old : length (rec_group_at t.groups k).types ≤ 1 =
+          is.single k (sym (shrinks.mark k) ∙ h) in omega (arith, old, shrinks.few k));
+      known_implicit = λ q i h live. shrinks.mark (slice_index go i)
+          ∙ is.known_implicit q i (shrinks.map q i h) (was_live i live).0;
+      known_below = λ q i h. (let below : i < length t.types.slots = is.known_below q i (shrinks.map q i h) in
+          omega (arith, below, shrinks.count));
+    }
 
 -- what stands in a filtered list
 filter_from :
@@ -54,7 +60,9 @@ filter_from :
 filter_from p [] u i h = cc
 filter_from p (x ∷ xs) u i h = by_test (p x) refl u h (λ w g. filter_from p xs w i g)
   where
-    by_test : (b : Bool) → b ≡ p x → (u : ℕ) → slice_get (cond b (x ∷ filter p xs) (filter p xs)) u ≡ Some i → ((w : ℕ) → slice_get (filter p xs) w ≡ Some i → (v : ℕ) × slice_get xs v ≡ Some i × (p i ≡ true)) → (v : ℕ) × slice_get (x ∷ xs) v ≡ Some i × (p i ≡ true)
+    by_test : (b : Bool) → b ≡ p x → (u : ℕ) → slice_get (cond b (x ∷ filter p xs) (filter p xs)) u ≡ Some i →
+        ((w : ℕ) → slice_get (filter p xs) w ≡ Some i → (v : ℕ) × slice_get xs v ≡ Some i × (p i ≡ true)) →
+        (v : ℕ) × slice_get (x ∷ xs) v ≡ Some i × (p i ≡ true)
     by_test true e zero f rest = (0, f, ap p (sym (some_inj f)) ∙ sym e)
     by_test true e (suc u) f rest = let r : _ = rest u f in (suc r.0, r.1, r.2)
     by_test false e u f rest = let r : _ = rest u f in (suc r.0, r.1, r.2)
@@ -63,10 +71,15 @@ filter_to :
     (p : ℕ → Bool) (xs : List ℕ) (v i : ℕ) → slice_get xs v ≡ Some i → p i ≡ true →
     (u : ℕ) × slice_get (filter p xs) u ≡ Some i
 filter_to p [] v i h t = cc
-filter_to p (x ∷ xs) zero i h t = (0, let e : p x ≡ true = ap p (some_inj h) ∙ t in subst (λ (b : Bool). slice_get (cond b (x ∷ filter p xs) (filter p xs)) 0 ≡ Some i) (sym e) h)
+filter_to p (x ∷ xs) zero i h t = (
+  0,
+  let e : p x ≡ true = ap p (some_inj h) ∙ t in
+      subst (λ (b : Bool). slice_get (cond b (x ∷ filter p xs) (filter p xs)) 0 ≡ Some i) (sym e) h,
+)
 filter_to p (x ∷ xs) (suc v) i h t = by_test (p x) (filter_to p xs v i h t)
   where
-    by_test : (b : Bool) → (u : ℕ) × slice_get (filter p xs) u ≡ Some i → (u : ℕ) × slice_get (cond b (x ∷ filter p xs) (filter p xs)) u ≡ Some i
+    by_test : (b : Bool) → (u : ℕ) × slice_get (filter p xs) u ≡ Some i → (u : ℕ)
+        × slice_get (cond b (x ∷ filter p xs) (filter p xs)) u ≡ Some i
     by_test true r = (suc r.0, r.1)
     by_test false r = r
 
@@ -75,12 +88,18 @@ filter_once :
     ((u v i : ℕ) → slice_get xs u ≡ Some i → slice_get xs v ≡ Some i → u ≡ v) → (u v i : ℕ) →
     slice_get (filter p xs) u ≡ Some i → slice_get (filter p xs) v ≡ Some i → u ≡ v
 filter_once p [] once u v i h h' = cc
-filter_once p (x ∷ xs) once u v i h h' = by_test (p x) u v h h' (filter_once p xs (λ u v i g g'. omega (arith, once (suc u) (suc v) i g g')))
+filter_once p (x ∷ xs) once u v i h h' = by_test (p x) u v h h'
+    (filter_once p xs (λ u v i g g'. omega (arith, once (suc u) (suc v) i g g')))
   where
-    by_test : (b : Bool) (u v : ℕ) → slice_get (cond b (x ∷ filter p xs) (filter p xs)) u ≡ Some i → slice_get (cond b (x ∷ filter p xs) (filter p xs)) v ≡ Some i → ((u v i : ℕ) → slice_get (filter p xs) u ≡ Some i → slice_get (filter p xs) v ≡ Some i → u ≡ v) → u ≡ v
+    by_test : (b : Bool) (u v : ℕ) → slice_get (cond b (x ∷ filter p xs) (filter p xs)) u ≡ Some i →
+        slice_get (cond b (x ∷ filter p xs) (filter p xs)) v ≡ Some i →
+        ((u v i : ℕ) → slice_get (filter p xs) u ≡ Some i → slice_get (filter p xs) v ≡ Some i → u ≡ v) →
+        u ≡ v
     by_test true zero zero f f' rest = refl
-    by_test true zero (suc v) f f' rest = let r : _ = filter_from p xs v i f' in absurd (omega (arith, once 0 (suc r.0) i f r.1))
-    by_test true (suc u) zero f f' rest = let r : _ = filter_from p xs u i f in absurd (omega (arith, once 0 (suc r.0) i f' r.1))
+    by_test true zero (suc v) f f' rest = let r : _ = filter_from p xs v i f' in
+        absurd (omega (arith, once 0 (suc r.0) i f r.1))
+    by_test true (suc u) zero f f' rest = let r : _ = filter_from p xs u i f in
+        absurd (omega (arith, once 0 (suc r.0) i f' r.1))
     by_test true (suc u) (suc v) f f' rest = ap suc (rest u v i f f')
     by_test false u v f f' rest = rest u v i f f'
 
@@ -88,7 +107,8 @@ filter_few : (p : ℕ → Bool) (xs : List ℕ) → length (filter p xs) ≤ len
 filter_few p [] = omega arith
 filter_few p (x ∷ xs) = by_test (p x) (filter_few p xs)
   where
-    by_test : (b : Bool) → length (filter p xs) ≤ length xs → length (cond b (x ∷ filter p xs) (filter p xs)) ≤ length (x ∷ xs)
+    by_test : (b : Bool) → length (filter p xs) ≤ length xs →
+        length (cond b (x ∷ filter p xs) (filter p xs)) ≤ length (x ∷ xs)
     by_test true h = omega (arith, h)
     by_test false h = omega (arith, h)
 
@@ -106,19 +126,23 @@ filter_all :
 filter_all id [] none = refl
 filter_all id (x ∷ xs) none = by_test (nat_eq x id) refl (filter_all id xs (λ u h. none (suc u) h))
   where
-    by_test : (b : Bool) → b ≡ nat_eq x id → filter (λ i. not (nat_eq i id)) xs ≡ xs → cond (not b) (x ∷ filter (λ i. not (nat_eq i id)) xs) (filter (λ i. not (nat_eq i id)) xs) ≡ x ∷ xs
+    by_test : (b : Bool) → b ≡ nat_eq x id → filter (λ i. not (nat_eq i id)) xs ≡ xs →
+        cond (not b) (x ∷ filter (λ i. not (nat_eq i id)) xs) (filter (λ i. not (nat_eq i id)) xs) ≡ x ∷ xs
     by_test true e rest = absurd (none 0 (ap (λ (n : ℕ). Some n) (eqb-true x id (sym e))))
     by_test false e rest = ap (λ (t : List ℕ). x ∷ t) rest
 
 group_kept :
     (id : ℕ) (g : RecGroup) → ((u : ℕ) → slice_get g.types u ≡ Some id → ⊥) → group_without id g ≡ g
-group_kept id g none = let made : List ℕ → RecGroup = λ t. record { types = t; is_explicit = g.is_explicit } in ap made (filter_all id g.types none)
+group_kept id g none = let made : List ℕ → RecGroup = λ t.
+    record { types = t; is_explicit = g.is_explicit } in ap made (filter_all id g.types none)
 
 groups_kept :
     (id : ℕ) (gs : List RecGroup) → ((l u : ℕ) → IsIdAt gs l u id → ⊥) →
     map (group_without id) gs ≡ gs
 groups_kept id [] none = refl
-groups_kept id (g ∷ gs) none = ap (λ (h : RecGroup). h ∷ map (group_without id) gs) (group_kept id g (λ u h. none 0 u h)) ∙ ap (λ (t : List RecGroup). g ∷ t) (groups_kept id gs (λ l u h. none (suc l) u h))
+groups_kept id (g ∷ gs) none = ap (λ (h : RecGroup). h ∷ map (group_without id) gs)
+    (group_kept id g (λ u h. none 0 u h)) ∙ ap (λ (t : List RecGroup). g ∷ t)
+    (groups_kept id gs (λ l u h. none (suc l) u h))
 
 -- the last of distinct ids leaves them where it is taken off
 
@@ -149,7 +173,8 @@ pub last_taken :
 last_taken id [] distinct last = cc
 last_taken id (x ∷ xs) distinct last =
     let e : length (x ∷ xs) - 1 ≡ length xs = omega arith in
-    let at_end : slice_get (x ∷ xs) (length xs) ≡ Some id = subst (λ (n : ℕ). slice_get (x ∷ xs) n ≡ Some id) e last in
+    let at_end : slice_get (x ∷ xs) (length xs) ≡ Some id =
+    subst (λ (n : ℕ). slice_get (x ∷ xs) n ≡ Some id) e last in
     ap (λ (n : ℕ). take n (x ∷ xs)) e ∙ taken_off id x xs distinct at_end
 
 -- an id that stands in the group k alone leaves all groups where it leaves this one
@@ -157,9 +182,13 @@ pub left_one :
     (id : ℕ) (gs : List RecGroup) (k : ℕ) → ((l u : ℕ) → IsIdAt gs l u id → l ≡ k) →
     set gs k (group_without id (rec_group_at gs k)) ≡ map (group_without id) gs
 left_one id [] k only = refl
-left_one id (g ∷ gs) zero only = ap (λ (t : List RecGroup). group_without id g ∷ t) (sym (groups_kept id gs (λ l u h. let e : suc l ≡ 0 = only (suc l) u h in omega (arith, e))))
+left_one id (g ∷ gs) zero only = ap (λ (t : List RecGroup). group_without id g ∷ t)
+    (sym (groups_kept id gs (λ l u h. let e : suc l ≡ 0 = only (suc l) u h in omega (arith, e))))
 left_one id (g ∷ gs) (suc k) only =
-    ap (λ (h : RecGroup). h ∷ set gs k (group_without id (rec_group_at gs k))) (sym (group_kept id g (λ u h. let e : 0 ≡ suc k = only 0 u h in omega (arith, e)))) ∙ ap (λ (t : List RecGroup). group_without id g ∷ t) (left_one id gs k (λ l u h. let e : suc l ≡ suc k = only (suc l) u h in omega (arith, e)))
+    ap (λ (h : RecGroup). h ∷ set gs k (group_without id (rec_group_at gs k)))
+    (sym (group_kept id g (λ u h. let e : 0 ≡ suc k = only 0 u h in omega (arith, e))))
+    ∙ ap (λ (t : List RecGroup). group_without id g ∷ t)
+    (left_one id gs k (λ l u h. let e : suc l ≡ suc k = only (suc l) u h in omega (arith, e)))
 
 pub without_at :
     {T : Type 0} (s : Slots T) (id i : ℕ) → id < length s →
@@ -174,21 +203,36 @@ pub kept_old : (b : Bool) (o : Option ℕ) (i : ℕ) → cond b None o ≡ Some 
 kept_old true o i h = cc
 kept_old false o i h = h
 
-module _ (t new : Table) (go : List ℕ) (id : ℕ) (is : IsIndexed t go) (live : IsLive t.types.slots id) (del : Deletes t new id) where
+module _ (t new : Table) (go : List ℕ) (id : ℕ) (is : IsIndexed t go) (live : IsLive t.types.slots id)
+    (del : Deletes t new id) where
   groups_at : (k : ℕ) → rec_group_at new.groups k ≡ group_without id (rec_group_at t.groups k)
   groups_at k = ap (λ (gs : List RecGroup). rec_group_at gs k) del.groups ∙ group_at_without t.groups id k
 
   pub deleted : Shrinks (λ i. nat_eq i id) t new
   deleted =
-      let member : (k u i : ℕ) → IsIdAt new.groups k u i → slice_get (filter (λ i. not (nat_eq i id)) (rec_group_at t.groups k).types) u ≡ Some i = λ k u i h. subst (λ (g : RecGroup). slice_get g.types u ≡ Some i) (groups_at k) h in
+      let member : (k u i : ℕ) → IsIdAt new.groups k u i →
+      slice_get (filter (λ i. not (nat_eq i id)) (rec_group_at t.groups k).types) u ≡ Some i = λ k u i h.
+      subst (λ (g : RecGroup). slice_get g.types u ≡ Some i) (groups_at k) h in
       record {
         count = ap length del.types.slots ∙ length-set t.types.slots id None;
-        slot = λ i. ap (λ (s : Slots ModuleType). get s i) del.types.slots ∙ without_at t.types.slots id i (live_below t.types.slots id live);
-        from = λ k u i h. (let f : _ = filter_from (λ i. not (nat_eq i id)) (rec_group_at t.groups k).types u i (member k u i h) in (f.0, f.1, false_from_not (nat_eq i id) f.2));
-        to = λ k v i h here. (let f : _ = filter_to (λ i. not (nat_eq i id)) (rec_group_at t.groups k).types v i h (ap not here) in (f.0, subst (λ (g : RecGroup). slice_get g.types f.0 ≡ Some i) (sym (groups_at k)) f.1));
-        once = λ k u v i h h'. filter_once (λ i. not (nat_eq i id)) (rec_group_at t.groups k).types (λ u v i. is.once k u v i) u v i (member k u i h) (member k v i h');
+        slot = λ i. ap (λ (s : Slots ModuleType). get s i) del.types.slots
+            ∙ without_at t.types.slots id i (live_below t.types.slots id live);
+        from = λ k u i h. (let f : _ = filter_from (λ i. not (nat_eq i id)) (rec_group_at t.groups k).types u
+            i (member k u i h) in (f.0, f.1, false_from_not (nat_eq i id) f.2));
+        to = λ k v i h here. (let f : _ = filter_to (λ i. not (nat_eq i id)) (rec_group_at t.groups k).types v
+            i h (ap not here) in (
+              f.0,
+              subst (λ (g : RecGroup). slice_get g.types f.0 ≡ Some i)
+                  (sym (groups_at k)) f.1,
+            ));
+        once = λ k u v i h h'. filter_once (λ i. not (nat_eq i id)) (rec_group_at t.groups k).types (λ u v i.
+            is.once k u v i) u v i (member k u i h) (member k v i h');
         mark = λ k. ap (λ (g : RecGroup). g.is_explicit) (groups_at k);
-        few = λ k. omega (arith, ap (λ (g : RecGroup). length g.types) (groups_at k), filter_few (λ i. not (nat_eq i id)) (rec_group_at t.groups k).types);
+        few = λ k. omega (
+          arith,
+          ap (λ (g : RecGroup). length g.types) (groups_at k),
+          filter_few (λ i. not (nat_eq i id)) (rec_group_at t.groups k).types,
+        );
         map = λ q i h. kept_old (is_known_as t.types id q) (known_id t.types q) i (sym (del.types.map q) ∙ h);
       }
 
@@ -200,10 +244,17 @@ ok_holds (Ok x) i h = h
 ok_holds (Err e) i h = let k : ⊥ = cc in absurd k
 
 -- what the code's parts say of the table after a deletion
-pub deletes_from : (t : Table) (id at : ℕ) (g : RecGroup) (types : TypesById) (ids : List ℕ) → IsHome t id at g → ids ≡ filter (λ i. not (nat_eq i id)) g.types → Loses t.types types id → Deletes t (record { types = types; groups = set t.groups at (record { types = ids; is_explicit = g.is_explicit }) }) id
+pub deletes_from : (t : Table) (id at : ℕ) (g : RecGroup) (types : TypesById) (ids : List ℕ) →
+    IsHome t id at g → ids ≡ filter (λ i. not (nat_eq i id)) g.types → Loses t.types types id →
+    Deletes t (record {
+      types = types;
+      groups =
+          set t.groups at (record { types = ids; is_explicit = g.is_explicit });
+    }) id
 deletes_from t id at g types ids home ids_is removes =
     let made : List ℕ → RecGroup = λ ns. record { types = ns; is_explicit = g.is_explicit } in
-    let one : made ids ≡ group_without id (rec_group_at t.groups at) = ap made ids_is ∙ ap (group_without id) (sym home.here) in
+    let one : made ids ≡ group_without id (rec_group_at t.groups at) = ap made ids_is
+    ∙ ap (group_without id) (sym home.here) in
     record {
       types = removes;
       groups = ap (set t.groups at) one ∙ left_one id t.groups at home.only;

@@ -14,7 +14,9 @@ pub others_stay :
     IsLive new.types.slots id
 others_stay old new [] id all apart live = subst (λ (t : Table). IsLive t.types.slots id) (sym all) live
 others_stay old new (first ∷ ids) id (mid, all, last) apart live =
-    let kept : get new.types.slots id ≡ get mid.types.slots id = ap (λ (s : Slots ModuleType). get s id) last.types.slots ∙ get_or-set_other mid.types.slots first id None None (eqb-false id first apart.0) in
+    let kept : get new.types.slots id ≡ get mid.types.slots id =
+    ap (λ (s : Slots ModuleType). get s id) last.types.slots
+    ∙ get_or-set_other mid.types.slots first id None None (eqb-false id first apart.0) in
     subst IsSome (sym kept) (others_stay old mid ids id all apart.1 live)
 
 -- an id of distinct ones differs from those after it
@@ -24,7 +26,8 @@ apart_from_later :
 unfolding IsDistinct
 apart_from_later [] k d distinct below = absurd (omega (arith, below))
 apart_from_later (x ∷ ids) zero d distinct below = distinct.0
-apart_from_later (x ∷ ids) (suc k) d distinct below = apart_from_later ids k d distinct.1 (omega (arith, below))
+apart_from_later (x ∷ ids) (suc k) d distinct below =
+    apart_from_later ids k d distinct.1 (omega (arith, below))
 
 -- the next of these ids, from the last to the first, is live
 pub next_live :
@@ -33,7 +36,8 @@ pub next_live :
     IsLive mid.types.slots (get_or ids k d)
 next_live old mid ids i k d next below live distinct all =
     let later = subst (λ (n : ℕ). DeletesAll old (drop n ids) mid) next all in
-    others_stay old mid (drop (suc k) ids) (get_or ids k d) later (apart_from_later ids k d distinct below) (live k d below)
+    others_stay old mid (drop (suc k) ids) (get_or ids k d) later (apart_from_later ids k d distinct below)
+    (live k d below)
 
 pub next_deleted :
     (old mid new : Table) (ids : List ℕ) (i k id : ℕ) → i ≡ suc k → k < length ids →
@@ -41,7 +45,8 @@ pub next_deleted :
     DeletesAll old (drop k ids) new
 next_deleted old mid new ids i k id next below is all last =
     let later = subst (λ (n : ℕ). DeletesAll old (drop n ids) mid) next all in
-    let more : drop k ids ≡ id ∷ drop (suc k) ids = drop-cons ids k id below ∙ ap (λ (n : ℕ). n ∷ drop (suc k) ids) (sym is) in
+    let more : drop k ids ≡ id ∷ drop (suc k) ids = drop-cons ids k id below
+    ∙ ap (λ (n : ℕ). n ∷ drop (suc k) ids) (sym is) in
     subst (λ (ns : List ℕ). DeletesAll old ns new) (sym more) (mid, later, last)
 
 pub none_deleted : (t : Table) (ids : List ℕ) → DeletesAll t (drop (length ids) ids) t
@@ -55,12 +60,14 @@ ids_listed :
 ids_listed all b [] same = refl
 ids_listed all b (None ∷ s) same =
     let e : b ≡ b + 0 = omega arith in
-    let rest = ids_listed all (b + 1) s (λ j. let f : b + 1 + j ≡ b + suc j = omega arith in ap (get all) f ∙ same (suc j)) in
+    let rest = ids_listed all (b + 1) s (λ j. let f : b + 1 + j ≡ b + suc j = omega arith in ap (get all) f
+    ∙ same (suc j)) in
     let ns : List ℕ = filter (λ id. is_some (get all id)) (range_with_len (b + 1) (length s)) in
     rest ∙ sym (ap (λ o. cond (is_some o) (b ∷ ns) ns) (ap (get all) e ∙ same 0))
 ids_listed all b (Some x ∷ s) same =
     let e : b ≡ b + 0 = omega arith in
-    let rest = ids_listed all (b + 1) s (λ j. let f : b + 1 + j ≡ b + suc j = omega arith in ap (get all) f ∙ same (suc j)) in
+    let rest = ids_listed all (b + 1) s (λ j. let f : b + 1 + j ≡ b + suc j = omega arith in ap (get all) f
+    ∙ same (suc j)) in
     let ns : List ℕ = filter (λ id. is_some (get all id)) (range_with_len (b + 1) (length s)) in
     ap (λ (ms : List ℕ). b ∷ ms) rest ∙ sym (ap (λ o. cond (is_some o) (b ∷ ns) ns) (ap (get all) e ∙ same 0))
 

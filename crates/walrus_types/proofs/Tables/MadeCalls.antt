@@ -10,7 +10,8 @@ use Rattle.walrus_types.specs.Table.{Table, Member, next_id, IsSameTable, FindsO
 use Rattle.walrus_types.specs.TableCalls.{Adds, AddFails, AddsRec, AddRecFails, DeletesOne, DeletesMany, TriesToDelete, DeletesWhole, IsCall, IsAddition}
 
 module _ {E : Type 0} (old new : Table) where
-  pub added : (ty : ModuleType) (r : Result ℕ E) → IfOk r (λ id. FindsOrAdds old new ty id) → IfOk r (IsAddition old new ty)
+  pub added : (ty : ModuleType) (r : Result ℕ E) → IfOk r (λ id. FindsOrAdds old new ty id) →
+      IfOk r (IsAddition old new ty)
   added ty (Ok id) ok = (Adds ty id ok, refl)
   added ty (Err e) ok = tt
 
@@ -18,7 +19,11 @@ module _ {E : Type 0} (old new : Table) where
   not_added (Ok x) same = tt
   not_added (Err e) same = (AddFails same, refl)
 
-  pub group_added : {X : Type 0} (items : X → List ℕ) (count : ℕ) (gives : List ℕ → Result (Vec Member Global) AllocError → Type 0) (at : List ℕ) (r : Result X E) → IfOk r (λ all. items all ≡ range_with_len (next_id old) count) → OnOk r (Builds gives at (λ members. (length members ≡ count) × AddsGroup old new members)) → IfOk r (λ all. IsCall old new (items all))
+  pub group_added : {X : Type 0} (items : X → List ℕ) (count : ℕ) (gives : List ℕ →
+      Result (Vec Member Global) AllocError → Type 0) (at : List ℕ) (r : Result X E) →
+      IfOk r (λ all. items all ≡ range_with_len (next_id old) count) →
+      OnOk r (Builds gives at (λ members. (length members ≡ count) × AddsGroup old new members)) →
+      IfOk r (λ all. IsCall old new (items all))
   group_added items count gives at (Ok all) named built = (AddsRec count built.0.items built.2, sym named)
   group_added items count gives at (Err e) named built = tt
 
@@ -26,18 +31,22 @@ module _ {E : Type 0} (old new : Table) where
   no_group_added (Ok x) same = tt
   no_group_added (Err e) same = (AddRecFails same, refl)
 
-  pub deleted : {X : Type 0} (id : ℕ) → IsLive old.types.slots id → (r : Result X E) → OnOk r (Deletes old new id) → OnOk r (IsCall old new [])
+  pub deleted : {X : Type 0} (id : ℕ) → IsLive old.types.slots id → (r : Result X E) →
+      OnOk r (Deletes old new id) → OnOk r (IsCall old new [])
   deleted id live (Ok x) ok = (DeletesOne id live ok, refl)
   deleted id live (Err e) ok = tt
 
-  pub deleted_all : {X : Type 0} (ids : List ℕ) → All (IsLive old.types.slots) ids → IsDistinct nat_eq ids → (r : Result X E) → OnOk r (DeletesAll old ids new) → OnOk r (IsCall old new [])
+  pub deleted_all : {X : Type 0} (ids : List ℕ) → All (IsLive old.types.slots) ids → IsDistinct nat_eq ids →
+      (r : Result X E) → OnOk r (DeletesAll old ids new) → OnOk r (IsCall old new [])
   deleted_all ids live distinct (Ok x) ok = (DeletesMany ids live distinct ok, refl)
   deleted_all ids live distinct (Err e) ok = tt
 
-  pub tried : (id : ℕ) → IsLive old.types.slots id → (r : Result Bool E) → IfOk r (λ deleted. MatchBool deleted (Deletes old new id) (new ≡ old)) → OnOk r (IsCall old new [])
+  pub tried : (id : ℕ) → IsLive old.types.slots id → (r : Result Bool E) →
+      IfOk r (λ deleted. MatchBool deleted (Deletes old new id) (new ≡ old)) → OnOk r (IsCall old new [])
   tried id live (Ok was_deleted) ok = (TriesToDelete id was_deleted live ok, refl)
   tried id live (Err e) ok = tt
 
-  pub group_deleted : {X : Type 0} (id : ℕ) → IsLive old.types.slots id → (r : Result X E) → OnOk r (DeletesGroup old new id) → OnOk r (IsCall old new [])
+  pub group_deleted : {X : Type 0} (id : ℕ) → IsLive old.types.slots id → (r : Result X E) →
+      OnOk r (DeletesGroup old new id) → OnOk r (IsCall old new [])
   group_deleted id live (Ok x) ok = (DeletesWhole id live ok, refl)
   group_deleted id live (Err e) ok = tt

@@ -38,11 +38,16 @@ namer_test t other id ty b c shown differ agree is = (
 pub self_test :
     (t : Table) (other id : ℕ) (b : Bool) → b ≡ not (nat_eq other id) → b ≡ false →
     IsTrue b ↔ IsOtherNamer t other id
-self_test t other id b differ same = (λ h. absurd (not_both b h same), λ n. absurd (n.0 (same_of b other id differ same)))
+self_test t other id b differ same = (
+  λ h. absurd (not_both b h same),
+  λ n.
+      absurd (n.0 (same_of b other id differ same)),
+)
 
 -- none of the first so many members names the id
 abbrev pub NoneNames : Table → List ℕ → ℕ → ℕ → Type 0
-NoneNames t members id many = (u : ℕ) (j : ℕ) → u < many → slice_get members u ≡ Some j → IsOtherNamer t j id → ⊥
+NoneNames t members id many = (u : ℕ) (j : ℕ) → u < many → slice_get members u ≡ Some j →
+    IsOtherNamer t j id → ⊥
 
 pub member_read :
     (members : List ℕ) (k other : ℕ) → k < length members → other ≡ get_or members k other →
@@ -58,17 +63,28 @@ pub none_more :
     NoneNames t members id (many + 1)
 none_more t members id many other none read no_namer u j low h namer = elim (cases_lt u many) [
   | inl w ↦ none u j w h namer
-  | inr w ↦ (let e : u ≡ many = omega (arith, low, w) in let s : j ≡ other = some_same j other (sym h ∙ ap (slice_get members) e ∙ read) in no_namer (subst (λ (n : ℕ). IsOtherNamer t n id) s namer))
+  | inr w ↦ (let e : u ≡ many = omega (arith, low, w) in let s : j ≡ other =
+      some_same j other (sym h ∙ ap (slice_get members) e ∙ read) in
+      no_namer (subst (λ (n : ℕ). IsOtherNamer t n id) s namer))
 ]
 
-module _ (t : Table) (id at : ℕ) (g : RecGroup) (home : IsHome t id at g) (members : List ℕ) (are : members ≡ g.types) where
+module _ (t : Table) (id at : ℕ) (g : RecGroup) (home : IsHome t id at g) (members : List ℕ)
+    (are : members ≡ g.types) where
   abbrev IsNamedIn : Option RecGroup → Type 0
-  IsNamedIn o = IsSomeAnd o (λ g. (u : ℕ) × (other : ℕ) × (slice_get g.types u ≡ Some other) × IsOtherNamer t other id)
+  IsNamedIn o = IsSomeAnd o (λ g. (u : ℕ) × (other : ℕ) × (slice_get g.types u ≡ Some other)
+      × IsOtherNamer t other id)
 
-  pub named_here : (u other : ℕ) → slice_get members u ≡ Some other → IsOtherNamer t other id → IsNamedInGroup t id
-  named_here u other read namer = subst IsNamedIn (group_answer t id at g home) (u, other, ap (λ (xs : List ℕ). slice_get xs u) (sym are) ∙ read, namer)
+  pub named_here : (u other : ℕ) → slice_get members u ≡ Some other → IsOtherNamer t other id →
+      IsNamedInGroup t id
+  named_here u other read namer = subst IsNamedIn (group_answer t id at g home) (
+    u,
+    other,
+    ap (λ (xs : List ℕ). slice_get xs u) (sym are) ∙ read,
+    namer,
+  )
 
-  pub named_nowhere : (many : ℕ) → length members ≤ many → NoneNames t members id many → IsNamedInGroup t id → ⊥
+  pub named_nowhere : (many : ℕ) → length members ≤ many → NoneNames t members id many → IsNamedInGroup t id →
+      ⊥
   named_nowhere many all none named =
       let n : IsNamedIn (Some g) = subst IsNamedIn (sym (group_answer t id at g home)) named in
       let read : slice_get members n.0 ≡ Some n.1 = ap (λ (xs : List ℕ). slice_get xs n.0) are ∙ n.2 in

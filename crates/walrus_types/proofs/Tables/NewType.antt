@@ -48,7 +48,8 @@ added_grows t new ty id adds = record {
 pub table_added :
     (t new : Table) (go : List ℕ) (ty : ModuleType) (id : ℕ) → IsIndexed t go →
     AddsType t new ty id → IsIndexed new (go ++ length t.groups ∷ [])
-table_added t new go ty id is adds = table_grown t new go (go ++ length t.groups ∷ []) (ty ∷ []) (own_group id) is (added_grows t new ty id adds) (extends_push go (length t.groups))
+table_added t new go ty id is adds = table_grown t new go (go ++ length t.groups ∷ []) (ty ∷ [])
+    (own_group id) is (added_grows t new ty id adds) (extends_push go (length t.groups))
 
 pub IsSameType-refl : (ty : ModuleType) → IsSameType ty ty
 IsSameType-refl ty = record { kind = refl; is_final = refl; supertype = refl; is_for_function_entry = refl }
@@ -56,11 +57,19 @@ IsSameType-refl ty = record { kind = refl; is_final = refl; supertype = refl; is
 pub answer_new :
     (t new : Table) (ty : ModuleType) (id : ℕ) → AddsType t new ty id → IsAnswer new ty id
 answer_new t new ty id adds =
-    let shown : get new.types.slots id ≡ Some ty = ap (λ (s : Slots ModuleType). get s id) adds.types.slots ∙ get_or_at t.types.slots (Some ty) [] None id (sym adds.types.is_next) in
-    let within : length t.groups < length new.groups = omega (arith, length_push t.groups (own_group id), ap length adds.groups) in
+    let shown : get new.types.slots id ≡ Some ty = ap (λ (s : Slots ModuleType). get s id) adds.types.slots
+    ∙ get_or_at t.types.slots (Some ty) [] None id (sym adds.types.is_next) in
+    let within : length t.groups < length new.groups =
+    omega (arith, length_push t.groups (own_group id), ap length adds.groups) in
     record {
       same = subst (λ (o : Option ModuleType). IsSomeAnd o (IsSameType ty)) (sym shown) (IsSameType-refl ty);
-      alone = (length t.groups, within, ap (λ (gs : List RecGroup). get_or gs (length t.groups) (own_group id)) adds.groups ∙ get_or_at t.groups (own_group id) [] (own_group id) (length t.groups) refl);
+      alone = (
+        length t.groups,
+        within,
+        ap (λ (gs : List RecGroup).
+            get_or gs (length t.groups) (own_group id)) adds.groups
+            ∙ get_or_at t.groups (own_group id) [] (own_group id) (length t.groups) refl,
+      );
     }
 
 one_item : (xs : List ℕ) (u id : ℕ) → slice_get xs u ≡ Some id → length xs ≤ 1 → xs ≡ id ∷ []
@@ -85,25 +94,39 @@ holds_same ty (Some x) h = (same_from_eq ty x h, refl)
 
 module _ (t : Table) (go : List ℕ) (ty : ModuleType) (is : IsIndexed t go) where
   -- what the map leads to, where it is equal
-  answer_mapped : (id : ℕ) → known_id t.types ty ≡ Some id → passes (type_eq ty) (get t.types.slots id) ≡ true → IsAnswer t ty id
+  answer_mapped : (id : ℕ) → known_id t.types ty ≡ Some id →
+      passes (type_eq ty) (get t.types.slots id) ≡ true → IsAnswer t ty id
   answer_mapped id leads equal =
       let same : _ = holds_same ty (get t.types.slots id) equal in
       let home : ℕ = slice_index go id in
       let p : (u : ℕ) × IsIdAt t.groups (slice_index go id) u id = is.grouping id same.1 in
-      let mark : (rec_group_at t.groups (slice_index go id)).is_explicit ≡ false = is.known_implicit ty id leads same.1 in
-      let own : rec_group_at t.groups (slice_index go id) ≡ own_group id = group_is_own (rec_group_at t.groups (slice_index go id)) p.0 id p.1 mark (is.single (slice_index go id) mark) in
-      let below : slice_index go id < length t.groups = member_below t.groups (slice_index go id) p.0 id p.1 in
-      record { same = same.0; alone = (slice_index go id, below, sym (get_or_default t.groups (slice_index go id) no_rec_group (own_group id) below) ∙ own) }
+      let mark : (rec_group_at t.groups (slice_index go id)).is_explicit ≡ false =
+      is.known_implicit ty id leads same.1 in
+      let own : rec_group_at t.groups (slice_index go id) ≡ own_group id =
+      group_is_own (rec_group_at t.groups (slice_index go id)) p.0 id p.1 mark
+      (is.single (slice_index go id) mark) in
+      let below : slice_index go id < length t.groups =
+      member_below t.groups (slice_index go id) p.0 id p.1 in
+      record {
+        same = same.0;
+        alone = (
+          slice_index go id,
+          below,
+          sym (get_or_default t.groups (slice_index go id) no_rec_group (own_group id) below) ∙ own,
+        );
+      }
 
   pub answer_found : (o : Option ℕ) → o ≡ found_id t.types ty → IfSome o (λ id. IsAnswer t ty id)
   answer_found None e = tt
   answer_found (Some id) e = by_map (known_id t.types ty) refl (sym e)
     where
-      by_map : (m : Option ℕ) → m ≡ known_id t.types ty → option_and_then (λ i. cond (passes (type_eq ty) (get t.types.slots i)) (Some i) None) m ≡ Some id → IsAnswer t ty id
+      by_map : (m : Option ℕ) → m ≡ known_id t.types ty → option_and_then
+          (λ i. cond (passes (type_eq ty) (get t.types.slots i)) (Some i) None) m ≡ Some id → IsAnswer t ty id
       by_map None e f = absurd (none_some f)
       by_map (Some i) e f =
           let two : _ = found_parts (passes (type_eq ty) (get t.types.slots i)) i id f in
-          answer_mapped id (sym e ∙ ap Some two.1) (subst (λ (n : ℕ). passes (type_eq ty) (get t.types.slots n) ≡ true) two.1 two.0)
+          answer_mapped id (sym e ∙ ap Some two.1)
+          (subst (λ (n : ℕ). passes (type_eq ty) (get t.types.slots n) ≡ true) two.1 two.0)
 
 pub on_err_holds : {X E P : Type 0} (r : Result X E) → P → OnErr r P
 on_err_holds (Ok x) p = tt

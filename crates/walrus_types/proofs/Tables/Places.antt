@@ -19,13 +19,20 @@ none_some h = cc
 
 -- the place of a live slot
 pub live_below : {T : Type 0} (s : Slots T) (id : ℕ) → IsLive s id → id < length s
-live_below s id live = elim (cases_lt id (length s)) [ inl w ↦ w | inr w ↦ (let e : get s id ≡ None = get_or_past s id None w in let h : false ≡ true = subst IsSome e live in let k : ⊥ = cc in absurd k) ]
+live_below s id live = elim (cases_lt id (length s)) [
+  | inl w ↦ w
+  | inr w ↦
+      (let e : get s id ≡ None = get_or_past s id None w in let h : false ≡ true = subst IsSome e live in
+      let k : ⊥ = cc in absurd k)
+]
 
 -- a group with a member is in the list
 pub member_below : (gs : List RecGroup) (k u id : ℕ) → IsIdAt gs k u id → k < length gs
 member_below gs k u id m = elim (cases_lt k (length gs)) [
   | inl w ↦ w
-  | inr w ↦ (let e : rec_group_at gs k ≡ no_rec_group = get_or_past gs k no_rec_group w in let h : slice_get [] u ≡ Some id = subst (λ (g : RecGroup). slice_get g.types u ≡ Some id) e m in absurd (omega (arith, slice_get_within [] u id h)))
+  | inr w ↦ (let e : rec_group_at gs k ≡ no_rec_group = get_or_past gs k no_rec_group w in
+      let h : slice_get [] u ≡ Some id = subst (λ (g : RecGroup). slice_get g.types u ≡ Some id) e m in
+      absurd (omega (arith, slice_get_within [] u id h)))
 ]
 
 pub group-left :
@@ -45,12 +52,17 @@ member_push gs g k u i m = elim (cases_lt k (length gs)) [
   | inr w ↦
       let below : k < length (gs ++ g ∷ []) = member_below (gs ++ g ∷ []) k u i m in
       let e : k ≡ length gs = omega (arith, w, below, length_push gs g) in
-      inr (e, subst (λ (h : RecGroup). slice_get h.types u ≡ Some i) (ap (rec_group_at (gs ++ g ∷ [])) e ∙ group-end gs g) m)
+      inr (
+        e,
+        subst (λ (h : RecGroup). slice_get h.types u ≡ Some i) (ap (rec_group_at (gs ++ g ∷ [])) e
+            ∙ group-end gs g) m,
+      )
 ]
 
 pub member_kept :
     (gs : List RecGroup) (g : RecGroup) (k u i : ℕ) → IsIdAt gs k u i → IsIdAt (gs ++ g ∷ []) k u i
-member_kept gs g k u i m = subst (λ (h : RecGroup). slice_get h.types u ≡ Some i) (sym (group-left gs g k (member_below gs k u i m))) m
+member_kept gs g k u i m = subst (λ (h : RecGroup). slice_get h.types u ≡ Some i)
+    (sym (group-left gs g k (member_below gs k u i m))) m
 
 pub member_last :
     (gs : List RecGroup) (g : RecGroup) (u i : ℕ) → slice_get g.types u ≡ Some i →
@@ -62,7 +74,8 @@ pub range_get :
     (first count u : ℕ) → u < count → slice_get (range_with_len first count) u ≡ Some (first + u)
 range_get first zero u h = absurd (omega (arith, h))
 range_get first (suc count) zero h = let e : first ≡ first + 0 = omega arith in ap (λ (n : ℕ). Some n) e
-range_get first (suc count) (suc u) h = let e : first + 1 + u ≡ first + suc u = omega arith in range_get (first + 1) count u (omega (arith, h)) ∙ ap (λ (n : ℕ). Some n) e
+range_get first (suc count) (suc u) h = let e : first + 1 + u ≡ first + suc u = omega arith in
+    range_get (first + 1) count u (omega (arith, h)) ∙ ap (λ (n : ℕ). Some n) e
 
 pub length-range : (first count : ℕ) → length (range_with_len first count) ≡ count
 length-range first zero = refl
@@ -72,7 +85,11 @@ pub range_member :
     (first count u i : ℕ) → slice_get (range_with_len first count) u ≡ Some i →
     (u < count) × (i ≡ first + u)
 range_member first count u i h =
-    let within : u < count = omega (arith, slice_get_within (range_with_len first count) u i h, length-range first count) in
+    let within : u < count = omega (
+      arith,
+      slice_get_within (range_with_len first count) u i h,
+      length-range first count,
+    ) in
     (within, some_inj (sym h ∙ range_get first count u within))
 
 -- slots with more live ones behind them
@@ -83,12 +100,15 @@ some_at (t ∷ tys) (suc j) h = some_at tys j (omega (arith, h))
 
 pub live_kept :
     {T : Type 0} (s : Slots T) (tys : List T) (id : ℕ) → IsLive s id → IsLive (s ++ map Some tys) id
-live_kept s tys id live = subst IsSome (sym (get_or_append_left s (map Some tys) None id (live_below s id live))) live
+live_kept s tys id live =
+    subst IsSome (sym (get_or_append_left s (map Some tys) None id (live_below s id live))) live
 
 pub live_new :
     {T : Type 0} (s : Slots T) (tys : List T) (id : ℕ) → length s ≤ id →
     id < length s + length tys → IsLive (s ++ map Some tys) id
-live_new s tys id low high = subst IsSome (sym (get_or-append_right s (map Some tys) (length s) id None refl low)) (some_at tys (id - length s) (omega (arith, low, high)))
+live_new s tys id low high = subst IsSome (sym
+    (get_or-append_right s (map Some tys) (length s) id None refl low))
+    (some_at tys (id - length s) (omega (arith, low, high)))
 
 pub many_grown :
     {T : Type 0} (s : Slots T) (tys : List T) → length (s ++ map Some tys) ≡ length s + length tys
@@ -99,7 +119,8 @@ pub live_grown :
     IsLive s id ⊎ ((length s ≤ id) × (id < length s + length tys))
 live_grown s tys id live = elim (cases_lt id (length s)) [
   | inl w ↦ inl (subst IsSome (get_or_append_left s (map Some tys) None id w) live)
-  | inr w ↦ (let below : id < length (s ++ map Some tys) = live_below (s ++ map Some tys) id live in inr (w, omega (arith, below, many_grown s tys)))
+  | inr w ↦ (let below : id < length (s ++ map Some tys) = live_below (s ++ map Some tys) id live in
+      inr (w, omega (arith, below, many_grown s tys)))
 ]
 
 -- one group of new types comes to the end of a table
@@ -108,7 +129,8 @@ pub record Grows (t new : Table) (tys : List ModuleType) (g : RecGroup) : Type 0
   pub groups : new.groups ≡ t.groups ++ g ∷ []
   pub members : g.types ≡ range_with_len (length t.types.slots) (length tys)
   pub single : g.is_explicit ≡ false → length tys ≤ 1
-  pub map : (q : ModuleType) (id : ℕ) → known_id new.types q ≡ Some id → (known_id t.types q ≡ Some id) ⊎ ((g.is_explicit ≡ false) × (length t.types.slots ≤ id) × (id < length t.types.slots + length tys))
+  pub map : (q : ModuleType) (id : ℕ) → known_id new.types q ≡ Some id → (known_id t.types q ≡ Some id)
+      ⊎ ((g.is_explicit ≡ false) × (length t.types.slots ≤ id) × (id < length t.types.slots + length tys))
 
 -- the numbers of the groups, with as many more as there are new types
 pub record Extends (go new : List ℕ) (count m : ℕ) : Type 0 where
@@ -116,7 +138,8 @@ pub record Extends (go new : List ℕ) (count m : ℕ) : Type 0 where
   pub old : (i : ℕ) → i < length go → slice_index new i ≡ slice_index go i
   pub last : (i : ℕ) → length go ≤ i → i < length go + count → slice_index new i ≡ m
 
-module _ (t new : Table) (go go' : List ℕ) (tys : List ModuleType) (g : RecGroup) (is : IsIndexed t go) (grows : Grows t new tys g) (extends : Extends go go' (length tys) (length t.groups)) where
+module _ (t new : Table) (go go' : List ℕ) (tys : List ModuleType) (g : RecGroup) (is : IsIndexed t go)
+    (grows : Grows t new tys g) (extends : Extends go go' (length tys) (length t.groups)) where
   abbrev slots : Slots ModuleType
   slots = t.types.slots
 
@@ -136,15 +159,20 @@ module _ (t new : Table) (go go' : List ℕ) (tys : List ModuleType) (g : RecGro
   new_home i low high = extends.last i (omega (arith, low, is.one_each)) (omega (arith, high, is.one_each))
 
   new_place : (u i : ℕ) → slice_get g.types u ≡ Some i → (u < length tys) × (i ≡ length slots + u)
-  new_place u i h = range_member (length slots) (length tys) u i (subst (λ (ids : List ℕ). slice_get ids u ≡ Some i) grows.members h)
+  new_place u i h = range_member (length slots) (length tys) u i
+      (subst (λ (ids : List ℕ). slice_get ids u ≡ Some i) grows.members h)
 
-  place_new : (i : ℕ) → length slots ≤ i → i < length slots + length tys → slice_get g.types (i - length slots) ≡ Some i
+  place_new : (i : ℕ) → length slots ≤ i → i < length slots + length tys →
+      slice_get g.types (i - length slots) ≡ Some i
   place_new i low high =
       let e : length slots + (i - length slots) ≡ i = omega (arith, low) in
-      subst (λ (ids : List ℕ). slice_get ids (i - length slots) ≡ Some i) (sym grows.members) (range_get (length slots) (length tys) (i - length slots) (omega (arith, low, high)) ∙ ap (λ (n : ℕ). Some n) e)
+      subst (λ (ids : List ℕ). slice_get ids (i - length slots) ≡ Some i) (sym grows.members)
+      (range_get (length slots) (length tys) (i - length slots) (omega (arith, low, high))
+      ∙ ap (λ (n : ℕ). Some n) e)
 
   few_types : g.is_explicit ≡ false → length g.types ≤ 1
-  few_types h = (let few : length tys ≤ 1 = grows.single h in omega (arith, few, ap length grows.members, length-range (length slots) (length tys)))
+  few_types h = (let few : length tys ≤ 1 = grows.single h in
+      omega (arith, few, ap length grows.members, length-range (length slots) (length tys)))
 
   abbrev AtMostOne : RecGroup → Type 0
   AtMostOne h = h.is_explicit ≡ false → length h.types ≤ 1
@@ -156,8 +184,10 @@ module _ (t new : Table) (go go' : List ℕ) (tys : List ModuleType) (g : RecGro
   single_at k = elim (cases_lt k (length t.groups)) [
     | inl w ↦ subst AtMostOne (sym (group-left t.groups g k w)) (is.single k)
     | inr w ↦ elim (cases_lt (length t.groups) k) [
-      | inl v ↦ subst AtMostOne (sym (get_or_past groups k no_rec_group (omega (arith, v, length_push t.groups g)))) no_group_few
-      | inr v ↦ (let e : k ≡ length t.groups = omega (arith, w, v) in subst AtMostOne (sym (ap (rec_group_at groups) e ∙ group-end t.groups g)) few_types)
+      | inl v ↦ subst AtMostOne (sym (get_or_past groups k no_rec_group
+          (omega (arith, v, length_push t.groups g)))) no_group_few
+      | inr v ↦ (let e : k ≡ length t.groups = omega (arith, w, v) in
+          subst AtMostOne (sym (ap (rec_group_at groups) e ∙ group-end t.groups g)) few_types)
     ]
   ]
 
@@ -168,20 +198,39 @@ module _ (t new : Table) (go go' : List ℕ) (tys : List ModuleType) (g : RecGro
   table_grown = rw (grows.slots, grows.groups) (record {
     one_each = omega (arith, extends.many, is.one_each, many_slots);
     grouping = λ i live. elim (live_grown slots tys i live) [
-      | inl old ↦ (let p : _ = is.grouping i old in (p.0, subst (λ (k : ℕ). IsIdAt groups k p.0 i) (sym (kept_home i (live_below slots i old))) (member_kept t.groups g (slice_index go i) p.0 i p.1)))
-      | inr e ↦ (i - length slots, subst (λ (k : ℕ). IsIdAt groups k (i - length slots) i) (sym (new_home i e.0 e.1)) (member_last t.groups g (i - length slots) i (place_new i e.0 e.1)))
+      | inl old ↦ (let p : _ = is.grouping i old in (
+        p.0,
+        subst (λ (k : ℕ). IsIdAt groups k p.0 i) (sym (kept_home i (live_below slots i old)))
+            (member_kept t.groups g (slice_index go i) p.0 i p.1),
+      ))
+      | inr e ↦ (
+        i - length slots,
+        subst (λ (k : ℕ). IsIdAt groups k (i - length slots) i)
+            (sym (new_home i e.0 e.1)) (member_last t.groups g (i - length slots) i (place_new i e.0 e.1)),
+      )
     ];
     live = λ k u i h. elim (member_push t.groups g k u i h) [
       | inl old ↦ live_kept slots tys i (is.live k u i old)
-      | inr e ↦ (let at : _ = new_place u i e.1 in live_new slots tys i (omega (arith, at.1)) (omega (arith, at.1, at.0)))
+      | inr e ↦ (let at : _ = new_place u i e.1 in
+          live_new slots tys i (omega (arith, at.1)) (omega (arith, at.1, at.0)))
     ];
     own = λ k u i h. elim (member_push t.groups g k u i h) [
       | inl old ↦ (kept_home i (live_below slots i (is.live k u i old)) ∙ is.own k u i old)
-      | inr e ↦ (let at : _ = new_place u i e.1 in new_home i (omega (arith, at.1)) (omega (arith, at.1, at.0)) ∙ sym e.0)
+      | inr e ↦ (let at : _ = new_place u i e.1 in
+          new_home i (omega (arith, at.1)) (omega (arith, at.1, at.0)) ∙ sym e.0)
     ];
     once = λ k u v i h h'. elim (member_push t.groups g k u i h) [
-      | inl old ↦ elim (member_push t.groups g k v i h') [ inl old' ↦ is.once k u v i old old' | inr e ↦ (let b : k < length t.groups = member_below t.groups k u i old in absurd (omega (arith, b, e.0))) ]
-      | inr e ↦ elim (member_push t.groups g k v i h') [ inl old' ↦ (let b : k < length t.groups = member_below t.groups k v i old' in absurd (omega (arith, b, e.0))) | inr e' ↦ (let a : _ = new_place u i e.1 in let b : _ = new_place v i e'.1 in omega (arith, a.1, b.1)) ]
+      | inl old ↦ elim (member_push t.groups g k v i h') [
+        | inl old' ↦ is.once k u v i old old'
+        | inr e ↦
+            (let b : k < length t.groups = member_below t.groups k u i old in absurd (omega (arith, b, e.0)))
+      ]
+      | inr e ↦ elim (member_push t.groups g k v i h') [
+        | inl old' ↦
+            (let b : k < length t.groups = member_below t.groups k v i old' in absurd (omega (arith, b, e.0)))
+        | inr e' ↦ (let a : _ = new_place u i e.1 in let b : _ = new_place v i e'.1 in
+            omega (arith, a.1, b.1))
+      ]
     ];
     single = λ k. single_at k;
     known_implicit = λ q i h live. elim (grows.map q i h) [
@@ -189,8 +238,11 @@ module _ (t new : Table) (go go' : List ℕ) (tys : List ModuleType) (g : RecGro
           let below : i < length slots = is.known_below q i was in
           let old : IsLive slots i = was_live i below live in
           let p : _ = is.grouping i old in
-          subst (λ (k : ℕ). (rec_group_at groups k).is_explicit ≡ false) (sym (kept_home i below)) (ap (λ (g : RecGroup). g.is_explicit) (group-left t.groups g (slice_index go i) (member_below t.groups (slice_index go i) p.0 i p.1)) ∙ is.known_implicit q i was old)
-      | inr e ↦ subst (λ (k : ℕ). (rec_group_at groups k).is_explicit ≡ false) (sym (new_home i e.1 e.2)) (ap (λ (g : RecGroup). g.is_explicit) (group-end t.groups g) ∙ e.0)
+          subst (λ (k : ℕ). (rec_group_at groups k).is_explicit ≡ false) (sym (kept_home i below))
+          (ap (λ (g : RecGroup). g.is_explicit) (group-left t.groups g (slice_index go i)
+          (member_below t.groups (slice_index go i) p.0 i p.1)) ∙ is.known_implicit q i was old)
+      | inr e ↦ subst (λ (k : ℕ). (rec_group_at groups k).is_explicit ≡ false) (sym (new_home i e.1 e.2))
+          (ap (λ (g : RecGroup). g.is_explicit) (group-end t.groups g) ∙ e.0)
     ];
     known_below = λ q i h. elim (grows.map q i h) [
       | inl was ↦ (let below : i < length slots = is.known_below q i was in omega (arith, below, many_slots))
@@ -217,9 +269,11 @@ pub is_table : (t : Table) (go : List ℕ) → IsIndexed t go → IsTable t
 is_table t go is = record {
   grouping = λ id live. (let p : _ = is.grouping id live in (slice_index go id, p.0, p.1));
   live = is.live;
-  once = λ k u l v id h h'. (let e : k ≡ l = sym (is.own k u id h) ∙ is.own l v id h' in (e, is.once l u v id (subst (λ (n : ℕ). IsIdAt t.groups n u id) e h) h'));
+  once = λ k u l v id h h'. (let e : k ≡ l = sym (is.own k u id h) ∙ is.own l v id h' in
+      (e, is.once l u v id (subst (λ (n : ℕ). IsIdAt t.groups n u id) e h) h'));
   single = is.single;
-  known_implicit = λ q id k u h m. subst (λ (n : ℕ). (rec_group_at t.groups n).is_explicit ≡ false) (is.own k u id m) (is.known_implicit q id h (is.live k u id m));
+  known_implicit = λ q id k u h m. subst (λ (n : ℕ). (rec_group_at t.groups n).is_explicit ≡ false)
+      (is.own k u id m) (is.known_implicit q id h (is.live k u id m));
 }
 
 -- which group has an id
@@ -229,7 +283,8 @@ eqb_same a b e = grind (arith, nat_tests, e)
 
 pub has_any : (xs : List ℕ) (u id : ℕ) → slice_get xs u ≡ Some id → list_any (nat_eq id) xs ≡ true
 has_any [] u id h = cc
-has_any (x ∷ xs) zero id h = let e : nat_eq id x ≡ true = eqb_same id x (sym (some_inj h)) in ap (λ (b : Bool). b || list_any (nat_eq id) xs) e
+has_any (x ∷ xs) zero id h = let e : nat_eq id x ≡ true = eqb_same id x (sym (some_inj h)) in
+    ap (λ (b : Bool). b || list_any (nat_eq id) xs) e
 has_any (x ∷ xs) (suc u) id h = by_test (nat_eq id x) (has_any xs u id h)
   where
     by_test : (b : Bool) → list_any (nat_eq id) xs ≡ true → (b || list_any (nat_eq id) xs) ≡ true
@@ -241,27 +296,37 @@ pub any_has :
 any_has [] id h = cc
 any_has (x ∷ xs) id h = by_test (nat_eq id x) refl h (any_has xs id)
   where
-    by_test : (b : Bool) → b ≡ nat_eq id x → (b || list_any (nat_eq id) xs) ≡ true → (list_any (nat_eq id) xs ≡ true → (u : ℕ) × slice_get xs u ≡ Some id) → (u : ℕ) × slice_get (x ∷ xs) u ≡ Some id
+    by_test : (b : Bool) → b ≡ nat_eq id x → (b || list_any (nat_eq id) xs) ≡ true →
+        (list_any (nat_eq id) xs ≡ true → (u : ℕ) × slice_get xs u ≡ Some id) → (u : ℕ)
+        × slice_get (x ∷ xs) u ≡ Some id
     by_test true e h rest = (0, ap (λ (n : ℕ). Some n) (sym (eqb-true id x (sym e))))
     by_test false e h rest = (let r : _ = rest h in (suc r.0, r.1))
 
 pub group_of_member :
     (gs : List RecGroup) (id k u : ℕ) → IsIdAt gs k u id → ((l v : ℕ) → IsIdAt gs l v id → l ≡ k) →
     group_with gs id ≡ Some (rec_group_at gs k)
-group_of_member [] id k u h only = (let w : 0 < 0 = (let b : k < 0 = member_below [] k u id h in omega (arith, b)) in absurd (omega (arith, w)))
-group_of_member (g ∷ gs) id zero u h only = ap (λ (b : Bool). cond b (Some g) (group_with gs id)) (has_any g.types u id h)
-group_of_member (g ∷ gs) id (suc k) u h only = by_test (list_any (nat_eq id) g.types) refl (group_of_member gs id k u h (λ l v m. (let e : suc l ≡ suc k = only (suc l) v m in omega (arith, e))))
+group_of_member [] id k u h only = (let w : 0 < 0 =
+    (let b : k < 0 = member_below [] k u id h in omega (arith, b)) in absurd (omega (arith, w)))
+group_of_member (g ∷ gs) id zero u h only = ap (λ (b : Bool). cond b (Some g) (group_with gs id))
+    (has_any g.types u id h)
+group_of_member (g ∷ gs) id (suc k) u h only =
+    by_test (list_any (nat_eq id) g.types) refl
+    (group_of_member gs id k u h (λ l v m. (let e : suc l ≡ suc k = only (suc l) v m in omega (arith, e))))
   where
-    by_test : (b : Bool) → b ≡ list_any (nat_eq id) g.types → group_with gs id ≡ Some (rec_group_at gs k) → cond b (Some g) (group_with gs id) ≡ Some (rec_group_at gs k)
-    by_test true e rest = (let m : _ = any_has g.types id (sym e) in let z : 0 ≡ suc k = only 0 m.0 m.1 in absurd (omega (arith, z)))
+    by_test : (b : Bool) → b ≡ list_any (nat_eq id) g.types → group_with gs id ≡ Some (rec_group_at gs k) →
+        cond b (Some g) (group_with gs id) ≡ Some (rec_group_at gs k)
+    by_test true e rest = (let m : _ = any_has g.types id (sym e) in let z : 0 ≡ suc k = only 0 m.0 m.1 in
+        absurd (omega (arith, z)))
     by_test false e rest = rest
 
 pub group_of_none :
     (gs : List RecGroup) (id : ℕ) → ((l v : ℕ) → IsIdAt gs l v id → ⊥) → group_with gs id ≡ None
 group_of_none [] id none = refl
-group_of_none (g ∷ gs) id none = by_test (list_any (nat_eq id) g.types) refl (group_of_none gs id (λ l v m. none (suc l) v m))
+group_of_none (g ∷ gs) id none = by_test (list_any (nat_eq id) g.types) refl
+    (group_of_none gs id (λ l v m. none (suc l) v m))
   where
-    by_test : (b : Bool) → b ≡ list_any (nat_eq id) g.types → group_with gs id ≡ None → cond b (Some g) (group_with gs id) ≡ None
+    by_test : (b : Bool) → b ≡ list_any (nat_eq id) g.types → group_with gs id ≡ None →
+        cond b (Some g) (group_with gs id) ≡ None
     by_test true e rest = (let m : _ = any_has g.types id (sym e) in absurd (none 0 m.0 m.1))
     by_test false e rest = rest
 
@@ -277,7 +342,8 @@ pub home_of :
     (t : Table) (go : List ℕ) (id at : ℕ) (g : RecGroup) → IsIndexed t go →
     IsLive t.types.slots id → at ≡ get_or go id at → g ≡ get_or t.groups at g → IsHome t id at g
 home_of t go id at g is live at_is g_is =
-    let below : id < length go = (let b : id < length t.types.slots = live_below t.types.slots id live in omega (arith, b, is.one_each)) in
+    let below : id < length go = (let b : id < length t.types.slots = live_below t.types.slots id live in
+    omega (arith, b, is.one_each)) in
     let home : slice_index go id ≡ at = sym (at_is ∙ get_or_default go id at 0 below) in
     let p : _ = is.grouping id live in
     let inside : slice_index go id < length t.groups = member_below t.groups (slice_index go id) p.0 id p.1 in
@@ -291,7 +357,8 @@ home_of t go id at g is live at_is g_is =
 
 pub group_answer :
     (t : Table) (id at : ℕ) (g : RecGroup) → IsHome t id at g → Some g ≡ group_with t.groups id
-group_answer t id at g home = ap (λ (h : RecGroup). Some h) (sym home.here) ∙ sym (group_of_member t.groups id at home.member.0 home.member.1 home.only)
+group_answer t id at g home = ap (λ (h : RecGroup). Some h) (sym home.here)
+    ∙ sym (group_of_member t.groups id at home.member.0 home.member.1 home.only)
 
 pub group_absent :
     (t : Table) (go : List ℕ) (id : ℕ) → IsIndexed t go → (IsLive t.types.slots id → ⊥) →

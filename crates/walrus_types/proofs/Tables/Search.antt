@@ -21,7 +21,8 @@ module _ {T : Type 0} where
   tail_is : (a b : ℕ × T) (xs ys : List (ℕ × T)) → a ∷ xs ≡ b ∷ ys → xs ≡ ys
   tail_is a b xs ys h = cc
 
-  next_of : (n : ℕ) (s : Slots T) (id : ℕ) (x : T) (left : List (ℕ × T)) → items_from n s ≡ (id, x) ∷ left → IsNext n s id x left
+  next_of : (n : ℕ) (s : Slots T) (id : ℕ) (x : T) (left : List (ℕ × T)) → items_from n s ≡ (id, x) ∷ left →
+      IsNext n s id x left
   next_of n [] id x left h = let c : ⊥ = cc in absurd c
   next_of n (Some y ∷ s) id x left h =
       let pair : (n, y) ≡ (id, x) = head_is (n, y) (id, x) (items_from (n + 1) s) left h in
@@ -34,7 +35,8 @@ module _ {T : Type 0} where
         before = λ j low. absurd (omega (arith, low));
         rest = s;
         same = λ j. (let e : 0 + 1 + j ≡ suc j = omega arith in ap (get (Some y ∷ s)) e);
-        left_is = sym (tail_is (n, y) (id, x) (items_from (n + 1) s) left h) ∙ ap (λ (m : ℕ). items_from (m + 1) s) number;
+        left_is = sym (tail_is (n, y) (id, x) (items_from (n + 1) s) left h)
+            ∙ ap (λ (m : ℕ). items_from (m + 1) s) number;
       }
   next_of n (None ∷ s) id x left h =
       let r : IsNext (n + 1) s id x left = next_of (n + 1) s id x left h in
@@ -44,11 +46,13 @@ module _ {T : Type 0} where
         value = r.value;
         before = λ j low. by_place s r.place r.before j low;
         rest = r.rest;
-        same = λ j. (let e : suc r.place + 1 + j ≡ suc (r.place + 1 + j) = omega arith in ap (get (None ∷ s)) e ∙ r.same j);
+        same = λ j. (let e : suc r.place + 1 + j ≡ suc (r.place + 1 + j) = omega arith in
+            ap (get (None ∷ s)) e ∙ r.same j);
         left_is = r.left_is;
       }
     where
-      by_place : (s : Slots T) (place : ℕ) → ((j : ℕ) → j < place → get s j ≡ None) → (j : ℕ) → j < suc place → get (None ∷ s) j ≡ None
+      by_place : (s : Slots T) (place : ℕ) → ((j : ℕ) → j < place → get s j ≡ None) → (j : ℕ) →
+          j < suc place → get (None ∷ s) j ≡ None
       by_place s place before zero low = refl
       by_place s place before (suc j) low = before j (omega (arith, low))
 
@@ -89,13 +93,18 @@ module _ {T : Type 0} where
     pub none : (j : ℕ) → j < id → IsSomeAnd (get slots j) P → ⊥
     pub pass : (P x → ⊥) → HasPassed P slots left
 
-  pub reached : (P : T → Type 0) (slots : Slots T) (all : List (ℕ × T)) (id : ℕ) (x : T) (left : List (ℕ × T)) → HasPassed P slots all → all ≡ (id, x) ∷ left → IsReached P slots id x left
+  pub reached : (P : T → Type 0) (slots : Slots T) (all : List (ℕ × T)) (id : ℕ) (x : T) (left : List (ℕ × T))
+      → HasPassed P slots all → all ≡ (id, x) ∷ left → IsReached P slots id x left
   reached P slots all id x left passed split =
-      let next : IsNext passed.first passed.rest id x left = next_of passed.first passed.rest id x left (sym passed.left_is ∙ split) in
+      let next : IsNext passed.first passed.rest id x left =
+      next_of passed.first passed.rest id x left (sym passed.left_is ∙ split) in
       let shown : get slots id ≡ Some x = ap (get slots) next.at ∙ passed.same next.place ∙ next.value in
-      let before : (j : ℕ) → j < id → IsSomeAnd (get slots j) P → ⊥ = λ j low. elim (cases_lt j passed.first) [
+      let before : (j : ℕ) → j < id → IsSomeAnd (get slots j) P → ⊥ = λ j low.
+      elim (cases_lt j passed.first) [
         | inl w ↦ passed.none j w
-        | inr w ↦ (let e : passed.first + (j - passed.first) ≡ j = omega (arith, w) in none_holds P (get slots j) (ap (get slots) (sym e) ∙ passed.same (j - passed.first) ∙ next.before (j - passed.first) (omega (arith, low, w, next.at))))
+        | inr w ↦ (let e : passed.first + (j - passed.first) ≡ j = omega (arith, w) in
+            none_holds P (get slots j) (ap (get slots) (sym e) ∙ passed.same (j - passed.first)
+            ∙ next.before (j - passed.first) (omega (arith, low, w, next.at))))
       ] in
       record {
         value = shown;
@@ -103,19 +112,24 @@ module _ {T : Type 0} where
         pass = λ fails. record {
           first = id + 1;
           rest = next.rest;
-          same = λ j. (let e : id + 1 + j ≡ passed.first + (next.place + 1 + j) = omega (arith, next.at) in ap (get slots) e ∙ passed.same (next.place + 1 + j) ∙ next.same j);
+          same = λ j. (let e : id + 1 + j ≡ passed.first + (next.place + 1 + j) = omega (arith, next.at) in
+              ap (get slots) e ∙ passed.same (next.place + 1 + j) ∙ next.same j);
           left_is = next.left_is;
           none = λ j low. elim (cases_lt j id) [
             | inl w ↦ before j w
-            | inr w ↦ (let e : j ≡ id = omega (arith, low, w) in λ h. fails (some_holds P (get slots j) x (ap (get slots) e ∙ shown) h))
+            | inr w ↦ (let e : j ≡ id = omega (arith, low, w) in λ h.
+                fails (some_holds P (get slots j) x (ap (get slots) e ∙ shown) h))
           ];
         };
       }
 
-  pub passed_all : (P : T → Type 0) (slots : Slots T) → HasPassed P slots [] → (id : ℕ) → IsSomeAnd (get slots id) P → ⊥
+  pub passed_all : (P : T → Type 0) (slots : Slots T) → HasPassed P slots [] → (id : ℕ) →
+      IsSomeAnd (get slots id) P → ⊥
   passed_all P slots passed id = elim (cases_lt id passed.first) [
     | inl w ↦ passed.none id w
-    | inr w ↦ (let e : passed.first + (id - passed.first) ≡ id = omega (arith, w) in none_holds P (get slots id) (ap (get slots) (sym e) ∙ passed.same (id - passed.first) ∙ all_dead passed.first passed.rest (sym passed.left_is) (id - passed.first)))
+    | inr w ↦ (let e : passed.first + (id - passed.first) ≡ id = omega (arith, w) in
+        none_holds P (get slots id) (ap (get slots) (sym e) ∙ passed.same (id - passed.first)
+        ∙ all_dead passed.first passed.rest (sym passed.left_is) (id - passed.first)))
   ]
 
   pub some_is : (P : T → Type 0) (o : Option T) (x : T) → o ≡ Some x → P x → IsSomeAnd o P

@@ -21,7 +21,9 @@ pub found_seen :
     (s : Set ModuleType) (q : ModuleType) → arena.found_id type_eq s q ≡ found_id (seen s) q
 found_seen s q = by_map (lookup (type_eq q) s.entries)
   where
-    by_map : (o : Option ℕ) → option_and_then (λ id. cond (arena.holds (type_eq q) (get s.slots id)) (Some id) None) o ≡ option_and_then (λ id. cond (passes (type_eq q) (get s.slots id)) (Some id) None) o
+    by_map : (o : Option ℕ) → option_and_then (λ id.
+        cond (arena.holds (type_eq q) (get s.slots id)) (Some id) None) o ≡ option_and_then
+        (λ id. cond (passes (type_eq q) (get s.slots id)) (Some id) None) o
     by_map None = refl
     by_map (Some id) = ap (λ (b : Bool). cond b (Some id) None) (holds_seen (type_eq q) (get s.slots id))
 
@@ -32,14 +34,22 @@ same_seen old new same = record { slots = same.slots; map = same.map; keys = sam
 pub adds_seen :
     (old new : Set ModuleType) (ty : ModuleType) (id : ℕ) → Adds type_eq old new ty id →
     Gains (seen old) (seen new) ty id
-adds_seen old new ty id adds = record { is_next = adds.named; slots = adds.slots; map = adds.map; keys = adds.keys }
+adds_seen old new ty id adds = record {
+  is_next = adds.named;
+  slots = adds.slots;
+  map = adds.map;
+  keys =
+      adds.keys;
+}
 
 pub removes_seen :
     (old new : Set ModuleType) (id : ℕ) → Removes type_eq old new id →
     Loses (seen old) (seen new) id
 removes_seen old new id removes = record {
   slots = removes.slots;
-  map = λ q. (let own : arena.is_own_entry type_eq old id q ≡ is_known_as (seen old) id q = holds_seen _ (get old.slots id) in removes.map q ∙ ap (λ (b : Bool). cond b None (known_id (seen old) q)) own);
+  map = λ q. (let own : arena.is_own_entry type_eq old id q ≡ is_known_as (seen old) id q =
+      holds_seen _ (get old.slots id) in removes.map q
+      ∙ ap (λ (b : Bool). cond b None (known_id (seen old) q)) own);
   keys = removes.keys;
 }
 
@@ -47,7 +57,11 @@ pub removes_all_seen :
     (old new : Set ModuleType) (ids : List ℕ) → RemovesAll type_eq old ids new →
     LosesAll (seen old) ids (seen new)
 removes_all_seen old new [] same = same_seen old new same
-removes_all_seen old new (id ∷ ids) all = (seen all.0, removes_seen old all.0 id all.1, removes_all_seen all.0 new ids all.2)
+removes_all_seen old new (id ∷ ids) all = (
+  seen all.0,
+  removes_seen old all.0 id all.1,
+  removes_all_seen all.0 new ids all.2,
+)
 
 pub range_seen : (first count : ℕ) → range first count ≡ range_with_len first count
 range_seen first zero = refl

@@ -45,8 +45,8 @@ is_written_group slots g = list_any (λ i. not (is_entry_at slots i)) g.types
 
 -- whether the group at this place is free
 abbrev pub is_free_at : TypeSlots → List RecGroup → ℕ → Bool
-is_free_at slots groups g = is_free slots (rec_group_at groups g)
+is_free_at slots groups place = is_free slots (rec_group_at groups place)
 
 -- whether the group at this place is written
 abbrev pub is_written_at : TypeSlots → List RecGroup → ℕ → Bool
-is_written_at slots groups g = is_written_group slots (rec_group_at groups g)
+is_written_at slots groups place = is_written_group slots (rec_group_at groups place)

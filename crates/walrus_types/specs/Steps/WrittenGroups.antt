@@ -29,7 +29,7 @@ ids_in ws = flat_map (λ w. w.ids) ws
 -- where there is a key, it is a lossless one of the type of this id
 abbrev pub DecodesToType : TypeSlots → ℕ → Option SortKey → Type 0
 DecodesToType slots id lossless_key =
-    (w : SortKey) → lossless_key ≡ Some w → IsSomeAnd (live_type slots id) (IsLosslessKey w)
+    (key : SortKey) → lossless_key ≡ Some key → IsSomeAnd (live_type slots id) (IsLosslessKey key)
 
 -- the groups at these places
 abbrev pub in_order : List TypeGroup → List ℕ → List TypeGroup
@@ -48,8 +48,8 @@ written_group d w = cond w.is_explicit (Rec (map d w.ids)) (Single (d (slice_ind
 abbrev pub with_indices : (ℕ → Option ℕ) → (ℕ → Definition) → ℕ → Definition
 with_indices index definition i = rename (λ k. unwrap_or (index k) 0) (definition i)
 
--- the id has this place in this group of the list; of its names the one at this position, `named`, is
--- none of the ids up to the end of the group
+-- the id has this place in this group of the list; of its names the one at this position, `named`,
+-- is none of the ids up to the end of the group
 pub record IsMissingIn (definition : ℕ → Definition) (ws : List TypeGroup)
     (group_index place position id named : ℕ) : Type 0 where
   pub group : group_index < length ws
@@ -59,8 +59,8 @@ pub record IsMissingIn (definition : ℕ → Definition) (ws : List TypeGroup)
 
 -- of two names, each by its group, its member's place there and its position in the member's
 -- definition, the one comes before the other
-abbrev pub ComesBefore : ℕ → ℕ → ℕ → ℕ → ℕ → ℕ → Type 0
-ComesBefore group place position other_group other_place other_position =
+abbrev pub IndexPrecedes : ℕ → ℕ → ℕ → ℕ → ℕ → ℕ → Type 0
+IndexPrecedes group place position other_group other_place other_position =
     (group < other_group) ⊎ ((group ≡ other_group) ×
     ((place < other_place) ⊎ ((place ≡ other_place) × (position < other_position))))
 
@@ -74,14 +74,15 @@ pub record IsFirstMissingIn (definition : ℕ → Definition) (ws : List TypeGro
   pub first :
       (other_group other_place other_name other_id other_named : ℕ) →
       IsMissingIn definition ws other_group other_place other_name other_id other_named →
-      ¬ (ComesBefore other_group other_place other_name group place name)
+      ¬ (IndexPrecedes other_group other_place other_name group place name)
 
 -- the written groups, in the order in which they are written
 pub record IsWritingOrder (gs : List TypeGroup) (definition : ℕ → Definition) (is_entry : ℕ → Bool)
     (order : List ℕ) : Type 0 where
   pub written : (a : ℕ) → a < length order → IsWritten gs is_entry (slice_index order a)
   pub onto :
-      (g : ℕ) → IsWritten gs is_entry g → (a : ℕ) × (a < length order) × (slice_index order a ≡ g)
+      (group : ℕ) → IsWritten gs is_entry group →
+      (a : ℕ) × (a < length order) × (slice_index order a ≡ group)
   pub stands :
       (a b : ℕ) → a < b → b < length order →
       IsWrittenBefore gs definition (slice_index order a) (slice_index order b)
@@ -121,10 +122,10 @@ pub record IsFirstUnindexed (index : ℕ → Option ℕ) (definition : ℕ → D
 
 -- the error is that memory was refused, or that a type names one without an index, and then P holds
 -- of both ids
-abbrev pub FailsBy : EmitError → (ℕ → ℕ → Type 0) → Type 0
-FailsBy (emit.NoIndex from to) P = P from to
-FailsBy emit.TooMany P = ⊥
-FailsBy emit.Memory P = Unit {0}
+abbrev pub IsMemoryOrMissing : EmitError → (ℕ → ℕ → Type 0) → Type 0
+IsMemoryOrMissing (emit.NoIndex from to) P = P from to
+IsMemoryOrMissing emit.TooMany P = ⊥
+IsMemoryOrMissing emit.Memory P = Unit {0}
 
 -- the error is that memory was refused, or that a type has no index
 abbrev pub RefusesType : ToRecordError → Type 0

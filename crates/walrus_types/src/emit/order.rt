@@ -73,17 +73,17 @@ fn pending_groups<'a>(
     for (place, group) in groups.iter().enumerate() {
         let is_free = is_free_group(table, group);
         if is_written_group(table, group) {
-            let start = run_or(is_free, run, place);
+            let start = run_start(is_free, run, place);
             let head = head_of(table, group);
             pending.push(PendingGroup { start, head, place })?;
         }
-        run = run_or(is_free, run, place + 1);
+        run = run_start(is_free, run, place + 1);
     }
     Ok(pending)
 }
 
 // Where the run begins, if the group is free and so part of it, else this place.
-fn run_or(is_free: bool, run: usize, place: usize) -> usize
+fn run_start(is_free: bool, run: usize, place: usize) -> usize
     ensures { result ≡ cond is_free run place }
 {
     if is_free { run } else { place }

@@ -13,7 +13,7 @@ ghost use Rattle.walrus_ty.specs.Indices.{IsEmpty, type_index, type_indices, fun
 ghost use Rattle.walrus_ty.specs.Lookups.{first_missing};
 ghost use Rattle.walrus_sections.specs.SlotMap.{TypeGroup};
 ghost use Rattle.walrus_ty.specs.Records.{entry_definition, group_of};
-ghost use Rattle.walrus_types.specs.Steps.WrittenGroups.{AllIndexed, AreWritten, FailsBy, IsApart, IsFirstMissingIn, IsFirstUnindexed, IsLone, RefusesType, DecodesToType, ids_in, with_indices, emit_error, written_group};
+ghost use Rattle.walrus_types.specs.Steps.WrittenGroups.{AllIndexed, AreWritten, IsMemoryOrMissing, IsApart, IsFirstMissingIn, IsFirstUnindexed, IsLone, RefusesType, DecodesToType, ids_in, with_indices, emit_error, written_group};
 
 use super::order::PendingGroup;
 use super::sort_key::{SortKey, decode};
@@ -46,7 +46,7 @@ pub(super) fn write_groups(
         r.0.items (type_indices r.1)) }
     ensures others { IfOk result (λ r. IsEmpty (func_indices r.1) × IsEmpty (global_indices r.1)) }
     ensures missing { IfErr result
-        (λ e. FailsBy e (IsFirstMissingIn (definition_at table.now.types.slots)
+        (λ e. IsMemoryOrMissing e (IsFirstMissingIn (definition_at table.now.types.slots)
         (groups_of groups.now pending.now))) }
 {
     let mut written = Vec::with_capacity(alloc, pending.len())?;
@@ -80,7 +80,7 @@ fn record_of(
         (AllIndexed (type_index indices.now)
         (definition_at table.now.types.slots) group.now.types) }
     ensures missing { IfErr result
-        (λ e. FailsBy e (IsFirstUnindexed (type_index indices.now)
+        (λ e. IsMemoryOrMissing e (IsFirstUnindexed (type_index indices.now)
         (definition_at table.now.types.slots) group.now.types)) }
 {
     match lone_id(group) {
@@ -125,7 +125,7 @@ fn lone_entry(
         (first_missing (type_index indices.now)
         (names_of (definition_at table.now.types.slots id)) ≡ None) }
     ensures missing { IfErr result
-        (λ e. FailsBy e (λ i k. (i ≡ id) ×
+        (λ e. IsMemoryOrMissing e (λ i k. (i ≡ id) ×
         (first_missing (type_index indices.now)
         (names_of (definition_at table.now.types.slots id)) ≡ Some k))) }
 {
@@ -148,7 +148,7 @@ fn entries_of(
     ensures complete { OnOk result
         (AllIndexed (type_index indices.now) (definition_at table.now.types.slots) ids.now) }
     ensures missing { IfErr result
-        (λ e. FailsBy e (IsFirstUnindexed (type_index indices.now)
+        (λ e. IsMemoryOrMissing e (IsFirstUnindexed (type_index indices.now)
         (definition_at table.now.types.slots) ids.now)) }
 {
     let mut entries = Vec::with_capacity(alloc, ids.len())?;
@@ -173,7 +173,7 @@ fn entry_of(
         (first_missing (type_index indices.now)
         (names_of (definition_at table.now.types.slots id)) ≡ None) }
     ensures missing { IfErr result
-        (λ e. FailsBy e (λ i k. (i ≡ id) ×
+        (λ e. IsMemoryOrMissing e (λ i k. (i ≡ id) ×
         (first_missing (type_index indices.now)
         (names_of (definition_at table.now.types.slots id)) ≡ Some k))) }
 {

@@ -1,5 +1,5 @@
 //! What reading a section does to a table, beside adding types.
-ghost use Rattle.std.specs.Prelude.{◌≡◌, length, IfOk, OnOk, OnErr};
+ghost use Rattle.std.specs.Prelude.{◌≡◌, IfOk, OnOk, OnErr};
 ghost use Rattle.walrus_types.specs.Table.{IsSameTable};
 ghost use Rattle.walrus_types.specs.Steps.TableReads.{ReadsSingle, UsesUpId};
 
@@ -8,16 +8,9 @@ use crate::{CompositeType, FunctionType, Type, TypeId};
 use std::alloc::{AllocError, Global};
 
 impl ModuleTypes {
-    // The id of the next new type.
-    pub(crate) fn next_id(&self) -> TypeId
-        ensures { result ≡ length self.now.types.slots }
-    {
-        self.types.next_id()
-    }
-
     // The id of an equal type that was added alone, where the next id is used up, or else of this
     // one as a new type.
-    pub(crate) fn read_single(&mut self, ty: Type) -> Result<TypeId, AllocError>
+    pub(crate) fn add_single(&mut self, ty: Type) -> Result<TypeId, AllocError>
         ensures ok { IfOk result (λ id. ReadsSingle self.old self.new ty id) }
         ensures err { OnErr result (IsSameTable self.old self.new) }
         ensures keys { self.new.types.keys ≡ self.old.types.keys }

@@ -121,7 +121,7 @@ impl ModuleTypes {
         ensures err { OnErr result (self.new ≡ self.old) }
     {
         let count = members.len();
-        let types = named(self.group_of.len(), members)?;
+        let types = types_with_ids(self.group_of.len(), members)?;
         self.groups.reserve(1)?;
         self.group_of.reserve(count)?;
         let ids = self.types.alloc_all(types)?;
@@ -135,7 +135,7 @@ impl ModuleTypes {
 }
 
 // The types with these definitions, under ids from the first on.
-fn named(
+fn types_with_ids(
     first: usize,
     members: Vec<(CompositeType, bool, Option<TypeId>)>,
 ) -> Result<Vec<Type>, AllocError>

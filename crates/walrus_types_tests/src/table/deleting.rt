@@ -58,6 +58,15 @@ fn live_ids_leave_out_the_dead(rt: HostRuntime) {
 }
 
 #[test]
+fn the_next_id_is_past_all_ids_so_far(rt: HostRuntime) {
+    let mut types = ModuleTypes::new(rt.alloc());
+    assert_equal(&rt, types.next_id().index(), 0);
+    add_namers(rt.alloc(), &mut types, &[None, None]).expect(&rt, "memory");
+    delete(&rt, &mut types, 1).expect(&rt, "memory");
+    assert_equal(&rt, types.next_id().index(), 2);
+}
+
+#[test]
 fn a_type_that_dies_leaves_its_group(rt: HostRuntime) {
     let mut types = ModuleTypes::new(rt.alloc());
     types.add(&[], &[]).expect(&rt, "memory");

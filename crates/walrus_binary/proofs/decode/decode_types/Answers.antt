@@ -10,20 +10,25 @@ refusal-requires c = error_within c.args.bytes.now c.read_types.new.input.now c.
 
 pub returns-in-Err-clause-refused : goal.returns-in-Err-clause-refused
 returns-in-Err-clause-refused c =
-    rw c.refusal.ensures (error_refused c.args.bytes.now c.read_types.new.input.now c.in-Err.error c.in-Err.ensures)
+    rw c.refusal.ensures (error_refused c.args.bytes.now c.read_types.new.input.now c.in-Err.error
+    c.in-Err.ensures)
 
 pub returns-in-Err-clause-place : goal.returns-in-Err-clause-place
 returns-in-Err-clause-place c =
-    rw c.refusal.ensures (error_placed c.args.bytes.now c.read_types.new.input.now c.in-Err.error c.in-Err.ensures)
+    rw c.refusal.ensures (error_placed c.args.bytes.now c.read_types.new.input.now c.in-Err.error
+    c.in-Err.ensures)
 
 pub returns-in-Err-clause-stuck : goal.returns-in-Err-clause-stuck
 returns-in-Err-clause-stuck c =
-    rw c.refusal.ensures (error_stuck c.args.bytes.now c.read_types.new.input.now c.in-Err.error c.in-Err.ensures)
+    rw c.refusal.ensures (error_stuck c.args.bytes.now c.read_types.new.input.now c.in-Err.error
+    c.in-Err.ensures)
 
 pub returns-in-Err-clause-begun : goal.returns-in-Err-clause-begun
 returns-in-Err-clause-begun c =
-    rw c.refusal.ensures (error_begun c.args.bytes.now c.read_types.new.input.now c.in-Err.error c.in-Err.ensures)
+    rw c.refusal.ensures (error_begun c.args.bytes.now c.read_types.new.input.now c.in-Err.error
+    c.in-Err.ensures)
 
 pub returns-in-Err-clause-unheld : goal.returns-in-Err-clause-unheld
 returns-in-Err-clause-unheld c =
-    rw c.refusal.ensures (error_unheld c.args.bytes.now c.read_types.new.input.now c.in-Err.error c.in-Err.ensures)
+    rw c.refusal.ensures (error_unheld c.args.bytes.now c.read_types.new.input.now c.in-Err.error
+    c.in-Err.ensures)

@@ -3,7 +3,8 @@ use Rattle.walrus_binary.proofs.Modules.Framing.{State}
 use Rattle.walrus_binary.proofs.module.scan_sections.Given as goal
 
 abbrev pub invariant-loop-rest : goal.invariant-loop-rest
-invariant-loop-rest l = State (λ s. s.id) (λ s. s.content.start) (λ s. s.content.end) l.bytes l.rest l.last l.found
+invariant-loop-rest l = State (λ s. s.id) (λ s. s.content.start) (λ s. s.content.end) l.bytes l.rest l.last
+    l.found
 
 abbrev pub decreases-loop-rest : goal.decreases-loop-rest
 decreases-loop-rest l = length l.rest

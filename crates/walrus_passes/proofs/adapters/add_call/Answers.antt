@@ -21,12 +21,15 @@ loop-arg-preserved c =
     record {
       same = (after.same.0 ∙ before.same.0, after.same.1 ∙ before.same.1);
       known = omega (arith, low, high);
-      added = added_is f (function_of c.loop-arg.body) (function_of c.local_get.new.self) id (seq_id c.loop-arg.body) (base ++ map get_of (take k args)) (LocalGet (record { local = c.arg-item.result })) (record {
-        known = c.requires;
-        before = before.added;
-        place = before.same.0;
-        added = after.ok;
-      }) ∙ ap (with_instrs f id) (gets_more base args k c.arg-item.result c.loop-arg-test.true c.arg-item.is);
+      added = added_is f (function_of c.loop-arg.body) (function_of c.local_get.new.self) id
+          (seq_id c.loop-arg.body) (base ++ map get_of (take k args))
+          (LocalGet (record { local = c.arg-item.result })) (record {
+            known = c.requires;
+            before = before.added;
+            place = before.same.0;
+            added = after.ok;
+          }) ∙ ap (with_instrs f id) (gets_more base args k c.arg-item.result c.loop-arg-test.true
+          c.arg-item.is);
     }
 
 pub returns-clause-ok : goal.returns-clause-ok
@@ -37,7 +40,9 @@ returns-clause-ok c =
     let args = c.args.args.now in
     let k = c.loop-arg.arg-index in
     let before = c.loop-arg.invariant in
-    on_ok_weaker c.call.result (λ ok. added_is f (function_of c.loop-arg.body) (function_of c.call.new.self) id (seq_id c.loop-arg.body) (base ++ map get_of (take k args)) (Call (record { func = c.args.func })) (record {
+    on_ok_weaker c.call.result (λ ok. added_is f (function_of c.loop-arg.body) (function_of c.call.new.self)
+    id (seq_id c.loop-arg.body) (base ++ map get_of (take k args)) (Call (record { func = c.args.func }))
+    (record {
       known = c.requires;
       before = before.added;
       place = before.same.0;

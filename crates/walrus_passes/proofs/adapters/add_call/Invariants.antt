@@ -8,5 +8,6 @@ abbrev pub invariant-loop-arg : goal.invariant-loop-arg
 invariant-loop-arg l = record {
   same : Stays l.fn.body l.body;
   known : StayKnown (function_of l.fn.body) (function_of l.body);
-  added : function_of l.body ≡ with_instrs (function_of l.fn.body) (seq_id l.fn.body) (instrs_of (function_of l.fn.body) (seq_id l.fn.body) ++ map get_of (take l.arg-index l.args));
+  added : function_of l.body ≡ with_instrs (function_of l.fn.body) (seq_id l.fn.body)
+      (instrs_of (function_of l.fn.body) (seq_id l.fn.body) ++ map get_of (take l.arg-index l.args));
 }

@@ -8,4 +8,5 @@ use Rattle.walrus_passes.proofs.roots.add_seq.Given as goal
 abbrev pub invariant-loop-instr : goal.invariant-loop-instr
 invariant-loop-instr l =
     l.used.items ≡
-    (l.fn.used.items ++ supertype_names (block_type_name l.seq.ty)) ++ flat_map (λ x. instr_types l.locals x.0) (take l.instr-index l.instr-items)
+    (l.fn.used.items ++ supertype_names (block_type_name l.seq.ty)) ++ flat_map (λ x.
+    instr_types l.locals x.0) (take l.instr-index l.instr-items)

@@ -4,4 +4,5 @@ use Rattle.walrus_ty.specs.Value.{field_names}
 use Rattle.walrus_sections.proofs.group_error.bad_in_fields.Given as goal
 
 abbrev pub invariant-loop-field : goal.invariant-loop-field
-invariant-loop-field l = find (nat_le l.end) (flat_map field_names l.fields) ≡ find (nat_le l.end) (flat_map field_names (drop l.field-index l.fields))
+invariant-loop-field l = find (nat_le l.end) (flat_map field_names l.fields) ≡ find (nat_le l.end)
+    (flat_map field_names (drop l.field-index l.fields))

@@ -16,14 +16,20 @@ returns-then-count-eq0-clause-read g c =
     let left = g.R.Read.remaining in
     let room : 0 < length c.read.new.buf = grind arith in
     let (bytes, has, before) = c.loop.invariant in
-    if_ok c.finish.result _ _ (λ groups told. at_end (left c.args.reader.now) (left c.loop.reader) (left c.read.new.self) bytes c.read.new.buf c.in-Ok.count (λ text. lines_of text ≡ section_lines groups.items) before c.in-Ok.ensures.bytes c.if-count-eq0.true room (told bytes has)) c.finish.ensures.read
+    if_ok c.finish.result _ _ (λ groups told. at_end (left c.args.reader.now) (left c.loop.reader)
+    (left c.read.new.self) bytes c.read.new.buf c.in-Ok.count (λ text.
+    lines_of text ≡ section_lines groups.items) before c.in-Ok.ensures.bytes c.if-count-eq0.true room
+    (told bytes has)) c.finish.ensures.read
 
 pub returns-then-count-eq0-clause-refused : goal.returns-then-count-eq0-clause-refused
 returns-then-count-eq0-clause-refused g c =
     let left = g.R.Read.remaining in
     let room : 0 < length c.read.new.buf = grind arith in
     let (bytes, has, before) = c.loop.invariant in
-    if_err c.finish.result _ _ (λ e told. at_end (left c.args.reader.now) (left c.loop.reader) (left c.read.new.self) bytes c.read.new.buf c.in-Ok.count (λ text. IfSome (bad_line e) (λ line. ¬ IsSectionText (lines_of text))) before c.in-Ok.ensures.bytes c.if-count-eq0.true room (told bytes has)) c.finish.ensures.refused
+    if_err c.finish.result _ _ (λ e told. at_end (left c.args.reader.now) (left c.loop.reader)
+    (left c.read.new.self) bytes c.read.new.buf c.in-Ok.count (λ text.
+    IfSome (bad_line e) (λ line. ¬ IsSectionText (lines_of text))) before c.in-Ok.ensures.bytes
+    c.if-count-eq0.true room (told bytes has)) c.finish.ensures.refused
 
 pub loop-preserved : goal.loop-preserved
 loop-preserved g c =
@@ -31,7 +37,8 @@ loop-preserved g c =
     let (bytes, has, before) = c.loop.invariant in (
       bytes ++ take c.in-Ok.count c.read.new.buf,
       c.in_ok-push_bytes.ensures bytes has,
-      Consumes-trans (left c.args.reader.now) (left c.loop.reader) (left c.read.new.self) bytes (take c.in-Ok.count c.read.new.buf) before c.in-Ok.ensures.bytes.0,
+      Consumes-trans (left c.args.reader.now) (left c.loop.reader) (left c.read.new.self) bytes
+          (take c.in-Ok.count c.read.new.buf) before c.in-Ok.ensures.bytes.0,
     )
 
 pub returns-then-count-eq0-clause-fits : goal.returns-then-count-eq0-clause-fits

@@ -4,4 +4,5 @@ use Rattle.walrus_text.specs.Steps.Bytes.{HasReadBytes}
 use Rattle.walrus_text.proofs.line_reader.read_section.Given as goal
 
 abbrev pub invariant-loop : goal.invariant-loop
-invariant-loop g l = (bytes : List ℕ) × HasReadBytes l.lines bytes × Consumes (g.R.Read.remaining l.fn.reader) (g.R.Read.remaining l.reader) bytes
+invariant-loop g l = (bytes : List ℕ) × HasReadBytes l.lines bytes
+    × Consumes (g.R.Read.remaining l.fn.reader) (g.R.Read.remaining l.reader) bytes

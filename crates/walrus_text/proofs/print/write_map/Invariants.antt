@@ -5,4 +5,5 @@ use Rattle.walrus_text.specs.Words.{space_before_each}
 use Rattle.walrus_text.proofs.print.write_map.Given as goal
 
 abbrev pub invariant-loop-index : goal.invariant-loop-index
-invariant-loop-index g l = Appends (g.W.Write.contents l.fn.out) (g.W.Write.contents l.out) (codes "map" ++ space_before_each (map decimal (take l.index-index l.map)))
+invariant-loop-index g l = Appends (g.W.Write.contents l.fn.out) (g.W.Write.contents l.out)
+    (codes "map" ++ space_before_each (map decimal (take l.index-index l.map)))

@@ -10,7 +10,8 @@ returns-in_ok-visit_heap_type-in-BrOnCast-clause-err g c =
     let first = c.in_ok-visit_instr_seq_id-in-BrOnCast.ensures.ok in
     let second = c.in_ok-visit_heap_type-in-BrOnCast.ensures.ok in
     on_err_weaker c.visit_heap_type-in-BrOnCast.result
-    (λ e. rw c.in-BrOnCast.is (after_two _ _ _ _ _ _ _ _ first second e)) c.visit_heap_type-in-BrOnCast.ensures.err
+    (λ e. rw c.in-BrOnCast.is (after_two _ _ _ _ _ _ _ _ first second e))
+    c.visit_heap_type-in-BrOnCast.ensures.err
 
 pub returns-in_ok-visit_heap_type-in-BrOnCastFail-clause-err :
     goal.returns-in_ok-visit_heap_type-in-BrOnCastFail-clause-err
@@ -18,7 +19,8 @@ returns-in_ok-visit_heap_type-in-BrOnCastFail-clause-err g c =
     let first = c.in_ok-visit_instr_seq_id-in-BrOnCastFail.ensures.ok in
     let second = c.in_ok-visit_heap_type-in-BrOnCastFail.ensures.ok in
     on_err_weaker c.visit_heap_type-in-BrOnCastFail-2.result
-    (λ e. rw c.in-BrOnCastFail.is (after_two _ _ _ _ _ _ _ _ first second e)) c.visit_heap_type-in-BrOnCastFail-2.ensures.err
+    (λ e. rw c.in-BrOnCastFail.is (after_two _ _ _ _ _ _ _ _ first second e))
+    c.visit_heap_type-in-BrOnCastFail-2.ensures.err
 
 pub returns-in_ok-visit_instr_seq_id-in-TryTable-clause-ok :
     goal.returns-in_ok-visit_instr_seq_id-in-TryTable-clause-ok
@@ -27,7 +29,8 @@ returns-in_ok-visit_instr_seq_id-in-TryTable-clause-ok g c =
     let first = c.in_ok-visit_instr_seq_id-in-TryTable.ensures.ok in
     on_ok_weaker c.report_clauses.result
     (λ k. rw c.in-TryTable.is
-    (folds_list _ _ _ _ _ clause_fields x.catches (λ b. instr.TryTable (record { seq = x.seq; catches = b })) first
+    (folds_list _ _ _ _ _ clause_fields x.catches (λ b. instr.TryTable (record { seq = x.seq; catches = b }))
+    first
     (rw (← c.as_slice.ensures) k)))
     c.report_clauses.ensures.ok
 
@@ -38,7 +41,8 @@ returns-in_ok-visit_instr_seq_id-in-TryTable-clause-err g c =
     let first = c.in_ok-visit_instr_seq_id-in-TryTable.ensures.ok in
     on_err_weaker c.report_clauses.result
     (λ k. rw c.in-TryTable.is
-    (after_list _ _ _ _ _ clause_fields x.catches (λ b. instr.TryTable (record { seq = x.seq; catches = b })) first
+    (after_list _ _ _ _ _ clause_fields x.catches (λ b. instr.TryTable (record { seq = x.seq; catches = b }))
+    first
     (rw (← c.as_slice.ensures) k)))
     c.report_clauses.ensures.err
 

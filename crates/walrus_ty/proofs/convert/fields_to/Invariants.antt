@@ -7,6 +7,8 @@ use Rattle.walrus_ty.proofs.convert.fields_to.Given as goal
 
 abbrev pub invariant-loop-ty : goal.invariant-loop-ty
 invariant-loop-ty l = record {
-  left : first_missing (type_index l.indices) (flat_map field_names (drop l.ty-index l.types)) ≡ first_missing (type_index l.indices) (flat_map field_names l.types);
-  done : l.records.items ≡ map (rename_field (value_or_zero (type_index l.indices))) (take l.ty-index l.types);
+  left : first_missing (type_index l.indices) (flat_map field_names (drop l.ty-index l.types)) ≡ first_missing
+      (type_index l.indices) (flat_map field_names l.types);
+  done : l.records.items ≡ map (rename_field (value_or_zero (type_index l.indices)))
+      (take l.ty-index l.types);
 }

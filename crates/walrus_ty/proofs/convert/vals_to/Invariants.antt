@@ -7,6 +7,7 @@ use Rattle.walrus_ty.proofs.convert.vals_to.Given as goal
 
 abbrev pub invariant-loop-ty : goal.invariant-loop-ty
 invariant-loop-ty l = record {
-  left : first_missing (type_index l.indices) (flat_map val_names (drop l.ty-index l.types)) ≡ first_missing (type_index l.indices) (flat_map val_names l.types);
+  left : first_missing (type_index l.indices) (flat_map val_names (drop l.ty-index l.types)) ≡ first_missing
+      (type_index l.indices) (flat_map val_names l.types);
   done : l.records.items ≡ map (rename_val (value_or_zero (type_index l.indices))) (take l.ty-index l.types);
 }

@@ -11,4 +11,8 @@ pub returns-clause-transitive : goal.returns-clause-transitive
 returns-clause-transitive c = definitions_total.trans
 
 pub returns-clause-exact : goal.returns-clause-exact
-returns-clause-exact c = λ d e. (definition_exact d e, λ p. ap (definition_cmp d) (sym p) ∙ tied_itself definitions_total d)
+returns-clause-exact c = λ d e. (
+  definition_exact d e,
+  λ p. ap (definition_cmp d) (sym p)
+      ∙ tied_itself definitions_total d,
+)

@@ -11,7 +11,12 @@ if_ok_both W N P (Ok x) w n f = f w x n
 if_ok_both W N P (Err e) w n f = tt
 
 pub returns-clause-swapped_well_named : goal.returns-clause-swapped_well_named
-returns-clause-swapped_well_named c = if_ok_both (IsWellNamed (section_of c.args.groups.now)) _ _ c.read_and_written.result c.read_and_written.ensures.well_named c.read_and_written.ensures.normal (λ w r n t i. c.swap_keeps_output.ensures.well_named (section_of c.args.groups.now) t i w)
+returns-clause-swapped_well_named c = if_ok_both (IsWellNamed (section_of c.args.groups.now)) _ _
+    c.read_and_written.result c.read_and_written.ensures.well_named c.read_and_written.ensures.normal
+    (λ w r n t i. c.swap_keeps_output.ensures.well_named (section_of c.args.groups.now) t i w)
 
 pub returns-clause-swapped : goal.returns-clause-swapped
-returns-clause-swapped c = if_ok_both (IsWellNamed (section_of c.args.groups.now)) _ _ c.read_and_written.result c.read_and_written.ensures.well_named c.read_and_written.ensures.normal (λ w r n t i swap. c.swap_keeps_output.ensures.output (section_of c.args.groups.now) t (section_of r.0.items) r.1.items i w swap n)
+returns-clause-swapped c = if_ok_both (IsWellNamed (section_of c.args.groups.now)) _ _
+    c.read_and_written.result c.read_and_written.ensures.well_named c.read_and_written.ensures.normal
+    (λ w r n t i swap. c.swap_keeps_output.ensures.output (section_of c.args.groups.now) t
+    (section_of r.0.items) r.1.items i w swap n)

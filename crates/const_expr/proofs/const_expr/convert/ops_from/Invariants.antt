@@ -5,6 +5,7 @@ use Rattle.const_expr.proofs.const_expr.convert.ops_from.Given as goal
 
 abbrev pub invariant-loop-record : goal.invariant-loop-record
 invariant-loop-record l = record {
-  left : first_missing (ids_at l.ids) (flat_map op_at_names (drop l.record-index l.records)) ≡ first_missing (ids_at l.ids) (flat_map op_at_names l.records);
+  left : first_missing (ids_at l.ids) (flat_map op_at_names (drop l.record-index l.records)) ≡ first_missing
+      (ids_at l.ids) (flat_map op_at_names l.records);
   done : l.ops ≡ map (op_read (renaming_of (ids_at l.ids))) (take l.record-index l.records);
 }

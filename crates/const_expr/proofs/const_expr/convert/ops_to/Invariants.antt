@@ -5,6 +5,7 @@ use Rattle.const_expr.proofs.const_expr.convert.ops_to.Given as goal
 
 abbrev pub invariant-loop-op : goal.invariant-loop-op
 invariant-loop-op l = record {
-  left : first_missing (indices_of l.indices) (flat_map op_names (drop l.op-index l.ops)) ≡ first_missing (indices_of l.indices) (flat_map op_names l.ops);
+  left : first_missing (indices_of l.indices) (flat_map op_names (drop l.op-index l.ops)) ≡ first_missing
+      (indices_of l.indices) (flat_map op_names l.ops);
   done : l.records.items ≡ map (op_written (renaming_of (indices_of l.indices))) (take l.op-index l.ops);
 }

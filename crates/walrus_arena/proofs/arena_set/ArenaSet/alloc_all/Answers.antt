@@ -4,7 +4,13 @@ use Rattle.std.proofs.lemmas.Result.{on_ok_weaker, on_err_weaker}
 use Rattle.walrus_arena.proofs.arena_set.ArenaSet.alloc_all.Goals as goal
 
 pub returns-clause-ok : goal.returns-clause-ok
-returns-clause-ok g c = rw (← c.self.view_is) (on_ok_weaker c.alloc_all.result (λ grown. ap (λ s. record { slots = s; entries = c.self.inside.map.entries; keys = hasher_of c.self.inside.map }) grown) c.alloc_all.ensures.ok)
+returns-clause-ok g c = rw (← c.self.view_is)
+    (on_ok_weaker c.alloc_all.result (λ grown. ap (λ s.
+    record { slots = s; entries = c.self.inside.map.entries; keys = hasher_of c.self.inside.map }) grown)
+    c.alloc_all.ensures.ok)
 
 pub returns-clause-err : goal.returns-clause-err
-returns-clause-err g c = rw (← c.self.view_is) (on_err_weaker c.alloc_all.result (λ same. ap (λ s. record { slots = s; entries = c.self.inside.map.entries; keys = hasher_of c.self.inside.map }) same) c.alloc_all.ensures.err)
+returns-clause-err g c = rw (← c.self.view_is)
+    (on_err_weaker c.alloc_all.result (λ same. ap (λ s.
+    record { slots = s; entries = c.self.inside.map.entries; keys = hasher_of c.self.inside.map }) same)
+    c.alloc_all.ensures.err)

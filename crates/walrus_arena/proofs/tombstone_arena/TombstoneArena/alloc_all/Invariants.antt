@@ -10,7 +10,8 @@ invariant-loop-item g l =
     let slots = l.self-inside.slots in record {
       counted : IsCounted slots.items l.self-inside.live;
       shown : map value_of slots.items ++ map Some left ≡ l.fn.self ++ map Some l.fn.values.items;
-      named : l.all.items ++ range (vec_len slots) (length left) ≡ range (length l.fn.self) (vec_len l.fn.values);
+      named : l.all.items ++ range (vec_len slots) (length left) ≡ range (length l.fn.self)
+          (vec_len l.fn.values);
       room : vec_len slots + length left ≤ vec_capacity slots;
       room_named : vec_len l.all + length left ≤ vec_capacity l.all;
     }

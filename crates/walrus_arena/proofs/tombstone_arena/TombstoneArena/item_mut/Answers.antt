@@ -12,7 +12,8 @@ invariant_of-self-lent g c = λ w.
 pub returns : goal.returns
 returns g c =
     let slots = c.self.inside.slots.items in
-    let read = read_live slots c.args.at c.index_mut.result.now c.index_mut.ensures.value (rw (← c.self.view_is) at c.requires) in (
+    let read = read_live slots c.args.at c.index_mut.result.now c.index_mut.ensures.value
+    (rw (← c.self.view_is) at c.requires) in (
       (refl, λ w. rw (← c.self.view_is) (shows_written slots c.args.at _ w read)),
       record { writes_back = tt; value = rw (← c.self.view_is, c.item_mut.ensures.value) read.shown },
     )

@@ -5,7 +5,8 @@ pub invariant_of-self : goal.invariant_of-self
 invariant_of-self g c =
     let slots = c.self.inside.slots.items in
     let same = c.index_mut-slot.ensures.value in
-    let read = read_live slots c.args.at c.index_mut-slot.result.now same (rw (← c.self.view_is) at c.requires) in
+    let read = read_live slots c.args.at c.index_mut-slot.result.now same
+    (rw (← c.self.view_is) at c.requires) in
     counts_dead slots c.args.at _ _ c.on_delete.new.self same read c.self.invariant
 
 pub returns : goal.returns

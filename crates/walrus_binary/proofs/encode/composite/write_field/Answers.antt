@@ -4,4 +4,5 @@ use Rattle.walrus_binary.proofs.encode.composite.write_field.Goals as goal
 
 pub returns-clause-text : goal.returns-clause-text
 returns-clause-text c =
-    field (storage_text c.args.field.element_type) c.args.field.element_type c.args.field.mutable c.in_ok-write_storage.ensures.text
+    field (storage_text c.args.field.element_type) c.args.field.element_type c.args.field.mutable
+    c.in_ok-write_storage.ensures.text

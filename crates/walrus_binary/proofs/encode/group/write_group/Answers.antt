@@ -6,8 +6,10 @@ use Rattle.walrus_binary.proofs.encode.group.write_group.Goals as goal
 
 pub returns-in-Single-clause-text : goal.returns-in-Single-clause-text
 returns-in-Single-clause-text c =
-    on_ok_weaker c.write_entry.result (λ h. rw c.in-Single.is (single (entry_text c.in-Single.entry) c.in-Single.entry h)) c.write_entry.ensures.text
+    on_ok_weaker c.write_entry.result (λ h. rw c.in-Single.is
+    (single (entry_text c.in-Single.entry) c.in-Single.entry h)) c.write_entry.ensures.text
 
 pub returns-in_ok-push-in-Rec-clause-text : goal.returns-in_ok-push-in-Rec-clause-text
 returns-in_ok-push-in-Rec-clause-text c =
-    on_ok_weaker c.write_vec.result (λ h. rw c.in-Rec.is (rec_is c.in-Rec.entries c.as_slice.result.now c.as_slice.ensures h)) c.write_vec.ensures.text
+    on_ok_weaker c.write_vec.result (λ h. rw c.in-Rec.is
+    (rec_is c.in-Rec.entries c.as_slice.result.now c.as_slice.ensures h)) c.write_vec.ensures.text

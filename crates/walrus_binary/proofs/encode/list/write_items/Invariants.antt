@@ -7,5 +7,6 @@ abbrev pub invariant-loop-item : goal.invariant-loop-item
 invariant-loop-item g l =
     record {
       appends : l.out.items ≡ l.fn.out.items ++ flat_map g.T.Encode.text (take l.item-index l.items);
-      texts : AreItems g.T.Encode.texts (flat_map g.T.Encode.text (take l.item-index l.items)) (take l.item-index l.items);
+      texts : AreItems g.T.Encode.texts (flat_map g.T.Encode.text (take l.item-index l.items))
+          (take l.item-index l.items);
     }

@@ -8,4 +8,5 @@ returns-in_default-clause-too_many g c = λ e. too_long g.T.Encode.texts c.args.
 
 pub returns-clause-text : goal.returns-clause-text
 returns-clause-text g c =
-    on_ok_weaker c.write_items.result (vec_is g.T.Encode.texts g.T.Encode.text c.args.items.now c.in-Ok.count c.in-Ok.ensures.1 c.in_ok-push_u32.ensures.text) c.write_items.ensures.text
+    on_ok_weaker c.write_items.result (vec_is g.T.Encode.texts g.T.Encode.text c.args.items.now c.in-Ok.count
+    c.in-Ok.ensures.1 c.in_ok-push_u32.ensures.text) c.write_items.ensures.text

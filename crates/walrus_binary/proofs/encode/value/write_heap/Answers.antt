@@ -8,8 +8,10 @@ returns-in_ok-push-in-Abstract-clause-text c = rw c.in-Abstract.is (abstract_typ
 
 pub returns-in-Concrete-clause-text : goal.returns-in-Concrete-clause-text
 returns-in-Concrete-clause-text c =
-    on_ok_weaker c.push_s33.result (λ h. rw c.in-Concrete.is (index (s33_text c.in-Concrete.index) c.in-Concrete.index h)) c.push_s33.ensures.text
+    on_ok_weaker c.push_s33.result (λ h. rw c.in-Concrete.is
+    (index (s33_text c.in-Concrete.index) c.in-Concrete.index h)) c.push_s33.ensures.text
 
 pub returns-in_ok-push-in-Exact-clause-text : goal.returns-in_ok-push-in-Exact-clause-text
 returns-in_ok-push-in-Exact-clause-text c =
-    on_ok_weaker c.push_u32.result (λ h. rw c.in-Exact.is (exact_index (u32_text c.in-Exact.index) c.in-Exact.index h)) c.push_u32.ensures.text
+    on_ok_weaker c.push_u32.result (λ h. rw c.in-Exact.is
+    (exact_index (u32_text c.in-Exact.index) c.in-Exact.index h)) c.push_u32.ensures.text

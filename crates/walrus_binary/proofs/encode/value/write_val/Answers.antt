@@ -19,4 +19,5 @@ returns-in_ok-push-in-V128-clause-text c = rw c.in-V128.is v128
 
 pub returns-in_ok-write_reference-in-Ref-clause-text : goal.returns-in_ok-write_reference-in-Ref-clause-text
 returns-in_ok-write_reference-in-Ref-clause-text c =
-    rw c.in-Ref.is (ref (reference_text c.in-Ref.reference) c.in-Ref.reference c.in_ok-write_reference-in-Ref.ensures.text)
+    rw c.in-Ref.is (ref (reference_text c.in-Ref.reference) c.in-Ref.reference
+    c.in_ok-write_reference-in-Ref.ensures.text)

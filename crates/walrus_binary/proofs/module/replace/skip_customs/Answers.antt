@@ -29,29 +29,35 @@ loop-rest-init c = none_read c.args.bytes.now c.in_ok-rest.rest.now c.in_ok-rest
 pub returns-in_err-after-clause-refused : goal.returns-in_err-after-clause-refused
 returns-in_err-after-clause-refused c =
     let p = err_from_is_err_and c.from_residual-in_err-after.result c.from_residual-in_err-after.ensures.1 in
-    rw p.1 (customs_faulty c.args.bytes.now c.loop-rest.rest.now c.in_err-after.field-0.0 c.loop-rest.invariant c.loop-rest-test.ensures c.in_err-after.ensures).refused
+    rw p.1 (customs_faulty c.args.bytes.now c.loop-rest.rest.now c.in_err-after.field-0.0
+    c.loop-rest.invariant c.loop-rest-test.ensures c.in_err-after.ensures).refused
 
 pub returns-in_err-after-clause-place : goal.returns-in_err-after-clause-place
 returns-in_err-after-clause-place c =
     let p = err_from_is_err_and c.from_residual-in_err-after.result c.from_residual-in_err-after.ensures.1 in
-    rw (p.1, p.2) (customs_faulty c.args.bytes.now c.loop-rest.rest.now c.in_err-after.field-0.0 c.loop-rest.invariant c.loop-rest-test.ensures c.in_err-after.ensures).place
+    rw (p.1, p.2) (customs_faulty c.args.bytes.now c.loop-rest.rest.now c.in_err-after.field-0.0
+    c.loop-rest.invariant c.loop-rest-test.ensures c.in_err-after.ensures).place
 
 pub returns-in_err-after-clause-stuck : goal.returns-in_err-after-clause-stuck
 returns-in_err-after-clause-stuck c =
     let p = err_from_is_err_and c.from_residual-in_err-after.result c.from_residual-in_err-after.ensures.1 in
-    rw (p.1, p.2) (customs_faulty c.args.bytes.now c.loop-rest.rest.now c.in_err-after.field-0.0 c.loop-rest.invariant c.loop-rest-test.ensures c.in_err-after.ensures).stuck
+    rw (p.1, p.2) (customs_faulty c.args.bytes.now c.loop-rest.rest.now c.in_err-after.field-0.0
+    c.loop-rest.invariant c.loop-rest-test.ensures c.in_err-after.ensures).stuck
 
 pub returns-in_err-after-clause-begun : goal.returns-in_err-after-clause-begun
 returns-in_err-after-clause-begun c =
     let p = err_from_is_err_and c.from_residual-in_err-after.result c.from_residual-in_err-after.ensures.1 in
-    rw (p.1, p.2) (customs_faulty c.args.bytes.now c.loop-rest.rest.now c.in_err-after.field-0.0 c.loop-rest.invariant c.loop-rest-test.ensures c.in_err-after.ensures).begun
+    rw (p.1, p.2) (customs_faulty c.args.bytes.now c.loop-rest.rest.now c.in_err-after.field-0.0
+    c.loop-rest.invariant c.loop-rest-test.ensures c.in_err-after.ensures).begun
 
 pub loop-rest-smaller : goal.loop-rest-smaller
-loop-rest-smaller c = less_left c.loop-rest.rest.now c.in_ok-after.after.now c.in_ok-after.field-0-1.now c.in_ok-after.field-0-0 c.in_ok-after.ensures
+loop-rest-smaller c = less_left c.loop-rest.rest.now c.in_ok-after.after.now c.in_ok-after.field-0-1.now
+    c.in_ok-after.field-0-0 c.in_ok-after.ensures
 
 pub loop-rest-preserved : goal.loop-rest-preserved
 loop-rest-preserved c =
-    one_more_read c.args.bytes.now c.loop-rest.rest.now c.in_ok-after.after.now c.in_ok-after.field-0-1.now c.in_ok-after.field-0-0 c.loop-rest.invariant c.loop-rest-test.ensures c.in_ok-after.ensures
+    one_more_read c.args.bytes.now c.loop-rest.rest.now c.in_ok-after.after.now c.in_ok-after.field-0-1.now
+    c.in_ok-after.field-0-0 c.loop-rest.invariant c.loop-rest-test.ensures c.in_ok-after.ensures
 
 pub returns-clause-behind : goal.returns-clause-behind
 returns-clause-behind c = all_customs_read c.args.bytes.now _ c.loop-rest.invariant c.loop-rest-test.ensures

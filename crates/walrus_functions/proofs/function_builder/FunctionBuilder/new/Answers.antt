@@ -9,7 +9,8 @@ returns-clause-ok c =
       between = c.add.new.self;
       entry_ty = c.in_ok-entry_ty.entry_ty;
       ty = rw is c.in_ok-ty.ensures.ok;
-      ty_answers = rw is (answer_stays c.add.new.self c.add_entry_ty.new.self _ _ c.in_ok-ty.ty c.in_ok-entry_ty.entry_ty c.in_ok-ty.ensures.answer c.in_ok-entry_ty.ensures.ok);
+      ty_answers = rw is (answer_stays c.add.new.self c.add_entry_ty.new.self _ _ c.in_ok-ty.ty
+          c.in_ok-entry_ty.entry_ty c.in_ok-ty.ensures.answer c.in_ok-entry_ty.ensures.ok);
       entry = search rules;
       entry_answers = search rules;
       body = search rules;

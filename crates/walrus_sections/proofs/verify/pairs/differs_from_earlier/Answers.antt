@@ -4,7 +4,13 @@ use Rattle.walrus_sections.proofs.Verifying.Decisions.{from_false, not_each, eac
 use Rattle.walrus_sections.proofs.verify.pairs.differs_from_earlier.Goals as goal
 
 pub returns-then-not-differ : goal.returns-then-not-differ
-returns-then-not-differ c = (from_false, not_each (λ i. Differ (index_space_of_places c.args.output.now) i c.args.later) c.args.later c.loop-earlier.earlier c.differ.result c.loop-earlier-test.true c.differ.ensures.1 c.if-not-differ.true)
+returns-then-not-differ c = (
+  from_false,
+  not_each (λ i.
+      Differ (index_space_of_places c.args.output.now) i c.args.later) c.args.later c.loop-earlier.earlier
+      c.differ.result c.loop-earlier-test.true c.differ.ensures.1 c.if-not-differ.true,
+)
 
 pub loop-earlier-preserved : goal.loop-earlier-preserved
-loop-earlier-preserved c = each_more (λ i. Differ (index_space_of_places c.args.output.now) i c.args.later) c.loop-earlier.earlier c.differ.result c.loop-earlier.invariant c.differ.ensures.0 c.if-not-differ.false
+loop-earlier-preserved c = each_more (λ i. Differ (index_space_of_places c.args.output.now) i c.args.later)
+    c.loop-earlier.earlier c.differ.result c.loop-earlier.invariant c.differ.ensures.0 c.if-not-differ.false

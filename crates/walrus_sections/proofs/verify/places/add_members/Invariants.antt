@@ -5,6 +5,8 @@ use Rattle.walrus_sections.proofs.verify.places.add_members.Given as goal
 
 abbrev pub invariant-loop-at : goal.invariant-loop-at
 invariant-loop-at l = record {
-  places : (rest : List Place) → l.places.items ++ rec_places (map entry_definition (drop l.at l.entries)) l.end l.rec l.at rest ≡ l.fn.places.items ++ rec_places (map entry_definition l.entries) l.end l.rec 0 rest;
+  places : (rest : List Place) → l.places.items ++ rec_places (map entry_definition (drop l.at l.entries))
+      l.end l.rec l.at rest ≡ l.fn.places.items ++ rec_places (map entry_definition l.entries) l.end l.rec 0
+      rest;
   many : length l.places.items ≡ length l.fn.places.items + l.at;
 }

@@ -5,6 +5,7 @@ use Rattle.walrus_sections.proofs.verify.places.places_of.Given as goal
 
 abbrev pub invariant-loop-group : goal.invariant-loop-group
 invariant-loop-group l = record {
-  places : l.places.items ++ places_from (length l.places.items) l.recs (section_of (drop l.group-index l.groups)) ≡ places_from 0 0 (section_of l.groups);
+  places : l.places.items ++ places_from (length l.places.items) l.recs
+      (section_of (drop l.group-index l.groups)) ≡ places_from 0 0 (section_of l.groups);
   few : l.recs ≤ length l.places.items;
 }

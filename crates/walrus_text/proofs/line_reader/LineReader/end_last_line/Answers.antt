@@ -12,7 +12,8 @@ returns-then-is_empty-clause-checked c =
 pub returns-clause-checked : goal.returns-clause-checked
 returns-clause-checked c = λ bytes h.
     subst (HasChecked c.end_line.new.self.section c.end_line.new.self.bad) (last_feed c.args.self.now bytes h)
-    (all_read c.end_line.new.self (bytes ++ 10 ∷ []) c.in_ok-end_line.ensures.empty (c.in_ok-end_line.ensures.read bytes h))
+    (all_read c.end_line.new.self (bytes ++ 10 ∷ []) c.in_ok-end_line.ensures.empty
+    (c.in_ok-end_line.ensures.read bytes h))
 
 pub returns-clause-fits : goal.returns-clause-fits
 returns-clause-fits c = λ bytes h. (c.in_ok-end_line.ensures.read bytes h).fits

@@ -11,17 +11,25 @@ pub returns-clause-order : goal.returns-clause-order
 returns-clause-order c =
     let t = c.args.table.now in
     let ps = c.sort.new.self.items in
-    let all = sorted_from t c.rec_groups.result.now c.rec_groups.ensures.groups c.in_ok-pending.pending.items ps c.in_ok-pending.ensures c.in_ok-sort.ensures.permutation in
-    order_from_sort t c.rec_groups.ensures.grouping ps all (stands_sorted (is_free_at t.types.slots t.groups) (is_written_at t.types.slots t.groups) (λ g. head t.types.slots (rec_group_at t.groups g)) (length t.groups) ps all _ type_ord.total-law _ (λ x y. refl) pending_ord.total-law c.in_ok-sort.ensures.sorted)
+    let all = sorted_from t c.rec_groups.result.now c.rec_groups.ensures.groups c.in_ok-pending.pending.items
+    ps c.in_ok-pending.ensures c.in_ok-sort.ensures.permutation in
+    order_from_sort t c.rec_groups.ensures.grouping ps all
+    (stands_sorted (is_free_at t.types.slots t.groups) (is_written_at t.types.slots t.groups) (λ g.
+    head t.types.slots (rec_group_at t.groups g)) (length t.groups) ps all _ type_ord.total-law _ (λ x y.
+    refl) pending_ord.total-law c.in_ok-sort.ensures.sorted)
 
 pub returns-clause-count : goal.returns-clause-count
 returns-clause-count c =
     let t = c.args.table.now in
     let ps = c.sort.new.self.items in
-    count_from_sort t c.rec_groups.ensures.grouping ps (sorted_from t c.rec_groups.result.now c.rec_groups.ensures.groups c.in_ok-pending.pending.items ps c.in_ok-pending.ensures c.in_ok-sort.ensures.permutation)
+    count_from_sort t c.rec_groups.ensures.grouping ps
+    (sorted_from t c.rec_groups.result.now c.rec_groups.ensures.groups c.in_ok-pending.pending.items ps
+    c.in_ok-pending.ensures c.in_ok-sort.ensures.permutation)
 
 pub returns-clause-heads : goal.returns-clause-heads
 returns-clause-heads c =
     let t = c.args.table.now in
     let ps = c.sort.new.self.items in
-    heads_from_sort t c.rec_groups.ensures.grouping ps (sorted_from t c.rec_groups.result.now c.rec_groups.ensures.groups c.in_ok-pending.pending.items ps c.in_ok-pending.ensures c.in_ok-sort.ensures.permutation)
+    heads_from_sort t c.rec_groups.ensures.grouping ps
+    (sorted_from t c.rec_groups.result.now c.rec_groups.ensures.groups c.in_ok-pending.pending.items ps
+    c.in_ok-pending.ensures c.in_ok-sort.ensures.permutation)

@@ -10,6 +10,8 @@ use Rattle.walrus_types.proofs.emit.write.entries_of.Given as goal
 
 abbrev pub invariant-loop-id : goal.invariant-loop-id
 invariant-loop-id l = record {
-  done : map entry_definition l.entries.items ≡ map (with_indices (type_index l.indices) (definition_at l.table.types.slots)) (take l.id-index l.ids);
-  complete : (u i : ℕ) → u < l.id-index → slice_get l.ids u ≡ Some i → first_missing (type_index l.indices) (names_of (definition_at l.table.types.slots i)) ≡ None;
+  done : map entry_definition l.entries.items ≡ map
+      (with_indices (type_index l.indices) (definition_at l.table.types.slots)) (take l.id-index l.ids);
+  complete : (u i : ℕ) → u < l.id-index → slice_get l.ids u ≡ Some i →
+      first_missing (type_index l.indices) (names_of (definition_at l.table.types.slots i)) ≡ None;
 }

@@ -6,9 +6,37 @@ pub returns-then-len-count-clause-count : goal.returns-then-len-count-clause-cou
 returns-then-len-count-clause-count g c = λ wanted got same.
     let parts = count_parts _ _ _ _ same in (
       sym parts.0,
-      λ e. absurd (omega (arith, e, parts.1, c.len.ensures, c.len-then-len-count.ensures, c.if-len-count.true)),
-      (c.in_ok-members.members, (c.as_slice.result, search rules, c.as_slice.ensures.value ∙ c.in_ok-ids.ensures), omega (arith, parts.1, c.len-then-len-count.ensures, c.in_ok-members.members.ok)),
+      λ e. absurd (omega (
+        arith,
+        e,
+        parts.1,
+        c.len.ensures,
+        c.len-then-len-count.ensures,
+        c.if-len-count.true,
+      )),
+      (
+        c.in_ok-members.members,
+        (
+          c.as_slice.result,
+          search rules,
+          c.as_slice.ensures.value
+              ∙ c.in_ok-ids.ensures,
+        ),
+        omega (
+          arith,
+          parts.1,
+          c.len-then-len-count.ensures,
+          c.in_ok-members.members.ok,
+        ),
+      ),
     )
 
 pub returns-clause-ok : goal.returns-clause-ok
-returns-clause-ok g c = (c.in_ok-members.members, (c.as_slice.result, search rules, c.as_slice.ensures.value ∙ c.in_ok-ids.ensures), (omega (arith, c.len.ensures, c.if-len-count.false, c.in_ok-members.members.ok), c.in_ok-place_group.ensures.ok))
+returns-clause-ok g c = (
+  c.in_ok-members.members,
+  (c.as_slice.result, search rules, c.as_slice.ensures.value ∙ c.in_ok-ids.ensures),
+  (
+    omega (arith, c.len.ensures, c.if-len-count.false, c.in_ok-members.members.ok),
+    c.in_ok-place_group.ensures.ok,
+  ),
+)

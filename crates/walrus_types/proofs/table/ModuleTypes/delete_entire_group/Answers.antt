@@ -16,16 +16,25 @@ remove_all-requires-clause-live c =
     let t : Table = record { types = seen c.self.inside.types; groups = c.self.inside.groups.items } in
     let live = rw (← c.self.view_is) at c.requires in
     let at = rw c.index.ensures at c.index-at.ensures in
-    let home = home_of t c.self.inside.group_of.items c.args.id c.index-at.result.now c.index_mut-group.result.now c.self.invariant live at c.index_mut-group.ensures.value in
-    subst (λ (ids : List ℕ). All (IsLive c.self.inside.types.slots) ids) (sym (c.as_slice.ensures ∙ c.replace-members.ensures.value)) (all_live t c.self.inside.group_of.items c.args.id c.index-at.result.now c.index_mut-group.result.now c.self.invariant home)
+    let home = home_of t c.self.inside.group_of.items c.args.id c.index-at.result.now
+    c.index_mut-group.result.now c.self.invariant live at c.index_mut-group.ensures.value in
+    subst (λ (ids : List ℕ). All (IsLive c.self.inside.types.slots) ids)
+    (sym (c.as_slice.ensures ∙ c.replace-members.ensures.value))
+    (all_live t c.self.inside.group_of.items c.args.id c.index-at.result.now c.index_mut-group.result.now
+    c.self.invariant home)
 
 pub remove_all-requires-clause-distinct : goal.remove_all-requires-clause-distinct
 remove_all-requires-clause-distinct c =
     let t : Table = record { types = seen c.self.inside.types; groups = c.self.inside.groups.items } in
     let live = rw (← c.self.view_is) at c.requires in
     let at = rw c.index.ensures at c.index-at.ensures in
-    let home = home_of t c.self.inside.group_of.items c.args.id c.index-at.result.now c.index_mut-group.result.now c.self.invariant live at c.index_mut-group.ensures.value in
-    subst (λ (ids : List ℕ). IsDistinct nat_eq ids) (sym (c.as_slice.ensures ∙ c.replace-members.ensures.value)) (distinct_from_once c.index_mut-group.result.now.types (members_once t c.self.inside.group_of.items c.args.id c.index-at.result.now c.index_mut-group.result.now c.self.invariant home))
+    let home = home_of t c.self.inside.group_of.items c.args.id c.index-at.result.now
+    c.index_mut-group.result.now c.self.invariant live at c.index_mut-group.ensures.value in
+    subst (λ (ids : List ℕ). IsDistinct nat_eq ids)
+    (sym (c.as_slice.ensures ∙ c.replace-members.ensures.value))
+    (distinct_from_once c.index_mut-group.result.now.types
+    (members_once t c.self.inside.group_of.items c.args.id c.index-at.result.now
+    c.index_mut-group.result.now c.self.invariant home))
 
 pub invariant_of-self : goal.invariant_of-self
 unfolding type_eq
@@ -33,9 +42,15 @@ invariant_of-self c =
     let t : Table = record { types = seen c.self.inside.types; groups = c.self.inside.groups.items } in
     let live = rw (← c.self.view_is) at c.requires in
     let at = rw c.index.ensures at c.index-at.ensures in
-    let home = home_of t c.self.inside.group_of.items c.args.id c.index-at.result.now c.index_mut-group.result.now c.self.invariant live at c.index_mut-group.ensures.value in
-    let removes : RemovesAll type_eq c.self.inside.types c.as_slice.result.now c.remove_all.new.self = ok_holds c.remove_all.result c.remove_all.ensures.succeeds c.remove_all.ensures.ok in
-    ended_indexed t c.self.inside.group_of.items c.args.id c.index-at.result.now c.index_mut-group.result.now (seen c.remove_all.new.self) c.as_slice.result.now c.replace-members.new.dest c.self.invariant home (c.as_slice.ensures ∙ c.replace-members.ensures.value) (c.replace-members.ensures.after ∙ (c.from_vec-none.ensures ∙ c.new.ensures.items)) (removes_all_seen c.self.inside.types c.remove_all.new.self c.as_slice.result.now removes)
+    let home = home_of t c.self.inside.group_of.items c.args.id c.index-at.result.now
+    c.index_mut-group.result.now c.self.invariant live at c.index_mut-group.ensures.value in
+    let removes : RemovesAll type_eq c.self.inside.types c.as_slice.result.now c.remove_all.new.self =
+    ok_holds c.remove_all.result c.remove_all.ensures.succeeds c.remove_all.ensures.ok in
+    ended_indexed t c.self.inside.group_of.items c.args.id c.index-at.result.now c.index_mut-group.result.now
+    (seen c.remove_all.new.self) c.as_slice.result.now c.replace-members.new.dest c.self.invariant home
+    (c.as_slice.ensures ∙ c.replace-members.ensures.value) (c.replace-members.ensures.after
+    ∙ (c.from_vec-none.ensures ∙ c.new.ensures.items))
+    (removes_all_seen c.self.inside.types c.remove_all.new.self c.as_slice.result.now removes)
 
 pub returns-clause-ok : goal.returns-clause-ok
 unfolding type_eq
@@ -43,5 +58,14 @@ returns-clause-ok c =
     let t : Table = record { types = seen c.self.inside.types; groups = c.self.inside.groups.items } in
     let live = rw (← c.self.view_is) at c.requires in
     let at = rw c.index.ensures at c.index-at.ensures in
-    let home = home_of t c.self.inside.group_of.items c.args.id c.index-at.result.now c.index_mut-group.result.now c.self.invariant live at c.index_mut-group.ensures.value in
-    on_ok_weaker c.remove_all.result (λ (r : RemovesAll type_eq c.self.inside.types c.as_slice.result.now c.remove_all.new.self). rw (← c.self.view_is) (ended_deletes t c.self.inside.group_of.items c.args.id c.index-at.result.now c.index_mut-group.result.now (seen c.remove_all.new.self) c.as_slice.result.now c.replace-members.new.dest c.self.invariant home (c.as_slice.ensures ∙ c.replace-members.ensures.value) (c.replace-members.ensures.after ∙ (c.from_vec-none.ensures ∙ c.new.ensures.items)) (removes_all_seen c.self.inside.types c.remove_all.new.self c.as_slice.result.now r))) c.remove_all.ensures.ok
+    let home = home_of t c.self.inside.group_of.items c.args.id c.index-at.result.now
+    c.index_mut-group.result.now c.self.invariant live at c.index_mut-group.ensures.value in
+    on_ok_weaker c.remove_all.result (λ (r : RemovesAll type_eq c.self.inside.types c.as_slice.result.now
+    c.remove_all.new.self). rw (← c.self.view_is)
+    (ended_deletes t c.self.inside.group_of.items c.args.id c.index-at.result.now
+    c.index_mut-group.result.now (seen c.remove_all.new.self) c.as_slice.result.now
+    c.replace-members.new.dest c.self.invariant home (c.as_slice.ensures
+    ∙ c.replace-members.ensures.value) (c.replace-members.ensures.after
+    ∙ (c.from_vec-none.ensures ∙ c.new.ensures.items))
+    (removes_all_seen c.self.inside.types c.remove_all.new.self c.as_slice.result.now r)))
+    c.remove_all.ensures.ok

@@ -6,13 +6,28 @@ use Rattle.walrus_types.proofs.table.ModuleTypes.find.Goals as goal
 
 pub returns-then-is_plain_function : goal.returns-then-is_plain_function
 returns-then-is_plain_function c =
-    let r = reached (IsPlainFunction c.args.params.now c.args.results.now) c.args.self.now.types.slots c.loop-item.left c.in-Some.item.0 c.in-Some.item.1.now c.next.new.self c.loop-item.invariant.passed c.in-Some.ensures.steps in
-    (some_is (IsPlainFunction c.args.params.now c.args.results.now) _ _ r.value (c.is_plain_function.ensures.0 c.if-is_plain_function.true), r.none)
+    let r = reached (IsPlainFunction c.args.params.now c.args.results.now) c.args.self.now.types.slots
+    c.loop-item.left c.in-Some.item.0 c.in-Some.item.1.now c.next.new.self c.loop-item.invariant.passed
+    c.in-Some.ensures.steps in (
+      some_is (IsPlainFunction c.args.params.now c.args.results.now) _ _ r.value
+          (c.is_plain_function.ensures.0 c.if-is_plain_function.true),
+      r.none,
+    )
 
 pub loop-item-preserved : goal.loop-item-preserved
 loop-item-preserved c =
-    let r = reached (IsPlainFunction c.args.params.now c.args.results.now) c.args.self.now.types.slots c.loop-item.left c.in-Some.item.0 c.in-Some.item.1.now c.next.new.self c.loop-item.invariant.passed c.in-Some.ensures.steps in
-    record { can_next = tt; finite = tt; passed = r.pass (λ h. not_both c.is_plain_function.result (c.is_plain_function.ensures.1 h) c.if-is_plain_function.false) }
+    let r = reached (IsPlainFunction c.args.params.now c.args.results.now) c.args.self.now.types.slots
+    c.loop-item.left c.in-Some.item.0 c.in-Some.item.1.now c.next.new.self c.loop-item.invariant.passed
+    c.in-Some.ensures.steps in
+    record {
+      can_next = tt;
+      finite = tt;
+      passed =
+          r.pass (λ h. not_both c.is_plain_function.result (c.is_plain_function.ensures.1 h)
+          c.if-is_plain_function.false);
+    }
 
 pub returns : goal.returns
-returns c = passed_all (IsPlainFunction c.args.params.now c.args.results.now) c.args.self.now.types.slots (subst (λ (left : List (ℕ × ModuleType)). HasPassed (IsPlainFunction c.args.params.now c.args.results.now) c.args.self.now.types.slots left) c.in_default.ensures.steps.0 c.loop-item.invariant.passed)
+returns c = passed_all (IsPlainFunction c.args.params.now c.args.results.now) c.args.self.now.types.slots
+    (subst (λ (left : List (ℕ × ModuleType)). HasPassed (IsPlainFunction c.args.params.now c.args.results.now)
+    c.args.self.now.types.slots left) c.in_default.ensures.steps.0 c.loop-item.invariant.passed)

@@ -13,4 +13,5 @@ pub returns-clause-answer : goal.returns-clause-answer
 unfolding type_eq
 returns-clause-answer c =
     let t : Table = record { types = seen c.self.inside.types; groups = c.self.inside.groups.items } in
-    rw (← c.self.view_is) (answer_found t c.self.inside.group_of.items c.args.ty.now c.self.invariant c.find.result (c.find.ensures ∙ found_seen c.self.inside.types c.args.ty.now))
+    rw (← c.self.view_is) (answer_found t c.self.inside.group_of.items c.args.ty.now c.self.invariant
+    c.find.result (c.find.ensures ∙ found_seen c.self.inside.types c.args.ty.now))

@@ -6,7 +6,11 @@ pub loop-preserved : goal.loop-preserved
 loop-preserved c =
     let old : List ℕ = c.args.numbers.now.items in
     record {
-      pushed = c.push_reserved.ensures.items ∙ ap (λ (ns : List ℕ). ns ++ c.args.number ∷ []) c.loop.invariant.pushed ∙ append_assoc c.args.numbers.now.items (replicate c.loop.counter c.args.number) (c.args.number ∷ []) ∙ ap (λ (ns : List ℕ). c.args.numbers.now.items ++ ns) (replicate_push c.loop.counter (c.loop.counter + 1) c.args.number refl);
+      pushed = c.push_reserved.ensures.items ∙ ap (λ (ns : List ℕ). ns ++ c.args.number ∷ [])
+          c.loop.invariant.pushed ∙ append_assoc c.args.numbers.now.items
+          (replicate c.loop.counter c.args.number) (c.args.number ∷ [])
+          ∙ ap (λ (ns : List ℕ). c.args.numbers.now.items ++ ns)
+          (replicate_push c.loop.counter (c.loop.counter + 1) c.args.number refl);
       many = omega arith;
       room = omega arith;
     }

@@ -7,12 +7,14 @@ use Rattle.walrus_types.proofs.emit.sort_key.decoding.comp_of.Goals as goal
 
 pub vals_of-requires : goal.vals_of-requires
 vals_of-requires c =
-    subst (λ (ns : List ℕ). All (IsClosedRank val_rank) ns) (sym (c.before-in-0.ensures ∙ ap (before 1) c.before-ranks.ensures))
+    subst (λ (ns : List ℕ). All (IsClosedRank val_rank) ns)
+    (sym (c.before-in-0.ensures ∙ ap (before 1) c.before-ranks.ensures))
     (asks_params c.requires.0 c.args.key c.requires.1.key c.requires.1.lossless_key c.in-0.is)
 
 pub vals_of-requires-in-0 : goal.vals_of-requires-in-0
 vals_of-requires-in-0 c =
-    subst (λ (ns : List ℕ). All (IsClosedRank val_rank) ns) (sym (c.after.ensures ∙ ap (after 1) c.before-ranks.ensures))
+    subst (λ (ns : List ℕ). All (IsClosedRank val_rank) ns)
+    (sym (c.after.ensures ∙ ap (after 1) c.before-ranks.ensures))
     (asks_results c.requires.0 c.args.key c.requires.1.key c.requires.1.lossless_key c.in-0.is)
 
 pub fields_of-requires : goal.fields_of-requires
@@ -21,7 +23,8 @@ fields_of-requires c =
     (asks_fields c.requires.0 c.args.key c.requires.1.key c.requires.1.lossless_key c.in-1.is)
 
 pub field_of-requires : goal.field_of-requires
-field_of-requires c = asks_field c.requires.0 c.args.key c.requires.1.key c.requires.1.lossless_key (λ k. omega (arith, k)) (λ k. omega (arith, k))
+field_of-requires c = asks_field c.requires.0 c.args.key c.requires.1.key c.requires.1.lossless_key (λ k.
+    omega (arith, k)) (λ k. omega (arith, k))
 
 pub returns-in_ok-results-in-0 : goal.returns-in_ok-results-in-0
 returns-in_ok-results-in-0 c = λ ty lossless_key.

@@ -1,0 +1,18 @@
+//! What the programs share: their arguments, their input, and the keys of their hashes.
+//!
+//! - [`parse_arguments`] says what the arguments of a program ask for.
+//! - [`open`] opens a file, or takes standard input where the name is `-`. [`read_bytes`] reads all
+//!   that an input gives.
+//! - [`write_version`] and [`report_usage`] say what a program is and how it is used.
+//! - [`random_keys`] draws keys that the author of an input can't foresee.
+#![tactic(auto)]
+
+mod about;
+mod arguments;
+mod input;
+mod keys;
+
+pub use about::{report_usage, write_version};
+pub use arguments::{Request, parse_arguments};
+pub use input::{Input, open, read_bytes};
+pub use keys::random_keys;

@@ -1,0 +1,144 @@
+-- Arena.
+pub use Rattle.walrus_arena.specs.Arena
+pub use Rattle.walrus_arena.specs.Calls as ArenaCalls
+pub use Rattle.walrus_arena.specs.HashKeys
+pub use Rattle.walrus_arena.specs.Lends
+pub use Rattle.walrus_arena.specs.Listing
+pub use Rattle.walrus_arena.specs.Set
+pub use Rattle.walrus_arena.specs.SetLends
+pub use Rattle.walrus_arena.specs.Slot
+-- Types and sections.
+pub use Rattle.walrus_ty.specs.Value
+pub use Rattle.walrus_ty.specs.Definition
+pub use Rattle.walrus_ty.specs.Signature
+pub use Rattle.walrus_ty.specs.Types
+pub use Rattle.walrus_ty.specs.Records
+pub use Rattle.walrus_ty.specs.IdLists
+pub use Rattle.walrus_ty.specs.Indices
+pub use Rattle.walrus_ty.specs.Text as TypeText
+pub use Rattle.walrus_ty.specs.Views
+pub use Rattle.walrus_ty.specs.SubTypes
+pub use Rattle.walrus_ty.specs.SameTypes
+pub use Rattle.walrus_ty.specs.Comparison
+pub use Rattle.walrus_ty.specs.HashInput
+pub use Rattle.walrus_ty.specs.Groups
+pub use Rattle.walrus_ty.specs.Lists
+pub use Rattle.walrus_ty.specs.Lookups
+pub use Rattle.walrus_sections.specs.Section
+pub use Rattle.walrus_sections.specs.NormalForm
+pub use Rattle.walrus_sections.specs.Moves
+pub use Rattle.walrus_sections.specs.Emission
+pub use Rattle.walrus_sections.specs.Refusal
+pub use Rattle.walrus_sections.specs.Examples
+pub use Rattle.walrus_sections.specs.FirstError
+pub use Rattle.walrus_sections.specs.SlotMap
+pub use Rattle.walrus_types.specs.TypesById
+pub use Rattle.walrus_types.specs.Differences
+pub use Rattle.walrus_types.specs.Table
+pub use Rattle.walrus_types.specs.TableEmission
+pub use Rattle.walrus_types.specs.TableLends
+pub use Rattle.walrus_types.specs.TableCalls
+pub use Rattle.walrus_types.specs.ReadResult
+pub use Rattle.walrus_types.specs.ReaderState
+pub use Rattle.walrus_ty.specs.declared.error.NoIndex
+pub use Rattle.walrus_ty.specs.declared.error.FromRecordError
+pub use Rattle.walrus_ty.specs.declared.error.ToRecordError
+pub use Rattle.walrus_ty.specs.declared.records.CompAt
+pub use Rattle.walrus_ty.specs.declared.records.GroupAt
+pub use Rattle.walrus_ty.specs.declared.ty.composite.CompositeType
+pub use Rattle.walrus_ty.specs.declared.ty.value.AbstractHeapType
+pub use Rattle.walrus_ty.specs.declared.ty.value.Heap
+pub use Rattle.walrus_ty.specs.declared.ty.value.Val
+pub use Rattle.walrus_ty.specs.declared.ty.value.Storage
+pub use Rattle.walrus_sections.specs.declared.error.ReadError
+pub use Rattle.walrus_types.specs.declared.error.EmitError
+pub use Rattle.walrus_types.specs.declared.table.rec_group.AddRecGroupError
+-- Instructions.
+pub use Rattle.operators.specs.Values
+pub use Rattle.operators.specs.Atomics
+pub use Rattle.operators.specs.Loads
+pub use Rattle.operators.specs.Stores
+pub use Rattle.instr.specs.Locals
+pub use Rattle.instr.specs.LocalParts
+pub use Rattle.instr.specs.LocalLends
+pub use Rattle.instr.specs.Locations
+pub use Rattle.instr.specs.Reachability
+pub use Rattle.const_expr.specs.ConstExpr
+pub use Rattle.walrus_ir.specs.BlockTypes
+pub use Rattle.walrus_ir.specs.Calls as HookCalls
+pub use Rattle.walrus_ir.specs.Fields
+pub use Rattle.walrus_ir.specs.Hooks
+pub use Rattle.walrus_ir.specs.Sequence
+pub use Rattle.operators.specs.declared.atomics.AtomicOp
+pub use Rattle.operators.specs.declared.atomics.AtomicWidth
+pub use Rattle.operators.specs.declared.binary_op.BinaryOp
+pub use Rattle.operators.specs.declared.kinds.ExtendedLoad
+pub use Rattle.operators.specs.declared.kinds.LoadKind
+pub use Rattle.operators.specs.declared.kinds.StoreKind
+pub use Rattle.operators.specs.declared.kinds.LoadSimdKind
+pub use Rattle.operators.specs.declared.ternary_op.TernaryOp
+pub use Rattle.operators.specs.declared.unary_op.UnaryOp
+pub use Rattle.operators.specs.declared.value.Value as ConstantValue
+pub use Rattle.instr.specs.declared.exceptions.TryTableCatch
+pub use Rattle.instr.specs.declared.exceptions.LegacyCatch
+pub use Rattle.instr.specs.declared.instr.Instr
+pub use Rattle.const_expr.specs.declared.const_expr.ConstExpr as ConstExprType
+pub use Rattle.const_expr.specs.declared.const_expr.ConstOp
+pub use Rattle.const_expr.specs.declared.const_expr.ConstOpAt
+pub use Rattle.walrus_ir.specs.declared.instr_seq_type.InstrSeqType
+-- Builders and walks.
+pub use Rattle.walrus_functions.specs.Beginning
+pub use Rattle.walrus_functions.specs.Body
+pub use Rattle.walrus_functions.specs.Building
+pub use Rattle.walrus_functions.specs.LocalLends as FunctionLends
+pub use Rattle.walrus_functions.specs.FunctionWithArgs
+pub use Rattle.walrus_functions.specs.Functions
+pub use Rattle.walrus_functions.specs.NestedForms
+pub use Rattle.walrus_functions.specs.Nesting
+pub use Rattle.walrus_functions.specs.Rows
+pub use Rattle.walrus_nesting.specs.Certificates
+pub use Rattle.walrus_nesting.specs.Pushing
+pub use Rattle.walrus_traversals.specs.Events
+pub use Rattle.walrus_traversals.specs.Ids
+pub use Rattle.walrus_traversals.specs.Instrs
+pub use Rattle.walrus_traversals.specs.Sequences
+pub use Rattle.walrus_traversals_mut.specs.FieldMaps
+pub use Rattle.walrus_traversals_mut.specs.Premises
+pub use Rattle.walrus_traversals_mut.specs.Renaming
+pub use Rattle.walrus_traversals_mut.specs.Walks
+pub use Rattle.walrus_traversals_mut.specs.Unfolding
+pub use Rattle.walrus_traversals_mut.specs.Counting
+pub use Rattle.walrus_functions.specs.declared.error.BuildError
+pub use Rattle.walrus_nesting.specs.declared.nesting.Nesting as NestingType
+pub use Rattle.walrus_nesting.specs.declared.walk_error.WalkError
+-- Passes.
+pub use Rattle.walrus_passes.specs.NeededTypes
+pub use Rattle.walrus_passes.specs.AllIndices
+pub use Rattle.walrus_passes.specs.UsedTypes
+pub use Rattle.walrus_passes.specs.IndexMaps
+pub use Rattle.walrus_passes.specs.SnippedFunctions
+pub use Rattle.walrus_passes.specs.Adapters
+-- Binary.
+pub use Rattle.walrus_binary.specs.Leb128
+pub use Rattle.walrus_binary.specs.Grammar
+pub use Rattle.walrus_binary.specs.Faults
+pub use Rattle.walrus_binary.specs.SectionProgress
+pub use Rattle.walrus_binary.specs.Modules
+pub use Rattle.walrus_binary.specs.ModuleSections
+pub use Rattle.walrus_binary.specs.Replacement
+pub use Rattle.walrus_binary.specs.Sections as SectionPlaces
+pub use Rattle.walrus_module.specs.Sections
+pub use Rattle.walrus_module.specs.Opcodes
+pub use Rattle.walrus_module.specs.Immediates
+pub use Rattle.walrus_module.specs.Bodies as CodeBodies
+pub use Rattle.walrus_binary.specs.declared.error.Expected
+pub use Rattle.walrus_binary.specs.declared.error.NotHeld
+pub use Rattle.walrus_binary.specs.declared.error.DecodeError
+pub use Rattle.walrus_binary.specs.declared.error.EncodeError
+pub use Rattle.walrus_binary.specs.declared.error.ReplaceError
+-- Text.
+pub use Rattle.walrus_text.specs.Words
+pub use Rattle.walrus_text.specs.Spacing
+pub use Rattle.walrus_text.specs.Text as SectionText
+pub use Rattle.walrus_text.specs.Errors
+pub use Rattle.walrus_text.specs.declared.error.TextError

@@ -1,9 +1,0 @@
-use Rattle.walrus_body.proofs.Counting.{counted_walk}
-use Rattle.walrus_body.proofs.Determined.{count_unique}
-use Rattle.walrus_body.proofs.laws.full_walks_are_counted.Goals as goal
-
-pub returns-clause-counted : goal.returns-clause-counted
-returns-clause-counted g c = counted_walk g.V.VisitorMut.step
-
-pub returns-clause-determined : goal.returns-clause-determined
-returns-clause-determined g c = count_unique g.V.VisitorMut.step

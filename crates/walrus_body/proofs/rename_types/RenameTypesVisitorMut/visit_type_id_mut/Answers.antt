@@ -1,5 +1,0 @@
-use Rattle.std.proofs.Common.{rules}
-use Rattle.walrus_body.proofs.rename_types.RenameTypesVisitorMut.visit_type_id_mut.Goals as goal
-
-pub returns-clause-ok : goal.returns-clause-ok
-returns-clause-ok c = search rules

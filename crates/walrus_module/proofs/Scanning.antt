@@ -1,0 +1,156 @@
+-- A scan goes along the one way in which bytes can be a text.
+use Rattle.std.proofs.Common.{◌≡◌, ℕ, ◌+◌, ◌<◌, List, [], ◌∷◌, ◌++◌, length, Ok, refl, sym, ap, subst, ◌∙◌, arith, append_assoc, append-nil, length-append}
+use Rattle.std.proofs.lemmas.Grind.{flat_map-append}
+use Rattle.walrus_binary.specs.Leb128.{IsInteger, last, more}
+use Rattle.walrus_binary.proofs.Basics.{Reading, done, value_is, rest_is}
+use Rattle.walrus_module.specs.declared.kind.Kind.{Kind}
+use Rattle.walrus_module.specs.Immediates.{IsSigned, positive, negative, longer, Piece, type_name, Begins, index, signed_index, number, byte, offset, i32, i64, raw, Runs, stop, step, AreTexts, names_of, type_names}
+use Rattle.walrus_module.specs.Steps.Heads.{Beginning, beginning, begin_at, fault}
+use Rattle.walrus_module.specs.Steps.Scans.{IsScanned}
+use Rattle.walrus_module.proofs.Heads.{begin_sound, begin_again}
+
+-- ---- a beginning has a byte at least
+
+integer_long : (end limit : ℕ) (text : List ℕ) (n : ℕ) → IsInteger end limit text n → 0 < length text
+integer_long _ _ _ _ (last limit b low ends fits) = omega arith
+integer_long _ _ _ _ (more limit b high bytes big is wide texts) = omega arith
+
+signed_long : (limit : ℕ) (text : List ℕ) → IsSigned limit text → 0 < length text
+signed_long _ _ (positive limit b low fits) = omega arith
+signed_long _ _ (negative limit b from low fits) = omega arith
+signed_long _ _ (longer limit b bytes big is wide texts) = omega arith
+
+begins_long : (k : Kind) (text : List ℕ) (piece : Piece) (kinds : List Kind) → Begins k text piece kinds →
+    0 < length text
+begins_long _ _ _ _ (index s text k h) = integer_long _ _ text k h
+begins_long _ _ _ _ (signed_index k text n may h) = integer_long _ _ text n h
+begins_long _ _ _ _ (number k text n kinds h e) = integer_long _ _ text n h
+begins_long _ _ _ _ (byte k x kinds e) = omega arith
+begins_long _ _ _ _ (offset text n h) = integer_long _ _ text n h
+begins_long _ _ _ _ (i32 text h) = signed_long _ text h
+begins_long _ _ _ _ (i64 text h) = signed_long _ text h
+begins_long _ _ _ _ (raw text n some h) = omega (arith, some, h)
+
+pub shorter : (k : Kind) (bytes : List ℕ) (b : Beginning) (rest : List ℕ) → begin_at k bytes ≡ Ok (b, rest) →
+    length rest < length bytes
+shorter k bytes b rest e =
+    let t = begin_sound k bytes b rest e in
+    let long : length bytes ≡ length t.text + length rest = ap (λ (u : List ℕ). length u) t.parts
+    ∙ length-append t.text rest in
+    omega (arith, long, begins_long k t.text t.is_text.piece b.more t.is_text.begins)
+
+-- ---- runs
+
+-- one beginning more
+runs_on : (kinds : List Kind) (text : List ℕ) (pieces : List Piece) (next : Kind) (stack : List Kind)
+    (t : List ℕ) (piece : Piece) (behind : List Kind) → Runs kinds text pieces (next ∷ stack) →
+    Begins next t piece behind
+    → Runs kinds (text ++ t) (pieces ++ piece ∷ []) (behind ++ stack)
+runs_on _ _ _ next stack t piece behind (stop _) b =
+    subst (λ (u : List ℕ). Runs (next ∷ stack) u (piece ∷ []) (behind ++ stack)) (append-nil t)
+    (step next behind stack (behind ++ stack) t [] piece [] b (stop (behind ++ stack)))
+runs_on _ _ _ next stack t piece behind (step k inner kinds _ text others first pieces h runs) b =
+    subst (λ (u : List ℕ). Runs (k ∷ kinds) u (first ∷ (pieces ++ piece ∷ [])) (behind ++ stack))
+    (sym (append_assoc text others t))
+    (step k inner kinds (behind ++ stack) text (others ++ t) first (pieces ++ piece ∷ []) h
+    (runs_on (inner ++ kinds) others pieces next stack t piece behind runs b))
+
+-- what is left of a text behind the beginnings that were read
+pub record Rest (left : List Kind) (bytes after : List ℕ) : Type 0 where
+  pub text : List ℕ
+  pub pieces : List Piece
+  pub are : AreTexts left text pieces
+  pub parts : bytes ≡ text ++ after
+
+-- one text's beginning is the other's, where both begin the same bytes
+same_step : (k : Kind) (a b : List ℕ) (p q : Piece) (behind inner : List Kind) (rest others : List ℕ) →
+    Begins k a p behind → Begins k b q inner → a ++ rest ≡ b ++ others → (behind ≡ inner) × (rest ≡ others)
+same_step k a b p q behind inner rest others h g e =
+    let same : done (beginning (type_name p) behind) rest ≡ done (beginning (type_name q) inner) others =
+    sym (begin_again k a p behind rest h) ∙ ap (begin_at k) e ∙ begin_again k b q inner others g in (
+      ap (λ (x : Beginning). x.more) (value_is (beginning (type_name p) behind)
+          (beginning (type_name q) inner) rest others same),
+      rest_is (beginning (type_name p) behind) (beginning (type_name q) inner) rest others same,
+    )
+
+first_of : (k : Kind) (kinds : List Kind) (text : List ℕ) (pieces : List Piece) →
+    AreTexts (k ∷ kinds) text pieces
+    → (a others : List ℕ) × (p : Piece) × (ps : List Piece) × (inner : List Kind) × Begins k a p inner
+    × AreTexts (inner ++ kinds) others ps × (text ≡ a ++ others)
+first_of k kinds _ _ (step _ inner _ _ a others p ps h runs) = (a, others, p, ps, inner, h, runs, refl)
+
+pub follows : (kinds : List Kind) (text : List ℕ) (pieces : List Piece) (left : List Kind) (rest : List ℕ)
+    (whole : List ℕ) (all : List Piece) (after : List ℕ)
+    → Runs kinds text pieces left → AreTexts kinds whole all → text ++ rest ≡ whole ++ after →
+    Rest left rest after
+follows _ _ _ left rest whole all after (stop _) h e =
+    record { text = whole; pieces = all; are = h; parts = e }
+follows _ _ _ left rest whole all after (step k behind kinds _ text others piece pieces b runs) h e =
+    let f = first_of k kinds whole all h in
+    let bytes : text ++ (others ++ rest) ≡ f.0 ++ (f.1 ++ after) =
+    sym (append_assoc text others rest) ∙ e ∙ ap (λ (u : List ℕ). u ++ after) f.7
+    ∙ append_assoc f.0 f.1 after in
+    let s = same_step k text f.0 piece f.2 behind f.4 (others ++ rest) (f.1 ++ after) b f.5 bytes in
+    follows (behind ++ kinds) others pieces left rest f.1 f.3 after runs
+    (subst (λ (u : List Kind). AreTexts (u ++ kinds) f.1 f.3) (sym s.0) f.6) s.1
+
+-- ---- the loop
+
+-- the bytes up to `rest` were read, these kinds are still to come, and these types were named
+pub record State (start : List Kind) (bytes rest : List ℕ) (stack : List Kind) (named : List ℕ) : Type 0 where
+  pub text : List ℕ
+  pub pieces : List Piece
+  pub parts : bytes ≡ text ++ rest
+  pub runs : Runs start text pieces stack
+  pub names : named ≡ type_names pieces
+
+pub begun : (start : List Kind) (bytes : List ℕ) → State start bytes bytes start []
+begun start bytes = record { text = []; pieces = []; parts = refl; runs = stop start; names = refl }
+
+pub goes_on : (start : List Kind) (bytes rest after : List ℕ) (next : Kind) (stack new : List Kind)
+    (named later : List ℕ) (b : Beginning) → State start bytes rest (next ∷ stack) named
+    → begin_at next rest ≡ Ok (b, after) → new ≡ b.more ++ stack → later ≡ named ++ names_of b.named →
+    State start bytes after new later
+goes_on start bytes rest after next stack new named later b s e new-is later-is =
+    let t = begin_sound next rest b after e in
+    let h = t.is_text in
+    record {
+      text = s.text ++ t.text;
+      pieces = s.pieces ++ h.piece ∷ [];
+      parts = s.parts ∙ ap (λ (u : List ℕ). s.text ++ u) t.parts ∙ sym (append_assoc s.text t.text after);
+      runs = subst (λ (u : List Kind). Runs start (s.text ++ t.text) (s.pieces ++ h.piece ∷ []) u)
+          (sym new-is) (runs_on start s.text s.pieces next stack t.text h.piece b.more s.runs h.begins);
+      names =
+          later-is ∙ ap (λ (u : List ℕ). u ++ names_of b.named) s.names
+          ∙ ap (λ o. type_names s.pieces ++ names_of o) (sym h.names)
+          ∙ ap (λ (u : List ℕ). type_names s.pieces ++ u) (sym (append-nil (names_of (type_name h.piece))))
+          ∙ sym (flat_map-append (λ p. names_of (type_name p)) s.pieces (h.piece ∷ []));
+    }
+
+pub scanned : (start : List Kind) (bytes rest : List ℕ) (stack : List Kind) (named : List ℕ) →
+    State start bytes rest stack named → stack ≡ [] → IsScanned start bytes rest named
+scanned start bytes rest stack named s e =
+    record {
+      text = s.text;
+      pieces = s.pieces;
+      parts = s.parts;
+      are =
+          subst (λ (u : List Kind). Runs start s.text s.pieces u) e s.runs;
+      named = s.names;
+    }
+
+no_reading : (x : Reading Beginning) (left : List ℕ) (b : Beginning) (rest : List ℕ) → x ≡ fault left →
+    x ≡ Ok (b, rest) → ⊥
+no_reading x left b rest e h = absurd cc
+
+pub refused : (start : List Kind) (bytes rest left : List ℕ) (next : Kind) (stack : List Kind)
+    (named : List ℕ) → State start bytes rest (next ∷ stack) named → begin_at next rest ≡ fault left
+    → (text after : List ℕ) (pieces : List Piece) → bytes ≡ text ++ after → AreTexts start text pieces → ⊥
+refused start bytes rest left next stack named s e text after pieces parts h =
+    let r = follows start s.text s.pieces (next ∷ stack) rest text pieces after s.runs h (sym s.parts ∙ parts)
+    in
+    let f = first_of next stack r.text r.pieces r.are in
+    let whole : rest ≡ f.0 ++ (f.1 ++ after) = r.parts ∙ ap (λ (u : List ℕ). u ++ after) f.7
+    ∙ append_assoc f.0 f.1 after in
+    no_reading (begin_at next rest) left (beginning (type_name f.2) f.4) (f.1 ++ after) e
+    (ap (begin_at next) whole ∙ begin_again next f.0 f.2 f.4 (f.1 ++ after) f.5)

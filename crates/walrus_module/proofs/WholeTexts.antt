@@ -1,0 +1,59 @@
+-- Expressions and function bodies, from a scan.
+use Rattle.std.proofs.Common.{◌≡◌, ℕ, List, [], ◌∷◌, ◌++◌, length, nat_eq, false, refl, sym, ap, subst, ◌∙◌, append-nil}
+use Rattle.walrus_module.specs.declared.kind.Kind.{Kind}
+use Rattle.walrus_module.specs.declared.scan.ScanError.{ScanError}
+use Rattle.walrus_module.specs.declared.scan.ScanError.TheVariants as scan
+use Rattle.walrus_module.specs.declared.kind.Kind.TheVariants as kind
+use Rattle.walrus_module.specs.Immediates.{Piece, AreTexts, stop}
+use Rattle.walrus_module.specs.Bodies.{IsBody, BeginsWithExpression, BeginsWithNone, IsNoBody}
+use Rattle.walrus_module.specs.Steps.Scans.{IsScanned, IsRefused}
+use Rattle.walrus_module.proofs.Scanning.{follows}
+
+pub begins : (bytes rest names : List ℕ) → IsScanned (kind.Expression ∷ []) bytes rest names →
+    BeginsWithExpression bytes rest names
+begins bytes rest names s =
+    record {
+      text = s.text;
+      parts = s.parts;
+      is_expression =
+          record { pieces = s.pieces; are = s.are; named = s.named };
+    }
+
+pub begins_none : (bytes : List ℕ) (e : ScanError) → IsRefused (kind.Expression ∷ []) bytes e →
+    BeginsWithNone bytes e
+begins_none bytes scan.Malformed h = λ rest names b.
+    h b.text rest b.is_expression.pieces b.parts b.is_expression.are
+begins_none bytes scan.Memory h = tt
+
+abbrev pub body : List Kind
+body = kind.Locals ∷ kind.Expression ∷ []
+
+pub is_body : (bytes rest names : List ℕ) → IsScanned body bytes rest names → rest ≡ [] → IsBody bytes names
+is_body bytes rest names s e =
+    let whole : s.text ≡ bytes = sym (append-nil s.text) ∙ ap (λ (u : List ℕ). s.text ++ u) (sym e)
+    ∙ sym s.parts in
+    record {
+      pieces = s.pieces;
+      are = subst (λ (u : List ℕ). AreTexts body u s.pieces) whole s.are;
+      named =
+          s.named;
+    }
+
+pub no_body : (bytes : List ℕ) (e : ScanError) → IsRefused body bytes e → IsNoBody bytes e
+no_body bytes scan.Malformed h = λ names b. h bytes [] b.pieces (sym (append-nil bytes)) b.are
+no_body bytes scan.Memory h = tt
+
+nothing_is_empty : (text : List ℕ) (pieces : List Piece) → AreTexts [] text pieces → text ≡ []
+nothing_is_empty _ _ (stop _) = refl
+
+-- where bytes are left behind a body, there is no body of all of them
+pub trailed : (bytes rest names : List ℕ) → IsScanned body bytes rest names → (rest ≡ [] → ⊥) →
+    (others : List ℕ) → IsBody bytes others → ⊥
+trailed bytes rest names s some others b =
+    let r = follows body s.text s.pieces [] rest bytes b.pieces [] s.are b.are (sym s.parts
+    ∙ sym (append-nil bytes)) in
+    some (r.parts ∙ append-nil r.text ∙ nothing_is_empty r.text r.pieces r.are)
+
+pub not_empty : (rest : List ℕ) → false ≡ nat_eq (length rest) 0 → rest ≡ [] → ⊥
+not_empty [] e h = absurd cc
+not_empty (b ∷ rest) e h = absurd cc

@@ -1,0 +1,38 @@
+-- Expressions and function bodies, and the types that they name.
+-- WebAssembly core specification, "Binary Format", expressions and code section.
+use Rattle.std.specs.Prelude.{◌≡◌, ℕ, List, [], ◌∷◌, ◌++◌}
+use Rattle.walrus_module.specs.declared.kind.Kind.{Kind}
+use Rattle.walrus_module.specs.declared.kind.Kind.TheVariants as kind
+use Rattle.walrus_module.specs.declared.scan.ScanError.{ScanError}
+use Rattle.walrus_module.specs.declared.scan.ScanError.TheVariants as scan
+use Rattle.walrus_module.specs.Immediates.{Piece, AreTexts, type_names}
+
+-- the bytes are texts of these kinds, and these are the types that they name from left to right
+pub record Names (kinds : List Kind) (bytes names : List ℕ) : Type 0 where
+  pub pieces : List Piece
+  pub are : AreTexts kinds bytes pieces
+  pub named : names ≡ type_names pieces
+
+-- instructions, with the `end` that no block has
+abbrev pub IsExpression : List ℕ → List ℕ → Type 0
+IsExpression = Names (kind.Expression ∷ [])
+
+-- what a function body has after its size: the types of its locals, and an expression
+abbrev pub IsBody : List ℕ → List ℕ → Type 0
+IsBody = Names (kind.Locals ∷ kind.Expression ∷ [])
+
+-- an expression was taken from the front of bytes
+pub record BeginsWithExpression (bytes rest names : List ℕ) : Type 0 where
+  pub text : List ℕ
+  pub parts : bytes ≡ text ++ rest
+  pub is_expression : IsExpression text names
+
+-- no expression begins the bytes, unless memory was refused
+abbrev pub BeginsWithNone : List ℕ → ScanError → Type 0
+BeginsWithNone bytes scan.Malformed = (rest names : List ℕ) → BeginsWithExpression bytes rest names → ⊥
+BeginsWithNone bytes scan.Memory = Unit {0}
+
+-- the bytes are no function body, unless memory was refused
+abbrev pub IsNoBody : List ℕ → ScanError → Type 0
+IsNoBody bytes scan.Malformed = (names : List ℕ) → IsBody bytes names → ⊥
+IsNoBody bytes scan.Memory = Unit {0}

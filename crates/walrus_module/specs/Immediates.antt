@@ -1,0 +1,149 @@
+-- The texts of instructions and of what they have after their opcodes, by the table of
+-- specs/Opcodes. One relation says which bytes are such a text and where each index is in it.
+-- WebAssembly core specification, "Binary Format", instructions, expressions and types.
+use Rattle.std.specs.Prelude.{◌≡◌, ℕ, zero, suc, ◌+◌, ◌/◌, ◌^◌, ◌<◌, ◌≤◌, Bool, true, false, List, [], ◌∷◌, ◌++◌, length, Option, Some, None, nat_eq, nat_le, ◌&&◌, ◌||◌, cond}
+use Rattle.std.specs.List.{flat_map}
+use Rattle.walrus_binary.specs.Leb128.{IsInteger, IsU32, IsS33}
+use Rattle.walrus_module.specs.declared.kind.Space.{Space}
+use Rattle.walrus_module.specs.declared.kind.Space.TheVariants as space
+use Rattle.walrus_module.specs.declared.kind.Kind.{Kind}
+use Rattle.walrus_module.specs.declared.kind.Kind.TheVariants as kind
+use Rattle.walrus_module.specs.Opcodes.{kinds_in, opcodes, aggregate_opcodes, bulk_opcodes, vector_opcodes, atomic_opcodes, tag_index, memory_index, label_index}
+
+-- ---- integers whose value plays no role
+
+abbrev pub IsU64 : List ℕ → ℕ → Type 0
+IsU64 = IsInteger 0x80 (2 ^ 64)
+
+-- A text of a signed integer from minus `limit` on and below `limit`. The bit 0x40 of the last byte
+-- is its sign.
+pub data IsSigned : ℕ → List ℕ → Type 0 where
+  positive : (limit byte : ℕ) → byte < 0x40 → byte < limit → IsSigned limit (byte ∷ [])
+  negative :
+      (limit byte : ℕ) → 0x40 ≤ byte → byte < 0x80 → 0x80 ≤ byte + limit
+      → IsSigned limit (byte ∷ [])
+  longer :
+      (limit byte : ℕ) (bytes : List ℕ) → 0x80 ≤ byte → byte < 0x100 → 0x40 < limit
+      → IsSigned (limit / 0x80) bytes → IsSigned limit (byte ∷ bytes)
+
+-- ---- pieces
+
+-- A piece of a text: an index, as a `u32` or as an `s33`, or bytes that name nothing.
+pub data Piece : Type 0 where
+  unsigned : Space → List ℕ → ℕ → Piece
+  signed : Space → List ℕ → ℕ → Piece
+  plain : List ℕ → Piece
+
+abbrev pub type_name : Piece → Option ℕ
+type_name (unsigned space.Type text k) = Some k
+type_name (unsigned _ text k) = None
+type_name (signed space.Type text k) = Some k
+type_name (signed _ text k) = None
+type_name (plain text) = None
+
+-- ---- choices by a byte
+
+abbrev pub is_abstract : ℕ → Bool
+is_abstract byte = nat_le 0x69 byte && nat_le byte 0x74
+
+abbrev pub value_kinds : ℕ → Option (List Kind)
+value_kinds byte =
+    cond (nat_le 0x7B byte && nat_le byte 0x7F || is_abstract byte) (Some [])
+    (cond (nat_le 0x63 byte && nat_le byte 0x64) (Some (kind.HeapType ∷ [])) None)
+
+abbrev pub and_then : Option (List Kind) → List Kind → Option (List Kind)
+and_then (Some kinds) others = Some (kinds ++ others)
+and_then None others = None
+
+-- What is behind a first byte that is no part of an integer. `None` says that the byte can't be
+-- there.
+abbrev pub behind_byte : Kind → ℕ → Option (List Kind)
+behind_byte kind.Zero byte = cond (nat_eq byte 0) (Some []) None
+behind_byte kind.CastFlags byte = cond (nat_le byte 3) (Some []) None
+behind_byte kind.CatchClause byte =
+    cond (nat_le byte 1) (Some (tag_index ∷ label_index ∷ []))
+    (cond (nat_le byte 3) (Some (label_index ∷ [])) None)
+behind_byte kind.HeapType byte =
+    cond (is_abstract byte) (Some [])
+    (cond (nat_eq byte 0x62) (Some (kind.Index space.Type ∷ [])) None)
+behind_byte kind.ValType byte = value_kinds byte
+behind_byte kind.BlockType byte = cond (nat_eq byte 0x40) (Some []) (value_kinds byte)
+behind_byte kind.Block byte =
+    cond (nat_eq byte 0x0B) (Some [])
+    (cond (nat_eq byte 0x18) (Some (label_index ∷ [])) (and_then (kinds_in opcodes byte) (kind.Block ∷ [])))
+behind_byte kind.Expression byte =
+    cond (nat_eq byte 0x0B) (Some []) (and_then (kinds_in opcodes byte) (kind.Expression ∷ []))
+behind_byte _ byte = None
+
+-- a heap type and a block type can be a type's index, in the form of an `s33`
+abbrev pub may_be_index : Kind → Bool
+may_be_index kind.HeapType = true
+may_be_index kind.BlockType = true
+may_be_index _ = false
+
+-- ---- choices by a number
+
+abbrev pub times : ℕ → Kind → List Kind
+times zero k = []
+times (suc n) k = k ∷ times n k
+
+-- What is behind a `u32` that is no index. `None` says that the number can't be there.
+abbrev pub behind_number : Kind → ℕ → Option (List Kind)
+behind_number kind.U32 n = Some []
+behind_number kind.MemArg n =
+    cond (nat_le n 63) (Some (kind.U64 ∷ []))
+    (cond (nat_le n 127) (Some (memory_index ∷ kind.U64 ∷ [])) None)
+behind_number kind.Labels n = Some (times n label_index)
+behind_number kind.ValTypes n = Some (times n kind.ValType)
+behind_number kind.CatchClauses n = Some (times n kind.CatchClause)
+behind_number kind.Local n = Some (kind.ValType ∷ [])
+behind_number kind.Locals n = Some (times n kind.Local)
+behind_number kind.Aggregate n = kinds_in aggregate_opcodes n
+behind_number kind.Bulk n = kinds_in bulk_opcodes n
+behind_number kind.Vector n = kinds_in vector_opcodes n
+behind_number kind.Atomic n = kinds_in atomic_opcodes n
+behind_number _ n = None
+
+-- ---- texts
+
+-- The bytes with which a text of this kind begins, the piece that they are, and the kinds of what
+-- the text still has behind them.
+pub data Begins : Kind → List ℕ → Piece → List Kind → Type 0 where
+  index :
+      (s : Space) (text : List ℕ) (k : ℕ) → IsU32 text k
+      → Begins (kind.Index s) text (unsigned s text k) []
+  signed_index :
+      (k : Kind) (text : List ℕ) (n : ℕ) → may_be_index k ≡ true → IsS33 text n
+      → Begins k text (signed space.Type text n) []
+  number :
+      (k : Kind) (text : List ℕ) (n : ℕ) (kinds : List Kind)
+      → IsU32 text n → behind_number k n ≡ Some kinds → Begins k text (plain text) kinds
+  byte :
+      (k : Kind) (first : ℕ) (kinds : List Kind)
+      → behind_byte k first ≡ Some kinds → Begins k (first ∷ []) (plain (first ∷ [])) kinds
+  offset : (text : List ℕ) (n : ℕ) → IsU64 text n → Begins kind.U64 text (plain text) []
+  i32 : (text : List ℕ) → IsSigned (2 ^ 31) text → Begins kind.S32 text (plain text) []
+  i64 : (text : List ℕ) → IsSigned (2 ^ 63) text → Begins kind.S64 text (plain text) []
+  raw : (text : List ℕ) (n : ℕ) → 0 < n → length text ≡ n → Begins (kind.Bytes n) text (plain text) []
+
+-- Bytes from the first of these kinds on, their pieces, and the kinds that are still to come behind
+-- them. With `[]` to come, they are a whole text.
+pub data Runs : List Kind → List ℕ → List Piece → List Kind → Type 0 where
+  stop : (kinds : List Kind) → Runs kinds [] [] kinds
+  step :
+      (k : Kind) (more kinds left : List Kind) (text others : List ℕ) (piece : Piece)
+      (pieces : List Piece)
+      → Begins k text piece more → Runs (more ++ kinds) others pieces left
+      → Runs (k ∷ kinds) (text ++ others) (piece ∷ pieces) left
+
+-- texts of these kinds one after another, by their pieces
+abbrev pub AreTexts : List Kind → List ℕ → List Piece → Type 0
+AreTexts kinds text pieces = Runs kinds text pieces []
+
+-- the types that the pieces name, from left to right
+abbrev pub names_of : Option ℕ → List ℕ
+names_of (Some k) = k ∷ []
+names_of None = []
+
+abbrev pub type_names : List Piece → List ℕ
+type_names pieces = flat_map (λ p. names_of (type_name p)) pieces

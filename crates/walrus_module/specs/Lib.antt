@@ -1,0 +1,5 @@
+pub mod Sections
+pub mod Opcodes
+pub mod Immediates
+pub mod Bodies
+pub mod Steps

@@ -1,0 +1,122 @@
+//! Integers in LEB128.
+//! WebAssembly core specification, "Binary Format", integers.
+ghost use Rattle.std.specs.Prelude.{◌≡◌, ◌≤◌, ◌<◌, ◌^◌, IfSome};
+ghost use Rattle.walrus_binary.specs.Steps.Reading.{Finds, integer_at, u32_at, s33_at};
+ghost use Rattle.walrus_module.specs.Steps.Heads.{Finds as Skips, skip_at, signed_at};
+
+const U32_LIMIT: u64 = 1 << 32;
+
+/// Takes a `u32` from the front. With `None` the input is left where an integer was expected.
+pub fn read_u32(input: &mut &[u8]) -> Option<u32>
+    ensures { Finds result input.new.now (u32_at input.old.now) }
+{
+    let number = read_integer(0x80, U32_LIMIT, input)?;
+    Some(number as u32)
+}
+
+/// Takes a number below `limit` whose last byte is below `end`.
+#[tactic(auto, unfolding(walrus_binary::specs::Steps::Reading::integer_at))]
+fn read_integer(end: u8, limit: u64, input: &mut &[u8]) -> Option<u64>
+    requires { limit ≤ 2 ^ 32 }
+    ensures finds { Finds result input.new.now (integer_at end limit input.old.now) }
+    ensures bound { IfSome result (λ n. n < limit) }
+{
+    let [byte, rest @ ..] = *input else {
+        return None;
+    };
+    let byte = *byte;
+    if byte < 0x80 {
+        if byte >= end || u64::from(byte) >= limit {
+            return None;
+        }
+        *input = rest;
+        return Some(u64::from(byte));
+    }
+    if limit <= 0x80 {
+        return None;
+    }
+    *input = rest;
+    let high = read_integer(end, limit / 0x80, input)?;
+    Some(high * 0x80 + u64::from(byte - 0x80))
+}
+
+/// Takes a type's index as an `s33` from the front.
+pub fn read_s33(input: &mut &[u8]) -> Option<u32>
+    ensures { Finds result input.new.now (s33_at input.old.now) }
+{
+    let number = read_integer(0x40, U32_LIMIT, input)?;
+    Some(number as u32)
+}
+
+/// Takes a `u64`, whose value plays no role.
+pub fn skip_u64(input: &mut &[u8]) -> Option<()>
+    ensures { Skips (λ u. tt) result input.new.now (skip_at (2 ^ 64) input.old.now) }
+{
+    skip_integer(1 << 64, input)
+}
+
+/// Takes an `s32`, whose value plays no role.
+pub fn skip_s32(input: &mut &[u8]) -> Option<()>
+    ensures { Skips (λ u. tt) result input.new.now (signed_at (2 ^ 31) input.old.now) }
+{
+    skip_signed(1 << 31, input)
+}
+
+/// Takes an `s64`, whose value plays no role.
+pub fn skip_s64(input: &mut &[u8]) -> Option<()>
+    ensures { Skips (λ u. tt) result input.new.now (signed_at (2 ^ 63) input.old.now) }
+{
+    skip_signed(1 << 63, input)
+}
+
+#[tactic(auto, unfolding(crate::specs::Steps::Heads::skip_at))]
+fn skip_integer(limit: u128, input: &mut &[u8]) -> Option<()>
+    ensures { Skips (λ u. tt) result input.new.now (skip_at limit input.old.now) }
+{
+    let [byte, rest @ ..] = *input else {
+        return None;
+    };
+    let byte = *byte;
+    if byte < 0x80 {
+        if u128::from(byte) >= limit {
+            return None;
+        }
+        *input = rest;
+        return Some(());
+    }
+    if limit <= 0x80 {
+        return None;
+    }
+    *input = rest;
+    skip_integer(limit / 0x80, input)
+}
+
+#[tactic(auto, unfolding(crate::specs::Steps::Heads::signed_at))]
+fn skip_signed(limit: u64, input: &mut &[u8]) -> Option<()>
+    requires { limit ≤ 2 ^ 63 }
+    ensures { Skips (λ u. tt) result input.new.now (signed_at limit input.old.now) }
+{
+    let [byte, rest @ ..] = *input else {
+        return None;
+    };
+    let byte = *byte;
+    if byte < 0x40 {
+        if u64::from(byte) >= limit {
+            return None;
+        }
+        *input = rest;
+        return Some(());
+    }
+    if byte < 0x80 {
+        if u64::from(byte) + limit < 0x80 {
+            return None;
+        }
+        *input = rest;
+        return Some(());
+    }
+    if limit <= 0x40 {
+        return None;
+    }
+    *input = rest;
+    skip_signed(limit / 0x80, input)
+}

@@ -1,0 +1,111 @@
+//! Where a bad line stops being one of a section, and what has to be there.
+ghost use Rattle.walrus_text.specs.Words.{words_of};
+ghost use Rattle.walrus_text.specs.Steps.Parts.{BeginsWith, IsFieldWord, IsValWord};
+
+use crate::error::Expected;
+use crate::parse::entry::{after_word, finality, next_field, next_value, supertype};
+use crate::words::{is_blank, next_word};
+
+/// What has to be where a bad line goes wrong, and the column of that place, counted from 1. A line
+/// in a recursion group may be `end`, and one outside may be `rec`.
+pub fn find_fault(line: &[u8], is_in_group: bool) -> (Expected, usize) {
+    let (expected, rest) = wrong_rest(line, is_in_group);
+    (
+        expected,
+        line.len()
+            .saturating_sub(word_and_rest_len(rest))
+            .saturating_add(1),
+    )
+}
+
+/// The number of bytes from the first word on.
+fn word_and_rest_len(rest: &[u8]) -> usize {
+    match next_word(rest) {
+        Some((word, after)) => word.len().saturating_add(after.len()),
+        None => 0,
+    }
+}
+
+/// What has to be where a bad line goes wrong, and the rest of the line from there on.
+fn wrong_rest(line: &[u8], is_in_group: bool) -> (Expected, &[u8]) {
+    if let Some(rest) = after_word(line, b"rec") {
+        return after_bracket(line, rest, is_in_group);
+    }
+    if let Some(rest) = after_word(line, b"end") {
+        return after_bracket(line, rest, is_in_group);
+    }
+    let (is_final, after_open) = finality(line);
+    let (number, rest) = supertype(after_open);
+    if let Some(params) = after_word(rest, b"func") {
+        return in_function(params);
+    }
+    if let Some(fields) = after_word(rest, b"struct") {
+        return (Expected::FieldOrLineEnd, after_fields(fields));
+    }
+    if let Some(field) = after_word(rest, b"array") {
+        return in_array(field);
+    }
+    if number.is_some() {
+        return (Expected::Composite, rest);
+    }
+    if is_final {
+        (beginning(is_in_group), rest)
+    } else {
+        (Expected::SupertypeOrComposite, rest)
+    }
+}
+
+/// What a line has to begin with.
+fn beginning(is_in_group: bool) -> Expected {
+    if is_in_group {
+        Expected::DefinitionOrEnd
+    } else {
+        Expected::DefinitionOrRec
+    }
+}
+
+/// The fault of a line that begins with `rec` or `end`.
+fn after_bracket<'a>(line: &'a [u8], rest: &'a [u8], is_in_group: bool) -> (Expected, &'a [u8]) {
+    if is_blank(rest) {
+        (beginning(is_in_group), line)
+    } else {
+        (Expected::LineEnd, rest)
+    }
+}
+
+fn in_function(params: &[u8]) -> (Expected, &[u8]) {
+    let rest = after_values(params);
+    match after_word(rest, b"->") {
+        Some(results) => (Expected::ValueTypeOrLineEnd, after_values(results)),
+        None => (Expected::ValueTypeOrArrow, rest),
+    }
+}
+
+fn in_array(line: &[u8]) -> (Expected, &[u8]) {
+    match next_field(line) {
+        Some((_, rest)) => (Expected::LineEnd, rest),
+        None => (Expected::Field, line),
+    }
+}
+
+/// The rest of a line after the value types that it begins with.
+fn after_values(line: &[u8]) -> &[u8]
+    ensures { ¬ BeginsWith IsValWord (words_of result.now) }
+{
+    let mut rest = line;
+    while let Some((_, after)) = next_value(rest) {
+        rest = after;
+    }
+    rest
+}
+
+/// The rest of a line after the fields that it begins with.
+fn after_fields(line: &[u8]) -> &[u8]
+    ensures { ¬ BeginsWith IsFieldWord (words_of result.now) }
+{
+    let mut rest = line;
+    while let Some((_, after)) = next_field(rest) {
+        rest = after;
+    }
+    rest
+}

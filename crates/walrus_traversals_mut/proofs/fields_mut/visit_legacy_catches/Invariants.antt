@@ -1,0 +1,12 @@
+use Rattle.std.proofs.Common.{ℕ}
+use Rattle.instr.specs.declared.exceptions.LegacyCatch.{LegacyCatch}
+use Rattle.walrus_ir.specs.Fields.{legacy_fields}
+use Rattle.walrus_ir.proofs.Calls.{Done}
+use Rattle.walrus_traversals_mut.specs.Steps.{keeping}
+use Rattle.walrus_traversals_mut.proofs.fields_mut.visit_legacy_catches.Given as goal
+
+abbrev pub invariant-loop-i : goal.invariant-loop-i
+invariant-loop-i g l =
+    Done {K =
+    ℕ} (keeping g.V.VisitorMut.step) legacy_fields (λ (x : LegacyCatch). 0) l.initial.visitor
+    l.initial.clauses l.visitor l.clauses l.i

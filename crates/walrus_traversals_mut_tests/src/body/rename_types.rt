@@ -1,0 +1,64 @@
+//! Types of a body change places.
+use super::functions::add_typed;
+use super::*;
+use crate::assertions::assert_equal;
+use walrus_ir::{CallIndirect, CallRef, HeapType, InstrSeqType, RefTest, TypeId};
+use walrus_traversals::used_ids;
+use walrus_traversals_mut::{Nesting, RenameTypes, check_nesting, dfs_pre_order_mut};
+
+// The block of sequence 0 has the type 0. The types 1, 0 and 2 are named before it, 0 and 1 in it.
+fn body(rt: &impl Abort, alloc: Global) -> LocalFunction {
+    let mut f = FunctionBuilder::without_entry(alloc, id(0));
+    let entry = vec![in alloc;
+        Instr::from(CallRef { ty: id(1) }),
+        Instr::from(RefTest {
+            nullable: true,
+            heap_type: HeapType::Exact(id(0))
+        }),
+        Instr::from(CallIndirect {
+            ty: id(2),
+            table: id(0)
+        }),
+        Instr::from(Block { seq: id(1) }),
+    ]
+    .expect(rt, "memory");
+    add_typed(alloc, &mut f, NOTHING, entry).expect(rt, "memory");
+    let inside = vec![in alloc; Instr::from(CallRef { ty: id(1) })].expect(rt, "memory");
+    add_typed(alloc, &mut f, InstrSeqType::MultiValue(id(0)), inside).expect(rt, "memory");
+    f.local_func(Vec::new(alloc))
+}
+
+// The body names these types, in this order.
+fn names(rt: &impl Abort, alloc: Global, func: &LocalFunction, wanted: &[usize]) {
+    let ids = used_ids(alloc, func, id(0)).expect(rt, "memory");
+    let ids = ids.expect(rt, "a nested body");
+    let mut list = Vec::new(alloc);
+    for ty in ids.types.as_slice() {
+        list.push(ty.index()).expect(rt, "memory");
+    }
+    assert_equal(rt, list.as_slice(), wanted);
+}
+
+// Renames the types of the body by the list of their new ids, and tells whether all was walked.
+fn is_renamed(
+    alloc: Global,
+    func: &mut LocalFunction,
+    names: Vec<TypeId>,
+) -> Result<bool, AllocError> {
+    let start = id(0);
+    let mut visitor = RenameTypes::new(names);
+    match check_nesting(alloc, func, start)? {
+        Nesting::Nested(_) => Ok(dfs_pre_order_mut(alloc, &mut visitor, func, start).is_ok()),
+        Nesting::Cycle { .. } | Nesting::Unknown(_) => Ok(false),
+    }
+}
+
+#[test]
+fn two_types_change_places(rt: HostRuntime) {
+    let alloc = rt.alloc();
+    let mut func = body(&rt, alloc);
+    names(&rt, alloc, &func, &[1, 0, 2, 0, 1]);
+    let new: Vec<TypeId> = vec![in alloc; id(1), id(0)].expect(&rt, "memory");
+    assert!(rt; is_renamed(alloc, &mut func, new).expect(&rt, "memory"));
+    names(&rt, alloc, &func, &[0, 1, 2, 1, 0]);
+}

@@ -1,0 +1,57 @@
+//! The allocator, and what a refused request for memory leads to.
+use std::collections::TryReserveError;
+use std::{error, fmt};
+
+/// Memory was refused.
+#[derive(Clone, Copy, PartialEq, Eq, PartialOrd, Ord, Hash, Debug, crate::TryClone)]
+pub struct AllocError;
+
+impl fmt::Display for AllocError {
+    fn fmt(&self, f: &mut fmt::Formatter<'_>) -> fmt::Result {
+        f.write_str("out of memory")
+    }
+}
+
+impl error::Error for AllocError {}
+
+impl From<TryReserveError> for AllocError {
+    fn from(_: TryReserveError) -> AllocError {
+        AllocError
+    }
+}
+
+/// Writing to a text fails only where memory is refused.
+impl From<fmt::Error> for AllocError {
+    fn from(_: fmt::Error) -> AllocError {
+        AllocError
+    }
+}
+
+/// Memory was refused to a call that was given this value.
+#[derive(Clone, Copy, PartialEq, Eq, Debug)]
+pub struct AllocFailed<T> {
+    pub value: T,
+}
+
+impl<T> fmt::Display for AllocFailed<T> {
+    fn fmt(&self, f: &mut fmt::Formatter<'_>) -> fmt::Result {
+        AllocError.fmt(f)
+    }
+}
+
+impl<T: fmt::Debug> error::Error for AllocFailed<T> {}
+
+impl<T> From<AllocFailed<T>> for AllocError {
+    fn from(_: AllocFailed<T>) -> AllocError {
+        AllocError
+    }
+}
+
+/// Rust's global allocator.
+#[derive(Clone, Copy, PartialEq, Eq, PartialOrd, Ord, Hash, Debug, Default, crate::TryClone)]
+pub struct Global;
+
+/// An allocator. There is one alone.
+pub trait Allocator {}
+
+impl Allocator for Global {}

@@ -1,0 +1,56 @@
+//! What the libraries of Ruffdresser need of the Rattle toolchain's standard library, over Rust's.
+//!
+//! Containers are Rust's own. A call that takes memory has a twin here that returns an error where
+//! memory is refused, such as [`try_push`](vec::VecExt::try_push) for `push`. The
+//! allocator is always [`Global`](alloc::Global), Rust's.
+#![forbid(unsafe_code)]
+
+extern crate self as rattle_std;
+
+pub mod alloc;
+pub mod clone;
+pub mod collections;
+pub mod guards;
+pub mod hash;
+pub mod io;
+pub mod map;
+pub mod rt;
+pub mod string;
+pub mod vec;
+
+pub use clone::TryClone;
+pub use rattle_std_derive::{DeriveWhere, Error, TryClone};
+pub use rt::{boxed, env, fs, process, random, rc, test};
+
+/// The names that each module of the libraries has.
+pub mod prelude {
+    pub use crate::clone::TryClone;
+    pub use crate::collections::{MapExt, SetExt};
+    pub use crate::rt::{AllocGlobal, HostRuntime};
+    pub use crate::string::{DisplayExt, StringExt};
+    pub use crate::vec::{SliceExt, VecExt};
+    pub use std::fmt::Write as _;
+}
+
+/// A list of these items, or of an item and its repetitions, or the error of a refused request for
+/// memory.
+#[macro_export]
+macro_rules! vec_in {
+    ($alloc:expr) => {
+        $crate::vec::from_array($alloc, [])
+    };
+    ($alloc:expr; $item:expr; $count:expr) => {
+        $crate::vec::repeated($alloc, $item, $count)
+    };
+    ($alloc:expr; $($item:expr),* $(,)?) => {
+        $crate::vec::from_array($alloc, [$($item),*])
+    };
+}
+
+/// A text, as `format!` makes it, or the error of a refused request for memory.
+#[macro_export]
+macro_rules! format_in {
+    ($alloc:expr; $($format:tt)*) => {
+        $crate::string::format($alloc, format_args!($($format)*))
+    };
+}

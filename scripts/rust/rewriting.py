@@ -1,0 +1,140 @@
+"""Rewrites Rattle's text without contracts as Rust's.
+
+Each rule is a pattern and what is put in its place. A call that takes memory gets another name, since Rust's own type
+has one of the old name that can't be refused: `push` is `try_push`.
+"""
+import re
+
+import contracts
+
+CRATE = 'rattle_std'
+# What Rust's standard library has under the same name and with the same meaning stays as it is.
+OTHER_MODULES = 'alloc|collections|env|fs|hash|process::Abort|random|rt|test'
+REFUSABLE = 'push|insert|reserve|extend_from_slice|sort|push_str|to_vec|clone'
+# Rust's maps and sets: a call `try_insert` of theirs is to come with another meaning.
+MAPS = r'self\.map|self\.by_id|seen|(?<!\.)names'
+# What only clauses name is unused in Rust.
+LINTS = '''#![forbid(unsafe_code)]
+#![allow(unused_imports, unused_variables, dead_code, non_contiguous_range_endpoints)]
+
+'''
+
+RULES = [
+    # Ghosts.
+    (r'^use std::marker::Model;\n', ''),
+    (r'\bstd::marker::\{Model, PhantomData\}', 'std::marker::PhantomData'),
+    (r'^(?:///.*\n)*impl(?:<[^{]*?>)? Model for [^{]*\{\s*\}\n', ''),
+    # A type with drops of its own is any type.
+    (r'^ *\w+: Drop,\n', ''),
+    (r' \+ Drop\b', ''),
+    (r'\b(\w+): Drop\b', r'\1'),
+    (r'^ *#\[derive\(Drop\)\]\n', ''),
+    (r'(#\[derive\([^)]*?), Drop\b', r'\1'),
+    (r'<T: Copy>', '<T: Copy + TryClone>'),
+    # The allocator is always `Global`.
+    (r'^ *A: (?:Copy|Clone),\n', ''),
+    (r', A: Allocator(?: \+ \w+)*(?: = Global)?>', '>'),
+    (r', A>', '>'),
+    (r'\balloc: A\b', 'alloc: Global'),
+    (r'::new\(&alloc\)', '::new(alloc)'),
+    (r'\*([\w.]+)\.allocator\(\)', f'{CRATE}::alloc::Global'),
+    # Names of the standard library.
+    (r'\bstd::process::\{Abort, (\w+)\}', rf'{CRATE}::process::{{Abort, \1}}'),
+    (rf'\bstd::({OTHER_MODULES})\b', rf'{CRATE}::\1'),
+    (r'\bstd::\{env, fs\}', f'{CRATE}::{{env, fs}}'),
+    (r'^use thiserror::Error;\n', f'use {CRATE}::Error;\n'),
+    # Printing.
+    (r'<W: (?:std::)?fmt::Write>\(', '('),
+    (r'\bfmt::Formatter<W>', "fmt::Formatter<'_>"),
+    (r'\bFormatter<W>', "Formatter<'_>"),
+    # A map that users name is Rust's.
+    (r'^(pub type .* = )HashMap<', rf'\1{CRATE}::collections::HostMap<'),
+    # Macros.
+    (r'\bvec!\[\s*in\b', f'{CRATE}::vec_in!['),
+    (r'\bformat!\(\s*in\b', f'{CRATE}::format_in!('),
+    (r'\b(assert(?:_eq|_ne)?|panic|unreachable)!\(&?rt;\s*', r'\1!('),
+    # What is refused.
+    (r'\bVec::new\(', f'{CRATE}::vec::new('),
+    (r'\bVec::with_capacity\(', f'{CRATE}::vec::with_capacity('),
+    (r'\bVec::from_slice\(', f'{CRATE}::vec::from_slice('),
+    (r'\.to_string\((?=\w)', '.try_to_string('),
+    (r'\bString::new\(', f'{CRATE}::string::new('),
+    (r'\bString::from_str\(', f'{CRATE}::string::from_str('),
+    (r'\bHashMap::(new|with_hasher)\(', rf'{CRATE}::collections::map_\1('),
+    (r'\bHashSet::(new|with_hasher)\(', rf'{CRATE}::collections::set_\1('),
+    (r'\bIdHashMap::(new|with_hasher)\(', rf'{CRATE}::collections::map_\1('),
+    (r'\bIdHashSet::(new|with_hasher)\(', rf'{CRATE}::collections::set_\1('),
+    (r'\bRc::new\(', f'{CRATE}::rc::new('),
+    (r'\bBox::new\(', f'{CRATE}::boxed::new('),
+    (r'\bBufWriter::new\(', f'{CRATE}::io::buf_writer('),
+    (rf'\b({MAPS})\.insert\(', r'\1.try_put('),
+    (rf'\.({REFUSABLE})\(', r'.try_\1('),
+    (r'\bfn (push|insert|clone)(<[^(]*>)?\(&', r'fn try_\1\2(&'),
+    (r'\.expect\(\s*&?rt,\s*', '.expect('),
+    (r'\.unwrap\(&?rt\)', '.unwrap()'),
+    (r'\bFail::new\(', f'{CRATE}::test::fail('),
+    # Entries of programs and of tests.
+    (r'(#\[test\]\n\s*fn \w+\()rt: HostRuntime(\)[^{]*\{)', r'\1\2 let rt = HostRuntime;'),
+    (r'^(fn main\()rt: HostRuntime(\)[^{]*\{)', r'\1\2\n    let rt = HostRuntime;'),
+]
+COMPILED = [(re.compile(pattern, re.M), text) for pattern, text in RULES]
+
+
+def rewrite_derives(text):
+    """A derived `Clone` is both Rust's and one that can be refused."""
+    def derived(found):
+        return re.sub(r'\bClone\b', f'Clone, {CRATE}::TryClone', found[0])
+
+    text = re.sub(r'#\[derive\([^)]*\)\]', derived, text)
+    with_derive = rf'\1#[derive({CRATE}::DeriveWhere)]\n\1#[derive_where('
+    return re.sub(r'^( *)#\[derive_where\((?!skip)', with_derive, text, flags=re.M)
+
+
+def rewrite_clones(text):
+    """The trait `Clone` can be refused. A type that has it gets Rust's too."""
+    parts = re.split(r'(#\[derive[^\n]*\n|//[^\n]*\n)', text)
+    parts = [part if at % 2 else re.sub(r'(?<!::)\bClone\b', 'TryClone', part) for at, part in enumerate(parts)]
+    text = ''.join(parts)
+    return re.sub(r'^impl(<.*>)? TryClone for (.*?) \{\n', add_clone, text, flags=re.M)
+
+
+def add_clone(found):
+    generics, name = found[1] or '', found[2]
+    return (f'impl{generics} Clone for {name} {{\n    fn clone(&self) -> Self {{\n'
+            f'        {CRATE}::clone::cloned(self)\n    }}\n}}\n\n{found[0]}')
+
+
+def with_prelude(text, is_root):
+    """The text with the prelude, behind what has to come first in a file. The root of a crate has lints too."""
+    lints = LINTS if is_root else ''
+    head = re.match(r'(?:(?://!.*|#!\[.*\])?\n)*', text)
+    return f'{text[:head.end()]}{lints}use {CRATE}::prelude::*;\n{text[head.end():]}'
+
+
+def mark_examples(text):
+    """Examples in docs are in Rattle's words, so that `cargo test` does not run them."""
+    lines, is_inside = [], False
+    for line in text.split('\n'):
+        fence = re.fullmatch(r'(\s*//[/!] ```)(\w*)', line)
+        if fence:
+            line = line if is_inside or fence[2] not in ('', 'rust') else f'{fence[1]}ignore'
+            is_inside = not is_inside
+        lines.append(line)
+    return '\n'.join(lines)
+
+
+def rewrite(text):
+    """The text in Rust, without its prelude. Rules see no strings."""
+    strings = []
+
+    def hide(token):
+        if token.lastgroup != 'string':
+            return token[0]
+        strings.append(token[0])
+        return f'"\x05{len(strings) - 1}\x06"'
+
+    text = contracts.TOKEN.sub(hide, text)
+    for pattern, new in COMPILED:
+        text = pattern.sub(new, text)
+    text = contracts.without_gaps(rewrite_clones(rewrite_derives(text)))
+    return mark_examples(re.sub('"\x05(\\d+)\x06"', lambda found: strings[int(found[1])], text))

@@ -1,0 +1,146 @@
+"""Writes the Cargo workspace: the stand-in for the toolchain's standard library, and a crate for each crate here."""
+import os
+import re
+import shutil
+
+import contracts
+import documents
+import facade
+import guards
+import rewriting
+
+HERE = os.path.dirname(os.path.abspath(__file__))
+ROOT = os.path.dirname(os.path.dirname(HERE))
+ROOTS = ['src/lib.rt', 'src/main.rt']
+STAND_INS = ['rattle_std', 'rattle_std_derive']
+MANIFEST = '''[package]
+name = "{name}"
+version = "0.1.0"
+edition = "2024"
+rust-version = "1.88"
+license = "MIT OR Apache-2.0"
+
+[dependencies]
+{dependencies}'''
+WORKSPACE = '''[workspace]
+members = [{members}]
+resolver = "3"
+
+[profile.release]
+lto = "fat"
+codegen-units = 1
+'''
+LICENSES = ['LICENSE.md', 'LICENSE-MIT', 'LICENSE-APACHE']
+PAGE = '''# Ruffdresser for Rust
+
+Libraries for WebAssembly type sections and function bodies. The crate `ruffdresser` has the names of all of them.
+
+`scripts/rust_crate` of Ruffdresser wrote these crates, from sources that are proved in Rattle. Its page docs/RUST.md
+says what is proved and what is trusted. Changes made here are lost when it runs again.
+'''
+
+
+def read(path):
+    with open(path, encoding='utf-8') as file:
+        return file.read()
+
+
+def write(path, text):
+    os.makedirs(os.path.dirname(path), exist_ok=True)
+    with open(path, 'w', encoding='utf-8') as file:
+        file.write(text)
+
+
+def crates():
+    """The crates of crates.txt, each with the crates of this repository that it depends on."""
+    lines = re.findall(r'^(\w+)[^:#\n]*:(.*)$', read(f'{ROOT}/crates.txt'), re.M)
+    named = [name for name, _ in lines]
+    return {name: [it for it in below.split() if it in named] for name, below in lines}
+
+
+def sources(crate):
+    """The paths of the files of a crate, from its folder on."""
+    top = f'{ROOT}/crates/{crate}'
+    found = []
+    for folder, _, files in os.walk(f'{top}/src'):
+        found += [os.path.relpath(f'{folder}/{it}', top) for it in files if it.endswith('.rt')]
+    return sorted(found)
+
+
+def is_program(crate):
+    return 'src/main.rt' in sources(crate)
+
+
+def is_library(crate):
+    return not is_program(crate) and not crate.endswith('_tests')
+
+
+def rust_text(crate, path):
+    """A file of a crate in Rust."""
+    stripped = contracts.strip(read(f'{ROOT}/crates/{crate}/{path}'))
+    text = rewriting.with_prelude(rewriting.rewrite(stripped.text), path in ROOTS)
+    exported = exports(crate) if is_library(crate) else set()
+    for number, function in enumerate(stripped.functions):
+        is_law = documents.is_law(path)
+        docs = documents.docs_of(function, is_law) if documents.is_exported(function, exported, path) else []
+        text = documents.fill(text, contracts.docs_mark(number), docs)
+        is_guarded = not is_law and (documents.is_exported(function, exported, path) or function.is_of_trait)
+        first = guards.statements(function) if is_guarded else ''
+        text = text.replace(contracts.body_mark(number), first)
+    text = re.sub(r'\n{3,}', '\n\n', guards.insert(path, text))
+    return facade.with_std(text) if crate == facade.NAME and path in ROOTS else text
+
+
+def exports(crate):
+    """The names that the root of a library exports."""
+    found = re.findall(r'^pub use (?:\w+::)+(?:\{([^}]*)\}|(\w+));', read(f'{ROOT}/crates/{crate}/src/lib.rt'), re.M)
+    return {name for several, one in found for name in (re.findall(r'\w+', several) or [one])}
+
+
+def required():
+    """The guarded functions of all libraries: the crate, the function and its guards. Also how many are public."""
+    found, count = [], 0
+    for crate in (it for it in crates() if is_library(it)):
+        names = exports(crate)
+        for path in (it for it in sources(crate) if not documents.is_law(it)):
+            functions = contracts.strip(read(f'{ROOT}/crates/{crate}/{path}')).functions
+            public = [it for it in functions if documents.is_exported(it, names, path)]
+            count += len(public)
+            found += [(crate, it, guards.guards_of(it)) for it in public if guards.guards_of(it)]
+    return found, count
+
+
+def write_manifest(out, crate, below):
+    lines = [f'{it} = {{ path = "../{it}" }}\n' for it in ['rattle_std', *below]]
+    write(f'{out}/{crate}/Cargo.toml', MANIFEST.format(name=crate, dependencies=''.join(lines)))
+
+
+def write_facade(out, libraries):
+    """Writes the crate with the names of all libraries, where this repository has none."""
+    roots = {it: read(f'{ROOT}/crates/{it}/src/lib.rt') for it in libraries}
+    write(f'{out}/{facade.NAME}/src/lib.rs', facade.root(roots))
+    write_manifest(out, facade.NAME, libraries)
+
+
+def is_writable(out):
+    """Whether the folder is missing or empty, or a workspace that was written before."""
+    return not os.path.isdir(out) or not os.listdir(out) or os.path.isdir(f'{out}/{STAND_INS[0]}')
+
+
+def write_workspace(out):
+    for crate in STAND_INS:
+        shutil.copytree(f'{HERE}/{crate}', f'{out}/{crate}', dirs_exist_ok=True)
+    all_crates = crates()
+    guards.check_paths({path for crate in all_crates for path in sources(crate)})
+    for crate, below in all_crates.items():
+        for path in sources(crate):
+            write(f'{out}/{crate}/{path[:-3]}.rs', rust_text(crate, path))
+        write_manifest(out, crate, below)
+    if facade.NAME not in all_crates:
+        write_facade(out, [it for it in all_crates if is_library(it)])
+    write(f'{out}/{facade.NAME}/tests/guards.rs', read(f'{HERE}/guard_tests.rs'))
+    for name in LICENSES:
+        shutil.copy(f'{ROOT}/{name}', f'{out}/{name}')
+    write(f'{out}/README.md', PAGE)
+    members = [*STAND_INS, *all_crates, *([] if facade.NAME in all_crates else [facade.NAME])]
+    write(f'{out}/Cargo.toml', WORKSPACE.format(members=', '.join(f'"{it}"' for it in members)))
