@@ -84,6 +84,18 @@ fn no_entries_are_before_a_place_past_the_end() {
 }
 
 #[test]
+#[should_panic(expected = "required: `index` is not past the end")]
+fn no_item_is_put_past_the_end() {
+    let _ = Listed::from_vec(vec![1]).try_insert(2, 3);
+}
+
+#[test]
+#[should_panic(expected = "required: `index` is below the length")]
+fn no_item_is_taken_from_the_end() {
+    Listed::from_vec(vec![1]).remove(1);
+}
+
+#[test]
 #[should_panic(expected = "required: `number` is not 0xffff_ffff")]
 fn the_default_location_has_no_number() {
     let _ = InstrLocId::new(0xffff_ffff);

@@ -37,7 +37,7 @@ GUARDS = [
     (r'All \(IsLive types\.[.\w]*\) roots\.now', Guard('each of `roots` is live', 'types.contains_all(roots)')),
     (r'IsDistinct nat_eq ids\.now', Guard('no id comes twice in `ids`', DISTINCT)),
     (r'ClonesAreEqual .*', Guard('a clone of the value is equal to it')),
-    (r'(F\.pre make|FnOnceTakesAt|TakesNew|TakesSecond) .*',
+    (r'(F\.pre make|F\.IsAlwaysCallable|FnOnceTakesAt|TakesNew) .*|AfterFilling .*TakesNew .*',
      Guard('the closure takes what it is given', reason=CLOSURE)),
     (r'IsSome \(signature_at self\.now id\)',
      Guard('`id` is a live function type', 'self.contains(id) && self.get(id).kind().is_function()')),
@@ -62,6 +62,7 @@ GUARDS = [
      Guard('the next indices are below 2^32', 'self.types.count + ids.len() as u64 <= 1 << 32')),
     (r'index < length self\.old\.types', Guard('`index` has a type', '(index as usize) < self.types.len()')),
     (r'index < length self\.old', Guard('`index` is below the length', 'index < self.len()')),
+    (r'index ≤ length self\.old', Guard('`index` is not past the end', 'index <= self.len()')),
     (r'first \+ count < 2 \^ 64',
      Guard('`first + count` is below 2^64', 'first.checked_add(count).is_some()')),
     # Instructions, functions and their sequences.
@@ -75,7 +76,7 @@ GUARDS = [
     (r'IsKnown self\.(old|now)', Guard('the sequence is known', 'self.builder.contains_seq(self.id)')),
     (r'position ≤ length \(instrs_of .*\)',
      Guard('`position` is not past the end', 'position <= self.instrs().len()')),
-    (r'KeepsFunction .*|KeepsSecond .*', Guard('the closure does not replace its builder')),
+    (r'KeepsFunction .*|AfterFilling .*KeepsFunction .*', Guard('the closure does not replace its builder')),
     (r'IsNested func\.old\.body start', Guard(NOT_NESTED, statements=CHECK)),
     (r'IsNested func\.now\.body start', Guard(NOT_NESTED, statements=CHECK)),
 ]

@@ -35,6 +35,7 @@ RULES = [
     (r'^ *A: (?:Copy|Clone),\n', ''),
     (r', A: Allocator(?: \+ \w+)*(?: = Global)?>', '>'),
     (r', A>', '>'),
+    (r'\bIntoIter<(\w+), Global>', r'IntoIter<\1>'),
     (r'\balloc: A\b', 'alloc: Global'),
     (r'::new\(&alloc\)', '::new(alloc)'),
     (r'\*([\w.]+)\.allocator\(\)', f'{CRATE}::alloc::Global'),

@@ -1,5 +1,7 @@
 //! What a program says about itself.
-ghost use Rattle.std.specs.Prelude.{◌≡◌};
+ghost use Rattle.std.specs.Prelude.{◌≡◌, OnOk};
+ghost use Rattle.std.specs.Io.KnownBytes.{Appends};
+ghost use Rattle.command_line.specs.About.{version_line};
 
 use std::io::{self, Write};
 
@@ -14,7 +16,10 @@ const USAGE_STATUS: u8 = 64;
 /// # Errors
 ///
 /// An error comes where a write fails.
-pub fn write_version<W: Write>(program: &str, out: &mut W) -> io::Result<()> {
+pub fn write_version<W: Write>(program: &str, out: &mut W) -> io::Result<()>
+    ensures written { OnOk result (Appends (W.contents out.old) (W.contents out.new)
+        (version_line program.now)) }
+{
     writeln!(out, "{program} {VERSION}")
 }
 

@@ -1,4 +1,7 @@
 //! What the arguments of a program ask for.
+ghost use Rattle.std.specs.Prelude.{◌↔◌, IfOk, IsSome, IsTrue};
+ghost use Rattle.command_line.specs.Arguments.{HasNames, HasOptionOf, IsName, IsNoWork};
+
 use std::alloc::{AllocError, Global};
 use std::env::{self, Args, Env};
 use std::io::ErrorKind;
@@ -32,7 +35,10 @@ pub enum Request {
 pub fn parse_arguments<R: Env + AllocGlobal>(
     rt: &R,
     option: Option<&str>,
-) -> Result<Request, AllocError> {
+) -> Result<Request, AllocError>
+    ensures names { IfOk result HasNames }
+    ensures option { IfOk result (HasOptionOf option.entry) }
+{
     let mut arguments = match env::args(rt) {
         Ok(arguments) => arguments,
         Err(error) if error.kind() == ErrorKind::OutOfMemory => return Err(AllocError),
@@ -43,11 +49,14 @@ pub fn parse_arguments<R: Env + AllocGlobal>(
 }
 
 /// The names of files among the arguments, and whether the option is there too.
-fn work(alloc: Global, arguments: Args, option: Option<&str>) -> Result<Request, AllocError> {
+fn work(alloc: Global, arguments: Args, option: Option<&str>) -> Result<Request, AllocError>
+    ensures names { IfOk result HasNames }
+    ensures option { IfOk result (HasOptionOf option.entry) }
+{
     let mut names = Vec::new(alloc);
     let mut has_option = false;
     for argument in arguments {
-        if option == Some(argument.as_str()) {
+        if is_option(argument.as_str(), option) {
             has_option = true;
         } else if is_name(argument.as_str()) {
             names.push(argument)?;
@@ -59,7 +68,9 @@ fn work(alloc: Global, arguments: Args, option: Option<&str>) -> Result<Request,
 }
 
 /// What an argument asks for that is no name and not the option.
-fn without_work(argument: &str) -> Request {
+fn without_work(argument: &str) -> Request
+    ensures { IsNoWork result }
+{
     match argument {
         "--help" => Request::Help,
         "--version" => Request::Version,
@@ -67,7 +78,22 @@ fn without_work(argument: &str) -> Request {
     }
 }
 
+/// Whether an argument is the option of the program.
+fn is_option(argument: &str, option: Option<&str>) -> bool
+    ensures { IsTrue result → IsSome option.entry }
+{
+    match option {
+        Some(own) => argument == own,
+        None => false,
+    }
+}
+
 /// Whether an argument is the name of a file, or the one of standard input.
-fn is_name(argument: &str) -> bool {
-    argument == "-" || !argument.starts_with('-')
+fn is_name(argument: &str) -> bool
+    ensures { IsTrue result ↔ IsName argument.now }
+{
+    match argument.as_bytes() {
+        [first, _, ..] => *first != b'-',
+        _ => true,
+    }
 }

@@ -1,5 +1,6 @@
 //! What a program reads.
-ghost use Rattle.std.specs.Prelude.{◌≡◌, IfOk, IfSome};
+ghost use Rattle.std.specs.Prelude.{◌≡◌, ◌↔◌, IfOk, IfSome, IsOk};
+ghost use Rattle.command_line.specs.Inputs.{IsStandard, standard_name};
 
 use std::alloc::Global;
 use std::fs::{self, File};
@@ -28,8 +29,11 @@ impl Read for Input {
 ///
 /// # Errors
 ///
-/// An error comes where the file can't be opened.
-pub fn open<E: Write>(rt: &HostRuntime, name: &str, err: &mut E) -> io::Result<Input> {
+/// An error comes where the file can't be opened. Standard input is always there.
+pub fn open<E: Write>(rt: &HostRuntime, name: &str, err: &mut E) -> io::Result<Input>
+    ensures standard { IfOk result (λ input. IsStandard input ↔ (name.now ≡ standard_name)) }
+    ensures opened { name.now ≡ standard_name → IsOk result }
+{
     if name != "-" {
         return Ok(Input::File(fs::open(rt, name)?));
     }

@@ -1,16 +1,18 @@
-//! The instructions of WebAssembly as data, their constants, and the locals of functions.
+//! The instructions of WebAssembly as data, sequences of them, and the locals of functions.
 //!
 //! - [`Instr`] is an instruction, with a struct for each of its 95 kinds, which becomes an `Instr`
 //!   by `From`. [`BinaryOp`], [`UnaryOp`] and [`TernaryOp`] are the operators, [`LoadKind`] and
 //!   similar types say what memory accesses touch.
-//! - Instructions that have sequences of instructions inside name them by [`InstrSeqId`].
+//! - [`InstrSeq`] is a sequence of instructions, each with an [`InstrLocId`]. Instructions that
+//!   have sequences inside name them by [`InstrSeqId`], so the body of a function is a list of
+//!   sequences. [`InstrSeqType`] is what a sequence takes and leaves.
 //! - [`Local`] is a local of a function, and [`Value`] is what a constant gives.
 //!
-//! Nothing here validates: any instruction may be anywhere, and nothing here needs the types of a
-//! module. `walrus_ir` has sequences and their types, and exports all of this. Names, and fields
-//! with their order, are from walrus's `ir`, except the struct [`DropInstr`] and the fields
-//! `data_id`, which are `Drop` and `data` there. The variants of [`Instr`] and [`UnaryOp`] are
-//! grouped by what they do.
+//! Nothing here validates: any instruction may be anywhere. Names, and fields with their order, are
+//! from walrus's `ir`, except the struct [`DropInstr`] and the fields `data_id`, which are `Drop`
+//! and `data` there. The variants of [`Instr`] and [`UnaryOp`] are grouped by what they do.
+//!
+//! `walrus_ir` exports all of this together with the types of a module.
 //!
 //! # A branch
 //!
@@ -31,7 +33,8 @@ mod control;
 mod exceptions;
 mod instr;
 mod instr_loc_id;
-mod instr_seq_id;
+mod instr_seq;
+mod instr_seq_type;
 pub mod laws;
 mod locals;
 mod memory;
@@ -93,8 +96,9 @@ pub use exceptions::TryTable;
 pub use exceptions::TryTableCatch;
 pub use instr::Instr;
 pub use instr_loc_id::InstrLocId;
-pub use instr_seq_id::InstrSeqId;
-pub use instr_seq_id::Sequence;
+pub use instr_seq::InstrSeq;
+pub use instr_seq::InstrSeqId;
+pub use instr_seq_type::InstrSeqType;
 pub use locals::Local;
 pub use locals::LocalId;
 pub use locals::LocalsIter;

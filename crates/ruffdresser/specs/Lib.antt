@@ -38,6 +38,7 @@ pub use Rattle.walrus_types.specs.Table
 pub use Rattle.walrus_types.specs.TableEmission
 pub use Rattle.walrus_types.specs.TableLends
 pub use Rattle.walrus_types.specs.TableCalls
+pub use Rattle.walrus_types.specs.FunctionTypes
 pub use Rattle.walrus_types.specs.ReadResult
 pub use Rattle.walrus_types.specs.ReaderState
 pub use Rattle.walrus_ty.specs.declared.error.NoIndex
@@ -58,17 +59,17 @@ pub use Rattle.operators.specs.Values
 pub use Rattle.operators.specs.Atomics
 pub use Rattle.operators.specs.Loads
 pub use Rattle.operators.specs.Stores
+pub use Rattle.instr.specs.BlockTypes
+pub use Rattle.instr.specs.Sequence
 pub use Rattle.instr.specs.Locals
 pub use Rattle.instr.specs.LocalParts
 pub use Rattle.instr.specs.LocalLends
 pub use Rattle.instr.specs.Locations
 pub use Rattle.instr.specs.Reachability
 pub use Rattle.const_expr.specs.ConstExpr
-pub use Rattle.walrus_ir.specs.BlockTypes
 pub use Rattle.walrus_ir.specs.Calls as HookCalls
 pub use Rattle.walrus_ir.specs.Fields
 pub use Rattle.walrus_ir.specs.Hooks
-pub use Rattle.walrus_ir.specs.Sequence
 pub use Rattle.operators.specs.declared.atomics.AtomicOp
 pub use Rattle.operators.specs.declared.atomics.AtomicWidth
 pub use Rattle.operators.specs.declared.binary_op.BinaryOp
@@ -85,7 +86,7 @@ pub use Rattle.instr.specs.declared.instr.Instr
 pub use Rattle.const_expr.specs.declared.const_expr.ConstExpr as ConstExprType
 pub use Rattle.const_expr.specs.declared.const_expr.ConstOp
 pub use Rattle.const_expr.specs.declared.const_expr.ConstOpAt
-pub use Rattle.walrus_ir.specs.declared.instr_seq_type.InstrSeqType
+pub use Rattle.instr.specs.declared.instr_seq_type.InstrSeqType
 -- Builders and walks.
 pub use Rattle.walrus_functions.specs.Beginning
 pub use Rattle.walrus_functions.specs.Body
@@ -98,9 +99,11 @@ pub use Rattle.walrus_functions.specs.Nesting
 pub use Rattle.walrus_functions.specs.Rows
 pub use Rattle.walrus_nesting.specs.Certificates
 pub use Rattle.walrus_nesting.specs.Pushing
+pub use Rattle.walrus_traversals.specs.AnyIds
 pub use Rattle.walrus_traversals.specs.Events
 pub use Rattle.walrus_traversals.specs.Ids
 pub use Rattle.walrus_traversals.specs.Instrs
+pub use Rattle.walrus_traversals.specs.OneHook
 pub use Rattle.walrus_traversals.specs.Sequences
 pub use Rattle.walrus_traversals_mut.specs.FieldMaps
 pub use Rattle.walrus_traversals_mut.specs.Premises
@@ -111,12 +114,16 @@ pub use Rattle.walrus_traversals_mut.specs.Counting
 pub use Rattle.walrus_functions.specs.declared.error.BuildError
 pub use Rattle.walrus_nesting.specs.declared.nesting.Nesting as NestingType
 pub use Rattle.walrus_nesting.specs.declared.walk_error.WalkError
+pub use Rattle.walrus_traversals.specs.declared.id_visitor.AnyId
 -- Passes.
 pub use Rattle.walrus_passes.specs.NeededTypes
 pub use Rattle.walrus_passes.specs.AllIndices
 pub use Rattle.walrus_passes.specs.UsedTypes
 pub use Rattle.walrus_passes.specs.IndexMaps
 pub use Rattle.walrus_passes.specs.SnippedFunctions
+pub use Rattle.walrus_passes.specs.UnreachableFunctions
+pub use Rattle.walrus_passes.specs.MappedInstrs
+pub use Rattle.walrus_passes.specs.ChangedCalls
 pub use Rattle.walrus_passes.specs.Adapters
 -- Binary.
 pub use Rattle.walrus_binary.specs.Leb128
@@ -130,12 +137,18 @@ pub use Rattle.walrus_binary.specs.Sections as SectionPlaces
 pub use Rattle.walrus_module.specs.Sections
 pub use Rattle.walrus_module.specs.Opcodes
 pub use Rattle.walrus_module.specs.Immediates
+pub use Rattle.walrus_module.specs.Contents
 pub use Rattle.walrus_module.specs.Bodies as CodeBodies
+pub use Rattle.walrus_module.specs.Renaming as CodeRenaming
+pub use Rattle.walrus_module.specs.NamedTypes
 pub use Rattle.walrus_binary.specs.declared.error.Expected
 pub use Rattle.walrus_binary.specs.declared.error.NotHeld
 pub use Rattle.walrus_binary.specs.declared.error.DecodeError
 pub use Rattle.walrus_binary.specs.declared.error.EncodeError
 pub use Rattle.walrus_binary.specs.declared.error.ReplaceError
+pub use Rattle.walrus_module.specs.declared.scan.ScanError
+pub use Rattle.walrus_module.specs.declared.renaming.RenameError
+pub use Rattle.walrus_module.specs.declared.renaming.Widths
 -- Text.
 pub use Rattle.walrus_text.specs.Words
 pub use Rattle.walrus_text.specs.Spacing

@@ -6,7 +6,7 @@
 //! - Instructions: [`Instr`], [`InstrSeq`], [`ConstExpr`].
 //! - Builders: [`FunctionBuilder`], [`LocalFunction`].
 //! - Walks: [`dfs_in_order`], [`dfs_pre_order_mut`], [`check_nesting`].
-//! - Passes: [`delete_unused_types`], [`snip`], [`adapter`].
+//! - Passes: [`delete_unused_types`], [`snip`], [`snip_calls`], [`adapter`].
 //! - Binary: [`decode_types`], [`encode_types`], [`sections`].
 //! - Text: [`read_section`], [`write_section`].
 //!
@@ -41,9 +41,9 @@ pub use walrus_arena::{
 // Types, and the table of a module's types.
 pub use walrus_ty::{
     AbstractHeapType, ArrayType, CompositeType, Data, DataId, Element, ElementId, Field, FieldType,
-    Function, FunctionId, FunctionType, Global, GlobalId, Heap, HeapType, Listed, Memory, MemoryId,
-    RefType, Reference, Storage, StorageType, StructType, SubType, Table, TableId, Tag, TagId,
-    Type, TypeId, Val, ValType, laws as type_laws,
+    Function, FunctionId, FunctionType, FunctionTypes, Global, GlobalId, Heap, HeapType, Listed,
+    Memory, MemoryId, RefType, Reference, Storage, StorageType, StructType, SubType, Table,
+    TableId, Tag, TagId, Type, TypeId, Val, ValType, laws as type_laws,
 };
 pub use walrus_types::{
     AddRecGroupError, ModuleTypes, RecGroup, RecGroupId, TypesIter, laws as table_laws,
@@ -115,7 +115,9 @@ pub use instr::I64Sub128;
 pub use instr::IfElse;
 pub use instr::Instr;
 pub use instr::InstrLocId;
+pub use instr::InstrSeq;
 pub use instr::InstrSeqId;
+pub use instr::InstrSeqType;
 pub use instr::LegacyCatch;
 pub use instr::Load;
 pub use instr::LoadSimd;
@@ -147,7 +149,6 @@ pub use instr::ReturnCall;
 pub use instr::ReturnCallIndirect;
 pub use instr::ReturnCallRef;
 pub use instr::Select;
-pub use instr::Sequence;
 pub use instr::ShuffleIndices;
 pub use instr::Store;
 pub use instr::StructGet;
@@ -183,8 +184,6 @@ pub use operators::StoreKind;
 pub use operators::TernaryOp;
 pub use operators::UnaryOp;
 pub use operators::Value;
-pub use walrus_ir::InstrSeq;
-pub use walrus_ir::InstrSeqType;
 pub use walrus_ir::laws as ir_laws;
 
 // Builders: functions that have a body, and how they are built.
@@ -195,7 +194,8 @@ pub use walrus_functions::{
 // Walks over function bodies, and the nesting check that they ask for.
 pub use walrus_nesting::{Nesting, WalkError, check_nesting, laws as nesting_laws, push_children};
 pub use walrus_traversals::{
-    InstrVisitor, OnlyInstrs, UsedIds, Visitor, dfs_in_order, laws as traversals_laws, used_ids,
+    AnyId, IdVisitor, InstrVisitor, OnlyIds, OnlyInstrs, UsedIds, Visitor, dfs_in_order,
+    laws as traversals_laws, used_ids,
 };
 pub use walrus_traversals_mut::{
     RenameTypes, VisitorMut, dfs_pre_order_mut, laws as traversals_mut_laws,
@@ -203,7 +203,8 @@ pub use walrus_traversals_mut::{
 
 // Passes over types and functions.
 pub use walrus_passes::{
-    adapter, delete_unused_types, laws as passes_laws, new_indices, replace_with, snip, used_types,
+    adapter, delete_unused_types, laws as passes_laws, map_instrs, new_indices, redirect_calls,
+    replace_with, snip, snip_calls, unreachable_function, used_types,
 };
 
 // Binary: the sections of a module, and its type section.
@@ -212,7 +213,10 @@ pub use walrus_binary::{
     decode_types, encode_types, laws as binary_laws, module_types, replace_type_section,
     section_around, type_section,
 };
-pub use walrus_module::{ScanError, Section, SectionIter, body_types, expression_types, sections};
+pub use walrus_module::{
+    RenameError, ScanError, Section, SectionIter, Widths, body_types, expression_types,
+    laws as module_laws, named_types, rename_body, rename_expression, section_types, sections,
+};
 
 // Text: type sections as text.
 pub use walrus_text::{

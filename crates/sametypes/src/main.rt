@@ -6,7 +6,7 @@ ghost use Rattle.std.specs.Prelude.{◌≡◌, ◌<◌, ◌≤◌, ◌⊎◌, �
 ghost use Rattle.std.specs.Io.KnownBytes.{Appends, Keeps};
 ghost use Rattle.walrus_sections.specs.Moves.{AreJoined};
 ghost use Rattle.sametypes.specs.Runs.{AreApart, HaveFirstDifference, HaveSections, IfBothKnown, difference_line, same_line};
-ghost use Rattle.sametypes.specs.Steps.Answers.{IsAnswer, answer_line};
+ghost use Rattle.sametypes.specs.Steps.Verdicts.{IsVerdict, verdict_line};
 
 mod failure;
 pub mod laws;
@@ -91,10 +91,10 @@ fn compare<A: Read, B: Read, W: Write>(
     b: &mut B,
     out: &mut W,
 ) -> Result<Option<usize>, Failure>
-    ensures answer { IfOk result (λ answer.
-        IfBothKnown (A.remaining a.old) (B.remaining b.old) (HaveSections (IsAnswer answer))) }
-    ensures written { IfOk result (λ answer.
-        Appends (W.contents out.old) (W.contents out.new) (answer_line answer)) }
+    ensures verdict { IfOk result (λ verdict.
+        IfBothKnown (A.remaining a.old) (B.remaining b.old) (HaveSections (IsVerdict verdict))) }
+    ensures written { IfOk result (λ verdict.
+        Appends (W.contents out.old) (W.contents out.new) (verdict_line verdict)) }
     ensures unwritten { IfErr result (λ failure.
         Keeps (W.contents out.old) (W.contents out.new) ⊎
         IfBothKnown (A.remaining a.old) (B.remaining b.old) (HaveSections (λ s t. ⊤))) }
@@ -107,19 +107,19 @@ fn compare<A: Read, B: Read, W: Write>(
         Ok(second) => second,
         Err(trouble) => return Err(Failure::Second(trouble)),
     };
-    let answer = index_of_difference(first.as_slice(), second.as_slice());
-    match write_answer(out, answer) {
-        Ok(()) => Ok(answer),
+    let verdict = index_of_difference(first.as_slice(), second.as_slice());
+    match write_verdict(out, verdict) {
+        Ok(()) => Ok(verdict),
         Err(error) => Err(Failure::Output(error)),
     }
 }
 
 /// Writes the line of the result, and flushes the writer.
-fn write_answer<W: Write>(out: &mut W, answer: Option<usize>) -> io::Result<()>
+fn write_verdict<W: Write>(out: &mut W, verdict: Option<usize>) -> io::Result<()>
     ensures { OnOk result (Appends (W.contents out.old) (W.contents out.new)
-        (answer_line answer)) }
+        (verdict_line verdict)) }
 {
-    match answer {
+    match verdict {
         None => out.write_all(b"same\n")?,
         Some(index) => writeln!(out, "different at entry {index}")?,
     }
@@ -138,13 +138,13 @@ fn start<E: Write>(rt: &HostRuntime, err: &mut E) -> u8 {
         Ok(request) => request,
         Err(_) => return report(&Failure::Memory, no_names, err),
     };
-    let answer = match request {
+    let done = match request {
         Request::Help => rt.stdout().write_all(HELP.as_bytes()),
         Request::Version => write_version("sametypes", &mut rt.stdout()),
         Request::Work { names, .. } => return compare_named(rt, names.as_slice(), err),
         Request::Usage => return report_usage(USAGE, err),
     };
-    match answer {
+    match done {
         Ok(()) => 0,
         Err(error) => report(&Failure::Output(error), no_names, err),
     }

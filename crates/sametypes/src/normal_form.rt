@@ -3,7 +3,7 @@ ghost use Rattle.std.specs.Prelude.{◌≡◌, ◌↔◌, ◌<◌, ◌^◌, IfOk
 ghost use Rattle.walrus_ty.specs.Records.{section_of};
 ghost use Rattle.walrus_sections.specs.Section.{index_space, IsWellNamed};
 ghost use Rattle.sametypes.specs.Runs.{HasSection, IsFirstDifference};
-ghost use Rattle.sametypes.specs.Steps.Answers.{HasNormalForm};
+ghost use Rattle.sametypes.specs.Steps.Verdicts.{HasNormalForm};
 
 use crate::failure::InputError;
 use command_line::read_bytes;

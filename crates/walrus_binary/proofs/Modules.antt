@@ -12,3 +12,4 @@ pub mod FirstSections
 pub mod Customs
 pub mod BadTypes
 pub mod Around
+pub mod NoFurther

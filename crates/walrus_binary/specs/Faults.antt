@@ -66,9 +66,9 @@ pub data IsUnheldHeap : NotHeld → ℕ → Type 0 where
   continuation_heap : IsUnheldHeap held.Continuation 0x68
   no_continuation_heap : IsUnheldHeap held.Continuation 0x75
 
--- What no record holds, the bytes before the place that an error names, and those from there on.
--- Any type that a record holds may stand there too. The place of several supertypes is that of their
--- count, behind the first byte of their definition, and no text goes on with that count.
+-- What no record holds, the bytes before the place that an error names, and the bytes from there
+-- on. Any type that a record holds may be there too. The place of several supertypes is that of
+-- their count, behind the first byte of their definition, and no text goes on with that count.
 pub data IsUnheld : NotHeld → List ℕ → List ℕ → Type 0 where
   several_supertypes :
       (front count others : List ℕ) (is_final : Bool) (n : ℕ)

@@ -9,9 +9,11 @@ pub use Rattle.walrus_functions.specs.Nesting
 pub use Rattle.walrus_functions.specs.Rows
 pub use Rattle.walrus_nesting.specs.Certificates
 pub use Rattle.walrus_nesting.specs.Pushing
+pub use Rattle.walrus_traversals.specs.AnyIds
 pub use Rattle.walrus_traversals.specs.Events
 pub use Rattle.walrus_traversals.specs.Ids
 pub use Rattle.walrus_traversals.specs.Instrs
+pub use Rattle.walrus_traversals.specs.OneHook
 pub use Rattle.walrus_traversals.specs.Sequences
 pub use Rattle.walrus_traversals_mut.specs.FieldMaps
 pub use Rattle.walrus_traversals_mut.specs.Premises
@@ -22,3 +24,4 @@ pub use Rattle.walrus_traversals_mut.specs.Counting
 pub use Rattle.walrus_functions.specs.declared.error.BuildError
 pub use Rattle.walrus_nesting.specs.declared.nesting.Nesting as NestingType
 pub use Rattle.walrus_nesting.specs.declared.walk_error.WalkError
+pub use Rattle.walrus_traversals.specs.declared.id_visitor.AnyId

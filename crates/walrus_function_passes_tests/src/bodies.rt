@@ -49,7 +49,7 @@ pub(crate) fn function(alloc: Global) -> Result<LocalFunction, BuildError> {
     Ok(f.local_func(third_local(alloc)?))
 }
 
-fn third_local(alloc: Global) -> Result<Vec<LocalId>, AllocError> {
+pub(crate) fn third_local(alloc: Global) -> Result<Vec<LocalId>, AllocError> {
     Ok(vec![in alloc; Id::from_index(3)]?)
 }
 

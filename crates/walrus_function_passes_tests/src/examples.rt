@@ -3,9 +3,13 @@
 //! is proved sooner.
 use crate::assertions::assert_equal;
 use crate::bodies::{SNIPPED, function, text_of};
-use walrus_functions::{FunctionBuilder, LocalFunctions};
-use walrus_ir::{Id, InstrSeqType, ModuleLocals};
-use walrus_passes::{adapter, replace_with, snip};
+use std::alloc::Global;
+use walrus_functions::{BuildError, FunctionBuilder, LocalFunctions};
+use walrus_ir::{Id, Instr, InstrSeqType, LoadKind, MemArg, ModuleLocals};
+use walrus_passes::{
+    adapter, delete_unused_types, map_instrs, redirect_calls, replace_with, snip, snip_calls,
+    unreachable_function, used_types,
+};
 use walrus_types::{ModuleTypes, ValType};
 
 #[test]
@@ -74,4 +78,130 @@ fn a_wrapper_of_an_import_calls_it(rt: HostRuntime) {
             .as_str(),
         "Call(Call { func: Id(9) });",
     );
+}
+
+#[test]
+fn calls_of_a_function_that_is_to_be_deleted_are_snipped(rt: HostRuntime) {
+    let alloc = rt.alloc();
+    let panic = Id::from_index(9);
+    let mut builder = FunctionBuilder::without_entry(alloc, Id::from_index(0));
+    let mut body = builder
+        .dangling_instr_seq(InstrSeqType::Simple(None))
+        .expect(&rt, "memory");
+    body.call(panic).expect(&rt, "memory");
+    let mut func = builder.local_func(Vec::new(alloc));
+    snip_calls(&mut func, &[panic]);
+    assert_equal(
+        &rt,
+        text_of(alloc, &func, 0).expect(&rt, "memory").as_str(),
+        SNIPPED,
+    );
+}
+
+#[test]
+fn a_wrapper_is_called_in_place_of_an_import(rt: HostRuntime) {
+    let alloc = rt.alloc();
+    let import = Id::from_index(2);
+    let wrapper = Id::from_index(9);
+    let mut builder = FunctionBuilder::without_entry(alloc, Id::from_index(0));
+    let mut body = builder
+        .dangling_instr_seq(InstrSeqType::Simple(None))
+        .expect(&rt, "memory");
+    body.call(import).expect(&rt, "memory");
+    let mut func = builder.local_func(Vec::new(alloc));
+    redirect_calls(&mut func, import, wrapper);
+    assert_equal(
+        &rt,
+        text_of(alloc, &func, 0).expect(&rt, "memory").as_str(),
+        "Call(Call { func: Id(9) });",
+    );
+}
+
+#[test]
+fn a_stand_in_is_referred_to_in_place_of_a_snipped_function(rt: HostRuntime) {
+    let alloc = rt.alloc();
+    let snipped = Id::from_index(9);
+    let mut types = ModuleTypes::new(alloc);
+    let mut locals = ModuleLocals::new(alloc);
+    let mut funcs = LocalFunctions::new(alloc);
+    let ty = types.add(&[], &[]).expect(&rt, "memory");
+    let mut builder = FunctionBuilder::without_entry(alloc, ty);
+    let mut body = builder
+        .dangling_instr_seq(InstrSeqType::Simple(None))
+        .expect(&rt, "memory");
+    body.ref_func(snipped).expect(&rt, "memory");
+    let mut func = builder.local_func(Vec::new(alloc));
+    let trap = unreachable_function(alloc, &mut types, &mut locals, ty).expect(&rt, "memory");
+    let Ok(stand_in) = funcs.add(trap) else {
+        panic!(rt; "out of memory");
+    };
+    redirect_calls(&mut func, snipped, stand_in);
+    assert_equal(
+        &rt,
+        text_of(alloc, &func, 0).expect(&rt, "memory").as_str(),
+        "RefFunc(RefFunc { func: Id(0) });",
+    );
+}
+
+#[test]
+fn all_loads_read_another_memory(rt: HostRuntime) {
+    let alloc = rt.alloc();
+    let memory = Id::from_index(1);
+    let mut builder = FunctionBuilder::without_entry(alloc, Id::from_index(0));
+    let mut body = builder
+        .dangling_instr_seq(InstrSeqType::Simple(None))
+        .expect(&rt, "memory");
+    let arg = MemArg {
+        align: 4,
+        offset: 0,
+    };
+    body.load(Id::from_index(0), LoadKind::V128, arg)
+        .expect(&rt, "memory");
+    let mut func = builder.local_func(Vec::new(alloc));
+    map_instrs(&mut func, |instr| {
+        if let Instr::Load(x) = instr {
+            x.memory = memory;
+        }
+    });
+    assert_equal(
+        &rt,
+        text_of(alloc, &func, 0).expect(&rt, "memory").as_str(),
+        "Load(Load { memory: Id(1), kind: V128, arg: MemArg { align: 4, offset: 0 } });",
+    );
+}
+
+// Two functions, whose types come after one that none uses.
+fn two_functions(alloc: Global, types: &mut ModuleTypes) -> Result<LocalFunctions, BuildError> {
+    let mut funcs = LocalFunctions::new(alloc);
+    types.add(&[ValType::F64], &[])?;
+    let first = FunctionBuilder::new(alloc, types, &[], &[ValType::I32])?;
+    let second = FunctionBuilder::new(alloc, types, &[ValType::I32], &[])?;
+    let Ok(_) = funcs.add(first.local_func(Vec::new(alloc))) else {
+        return Err(BuildError::Memory);
+    };
+    let Ok(_) = funcs.add(second.local_func(Vec::new(alloc))) else {
+        return Err(BuildError::Memory);
+    };
+    Ok(funcs)
+}
+
+#[test]
+fn what_functions_use_is_kept(rt: HostRuntime) {
+    let alloc = rt.alloc();
+    let mut types = ModuleTypes::new(alloc);
+    let locals = ModuleLocals::new(alloc);
+    let funcs = two_functions(alloc, &mut types).expect(&rt, "memory");
+    let mut roots = Vec::new(alloc);
+    for func in funcs.iter() {
+        let Some(used) = used_types(alloc, func, &locals).expect(&rt, "memory") else {
+            panic!(rt; "not nested");
+        };
+        roots
+            .extend_from_slice(used.as_slice())
+            .expect(&rt, "memory");
+    }
+    assert!(rt; types.contains_all(roots.as_slice()));
+    delete_unused_types(alloc, &mut types, roots.as_slice()).expect(&rt, "memory");
+    let live = types.live_ids().expect(&rt, "memory");
+    assert!(rt; live.iter().map(|id| id.index()).eq([1, 2, 3, 4]));
 }

@@ -9,8 +9,12 @@ mod assertions;
 #[cfg(test)]
 mod bodies;
 #[cfg(test)]
+mod calls;
+#[cfg(test)]
 mod examples;
 #[cfg(test)]
 mod refusals;
+#[cfg(test)]
+mod unreachable;
 #[cfg(test)]
 mod used_types;

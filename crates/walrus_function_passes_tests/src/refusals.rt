@@ -3,6 +3,7 @@
 use crate::adapters::adapt;
 use crate::assertions::assert_equal;
 use crate::bodies::{BUILT, SNIPPED, are as are_locals, function, is, snip_first, text_of};
+use crate::unreachable::unreachable;
 use crate::used_types::{hold_just, locals, nested_function};
 use std::alloc::{AllocError, Global};
 use std::process::Abort;
@@ -103,6 +104,17 @@ fn one_type(alloc: Global) -> Result<ModuleTypes, AllocError> {
     Ok(types)
 }
 
+// There are two locals or none, and one type or two.
+fn are_both_or_none(rt: &impl Abort, types: &ModuleTypes, locals: &ModuleLocals) {
+    let first: LocalId = Id::from_index(0);
+    let second: LocalId = Id::from_index(1);
+    let third: LocalId = Id::from_index(2);
+    assert_equal(rt, locals.contains(first), locals.contains(second));
+    assert!(rt; !locals.contains(third));
+    assert!(rt; types.contains(Id::from_index(0)));
+    assert!(rt; !types.contains(Id::from_index(2)));
+}
+
 // The adapter. After a refusal the table has the type and up to one more, there are both locals or
 // none, and the call is made again.
 fn adapt_again(
@@ -114,13 +126,7 @@ fn adapt_again(
     if let Ok(func) = adapt(rt, alloc, types, locals, 0) {
         return Ok(func);
     }
-    let first: LocalId = Id::from_index(0);
-    let second: LocalId = Id::from_index(1);
-    let third: LocalId = Id::from_index(2);
-    assert_equal(rt, locals.contains(first), locals.contains(second));
-    assert!(rt; !locals.contains(third));
-    assert!(rt; types.contains(Id::from_index(0)));
-    assert!(rt; !types.contains(Id::from_index(2)));
+    are_both_or_none(rt, types, locals);
     adapt(rt, alloc, types, locals, 0)
 }
 
@@ -179,4 +185,31 @@ fn a_refused_list_of_used_types_is_made_again(rt: HostRuntime) {
         Err(_) => used_types(rt.alloc(), &func, &locals).expect(&rt, "memory"),
     };
     assert!(rt; used.is_some_and(|ids| hold_just(ids.as_slice(), &[7, 2, 3, 6])));
+}
+
+// The function that must not be run. After a refusal the table has the type and up to one more,
+// there are both locals or none, and the call is made again.
+fn unreachable_again(
+    rt: &impl Abort,
+    alloc: Global,
+    types: &mut ModuleTypes,
+    locals: &mut ModuleLocals,
+) -> Result<LocalFunction, AllocError> {
+    if let Ok(func) = unreachable(rt, alloc, types, locals, 0) {
+        return Ok(func);
+    }
+    are_both_or_none(rt, types, locals);
+    unreachable(rt, alloc, types, locals, 0)
+}
+
+#[test]
+fn a_refused_unreachable_function_is_made_again(rt: HostRuntime) {
+    let mut types = types_again(rt.alloc()).expect(&rt, "memory");
+    let mut locals = ModuleLocals::new(rt.alloc());
+    let func = unreachable_again(&rt, rt.alloc(), &mut types, &mut locals).expect(&rt, "memory");
+    assert_equal(&rt, func.ty().index(), 0);
+    let text = text_again(rt.alloc(), &func).expect(&rt, "memory");
+    assert_equal(&rt, text.as_str(), SNIPPED);
+    let args = func.args.as_slice();
+    assert!(rt; are_locals(args, &[0, 1]) || are_locals(args, &[2, 3]));
 }

@@ -66,7 +66,7 @@ fn function(alloc: Global, instrs: Vec<Instr>) -> Result<LocalFunction, BuildErr
     Ok(f.local_func(Vec::new(alloc)))
 }
 
-fn with_locations(
+pub(crate) fn with_locations(
     alloc: Global,
     instrs: Vec<Instr>,
 ) -> Result<Vec<(Instr, InstrLocId)>, AllocError> {
@@ -77,7 +77,7 @@ fn with_locations(
     Ok(list)
 }
 
-fn enter(f: &mut FunctionBuilder, index: usize) {
+pub(crate) fn enter(f: &mut FunctionBuilder, index: usize) {
     let id: InstrSeqId = Id::from_index(index);
     if f.contains_seq(id) {
         f.set_entry(id);

@@ -1,7 +1,7 @@
 -- Lemmas on a function under construction.
 use Rattle.std.proofs.Common.{◌≡◌, ℕ, List, ap}
 use Rattle.std.proofs.lemmas.List.{set-get_or}
-use Rattle.walrus_ir.specs.Sequence.{Sequence}
+use Rattle.instr.specs.Sequence.{Sequence}
 use Rattle.instr.specs.declared.instr.Instr.{Instr}
 use Rattle.walrus_functions.specs.Body.{Body, instrs_of, with_instrs}
 

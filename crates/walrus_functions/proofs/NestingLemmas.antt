@@ -1,6 +1,6 @@
 -- Lemmas on nested forms.
-use Rattle.std.proofs.Common.{◌≡◌, ℕ, ◌⊎◌, Result, Ok, Err, IfErr, inr, sym, subst}
-use Rattle.walrus_ir.specs.declared.instr_seq_type.InstrSeqType.{InstrSeqType}
+use Rattle.std.proofs.Common.{◌≡◌, ℕ, ◌⊎◌, Result, Ok, Err, IfErr, inr, subst}
+use Rattle.instr.specs.declared.instr_seq_type.InstrSeqType.{InstrSeqType}
 use Rattle.walrus_functions.specs.declared.error.BuildError.{BuildError}
 use Rattle.walrus_functions.specs.Body.{Body}
 use Rattle.walrus_functions.specs.NestedForms.{Post, Fills, FailsToFill}
@@ -13,9 +13,9 @@ pub both_not :
     IfErr r (λ e. (last ≡ f) × Not at f e) →
     IfErr r (λ e. FailsToFill first ty old e last ⊎
     ((mid : Body) × Fills first ty old (Ok tt) mid ×
-    (FailsToFill second ty mid e last ⊎ (Fills second ty mid (Ok tt) last × Not parent last e))))
+    (FailsToFill second ty mid e last ⊎
+    ((f : Body) × Fills second ty mid (Ok tt) f × ((last ≡ f) × Not parent f e)))))
 both_not first second ty old mid f last Not at parent (Ok x) same one two not = tt
 both_not first second ty old mid f last Not at parent (Err e) same one two not =
-    let P : Body → Type 0 = λ g. Fills second ty mid (Ok tt) g × Not parent g e in
-    let Q : ℕ → Type 0 = λ p. Not p f e in
-    inr (mid, one, inr (subst P (sym not.0) (two, subst Q same not.1)))
+    let P : ℕ → Type 0 = λ p. Not p f e in
+    inr (mid, one, inr (f, two, (not.0, subst P same not.1)))

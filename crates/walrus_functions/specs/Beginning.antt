@@ -3,9 +3,9 @@ use Rattle.std.specs.Prelude.{◌≡◌, ℕ, List, [], ◌∷◌, ◌⊎◌, So
 use Rattle.walrus_ty.specs.declared.ty.value.Val.{Val}
 use Rattle.walrus_ty.specs.Types.{ModuleType, unnamed_type, function}
 use Rattle.walrus_types.specs.Table.{Table, next_id, FindsOrAdds, IsAnswer, IsSameTable}
-use Rattle.walrus_ir.specs.BlockTypes.{new_function}
-use Rattle.walrus_ir.specs.Sequence.{empty_sequence}
-use Rattle.walrus_ir.specs.declared.instr_seq_type.InstrSeqType.TheVariants.{MultiValue}
+use Rattle.walrus_types.specs.FunctionTypes.{new_function}
+use Rattle.instr.specs.Sequence.{empty_sequence}
+use Rattle.instr.specs.declared.instr_seq_type.InstrSeqType.TheVariants.{MultiValue}
 use Rattle.walrus_functions.specs.Body.{Body}
 
 -- the type that stands for a function body with these results, as it is added to the table

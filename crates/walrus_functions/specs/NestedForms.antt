@@ -1,7 +1,7 @@
 -- Adding an instruction whose sequences are made by closures.
-use Rattle.std.specs.Prelude.{◌≡◌, ℕ, ◌⊎◌, ◌<◌, ◌≤◌, length, Option, Some, None, Result, Ok, Err}
+use Rattle.std.specs.Prelude.{◌≡◌, ℕ, ◌⊎◌, ◌<◌, ◌≤◌, List, [], ◌∷◌, length, Option, Some, None, Result, Ok, Err}
 use Rattle.std.specs.Borrow.{MutBor}
-use Rattle.walrus_ir.specs.declared.instr_seq_type.InstrSeqType.{InstrSeqType}
+use Rattle.instr.specs.declared.instr_seq_type.InstrSeqType.{InstrSeqType}
 use Rattle.instr.specs.declared.instr.Instr.{Instr}
 use Rattle.walrus_functions.specs.declared.function_builder.instr_seq_builder.InstrSeqBuilder.{InstrSeqBuilder}
 use Rattle.walrus_functions.specs.declared.error.BuildError.{BuildError}
@@ -65,44 +65,29 @@ FailsToAttach f parent (Some position) e =
     ⊎ (((e ≡ Position) × Knows f parent × (length (instrs_of f parent) < position))
     ⊎ ((e ≡ Memory) × Knows f parent × (position ≤ length (instrs_of f parent))))
 
--- The forms over one new sequence: a closure fills it, and then the parent of this id, as it is by
--- then, gains at the place the instruction that `make` gives for the sequence's id. After a refusal
--- what was made stays, and the parent gains nothing.
+-- The forms: each closure fills a new sequence of this type, one after the other, and then the parent
+-- of this id, as it is by then, gains at the place the instruction that `make` gives for the ids of
+-- the sequences. After a refusal what was made stays, and the parent gains nothing.
+
+-- an instruction, given the id of a sequence for each closure
+abbrev pub Makes : List Post → Type 0
+Makes [] = Instr
+Makes (post ∷ others) = ℕ → Makes others
 
 abbrev pub Nests :
-    Post → InstrSeqType → ℕ → Option ℕ → (ℕ → Instr) → Body → Body → Type 0
-Nests post ty parent place make old new =
+    (closures : List Post) → InstrSeqType → ℕ → Option ℕ → Makes closures → Body → Body → Type 0
+Nests [] ty parent place instr old new = Attaches old parent place instr new
+Nests (post ∷ others) ty parent place make old new =
     (mid : Body) × Fills post ty old (Ok tt) mid
-    × Attaches mid parent place (make (next_seq old)) new
+    × Nests others ty parent place (make (next_seq old)) mid new
 
 abbrev pub FailsToNest :
-    Post → InstrSeqType → ℕ → Option ℕ → Body → BuildError → Body → Type 0
-FailsToNest post ty parent place old e new =
+    List Post → InstrSeqType → ℕ → Option ℕ → Body → BuildError → Body → Type 0
+FailsToNest [] ty parent place old e new = (new ≡ old) × FailsToAttach old parent place e
+FailsToNest (post ∷ others) ty parent place old e new =
     FailsToFill post ty old e new
-    ⊎ (Fills post ty old (Ok tt) new × FailsToAttach new parent place e)
+    ⊎ ((mid : Body) × Fills post ty old (Ok tt) mid × FailsToNest others ty parent place mid e new)
 
--- The forms over two new sequences: the second is made and filled after the first.
-
--- the second closure may be called on a builder of a new sequence, which was added to what the
--- first may leave
-abbrev pub TakesSecond : Post → Pre → Body → InstrSeqType → Type 0
-TakesSecond post pre f ty = (mid : Body) → Fills post ty f (Ok tt) mid → TakesNew pre mid ty
-
--- after a call of the second closure on such a builder, the builder writes through the same `&mut`
-abbrev pub KeepsSecond : Post → Post → Body → InstrSeqType → Type 0
-KeepsSecond first second f ty =
-    (mid : Body) → Fills first ty f (Ok tt) mid → KeepsFunction second mid ty
-
-abbrev pub NestsBoth :
-    Post → Post → InstrSeqType → ℕ → Option ℕ → (ℕ → ℕ → Instr) → Body → Body → Type 0
-NestsBoth first second ty parent place make old new =
-    (mid : Body) × (last : Body) × Fills first ty old (Ok tt) mid × Fills second ty mid (Ok tt) last
-    × Attaches last parent place (make (next_seq old) (next_seq mid)) new
-
-abbrev pub FailsToNestBoth :
-    Post → Post → InstrSeqType → ℕ → Option ℕ → Body → BuildError → Body → Type 0
-FailsToNestBoth first second ty parent place old e new =
-    FailsToFill first ty old e new
-    ⊎ ((mid : Body) × Fills first ty old (Ok tt) mid
-    × (FailsToFill second ty mid e new
-    ⊎ (Fills second ty mid (Ok tt) new × FailsToAttach new parent place e)))
+-- this holds of whatever function the closure of a new sequence may leave
+abbrev pub AfterFilling : Post → InstrSeqType → Body → (Body → Type 0) → Type 0
+AfterFilling post ty f Holds = (mid : Body) → Fills post ty f (Ok tt) mid → Holds mid

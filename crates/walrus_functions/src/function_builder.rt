@@ -327,7 +327,7 @@ impl Clone for FunctionBuilder {
     }
 }
 
-ghost use Rattle.walrus_ir.specs.contracts.instr_seq.InstrSeq.{the_row as seq_row};
+ghost use Rattle.instr.specs.contracts.instr_seq.InstrSeq.{the_row as seq_row};
 ghost use Rattle.walrus_functions.specs.Rows.{instrs_row};
 
 // The instructions of a sequence, for writing.

@@ -8,9 +8,9 @@ use Rattle.instr.specs.declared.exceptions.TryTableCatch.TheVariants as clause
 use Rattle.instr.specs.declared.instr.Instr.{Instr}
 use Rattle.instr.specs.declared.instr.Instr.TheVariants as instr
 use Rattle.walrus_ty.specs.declared.ty.value.Val.TheVariants as val
-use Rattle.walrus_ir.specs.Sequence.{Sequence}
-use Rattle.walrus_ir.specs.declared.instr_seq_type.InstrSeqType.{InstrSeqType}
-use Rattle.walrus_ir.specs.declared.instr_seq_type.InstrSeqType.TheVariants.{Simple, MultiValue}
+use Rattle.instr.specs.Sequence.{Sequence}
+use Rattle.instr.specs.declared.instr_seq_type.InstrSeqType.{InstrSeqType}
+use Rattle.instr.specs.declared.instr_seq_type.InstrSeqType.TheVariants.{Simple, MultiValue}
 use Rattle.walrus_ir.specs.Hooks.{Hook, Given, end_instr_seq, visit_instr}
 use Rattle.walrus_ir.specs.Fields.{fields, type_fields, clause_fields, legacy_fields, instr_calls, sequence_calls}
 use Rattle.walrus_ir.specs.Calls.{Calls, leaves, call, and_then, each, unchanged, Extent, Full, Partial, StepRelation, Visits}

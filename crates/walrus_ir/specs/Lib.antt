@@ -1,5 +1,5 @@
-pub mod BlockTypes
+pub use Rattle.instr.specs.BlockTypes
 pub mod Calls
 pub mod Fields
 pub mod Hooks
-pub mod Sequence
+pub use Rattle.instr.specs.Sequence

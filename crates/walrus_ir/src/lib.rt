@@ -25,8 +25,6 @@
 //! ```
 #![tactic(auto)]
 
-mod instr_seq;
-mod instr_seq_type;
 pub mod laws;
 
 pub use const_expr::ConstExpr;
@@ -86,7 +84,9 @@ pub use instr::I64Sub128;
 pub use instr::IfElse;
 pub use instr::Instr;
 pub use instr::InstrLocId;
+pub use instr::InstrSeq;
 pub use instr::InstrSeqId;
+pub use instr::InstrSeqType;
 pub use instr::LegacyCatch;
 pub use instr::Load;
 pub use instr::LoadKind;
@@ -148,8 +148,6 @@ pub use instr::Unop;
 pub use instr::Unreachable;
 pub use instr::V128Bitselect;
 pub use instr::Value;
-pub use instr_seq::InstrSeq;
-pub use instr_seq_type::InstrSeqType;
 pub use walrus_types::AbstractHeapType;
 pub use walrus_types::Data;
 pub use walrus_types::DataId;
@@ -158,6 +156,7 @@ pub use walrus_types::ElementId;
 pub use walrus_types::FromRecordError;
 pub use walrus_types::Function;
 pub use walrus_types::FunctionId;
+pub use walrus_types::FunctionTypes;
 pub use walrus_types::Global;
 pub use walrus_types::GlobalId;
 pub use walrus_types::Heap;

@@ -1,16 +1,17 @@
 -- The beginnings of texts: what is read is what has the text, and what has a text is read.
-use Rattle.std.proofs.Common.{◌≡◌, ℕ, ◌^◌, ◌<◌, ◌≤◌, ◌+◌, ◌/◌, nat_lt, nat_le, ◌&&◌, ◌||◌, true, false, List, [], ◌∷◌, ◌++◌, length, take, drop, Option, Some, None, Ok, refl, sym, ap, subst, ◌∙◌, arith, take-append-drop, length-append, length-take-le, drop_at, ltb-true, ltb-false, lt-ltb, le-ltb, leb-true, le-leb}
+use Rattle.std.proofs.Common.{◌≡◌, ℕ, ◌^◌, nat_lt, nat_le, ◌||◌, true, false, List, [], ◌∷◌, ◌++◌, Option, Some, None, Ok, refl, sym, ap, subst, ◌∙◌, arith, lt-ltb, le-ltb, le-leb}
 use Rattle.std.proofs.lemmas.Grind.{common_steps}
 use Rattle.walrus_binary.specs.Leb128.{IsInteger, last, more, IsU32, IsS33}
 use Rattle.walrus_binary.specs.Steps.Reading.{◌>>=◌, u32_at, s33_at}
-use Rattle.walrus_binary.proofs.Basics.{Reading, Takes, IsSound, IsComplete, bind_ok, guard_ok, done, value_is, rest_is, which}
-use Rattle.walrus_binary.proofs.Integers.{both_true, u32_sound, u32_complete, s33_sound, s33_complete}
+use Rattle.walrus_binary.proofs.Basics.{Reading, IsSound, bind_ok, value_is, rest_is, which}
+use Rattle.walrus_binary.proofs.Integers.{u32_sound, u32_complete, s33_sound, s33_complete}
 use Rattle.walrus_module.specs.declared.kind.Space.{Space}
 use Rattle.walrus_module.specs.declared.kind.Space.TheVariants as space
 use Rattle.walrus_module.specs.declared.kind.Kind.{Kind}
 use Rattle.walrus_module.specs.declared.kind.Kind.TheVariants as kind
-use Rattle.walrus_module.specs.Immediates.{IsSigned, positive, negative, longer, Piece, unsigned, signed, plain, type_name, may_be_index, behind_byte, behind_number, Begins, index, signed_index, number, byte, offset, i32, i64, raw}
-use Rattle.walrus_module.specs.Steps.Heads.{Beginning, beginning, skip_at, signed_at, raw_at, byte_at, number_at, name_in, index_at, signed_index_at, index_or_byte_at, begin_at, behind}
+use Rattle.walrus_module.specs.Immediates.{Piece, unsigned, signed, plain, type_name, may_be_index, behind_byte, behind_number, Begins, index, signed_index, number, byte, offset, i32, i64, raw, byte_vec, import}
+use Rattle.walrus_module.specs.Steps.Heads.{Beginning, beginning, skip_at, signed_at, raw_at, byte_vec_at, byte_at, number_at, name_in, index_at, signed_index_at, index_or_byte_at, begin_at, behind}
+use Rattle.walrus_module.proofs.Skipping.{IsSkipped, skip_complete, skip_sound, IsSignedText, signed_complete, signed_sound, IsRaw, raw_complete, raw_sound, IsByteVec, byte_vec_again, byte_vec_sound}
 
 -- a text of the beginning of this kind
 pub record IsBeginning (k : Kind) (text : List ℕ) (b : Beginning) : Type 0 where
@@ -18,148 +19,25 @@ pub record IsBeginning (k : Kind) (text : List ℕ) (b : Beginning) : Type 0 whe
   pub begins : Begins k text piece b.more
   pub names : type_name piece ≡ b.named
 
--- ---- integers whose value plays no role
-
-abbrev IsSkipped : ℕ → List ℕ → Unit {0} → Type 0
-IsSkipped limit text u = (n : ℕ) × IsInteger 0x80 limit text n
-
-skip_again : (limit : ℕ) (text : List ℕ) (n : ℕ) (rest : List ℕ) → IsInteger 0x80 limit text n →
-    skip_at limit (text ++ rest) ≡ Ok (tt, rest)
-unfolding skip_at
-skip_again _ _ _ rest (last limit b low ends fits) = rw (lt-ltb b 0x80 low, lt-ltb b limit fits) refl
-skip_again _ _ _ rest (more limit b high bytes big is wide texts) =
-    rw (
-      le-ltb b 0x80 big,
-      lt-ltb b 0x100 is,
-      lt-ltb 0x80 limit wide,
-      skip_again
-          (limit / 0x80) bytes high rest texts,
-    ) refl
-
-skip_complete : (limit : ℕ) → IsComplete (IsSkipped limit) (skip_at limit)
-skip_complete limit text u rest h = skip_again limit text h.0 rest h.1
-
-one_byte_takes : {A : Type 0} (IsText : List ℕ → A → Type 0) (b : ℕ) (bytes : List ℕ) (x v : A)
-    (rest : List ℕ) → IsText (b ∷ []) v → done x bytes ≡ done v rest → Takes IsText (b ∷ bytes) v rest
-one_byte_takes IsText b bytes x v rest t e =
-    record { text = b ∷ []; is_text = t; parts = ap (λ (u : List ℕ). b ∷ u) (rest_is x v bytes rest e) }
-
-skip_sound : (limit : ℕ) → IsSound (IsSkipped limit) (skip_at limit)
-unfolding skip_at
-skip_sound limit [] v rest e = absurd cc
-skip_sound limit (b ∷ bytes) v rest e =
-    which (nat_lt b 0x80) _ _ (Ok (v, rest)) e
-    (λ low q. let g = guard_ok (nat_lt b limit) (Ok (tt, bytes)) _ (v, rest) q in
-    one_byte_takes (IsSkipped limit) b bytes tt v rest (
-      b,
-      last limit b (ltb-true b 0x80 low) (ltb-true b 0x80 low) (ltb-true b limit g.0),
-    ) g.1)
-    (λ big q. let g = guard_ok (nat_lt b 0x100 && nat_lt 0x80 limit) (skip_at (limit / 0x80) bytes) _ (
-      v,
-      rest,
-    ) q in
-    let two = both_true (nat_lt b 0x100) (nat_lt 0x80 limit) g.0 in
-    let t = skip_sound (limit / 0x80) bytes v rest g.1 in
-    record {
-      text = b ∷ t.text;
-      is_text = (
-        _,
-        more limit b t.is_text.0 t.text (ltb-false b 0x80 big) (ltb-true b 0x100 two.0)
-            (ltb-true 0x80 limit two.1) t.is_text.1,
-      );
-      parts = ap (λ (u : List ℕ). b ∷ u) t.parts;
-    })
-
-abbrev IsSignedText : ℕ → List ℕ → Unit {0} → Type 0
-IsSignedText limit text u = IsSigned limit text
-
-signed_again : (limit : ℕ) (text rest : List ℕ) → IsSigned limit text →
-    signed_at limit (text ++ rest) ≡ Ok (tt, rest)
-unfolding signed_at
-signed_again _ _ rest (positive limit b low fits) = rw (lt-ltb b 0x40 low, lt-ltb b limit fits) refl
-signed_again _ _ rest (negative limit b from low fits) =
-    rw (le-ltb b 0x40 from, lt-ltb b 0x80 low, le-leb 0x80 (b + limit) fits) refl
-signed_again _ _ rest (longer limit b bytes big is wide texts) =
-    let past : 0x40 ≤ b = omega (arith, big) in
-    rw (
-      le-ltb b 0x40 past,
-      le-ltb b 0x80 big,
-      lt-ltb b 0x100 is,
-      lt-ltb 0x40 limit wide,
-      signed_again
-          (limit / 0x80) bytes rest texts,
-    ) refl
-
-signed_complete : (limit : ℕ) → IsComplete (IsSignedText limit) (signed_at limit)
-signed_complete limit text u rest h = signed_again limit text rest h
-
-signed_sound : (limit : ℕ) → IsSound (IsSignedText limit) (signed_at limit)
-unfolding signed_at
-signed_sound limit [] v rest e = absurd cc
-signed_sound limit (b ∷ bytes) v rest e =
-    which (nat_lt b 0x40) _ _ (Ok (v, rest)) e
-    (λ low q. let g = guard_ok (nat_lt b limit) (Ok (tt, bytes)) _ (v, rest) q in
-    one_byte_takes (IsSignedText limit) b bytes tt v rest
-    (positive limit b (ltb-true b 0x40 low) (ltb-true b limit g.0)) g.1)
-    (λ from q. which (nat_lt b 0x80) _ _ (Ok (v, rest)) q
-    (λ low q1. let g = guard_ok (nat_le 0x80 (b + limit)) (Ok (tt, bytes)) _ (v, rest) q1 in
-    one_byte_takes (IsSignedText limit) b bytes tt v rest
-    (negative limit b (ltb-false b 0x40 from) (ltb-true b 0x80 low) (leb-true 0x80 (b + limit) g.0)) g.1)
-    (λ big q1. let g = guard_ok (nat_lt b 0x100 && nat_lt 0x40 limit) (signed_at (limit / 0x80) bytes) _ (
-      v,
-      rest,
-    ) q1 in
-    let two = both_true (nat_lt b 0x100) (nat_lt 0x40 limit) g.0 in
-    let t = signed_sound (limit / 0x80) bytes v rest g.1 in
-    record {
-      text = b ∷ t.text;
-      is_text = longer limit b t.text (ltb-false b 0x80 big) (ltb-true b 0x100 two.0)
-          (ltb-true 0x40 limit two.1) t.is_text;
-      parts = ap (λ (u : List ℕ). b ∷ u) t.parts;
-    }))
-
-abbrev IsRaw : ℕ → List ℕ → Unit {0} → Type 0
-IsRaw n text u = (0 < n) × (length text ≡ n)
-
-raw_complete : (n : ℕ) → IsComplete (IsRaw n) (raw_at n)
-unfolding raw_at
-raw_complete n text u rest h =
-    rw (
-      lt-ltb 0 n h.0,
-      le-leb n (length (text ++ rest)) (omega (arith, h.1, length-append text rest)),
-      drop_at text rest n h.1,
-    ) refl
-
-raw_sound : (n : ℕ) → IsSound (IsRaw n) (raw_at n)
-unfolding raw_at
-raw_sound n bytes v rest e =
-    let g = guard_ok (nat_lt 0 n && nat_le n (length bytes)) (Ok (tt, drop n bytes)) _ (v, rest) e in
-    let two = both_true (nat_lt 0 n) (nat_le n (length bytes)) g.0 in
-    record {
-      text = take n bytes;
-      is_text = (ltb-true 0 n two.0, length-take-le n bytes (leb-true n (length bytes) two.1));
-      parts = sym (take-append-drop n bytes) ∙ ap (λ (u : List ℕ). take n bytes ++ u)
-          (rest_is tt v (drop n bytes) rest g.1);
-    }
-
 -- ---- by a byte or a number
 
 beginning_is : (text : List ℕ) (k : Kind) (x b : Beginning) → x ≡ b → IsBeginning k text x →
     IsBeginning k text b
 beginning_is text k x b e h = subst (λ (y : Beginning). IsBeginning k text y) e h
 
-plain_takes : (k : Kind) (IsText : List ℕ → Unit {0} → Type 0) (reads : List ℕ → Reading (Unit {0})) →
-    IsSound IsText reads
-    → ((text : List ℕ) → IsText text tt → Begins k text (plain text) []) →
-    IsSound (IsBeginning k) (λ bytes. reads bytes >>= (λ u. Ok (beginning None [], u.1)))
-plain_takes k IsText reads sound made bytes b rest e =
-    let a = bind_ok (reads bytes) (λ u. Ok (beginning None [], u.1)) (b, rest) e in
+plain_takes : (k : Kind) (kinds : List Kind) (IsText : List ℕ → Unit {0} → Type 0)
+    (reads : List ℕ → Reading (Unit {0})) → IsSound IsText reads
+    → ((text : List ℕ) → IsText text tt → Begins k text (plain text) kinds) →
+    IsSound (IsBeginning k) (λ bytes. reads bytes >>= (λ u. Ok (beginning None kinds, u.1)))
+plain_takes k kinds IsText reads sound made bytes b rest e =
+    let a = bind_ok (reads bytes) (λ u. Ok (beginning None kinds, u.1)) (b, rest) e in
     let t = sound bytes a.0.0 a.0.1 a.1 in
+    let x = beginning None kinds in
     record {
       text = t.text;
-      is_text = beginning_is t.text k (beginning None []) b (value_is (beginning None []) b a.0.1 rest a.2)
+      is_text = beginning_is t.text k x b (value_is x b a.0.1 rest a.2)
           (record { piece = plain t.text; begins = made t.text t.is_text; names = refl });
-      parts = t.parts ∙ ap (λ (u : List ℕ). t.text ++ u) (rest_is (beginning None []) b a.0.1 rest a.2);
+      parts = t.parts ∙ ap (λ (u : List ℕ). t.text ++ u) (rest_is x b a.0.1 rest a.2);
     }
 
 -- what is behind a byte or a number, where it may be there
@@ -251,17 +129,20 @@ either_takes k may (x ∷ bytes) b rest e =
     (λ h q. signed_takes k may (x ∷ bytes) b rest q)
     (λ h q. byte_takes k (x ∷ bytes) b rest q)
 
+abbrev imported : List Kind
+imported = kind.ByteVec ∷ kind.ExternType ∷ []
+
 pub begin_sound : (k : Kind) → IsSound (IsBeginning k) (begin_at k)
 unfolding begin_at
 begin_sound (kind.Index s) = index_takes s
 begin_sound kind.U32 = number_takes kind.U32
-begin_sound kind.U64 = plain_takes kind.U64 (IsSkipped (2 ^ 64)) (skip_at (2 ^ 64)) (skip_sound (2 ^ 64))
+begin_sound kind.U64 = plain_takes kind.U64 [] (IsSkipped (2 ^ 64)) (skip_at (2 ^ 64)) (skip_sound (2 ^ 64))
     (λ t h. offset t h.0 h.1)
-begin_sound kind.S32 = plain_takes kind.S32 (IsSignedText (2 ^ 31)) (signed_at (2 ^ 31))
+begin_sound kind.S32 = plain_takes kind.S32 [] (IsSignedText (2 ^ 31)) (signed_at (2 ^ 31))
     (signed_sound (2 ^ 31)) (λ t h. i32 t h)
-begin_sound kind.S64 = plain_takes kind.S64 (IsSignedText (2 ^ 63)) (signed_at (2 ^ 63))
+begin_sound kind.S64 = plain_takes kind.S64 [] (IsSignedText (2 ^ 63)) (signed_at (2 ^ 63))
     (signed_sound (2 ^ 63)) (λ t h. i64 t h)
-begin_sound (kind.Bytes n) = plain_takes (kind.Bytes n) (IsRaw n) (raw_at n) (raw_sound n) (λ t h.
+begin_sound (kind.Bytes n) = plain_takes (kind.Bytes n) [] (IsRaw n) (raw_at n) (raw_sound n) (λ t h.
     raw t n h.0 h.1)
 begin_sound kind.Zero = byte_takes kind.Zero
 begin_sound kind.CastFlags = byte_takes kind.CastFlags
@@ -281,6 +162,31 @@ begin_sound kind.Vector = number_takes kind.Vector
 begin_sound kind.Atomic = number_takes kind.Atomic
 begin_sound kind.Block = byte_takes kind.Block
 begin_sound kind.Expression = byte_takes kind.Expression
+begin_sound kind.Expressions = number_takes kind.Expressions
+begin_sound kind.ByteVec = plain_takes kind.ByteVec [] IsByteVec byte_vec_at byte_vec_sound (λ t h.
+    subst (λ (u : List ℕ). Begins kind.ByteVec u (plain u) []) (sym h.parts)
+    (byte_vec h.count h.bytes h.counted))
+begin_sound kind.RefType = byte_takes kind.RefType
+begin_sound kind.Mutability = byte_takes kind.Mutability
+begin_sound kind.TagType = byte_takes kind.TagType
+begin_sound kind.TableLimits = byte_takes kind.TableLimits
+begin_sound kind.MemoryLimits = byte_takes kind.MemoryLimits
+begin_sound kind.ExternType = byte_takes kind.ExternType
+begin_sound kind.Import = plain_takes kind.Import imported IsByteVec byte_vec_at byte_vec_sound (λ t h.
+    subst (λ (u : List ℕ). Begins kind.Import u (plain u) imported) (sym h.parts)
+    (import h.count h.bytes h.counted))
+begin_sound kind.Imports = number_takes kind.Imports
+begin_sound kind.TypeIndices = number_takes kind.TypeIndices
+begin_sound kind.FunctionIndices = number_takes kind.FunctionIndices
+begin_sound kind.Table = byte_takes kind.Table
+begin_sound kind.Tables = number_takes kind.Tables
+begin_sound kind.Global = byte_takes kind.Global
+begin_sound kind.Globals = number_takes kind.Globals
+begin_sound kind.ElementSegment = number_takes kind.ElementSegment
+begin_sound kind.ElementSegments = number_takes kind.ElementSegments
+begin_sound kind.DataSegment = number_takes kind.DataSegment
+begin_sound kind.DataSegments = number_takes kind.DataSegments
+begin_sound kind.Tags = number_takes kind.Tags
 
 -- ---- what has a text is read
 
@@ -330,6 +236,27 @@ number_again kind.Vector text n kinds rest h e = number_reads kind.Vector text n
 number_again kind.Atomic text n kinds rest h e = number_reads kind.Atomic text n kinds rest h e
 number_again kind.Block text n kinds rest h e = absurd cc
 number_again kind.Expression text n kinds rest h e = absurd cc
+number_again kind.Expressions text n kinds rest h e = number_reads kind.Expressions text n kinds rest h e
+number_again kind.ByteVec text n kinds rest h e = absurd cc
+number_again kind.RefType text n kinds rest h e = absurd cc
+number_again kind.Mutability text n kinds rest h e = absurd cc
+number_again kind.TagType text n kinds rest h e = absurd cc
+number_again kind.TableLimits text n kinds rest h e = absurd cc
+number_again kind.MemoryLimits text n kinds rest h e = absurd cc
+number_again kind.ExternType text n kinds rest h e = absurd cc
+number_again kind.Import text n kinds rest h e = absurd cc
+number_again kind.Imports text n kinds rest h e = number_reads kind.Imports text n kinds rest h e
+number_again kind.TypeIndices text n kinds rest h e = number_reads kind.TypeIndices text n kinds rest h e
+number_again kind.FunctionIndices text n kinds rest h e = number_reads kind.FunctionIndices text n kinds rest h e
+number_again kind.Table text n kinds rest h e = absurd cc
+number_again kind.Tables text n kinds rest h e = number_reads kind.Tables text n kinds rest h e
+number_again kind.Global text n kinds rest h e = absurd cc
+number_again kind.Globals text n kinds rest h e = number_reads kind.Globals text n kinds rest h e
+number_again kind.ElementSegment text n kinds rest h e = number_reads kind.ElementSegment text n kinds rest h e
+number_again kind.ElementSegments text n kinds rest h e = number_reads kind.ElementSegments text n kinds rest h e
+number_again kind.DataSegment text n kinds rest h e = number_reads kind.DataSegment text n kinds rest h e
+number_again kind.DataSegments text n kinds rest h e = number_reads kind.DataSegments text n kinds rest h e
+number_again kind.Tags text n kinds rest h e = number_reads kind.Tags text n kinds rest h e
 
 own_block : (x : ℕ) (kinds : List Kind) → behind_byte kind.BlockType x ≡ Some kinds → IsOwn x
 own_block x kinds e = grind (arith, common_steps)
@@ -364,6 +291,27 @@ byte_again kind.Vector x kinds rest e = absurd cc
 byte_again kind.Atomic x kinds rest e = absurd cc
 byte_again kind.Block x kinds rest e = byte_reads kind.Block x kinds rest e
 byte_again kind.Expression x kinds rest e = byte_reads kind.Expression x kinds rest e
+byte_again kind.Expressions x kinds rest e = absurd cc
+byte_again kind.ByteVec x kinds rest e = absurd cc
+byte_again kind.RefType x kinds rest e = byte_reads kind.RefType x kinds rest e
+byte_again kind.Mutability x kinds rest e = byte_reads kind.Mutability x kinds rest e
+byte_again kind.TagType x kinds rest e = byte_reads kind.TagType x kinds rest e
+byte_again kind.TableLimits x kinds rest e = byte_reads kind.TableLimits x kinds rest e
+byte_again kind.MemoryLimits x kinds rest e = byte_reads kind.MemoryLimits x kinds rest e
+byte_again kind.ExternType x kinds rest e = byte_reads kind.ExternType x kinds rest e
+byte_again kind.Import x kinds rest e = absurd cc
+byte_again kind.Imports x kinds rest e = absurd cc
+byte_again kind.TypeIndices x kinds rest e = absurd cc
+byte_again kind.FunctionIndices x kinds rest e = absurd cc
+byte_again kind.Table x kinds rest e = byte_reads kind.Table x kinds rest e
+byte_again kind.Tables x kinds rest e = absurd cc
+byte_again kind.Global x kinds rest e = byte_reads kind.Global x kinds rest e
+byte_again kind.Globals x kinds rest e = absurd cc
+byte_again kind.ElementSegment x kinds rest e = absurd cc
+byte_again kind.ElementSegments x kinds rest e = absurd cc
+byte_again kind.DataSegment x kinds rest e = absurd cc
+byte_again kind.DataSegments x kinds rest e = absurd cc
+byte_again kind.Tags x kinds rest e = absurd cc
 
 signed_reads : (k : Kind) (x : ℕ) (bytes : List ℕ) (n : ℕ) (rest : List ℕ) →
     (nat_lt x 0x40 || nat_le 0x80 x) ≡ true → s33_at (x ∷ bytes) ≡ Ok (n, rest) →
@@ -409,6 +357,27 @@ signed_again_at kind.Vector text n rest may h = absurd cc
 signed_again_at kind.Atomic text n rest may h = absurd cc
 signed_again_at kind.Block text n rest may h = absurd cc
 signed_again_at kind.Expression text n rest may h = absurd cc
+signed_again_at kind.Expressions text n rest may h = absurd cc
+signed_again_at kind.ByteVec text n rest may h = absurd cc
+signed_again_at kind.RefType text n rest may h = absurd cc
+signed_again_at kind.Mutability text n rest may h = absurd cc
+signed_again_at kind.TagType text n rest may h = absurd cc
+signed_again_at kind.TableLimits text n rest may h = absurd cc
+signed_again_at kind.MemoryLimits text n rest may h = absurd cc
+signed_again_at kind.ExternType text n rest may h = absurd cc
+signed_again_at kind.Import text n rest may h = absurd cc
+signed_again_at kind.Imports text n rest may h = absurd cc
+signed_again_at kind.TypeIndices text n rest may h = absurd cc
+signed_again_at kind.FunctionIndices text n rest may h = absurd cc
+signed_again_at kind.Table text n rest may h = absurd cc
+signed_again_at kind.Tables text n rest may h = absurd cc
+signed_again_at kind.Global text n rest may h = absurd cc
+signed_again_at kind.Globals text n rest may h = absurd cc
+signed_again_at kind.ElementSegment text n rest may h = absurd cc
+signed_again_at kind.ElementSegments text n rest may h = absurd cc
+signed_again_at kind.DataSegment text n rest may h = absurd cc
+signed_again_at kind.DataSegments text n rest may h = absurd cc
+signed_again_at kind.Tags text n rest may h = absurd cc
 
 index_again : (s : Space) (text : List ℕ) (k : ℕ) (rest : List ℕ) → IsU32 text k →
     begin_at (kind.Index s) (text ++ rest) ≡ Ok (beginning (name_in s k) [], rest)
@@ -426,3 +395,5 @@ begin_again _ _ _ _ rest (offset text n h) = rw (skip_complete (2 ^ 64) text tt 
 begin_again _ _ _ _ rest (i32 text h) = rw (signed_complete (2 ^ 31) text tt rest h) refl
 begin_again _ _ _ _ rest (i64 text h) = rw (signed_complete (2 ^ 63) text tt rest h) refl
 begin_again _ _ _ _ rest (raw text n some h) = rw (raw_complete n text tt rest (some, h)) refl
+begin_again _ _ _ _ rest (byte_vec count bytes h) = rw (byte_vec_again count bytes rest h) refl
+begin_again _ _ _ _ rest (import count name h) = rw (byte_vec_again count name rest h) refl

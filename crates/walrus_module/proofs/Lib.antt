@@ -1,6 +1,14 @@
 pub mod Taking
 pub mod Tables
+pub mod Skipping
 pub mod Heads
 pub mod Stacks
 pub mod Scanning
+pub mod Searching
+pub mod Pieces
+pub mod Rewriting
+pub mod RenamingLaws
 pub mod WholeTexts
+pub mod Padding
+pub mod CodeSections
+pub mod NamedTypes

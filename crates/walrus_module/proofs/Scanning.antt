@@ -4,7 +4,7 @@ use Rattle.std.proofs.lemmas.Grind.{flat_map-append}
 use Rattle.walrus_binary.specs.Leb128.{IsInteger, last, more}
 use Rattle.walrus_binary.proofs.Basics.{Reading, done, value_is, rest_is}
 use Rattle.walrus_module.specs.declared.kind.Kind.{Kind}
-use Rattle.walrus_module.specs.Immediates.{IsSigned, positive, negative, longer, Piece, type_name, Begins, index, signed_index, number, byte, offset, i32, i64, raw, Runs, stop, step, AreTexts, names_of, type_names}
+use Rattle.walrus_module.specs.Immediates.{IsSigned, positive, negative, longer, Piece, type_name, Begins, index, signed_index, number, byte, offset, i32, i64, raw, byte_vec, import, Runs, stop, step, AreTexts, names_of, type_names}
 use Rattle.walrus_module.specs.Steps.Heads.{Beginning, beginning, begin_at, fault}
 use Rattle.walrus_module.specs.Steps.Scans.{IsScanned}
 use Rattle.walrus_module.proofs.Heads.{begin_sound, begin_again}
@@ -20,7 +20,7 @@ signed_long _ _ (positive limit b low fits) = omega arith
 signed_long _ _ (negative limit b from low fits) = omega arith
 signed_long _ _ (longer limit b bytes big is wide texts) = omega arith
 
-begins_long : (k : Kind) (text : List ℕ) (piece : Piece) (kinds : List Kind) → Begins k text piece kinds →
+pub begins_long : (k : Kind) (text : List ℕ) (piece : Piece) (kinds : List Kind) → Begins k text piece kinds →
     0 < length text
 begins_long _ _ _ _ (index s text k h) = integer_long _ _ text k h
 begins_long _ _ _ _ (signed_index k text n may h) = integer_long _ _ text n h
@@ -30,6 +30,10 @@ begins_long _ _ _ _ (offset text n h) = integer_long _ _ text n h
 begins_long _ _ _ _ (i32 text h) = signed_long _ text h
 begins_long _ _ _ _ (i64 text h) = signed_long _ text h
 begins_long _ _ _ _ (raw text n some h) = omega (arith, some, h)
+begins_long _ _ _ _ (byte_vec count bytes h) =
+    omega (arith, integer_long _ _ count (length bytes) h, length-append count bytes)
+begins_long _ _ _ _ (import count name h) =
+    omega (arith, integer_long _ _ count (length name) h, length-append count name)
 
 pub shorter : (k : Kind) (bytes : List ℕ) (b : Beginning) (rest : List ℕ) → begin_at k bytes ≡ Ok (b, rest) →
     length rest < length bytes
@@ -42,7 +46,7 @@ shorter k bytes b rest e =
 -- ---- runs
 
 -- one beginning more
-runs_on : (kinds : List Kind) (text : List ℕ) (pieces : List Piece) (next : Kind) (stack : List Kind)
+pub runs_on : (kinds : List Kind) (text : List ℕ) (pieces : List Piece) (next : Kind) (stack : List Kind)
     (t : List ℕ) (piece : Piece) (behind : List Kind) → Runs kinds text pieces (next ∷ stack) →
     Begins next t piece behind
     → Runs kinds (text ++ t) (pieces ++ piece ∷ []) (behind ++ stack)
@@ -63,7 +67,7 @@ pub record Rest (left : List Kind) (bytes after : List ℕ) : Type 0 where
   pub parts : bytes ≡ text ++ after
 
 -- one text's beginning is the other's, where both begin the same bytes
-same_step : (k : Kind) (a b : List ℕ) (p q : Piece) (behind inner : List Kind) (rest others : List ℕ) →
+pub same_step : (k : Kind) (a b : List ℕ) (p q : Piece) (behind inner : List Kind) (rest others : List ℕ) →
     Begins k a p behind → Begins k b q inner → a ++ rest ≡ b ++ others → (behind ≡ inner) × (rest ≡ others)
 same_step k a b p q behind inner rest others h g e =
     let same : done (beginning (type_name p) behind) rest ≡ done (beginning (type_name q) inner) others =

@@ -14,12 +14,18 @@ pub record Names (kinds : List Kind) (bytes names : List ℕ) : Type 0 where
   pub named : names ≡ type_names pieces
 
 -- instructions, with the `end` that no block has
+abbrev pub expression : List Kind
+expression = kind.Expression ∷ []
+
 abbrev pub IsExpression : List ℕ → List ℕ → Type 0
-IsExpression = Names (kind.Expression ∷ [])
+IsExpression = Names expression
 
 -- what a function body has after its size: the types of its locals, and an expression
+abbrev pub body : List Kind
+body = kind.Locals ∷ kind.Expression ∷ []
+
 abbrev pub IsBody : List ℕ → List ℕ → Type 0
-IsBody = Names (kind.Locals ∷ kind.Expression ∷ [])
+IsBody = Names body
 
 -- an expression was taken from the front of bytes
 pub record BeginsWithExpression (bytes rest names : List ℕ) : Type 0 where

@@ -1,6 +1,7 @@
--- The texts of instructions and of what they have after their opcodes, by the table of
--- specs/Opcodes. One relation says which bytes are such a text and where each index is in it.
--- WebAssembly core specification, "Binary Format", instructions, expressions and types.
+-- The texts of instructions, of what they have after their opcodes, and of contents of sections, by
+-- the tables of specs/Opcodes and specs/Contents. One relation says which bytes are such a text and
+-- where each index is in it.
+-- WebAssembly core specification, "Binary Format", instructions, expressions, types and modules.
 use Rattle.std.specs.Prelude.{◌≡◌, ℕ, zero, suc, ◌+◌, ◌/◌, ◌^◌, ◌<◌, ◌≤◌, Bool, true, false, List, [], ◌∷◌, ◌++◌, length, Option, Some, None, nat_eq, nat_le, ◌&&◌, ◌||◌, cond}
 use Rattle.std.specs.List.{flat_map}
 use Rattle.walrus_binary.specs.Leb128.{IsInteger, IsU32, IsS33}
@@ -8,7 +9,8 @@ use Rattle.walrus_module.specs.declared.kind.Space.{Space}
 use Rattle.walrus_module.specs.declared.kind.Space.TheVariants as space
 use Rattle.walrus_module.specs.declared.kind.Kind.{Kind}
 use Rattle.walrus_module.specs.declared.kind.Kind.TheVariants as kind
-use Rattle.walrus_module.specs.Opcodes.{kinds_in, opcodes, aggregate_opcodes, bulk_opcodes, vector_opcodes, atomic_opcodes, tag_index, memory_index, label_index}
+use Rattle.walrus_module.specs.Opcodes.{kinds_in, opcodes, aggregate_opcodes, bulk_opcodes, vector_opcodes, atomic_opcodes, type_index, function_index, tag_index, memory_index, label_index}
+use Rattle.walrus_module.specs.Contents.{extern_types, table_limits, memory_limits, element_forms, data_forms}
 
 -- ---- integers whose value plays no role
 
@@ -46,6 +48,11 @@ type_name (plain text) = None
 abbrev pub is_abstract : ℕ → Bool
 is_abstract byte = nat_le 0x69 byte && nat_le byte 0x74
 
+abbrev pub ref_kinds : ℕ → Option (List Kind)
+ref_kinds byte =
+    cond (is_abstract byte) (Some [])
+    (cond (nat_le 0x63 byte && nat_le byte 0x64) (Some (kind.HeapType ∷ [])) None)
+
 abbrev pub value_kinds : ℕ → Option (List Kind)
 value_kinds byte =
     cond (nat_le 0x7B byte && nat_le byte 0x7F || is_abstract byte) (Some [])
@@ -73,6 +80,16 @@ behind_byte kind.Block byte =
     (cond (nat_eq byte 0x18) (Some (label_index ∷ [])) (and_then (kinds_in opcodes byte) (kind.Block ∷ [])))
 behind_byte kind.Expression byte =
     cond (nat_eq byte 0x0B) (Some []) (and_then (kinds_in opcodes byte) (kind.Expression ∷ []))
+behind_byte kind.RefType byte = ref_kinds byte
+behind_byte kind.Mutability byte = cond (nat_le byte 1) (Some []) None
+behind_byte kind.TagType byte = cond (nat_eq byte 0) (Some (type_index ∷ [])) None
+behind_byte kind.TableLimits byte = kinds_in table_limits byte
+behind_byte kind.MemoryLimits byte = kinds_in memory_limits byte
+behind_byte kind.ExternType byte = kinds_in extern_types byte
+behind_byte kind.Table byte =
+    cond (nat_eq byte 0x40) (Some (kind.Zero ∷ kind.RefType ∷ kind.TableLimits ∷ kind.Expression ∷ []))
+    (and_then (ref_kinds byte) (kind.TableLimits ∷ []))
+behind_byte kind.Global byte = and_then (value_kinds byte) (kind.Mutability ∷ kind.Expression ∷ [])
 behind_byte _ byte = None
 
 -- a heap type and a block type can be a type's index, in the form of an `s33`
@@ -102,6 +119,17 @@ behind_number kind.Aggregate n = kinds_in aggregate_opcodes n
 behind_number kind.Bulk n = kinds_in bulk_opcodes n
 behind_number kind.Vector n = kinds_in vector_opcodes n
 behind_number kind.Atomic n = kinds_in atomic_opcodes n
+behind_number kind.Expressions n = Some (times n kind.Expression)
+behind_number kind.Imports n = Some (times n kind.Import)
+behind_number kind.TypeIndices n = Some (times n type_index)
+behind_number kind.FunctionIndices n = Some (times n function_index)
+behind_number kind.Tables n = Some (times n kind.Table)
+behind_number kind.Globals n = Some (times n kind.Global)
+behind_number kind.ElementSegment n = kinds_in element_forms n
+behind_number kind.ElementSegments n = Some (times n kind.ElementSegment)
+behind_number kind.DataSegment n = kinds_in data_forms n
+behind_number kind.DataSegments n = Some (times n kind.DataSegment)
+behind_number kind.Tags n = Some (times n kind.TagType)
 behind_number _ n = None
 
 -- ---- texts
@@ -125,6 +153,12 @@ pub data Begins : Kind → List ℕ → Piece → List Kind → Type 0 where
   i32 : (text : List ℕ) → IsSigned (2 ^ 31) text → Begins kind.S32 text (plain text) []
   i64 : (text : List ℕ) → IsSigned (2 ^ 63) text → Begins kind.S64 text (plain text) []
   raw : (text : List ℕ) (n : ℕ) → 0 < n → length text ≡ n → Begins (kind.Bytes n) text (plain text) []
+  byte_vec :
+      (count bytes : List ℕ) → IsU32 count (length bytes)
+      → Begins kind.ByteVec (count ++ bytes) (plain (count ++ bytes)) []
+  import :
+      (count name : List ℕ) → IsU32 count (length name)
+      → Begins kind.Import (count ++ name) (plain (count ++ name)) (kind.ByteVec ∷ kind.ExternType ∷ [])
 
 -- Bytes from the first of these kinds on, their pieces, and the kinds that are still to come behind
 -- them. With `[]` to come, they are a whole text.

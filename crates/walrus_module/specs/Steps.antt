@@ -4,3 +4,5 @@ pub mod Tables
 pub mod Heads
 pub mod Stacks
 pub mod Scans
+pub mod Renaming
+pub mod Contents

@@ -2,10 +2,11 @@
 ghost use Rattle.std.specs.Prelude.{◌≡◌, [], ◌∷◌, Some, None, cond, nat_eq};
 ghost use Rattle.walrus_module.specs.declared.kind.Kind.TheVariants as kind;
 ghost use Rattle.walrus_module.specs.Opcodes.{kinds_in, opcodes};
-ghost use Rattle.walrus_module.specs.Immediates.{is_abstract, value_kinds, and_then, behind_byte, behind_number};
+ghost use Rattle.walrus_module.specs.Immediates.{is_abstract, ref_kinds, value_kinds, and_then, behind_byte, behind_number};
 ghost use Rattle.walrus_module.specs.Steps.Tables.{row_kinds};
-ghost use Rattle.walrus_module.specs.Steps.Heads.{Finds, Chooses, seen, begin_at, byte_at, number_at, index_at, index_or_byte_at, raw_at};
+ghost use Rattle.walrus_module.specs.Steps.Heads.{Finds, Chooses, seen, begin_at, byte_at, number_at, index_at, index_or_byte_at, raw_at, byte_vec_at};
 
+use crate::contents::{data_segment, element_segment, extern_type, memory_limits, table_limits};
 use crate::kind::{Immediates, Kind, Space};
 use crate::leb128::{read_s33, read_u32, skip_s32, skip_s64, skip_u64};
 use crate::opcodes::{aggregate, atomic, bulk_instruction, instruction, vector};
@@ -69,6 +70,33 @@ pub fn read_head(kind: Kind, input: &mut &[u8]) -> Option<Head>
         Kind::Bulk => read_number(Kind::Bulk, input),
         Kind::Vector => read_number(Kind::Vector, input),
         Kind::Atomic => read_number(Kind::Atomic, input),
+        Kind::Expressions => read_number(Kind::Expressions, input),
+        Kind::ByteVec => {
+            skip_byte_vec(input)?;
+            Some(PLAIN)
+        }
+        Kind::RefType => read_byte(Kind::RefType, input),
+        Kind::Mutability => read_byte(Kind::Mutability, input),
+        Kind::TagType => read_byte(Kind::TagType, input),
+        Kind::TableLimits => read_byte(Kind::TableLimits, input),
+        Kind::MemoryLimits => read_byte(Kind::MemoryLimits, input),
+        Kind::ExternType => read_byte(Kind::ExternType, input),
+        Kind::Import => {
+            skip_byte_vec(input)?;
+            Some(Head::Row(Immediates::Two(Kind::ByteVec, Kind::ExternType)))
+        }
+        Kind::Imports => read_number(Kind::Imports, input),
+        Kind::TypeIndices => read_number(Kind::TypeIndices, input),
+        Kind::FunctionIndices => read_number(Kind::FunctionIndices, input),
+        Kind::Table => read_byte(Kind::Table, input),
+        Kind::Tables => read_number(Kind::Tables, input),
+        Kind::Global => read_byte(Kind::Global, input),
+        Kind::Globals => read_number(Kind::Globals, input),
+        Kind::ElementSegment => read_number(Kind::ElementSegment, input),
+        Kind::ElementSegments => read_number(Kind::ElementSegments, input),
+        Kind::DataSegment => read_number(Kind::DataSegment, input),
+        Kind::DataSegments => read_number(Kind::DataSegments, input),
+        Kind::Tags => read_number(Kind::Tags, input),
     }
 }
 
@@ -90,6 +118,21 @@ fn skip_bytes(length: u8, input: &mut &[u8]) -> Option<()>
     let length = usize::from(length);
     let bytes = *input;
     if length == 0 || length > bytes.len() {
+        *input = &[];
+        return None;
+    }
+    *input = &bytes[length..];
+    Some(())
+}
+
+/// Takes a count, and as many bytes.
+#[tactic(auto, unfolding(crate::specs::Steps::Heads::byte_vec_at))]
+fn skip_byte_vec(input: &mut &[u8]) -> Option<()>
+    ensures { Finds (λ u. tt) result input.new.now (byte_vec_at input.old.now) }
+{
+    let length = read_u32(input)? as usize;
+    let bytes = *input;
+    if length > bytes.len() {
         *input = &[];
         return None;
     }
@@ -151,6 +194,14 @@ fn behind_byte(kind: Kind, byte: u8) -> Option<Head>
         Kind::Zero => choose(byte == 0, Immediates::Zero),
         Kind::CastFlags => choose(byte <= 3, Immediates::Zero),
         Kind::CatchClause => behind_catch(byte),
+        Kind::RefType => behind_reference(byte),
+        Kind::Mutability => choose(byte <= 1, Immediates::Zero),
+        Kind::TagType => choose(byte == 0, Immediates::One(Kind::Index(Space::Type))),
+        Kind::TableLimits => behind_prefix(table_limits(byte)),
+        Kind::MemoryLimits => behind_prefix(memory_limits(byte)),
+        Kind::ExternType => behind_prefix(extern_type(byte)),
+        Kind::Table => behind_table(byte),
+        Kind::Global => behind_global(byte),
         _ => None,
     }
 }
@@ -214,6 +265,52 @@ fn behind_value(byte: u8) -> Option<Head>
     )
 }
 
+fn behind_reference(byte: u8) -> Option<Head>
+    ensures { Chooses result (ref_kinds byte) }
+{
+    if is_abstract(byte) {
+        return Some(PLAIN);
+    }
+    choose(
+        byte >= 0x63 && byte <= 0x64,
+        Immediates::One(Kind::HeapType),
+    )
+}
+
+/// What is behind the first byte of a table: of its type, or of the form with an expression.
+fn behind_table(byte: u8) -> Option<Head>
+    ensures { Chooses result (behind_byte kind.Table byte) }
+{
+    if byte == 0x40 {
+        return Some(Head::Row(Immediates::Four(
+            Kind::Zero,
+            Kind::RefType,
+            Kind::TableLimits,
+            Kind::Expression,
+        )));
+    }
+    if is_abstract(byte) {
+        return Some(Head::Row(Immediates::One(Kind::TableLimits)));
+    }
+    choose(
+        byte >= 0x63 && byte <= 0x64,
+        Immediates::Two(Kind::HeapType, Kind::TableLimits),
+    )
+}
+
+/// What is behind the first byte of a global: of its value type.
+fn behind_global(byte: u8) -> Option<Head>
+    ensures { Chooses result (behind_byte kind.Global byte) }
+{
+    if byte >= 0x7B && byte <= 0x7F || is_abstract(byte) {
+        return Some(Head::Row(Immediates::Two(Kind::Mutability, Kind::Expression)));
+    }
+    choose(
+        byte >= 0x63 && byte <= 0x64,
+        Immediates::Three(Kind::HeapType, Kind::Mutability, Kind::Expression),
+    )
+}
+
 fn behind_block_type(byte: u8) -> Option<Head>
     ensures { Chooses result (behind_byte kind.BlockType byte) }
 {
@@ -257,6 +354,17 @@ fn behind_number(kind: Kind, number: u32) -> Option<Head>
         Kind::Bulk => behind_prefix(bulk_instruction(number)),
         Kind::Vector => behind_prefix(vector(number)),
         Kind::Atomic => behind_prefix(atomic(number)),
+        Kind::Expressions => Some(Head::Times(number, Kind::Expression)),
+        Kind::Imports => Some(Head::Times(number, Kind::Import)),
+        Kind::TypeIndices => Some(Head::Times(number, Kind::Index(Space::Type))),
+        Kind::FunctionIndices => Some(Head::Times(number, Kind::Index(Space::Function))),
+        Kind::Tables => Some(Head::Times(number, Kind::Table)),
+        Kind::Globals => Some(Head::Times(number, Kind::Global)),
+        Kind::ElementSegment => behind_prefix(element_segment(number)),
+        Kind::ElementSegments => Some(Head::Times(number, Kind::ElementSegment)),
+        Kind::DataSegment => behind_prefix(data_segment(number)),
+        Kind::DataSegments => Some(Head::Times(number, Kind::DataSegment)),
+        Kind::Tags => Some(Head::Times(number, Kind::TagType)),
         _ => None,
     }
 }

@@ -1,6 +1,6 @@
-//! What an instruction has after its opcode.
+//! What an instruction has after its opcode, and what a section has for its content.
 //!
-//! WebAssembly core specification, "Binary Format", instructions.
+//! WebAssembly core specification, "Binary Format", instructions and modules.
 
 /// An index space of a module, of a function or of a type.
 #[derive(Clone, Copy, PartialEq, Eq, Debug)]
@@ -18,7 +18,7 @@ pub enum Space {
     Field,
 }
 
-/// What comes next in the bytes of an instruction or of an expression.
+/// What comes next in the bytes of an instruction, of an expression or of a section's content.
 #[derive(Clone, Copy, PartialEq, Eq, Debug)]
 pub enum Kind {
     /// An index, as a `u32`.
@@ -66,9 +66,49 @@ pub enum Kind {
     Block,
     /// Instructions, and the `end` that no block has.
     Expression,
+    /// A count, and as many expressions.
+    Expressions,
+    /// A count, and as many bytes: a name, or the bytes of a data segment.
+    ByteVec,
+    RefType,
+    /// The byte 0 or 1: whether a global can be changed.
+    Mutability,
+    /// The byte 0, and the index of a tag's type.
+    TagType,
+    /// Flags, and how large a table is.
+    TableLimits,
+    /// Flags, and how large a memory is.
+    MemoryLimits,
+    /// What is imported: a function, a table, a memory, a global or a tag.
+    ExternType,
+    /// The names of a module and of what it exports, and what that is.
+    Import,
+    /// A count, and as many imports.
+    Imports,
+    /// A count, and as many indices of types.
+    TypeIndices,
+    /// A count, and as many indices of functions.
+    FunctionIndices,
+    /// The type of a table, and the expression that initializes it, if it has one.
+    Table,
+    /// A count, and as many tables.
+    Tables,
+    /// The type of a global, and the expression that initializes it.
+    Global,
+    /// A count, and as many globals.
+    Globals,
+    ElementSegment,
+    /// A count, and as many element segments.
+    ElementSegments,
+    DataSegment,
+    /// A count, and as many data segments.
+    DataSegments,
+    /// A count, and as many types of tags.
+    Tags,
 }
 
-/// What an instruction has after its opcode, if there is one with this opcode.
+/// What comes behind an opcode, or behind the first number of a form, if there is one with that
+/// number.
 #[derive(Clone, Copy, PartialEq, Eq, Debug)]
 pub enum Immediates {
     NoInstruction,

@@ -1,8 +1,12 @@
 //! Integers in LEB128.
 //! WebAssembly core specification, "Binary Format", integers.
-ghost use Rattle.std.specs.Prelude.{◌≡◌, ◌≤◌, ◌<◌, ◌^◌, IfSome};
+ghost use Rattle.std.specs.Prelude.{◌≡◌, ◌≤◌, ◌<◌, ◌^◌, IfSome, OnOk};
 ghost use Rattle.walrus_binary.specs.Steps.Reading.{Finds, integer_at, u32_at, s33_at};
+ghost use Rattle.walrus_module.specs.Renaming.{IsTextOf};
 ghost use Rattle.walrus_module.specs.Steps.Heads.{Finds as Skips, skip_at, signed_at};
+ghost use Rattle.walrus_module.specs.Steps.Renaming.{Appends, IsWide};
+
+use std::alloc::AllocError;
 
 const U32_LIMIT: u64 = 1 << 32;
 
@@ -119,4 +123,37 @@ fn skip_signed(limit: u64, input: &mut &[u8]) -> Option<()>
     }
     *input = rest;
     skip_signed(limit / 0x80, input)
+}
+
+/// Puts the text of a `u32` at the end, with this many bytes at least.
+pub fn push_u32(number: u32, least: usize, out: &mut Vec<u8>) -> Result<(), AllocError>
+    requires { least ≤ 5 }
+    ensures { OnOk result (Appends (λ text. IsTextOf 0x80 least text number)
+        out.old.items out.new.items) }
+{
+    push_integer(0x80, number, least, out)
+}
+
+/// Puts the text of a type's index as an `s33` at the end, with this many bytes at least.
+pub fn push_s33(index: u32, least: usize, out: &mut Vec<u8>) -> Result<(), AllocError>
+    requires { least ≤ 5 }
+    ensures { OnOk result (Appends (λ text. IsTextOf 0x40 least text index)
+        out.old.items out.new.items) }
+{
+    push_integer(0x40, index, least, out)
+}
+
+/// A number of this many bytes at least, with its last byte below `end`.
+fn push_integer(end: u32, number: u32, least: usize, out: &mut Vec<u8>) -> Result<(), AllocError>
+    requires positive { 0 < end }
+    requires low { end ≤ 0x80 }
+    ensures { OnOk result (Appends (λ text. IsWide end least text number)
+        out.old.items out.new.items) }
+{
+    if number < end && least <= 1 {
+        out.push(number as u8)?;
+        return Ok(());
+    }
+    out.push((number % 0x80) as u8 + 0x80)?;
+    push_integer(end, number / 0x80, least.saturating_sub(1), out)
 }

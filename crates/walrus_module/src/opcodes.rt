@@ -47,9 +47,9 @@ pub fn atomic(number: u32) -> Immediates
     immediates(atomics(), number as usize)
 }
 
-/// What the instruction of this number has after it.
+/// What the entry of this number in a table says.
 #[tactic(auto, using(crate::proofs::Tables::entry_get, crate::proofs::Tables::none_there))]
-fn immediates(table: &[Immediates], opcode: usize) -> Immediates
+pub fn immediates(table: &[Immediates], opcode: usize) -> Immediates
     ensures { row_kinds result ≡ entry_at table.now opcode }
 {
     if opcode < table.len() {

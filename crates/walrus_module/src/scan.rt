@@ -1,19 +1,20 @@
-//! Going over instructions by the table.
-ghost use Rattle.std.specs.Prelude.{◌≡◌, ◌++◌, Some, OnOk, IfOk, IfErr};
-ghost use Rattle.walrus_module.specs.Immediates.{names_of};
+//! Going over instructions and contents of sections by the tables.
+ghost use Rattle.std.specs.Prelude.{◌≡◌, [], ◌∷◌, ◌++◌, OnOk, IfOk, IfErr};
+ghost use Rattle.walrus_module.specs.Immediates.{may_be_index};
 ghost use Rattle.walrus_module.specs.Steps.Heads.{seen};
-ghost use Rattle.walrus_module.specs.Steps.Scans.{IsScanned, IsRefused};
+ghost use Rattle.walrus_module.specs.Steps.Scans.{IsScanned, IsRefused, Passes};
 
 use crate::head::{Head, read_head};
+use crate::kind::Kind;
 use crate::stack::Stack;
 use std::alloc::{AllocError, Global};
 use thiserror::Error;
 
-/// Why code was not read.
+/// Why code, or the content of a section, was not read.
 #[derive(Clone, Copy, PartialEq, Eq, Debug, Error)]
 pub enum ScanError {
-    /// The bytes are no code by the grammar of WebAssembly.
-    #[error("malformed code")]
+    /// The bytes are no such code, or no such content, by the grammar of WebAssembly.
+    #[error("malformed code or section")]
     Malformed,
     /// Memory was refused.
     #[error("out of memory")]
@@ -30,8 +31,18 @@ impl From<AllocError> for ScanError {
     }
 }
 
-/// Takes a text of the kinds on the stack from the front. Returns the types that it names, from left
-/// to right.
+/// An index of a type in code.
+#[derive(Clone, Copy)]
+pub struct TypeIndex {
+    pub index: u32,
+    /// It is an `s33`, and not a `u32`.
+    pub is_signed: bool,
+    /// How many bytes it has.
+    pub length: usize,
+}
+
+/// Takes a text of the kinds on the stack from the front. Returns the types that it names, from
+/// left to right.
 pub fn scan(alloc: Global, kinds: Stack, input: &mut &[u8]) -> Result<Vec<u32>, ScanError>
     ensures found { IfOk result (λ named.
         IsScanned kinds input.old.now input.new.now named.items) }
@@ -39,35 +50,65 @@ pub fn scan(alloc: Global, kinds: Stack, input: &mut &[u8]) -> Result<Vec<u32>, 
 {
     let mut named = Vec::new(alloc);
     let mut stack = kinds;
-    while let Some(next) = stack.next_kind() {
-        match read_head(next, input) {
-            Some(head) => take_in(head, &mut stack, &mut named)?,
-            None => return Err(ScanError::Malformed),
-        }
+    while let Some(found) = next_type(&mut stack, input)? {
+        note(found.index, &mut named)?;
     }
     Ok(named)
 }
 
-/// Notes what the beginning of a text says.
-fn take_in(head: Head, stack: &mut Stack, named: &mut Vec<u32>) -> Result<(), AllocError>
-    ensures stack { OnOk result (stack.new ≡ (seen head).more ++ stack.old) }
-    ensures named { OnOk result (
-        named.new.items ≡ named.old.items ++ names_of (seen head).named) }
-{
-    match head {
-        Head::Named(index) => note(index, named),
-        Head::Row(row) => stack.push_row(row),
-        Head::Instruction(row, here) => {
-            stack.push(here)?;
-            stack.push_row(row)
-        }
-        Head::Times(count, kind) => stack.push_times(count, kind),
-    }
-}
-
 fn note(index: u32, named: &mut Vec<u32>) -> Result<(), AllocError>
-    ensures { OnOk result (named.new.items ≡ named.old.items ++ names_of (Some index)) }
+    ensures { OnOk result (named.new.items ≡ named.old.items ++ index ∷ []) }
 {
     named.push(index)?;
     Ok(())
+}
+
+/// Goes on to the next index of a type, which is taken too. Returns `None` at the end of the text.
+pub fn next_type(stack: &mut Stack, input: &mut &[u8]) -> Result<Option<TypeIndex>, ScanError>
+    ensures passed { IfOk result (λ found.
+        Passes found stack.old stack.new input.old.now input.new.now) }
+    ensures refused { IfErr result (λ e. IsRefused stack.old input.old.now e) }
+{
+    while let Some(kind) = stack.next_kind() {
+        let before = *input;
+        let Some(head) = read_head(kind, input) else {
+            return Err(ScanError::Malformed);
+        };
+        if let Some(index) = take_in(head, stack)? {
+            return Ok(Some(TypeIndex {
+                index,
+                is_signed: may_be_index(kind),
+                length: before.len() - input.len(),
+            }));
+        }
+    }
+    Ok(None)
+}
+
+/// Puts what is still to come in front. Returns the type that the beginning of a text names.
+fn take_in(head: Head, stack: &mut Stack) -> Result<Option<u32>, AllocError>
+    ensures stack { OnOk result (stack.new ≡ (seen head).more ++ stack.old) }
+    ensures named { IfOk result (λ named. named ≡ (seen head).named) }
+{
+    match head {
+        Head::Named(index) => return Ok(Some(index)),
+        Head::Row(row) => stack.push_row(row)?,
+        Head::Instruction(row, here) => {
+            stack.push(here)?;
+            stack.push_row(row)?;
+        }
+        Head::Times(count, kind) => stack.push_times(count, kind)?,
+    }
+    Ok(None)
+}
+
+/// An index that such a text is has the form of an `s33`.
+fn may_be_index(kind: Kind) -> bool
+    ensures { result ≡ may_be_index kind }
+{
+    match kind {
+        Kind::HeapType => true,
+        Kind::BlockType => true,
+        _ => false,
+    }
 }

@@ -1,5 +1,5 @@
 //! The kinds that are still to come.
-ghost use Rattle.std.specs.Prelude.{◌≡◌, [], ◌∷◌, ◌++◌, OnOk};
+ghost use Rattle.std.specs.Prelude.{◌≡◌, [], ◌∷◌, ◌++◌, OnOk, IfOk};
 ghost use Rattle.walrus_module.specs.Immediates.{times};
 ghost use Rattle.walrus_module.specs.Steps.Heads.{kinds_or_none};
 ghost use Rattle.walrus_module.specs.Steps.Stacks.{IsTaken};
@@ -48,6 +48,19 @@ impl Stack {
             count: 1,
             below: Vec::new(alloc),
         }
+    }
+
+    /// A stack of the kinds of a row.
+    pub fn from_row(alloc: Global, row: Immediates) -> Result<Stack, AllocError>
+        ensures { IfOk result (λ stack. stack ≡ kinds_or_none (row_kinds row)) }
+    {
+        let mut stack = Stack {
+            kind: Kind::Zero,
+            count: 0,
+            below: Vec::new(alloc),
+        };
+        stack.push_row(row)?;
+        Ok(stack)
     }
 
     /// Takes the next kind.

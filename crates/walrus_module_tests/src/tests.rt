@@ -1,5 +1,9 @@
 //! The sections of modules that are put together by hand from the specification's grammar.
 mod code;
+mod contents;
+mod named;
+mod refusals;
+mod renaming;
 mod speed;
 
 use crate::assertions::assert_equal;

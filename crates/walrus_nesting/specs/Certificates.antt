@@ -1,4 +1,4 @@
--- What the nesting check answers, and what shows that it is so.
+-- What the nesting check returns, and what shows that it is so.
 use Rattle.std.specs.Prelude.{◌≡◌, ℕ, suc, ◌-◌, ◌<◌, ◌↔◌, ⊤, List, All, Contains, Some, slice_get, length, nat_eq}
 use Rattle.std.specs.List.{IsDistinct}
 use Rattle.walrus_functions.specs.Body.{Body, Knows}
@@ -42,14 +42,14 @@ pub record ShowsUnknown (f : Body) (start : ℕ) (path : List ℕ) : Type 0 wher
   pub is_path : IsPath f start path
   pub last_alone : (i id : ℕ) → slice_get path i ≡ Some id → Knows f id ↔ (suc i < length path)
 
--- an answer, with what shows it
+-- the verdict has what shows it
 abbrev pub Shows : Body → ℕ → Nesting → Type 0
 Shows f start (Nested list) = ShowsNested f start list.items
 Shows f start (Cycle path back_to) = ShowsCycle f start path.items back_to
 Shows f start (Unknown path) = ShowsUnknown f start path.items
 
--- the answer is that the body is nested
-abbrev pub AnswersNested : Nesting → Type 0
-AnswersNested (Nested _) = ⊤
-AnswersNested (Cycle _ _) = ⊥
-AnswersNested (Unknown _) = ⊥
+-- the verdict is that the body is nested
+abbrev pub SaysNested : Nesting → Type 0
+SaysNested (Nested _) = ⊤
+SaysNested (Cycle _ _) = ⊥
+SaysNested (Unknown _) = ⊥

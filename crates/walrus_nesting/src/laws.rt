@@ -3,17 +3,17 @@
 ghost use Rattle.std.specs.Prelude.{◌↔◌, ℕ};
 ghost use Rattle.walrus_functions.specs.Body.{Body, Knows};
 ghost use Rattle.walrus_functions.specs.Nesting.{IsNested, IsChild, IsReachable};
-ghost use Rattle.walrus_nesting.specs.Certificates.{Shows, AnswersNested};
+ghost use Rattle.walrus_nesting.specs.Certificates.{Shows, SaysNested};
 
 use crate::Nesting;
 use walrus_functions::LocalFunction;
 use walrus_ir::InstrSeqId;
 
-/// An answer that shows what it says is `Nested` exactly where the body is nested: places in the
+/// A verdict that shows what it says is `Nested` exactly where the body is nested: places in the
 /// list are a rank, and a body with a cycle or an unknown id has none.
-pub fn nested_exactly(func: &LocalFunction, start: InstrSeqId, answer: &Nesting)
-    requires { Shows func.now.body start answer.now }
-    ensures { AnswersNested answer.now ↔ IsNested func.now.body start }
+pub fn nested_exactly(func: &LocalFunction, start: InstrSeqId, verdict: &Nesting)
+    requires { Shows func.now.body start verdict.now }
+    ensures { SaysNested verdict.now ↔ IsNested func.now.body start }
 {}
 
 /// A body that is nested from a sequence knows each that is reached from there, and is nested from

@@ -1,7 +1,7 @@
 //! The nesting check.
 ghost use Rattle.std.specs.Prelude.{◌↔◌, IfOk};
 ghost use Rattle.walrus_functions.specs.Nesting.{IsNested};
-ghost use Rattle.walrus_nesting.specs.Certificates.{Shows, AnswersNested};
+ghost use Rattle.walrus_nesting.specs.Certificates.{Shows, SaysNested};
 
 mod search;
 
@@ -10,7 +10,7 @@ use std::alloc::{AllocError, Global};
 use walrus_functions::LocalFunction;
 use walrus_ir::InstrSeqId;
 
-/// What [`check_nesting`] answers, with what shows that it is so.
+/// What [`check_nesting`] returns, with what shows that it is so.
 #[derive(Clone, PartialEq, Eq, Debug, Drop)]
 pub enum Nesting {
     /// The body is nested. The list holds what is reached from the start and nothing else, each
@@ -36,7 +36,7 @@ pub enum Nesting {
 /// `TryTable` branches to (WebAssembly core specification, "Structured Control Flow", where a body
 /// is nested by its grammar). A sequence may be the child of several.
 ///
-/// Of several faults the first is answered that a search in depth meets, children in order. Each
+/// Of several faults it returns the first that a search in depth meets, children in order. Each
 /// sequence is entered at most once, so time and memory are linear in the size of the body; the
 /// search is not on the call stack, so the depth of a body is bounded by memory alone.
 ///
@@ -63,9 +63,9 @@ pub fn check_nesting(
     start: InstrSeqId,
 ) -> Result<Nesting, AllocError>
     ensures shows { IfOk result (Shows func.now.body start) }
-    ensures exact { IfOk result (λ n. AnswersNested n ↔ IsNested func.now.body start) }
+    ensures exact { IfOk result (λ n. SaysNested n ↔ IsNested func.now.body start) }
 {
     let mut search = Search::new(alloc, func, start)?;
     let found = search.run(func)?;
-    search.answer(found)
+    search.verdict(found)
 }

@@ -7,8 +7,8 @@ use Rattle.walrus_ty.specs.declared.ty.value.Val.{Val}
 use Rattle.walrus_ty.specs.Signature.{Signature}
 use Rattle.instr.specs.Locals.{unnamed_locals}
 use Rattle.instr.specs.Locations.{no_location}
-use Rattle.walrus_ir.specs.Sequence.{Sequence, empty_sequence}
-use Rattle.walrus_ir.specs.declared.instr_seq_type.InstrSeqType.TheVariants.{Simple}
+use Rattle.instr.specs.Sequence.{Sequence, empty_sequence}
+use Rattle.instr.specs.declared.instr_seq_type.InstrSeqType.TheVariants.{Simple}
 use Rattle.instr.specs.declared.instr.Instr.{Instr}
 use Rattle.instr.specs.declared.instr.Instr.TheVariants.{Call}
 use Rattle.walrus_functions.specs.Body.{Body, Knows, sequence, with_sequence, with_instrs, with_instr}

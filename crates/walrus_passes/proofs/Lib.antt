@@ -2,3 +2,5 @@ pub mod UnusedTypes
 pub mod Calling
 pub mod UsedTypes
 pub mod IndexMaps
+pub mod Mapping
+pub mod ChangedCalls

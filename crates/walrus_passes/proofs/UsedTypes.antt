@@ -5,10 +5,10 @@ use Rattle.std.proofs.lemmas.List.{take_more, flat_map_more}
 use Rattle.std.proofs.lemmas.Option.{get_or_from_slice_get}
 use Rattle.std.proofs.lemmas.List.Elements.{Contains-append_left, Contains-append_right, Contains-append_cases}
 use Rattle.walrus_ty.specs.Definition.{supertype_names}
-use Rattle.walrus_ir.specs.BlockTypes.{block_type_name}
+use Rattle.instr.specs.BlockTypes.{block_type_name}
 use Rattle.instr.specs.Locals.{LocalVariable}
-use Rattle.walrus_ir.specs.Sequence.{Sequence, empty_sequence}
-use Rattle.walrus_ir.specs.declared.instr_seq_type.InstrSeqType.TheVariants.{Simple}
+use Rattle.instr.specs.Sequence.{Sequence, empty_sequence}
+use Rattle.instr.specs.declared.instr_seq_type.InstrSeqType.TheVariants.{Simple}
 use Rattle.instr.specs.declared.instr.Instr.{Instr}
 use Rattle.walrus_functions.specs.Body.{Body, sequence}
 use Rattle.walrus_functions.specs.FunctionWithArgs.{FunctionWithArgs}

@@ -3,5 +3,8 @@ pub mod AllIndices
 pub mod UsedTypes
 pub mod IndexMaps
 pub mod SnippedFunctions
+pub mod UnreachableFunctions
+pub mod MappedInstrs
+pub mod ChangedCalls
 pub mod Adapters
 pub mod Steps

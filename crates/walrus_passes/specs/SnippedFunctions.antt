@@ -3,8 +3,8 @@
 -- is replaced is of this crate's own.
 use Rattle.std.specs.Prelude.{◌≡◌, ℕ, List, [], ◌∷◌, Option, Some, None, IsSomeAnd}
 use Rattle.instr.specs.Locations.{no_location}
-use Rattle.walrus_ir.specs.declared.instr_seq_type.InstrSeqType.{InstrSeqType}
-use Rattle.walrus_ir.specs.declared.instr_seq_type.InstrSeqType.TheVariants.{Simple}
+use Rattle.instr.specs.declared.instr_seq_type.InstrSeqType.{InstrSeqType}
+use Rattle.instr.specs.declared.instr_seq_type.InstrSeqType.TheVariants.{Simple}
 use Rattle.instr.specs.declared.instr.Instr.TheVariants.{Unreachable}
 use Rattle.walrus_functions.specs.Body.{Body, sequence}
 use Rattle.walrus_functions.specs.Functions.{Functions, function_at, with_function}
@@ -24,23 +24,25 @@ abbrev pub type_of_entry : Body → Option ℕ → InstrSeqType
 type_of_entry f None = Simple None
 type_of_entry f (Some id) = (sequence f id).ty
 
--- the body that is a single `unreachable`, of the same type and without a name
-abbrev pub unreachable_body : Body → Body
-unreachable_body f = record {
+-- the body that is a single `unreachable`, of a function of type `ty`; its sequence is of the type
+-- `entry_ty`, and it has no name
+abbrev pub unreachable_body : ℕ → InstrSeqType → Body
+unreachable_body ty entry_ty = record {
   seqs = record {
     id = 0;
-    ty = type_of_entry f f.entry;
+    ty = entry_ty;
     instrs = (Unreachable (record {}), no_location) ∷ [];
     end = no_location;
   } ∷ [];
   entry = Some 0;
-  ty = f.ty;
+  ty = ty;
   name = None;
 }
 
 -- the function whose body is a single `unreachable`
 abbrev pub unreachable_function : FunctionWithArgs → FunctionWithArgs
-unreachable_function func = with_body (unreachable_body func.body) func
+unreachable_function func =
+    with_body (unreachable_body func.body.ty (type_of_entry func.body func.body.entry)) func
 
 -- the function of the id is what `change` makes of it, and all others are as they were
 abbrev pub Changes :

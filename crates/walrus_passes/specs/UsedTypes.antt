@@ -5,7 +5,7 @@ use Rattle.std.specs.Prelude.{◌≡◌, ℕ, List, [], ◌∷◌, ◌++◌, Opt
 use Rattle.walrus_ty.specs.declared.ty.value.Val.{Val}
 use Rattle.walrus_ty.specs.Value.{heap_names, reference_names, val_names}
 use Rattle.std.specs.List.{flat_map}
-use Rattle.walrus_ir.specs.BlockTypes.{block_type_name}
+use Rattle.instr.specs.BlockTypes.{block_type_name}
 use Rattle.walrus_ir.specs.Calls.{Event, at, reported}
 use Rattle.walrus_ir.specs.Fields.{fields}
 use Rattle.walrus_ir.specs.Hooks.{visit_type_id, visit_heap_type, visit_local_id}

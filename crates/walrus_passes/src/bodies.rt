@@ -7,14 +7,18 @@ use std::alloc::{AllocError, Global};
 use std::mem;
 use walrus_functions::{FunctionBuilder, LocalFunction, LocalFunctions};
 use walrus_ir::InstrSeqType;
-use walrus_types::FunctionId;
+use walrus_types::{FunctionId, TypeId};
 
 /// Makes the body of a function a single `unreachable` (WebAssembly core specification, "Control
 /// Instructions"). `id` has to be one of `funcs`.
 ///
-/// The function keeps its type, its parameters and its name, and its entry keeps the type that it
-/// had. Where there was no entry, the new one takes and leaves nothing. All other functions are as
-/// they were.
+/// This is what wasm-snip is known for. The function keeps its type, its parameters and its name,
+/// and its entry keeps the type that it had. Where there was no entry, the new one takes and leaves
+/// nothing. The old sequences are gone, so the function has no locals but its parameters. All other
+/// functions are as they were: [`snip_calls`](crate::snip_calls) has them trap where they call it.
+///
+/// Of wasm-snip this leaves out finding functions by their names, exports and tables that name the
+/// function, and deleting what nothing names any more.
 ///
 /// # Errors
 ///
@@ -33,7 +37,8 @@ pub fn snip(alloc: Global, funcs: &mut LocalFunctions, id: FunctionId) -> Result
     ensures ok { OnOk result (Changes funcs.old funcs.new id unreachable_function) }
     ensures err { OnErr result (funcs.new ≡ funcs.old) }
 {
-    let body = unreachable_body(alloc, funcs.get(id))?;
+    let func = funcs.get(id);
+    let body = unreachable_body(alloc, func.ty(), type_of_entry(func))?;
     replace_with(alloc, funcs, id, body)
 }
 
@@ -78,12 +83,16 @@ pub fn replace_with(
     Ok(())
 }
 
-// The builder of a body for the function that is a single `unreachable`.
-fn unreachable_body(alloc: Global, func: &LocalFunction) -> Result<FunctionBuilder, AllocError>
-    ensures { IfOk result (λ f. f ≡ unreachable_body func.now.body) }
+// The builder of a body that is a single `unreachable`, in a sequence of the type `entry_ty`.
+pub(crate) fn unreachable_body(
+    alloc: Global,
+    ty: TypeId,
+    entry_ty: InstrSeqType,
+) -> Result<FunctionBuilder, AllocError>
+    ensures { IfOk result (λ f. f ≡ unreachable_body ty entry_ty) }
 {
-    let mut builder = FunctionBuilder::without_entry(alloc, func.ty());
-    let Ok(mut body) = builder.dangling_instr_seq(type_of_entry(func)) else {
+    let mut builder = FunctionBuilder::without_entry(alloc, ty);
+    let Ok(mut body) = builder.dangling_instr_seq(entry_ty) else {
         return Err(AllocError);
     };
     let Ok(()) = body.unreachable() else {

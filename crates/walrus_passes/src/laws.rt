@@ -1,12 +1,15 @@
 //! Laws of the passes. Each function does nothing; its clauses are theorems, which a caller gets by
 //! calling it.
-ghost use Rattle.std.specs.Prelude.{◌≡◌, ℕ, List, Option, Contains, map};
+ghost use Rattle.std.specs.Prelude.{◌≡◌, ℕ, List, Option, Some, Contains, map};
 ghost use Rattle.walrus_types.specs.Table.{Table};
 ghost use Rattle.walrus_types.specs.TypesById.{live_type};
 ghost use Rattle.walrus_functions.specs.FunctionWithArgs.{FunctionWithArgs};
 ghost use Rattle.const_expr.specs.ConstExpr.{referenced_ids};
 ghost use Rattle.instr.specs.Locals.{LocalVariable};
+ghost use Rattle.instr.specs.declared.instr.Instr.{Instr};
+ghost use Rattle.instr.specs.Sequence.{Sequence};
 ghost use Rattle.const_expr.specs.declared.const_expr.ConstExpr.{ConstExpr};
+ghost use Rattle.walrus_passes.specs.ChangedCalls.{named_function, SnipsCalls, RedirectsCalls};
 ghost use Rattle.walrus_passes.specs.IndexMaps.{new_index, index_through};
 ghost use Rattle.walrus_passes.specs.NeededTypes.{IsNeeded, Keeps};
 ghost use Rattle.walrus_passes.specs.UsedTypes.{UsesType};
@@ -37,4 +40,24 @@ pub fn referenced_types_are_kept()
 pub fn new_indices_compose()
     ensures { (ids : List ℕ) (index : ℕ → Option ℕ) (old : ℕ) →
         new_index (map index ids) old ≡ index_through ids index old }
+{}
+
+/// Where calls of functions were snipped, as [`snip_calls`](crate::snip_calls) does it, no
+/// instruction names one of these functions any more.
+pub fn snipped_functions_are_not_named()
+    ensures { (funcs : List ℕ) (old new : FunctionWithArgs) → SnipsCalls funcs old new →
+        (seq : Sequence) (item : Instr × ℕ) (func : ℕ) →
+        Contains new.body.seqs seq → Contains seq.instrs item →
+        named_function item.0 ≡ Some func → Contains funcs func → ⊥ }
+{}
+
+/// The second time, [`snip_calls`](crate::snip_calls) with the same functions changes nothing
+/// (`snipped`), nor does [`redirect_calls`](crate::redirect_calls) from and to the same functions
+/// (`redirected`).
+pub fn changed_calls_stay()
+    ensures snipped { (funcs : List ℕ) (old between new : FunctionWithArgs) →
+        SnipsCalls funcs old between → SnipsCalls funcs between new → new ≡ between }
+    ensures redirected { (from to : ℕ) (old between new : FunctionWithArgs) →
+        RedirectsCalls from to old between → RedirectsCalls from to between new →
+        new ≡ between }
 {}

@@ -4,7 +4,11 @@
 //!   roots that a function brings.
 //! - [`snip`] makes the body of a function a single `unreachable`, and [`replace_with`] gives it
 //!   another one.
-//! - [`adapter`] makes a function that calls another one of its type.
+//! - [`unreachable_function`] makes a function of a type that traps. [`snip_calls`] has a function
+//!   trap where it would call one of some functions.
+//! - [`adapter`] makes a function that calls another one of its type. [`redirect_calls`] has a
+//!   function call another one in place of one, such as an adapter in place of an import.
+//! - [`map_instrs`] changes each instruction of a function by a closure.
 //! - [`new_indices`] maps the type indices of a section to its indices once it is written again.
 //!   The rest of the module still names the old ones.
 //! - [`laws`] has the theorems, such as that no type dies which a function uses.
@@ -24,13 +28,19 @@
 
 mod adapters;
 mod bodies;
+mod calls;
 mod index_maps;
+mod instrs;
 pub mod laws;
 mod roots;
+mod unreachable;
 mod unused_types;
 
 pub use adapters::adapter;
 pub use bodies::{replace_with, snip};
+pub use calls::{redirect_calls, snip_calls};
 pub use index_maps::new_indices;
+pub use instrs::map_instrs;
 pub use roots::used_types;
+pub use unreachable::unreachable_function;
 pub use unused_types::delete_unused_types;

@@ -28,6 +28,10 @@ use walrus_types::{ModuleTypes, TypeId};
 /// It takes time linear in the size of the table and the number of roots, however many groups are
 /// deleted and however large they are.
 ///
+/// This is the part of passes such as walrus's `gc` and Binaryen's `remove-unused-types` that
+/// deletes types. Finding the roots is left to the caller, and functions, tables and all other items
+/// stay. The roots that a function brings are what [`used_types`](crate::used_types) lists.
+///
 /// # Errors
 ///
 /// `AllocError` comes where memory was refused. Then nothing was deleted.
@@ -39,6 +43,21 @@ use walrus_types::{ModuleTypes, TypeId};
 /// let used = types.add(&[ValType::I32], &[])?;
 /// let deleted = delete_unused_types(alloc, &mut types, &[used])?;
 /// assert_eq!(rt; deleted.as_slice(), [pair].as_slice());
+/// ```
+///
+/// # Keeping what functions use
+///
+/// ```
+/// let mut roots = Vec::new(alloc);
+/// for func in funcs.iter() {
+///     let Some(used) = used_types(alloc, func, &locals)? else {
+///         return Err(Fail::new("not nested"));
+///     };
+///     roots.extend_from_slice(used.as_slice())?;
+/// }
+/// if types.contains_all(roots.as_slice()) {
+///     delete_unused_types(alloc, &mut types, roots.as_slice())?;
+/// }
 /// ```
 pub fn delete_unused_types(
     alloc: Global,

@@ -4,9 +4,9 @@
 //! A section is the list of the contents of its recursion groups, as `section_of` gives them for a
 //! list of `GroupAt`.
 ghost use Rattle.std.specs.List.{range_with_len, swap};
-ghost use Rattle.std.specs.Prelude.{◌<◌, ◌≡◌, ◌∷◌, ◌↔◌, ◌⊎◌, [], List, false, map, suc, ℕ};
+ghost use Rattle.std.specs.Prelude.{◌<◌, ◌≡◌, ◌∷◌, ◌↔◌, ◌⊎◌, [], List, map, suc, ℕ};
 ghost use Rattle.walrus_ty.specs.Definition.{Names};
-ghost use Rattle.walrus_sections.specs.Emission.{IsEmission, IsMember, IsWrittenBefore};
+ghost use Rattle.walrus_sections.specs.Emission.{IsEmission, IsMember, IsWrittenBefore, read_table};
 ghost use Rattle.walrus_sections.specs.Moves.{AreJoined, DescentTo, IsRenumberedSwap};
 ghost use Rattle.walrus_sections.specs.FirstError.{IsFirstError};
 ghost use Rattle.walrus_sections.specs.declared.error.ReadError.{ReadError};
@@ -85,7 +85,7 @@ pub fn names_stand_before()
         IsSlotMap (index_space s) r →
         IsMember (read_groups 0 r s) g u i → Names (read_definition (index_space s) r i) k →
         (h : ℕ) × (v : ℕ) × IsMember (read_groups 0 r s) h v k ×
-        ((h ≡ g) ⊎ IsWrittenBefore (read_groups 0 r s) (read_definition (index_space s) r) h g) }
+        ((h ≡ g) ⊎ IsWrittenBefore (read_table s r) h g) }
 {}
 
 /// A well-named section that is read, and whose table is then emitted, gives its normal form; the
@@ -93,7 +93,7 @@ pub fn names_stand_before()
 /// table has no types for function entries.
 pub fn read_then_emitted()
     ensures { (s n : Section) (r m : ℕ → ℕ) → IsWellNamed s → IsSlotMap (index_space s) r →
-        IsEmission (read_groups 0 r s) (read_definition (index_space s) r) (λ i. false) n m →
+        IsEmission (read_table s r) n m →
         IsNormalForm s n (map (λ i. m (r i)) (range_with_len 0 (index_space s).count)) }
 {}
 

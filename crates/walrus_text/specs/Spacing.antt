@@ -17,4 +17,5 @@ between_line_feeds text = 10 ∷ (text ++ 10 ∷ [])
 
 -- the two can be shortened to one
 abbrev pub IsSameButForSpace : List ℕ → List ℕ → Type 0
-IsSameButForSpace t u = (v : List ℕ) × ShortensTo v (between_line_feeds t) × ShortensTo v (between_line_feeds u)
+IsSameButForSpace t u =
+    (v : List ℕ) × ShortensTo v (between_line_feeds t) × ShortensTo v (between_line_feeds u)

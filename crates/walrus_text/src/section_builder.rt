@@ -1,10 +1,10 @@
 //! The groups of a section, built line by line.
-ghost use Rattle.std.specs.Prelude.{◌≡◌, ◌++◌, ◌∷◌, [], codes, false, IsTrue, IfOk, OnOk, IfSome, IfNone};
+ghost use Rattle.std.specs.Prelude.{◌≡◌, ◌↔◌, ◌++◌, ◌∷◌, [], codes, false, IsTrue, IfOk, OnOk, IfSome, IfNone};
 ghost use Rattle.walrus_ty.specs.Definition.{names_of};
 ghost use Rattle.walrus_ty.specs.Records.{entry_definition};
 ghost use Rattle.walrus_text.specs.Steps.Lines.{HasIndices, line_words_if_any};
 ghost use Rattle.walrus_text.specs.Text.{AreIndices, HasSectionIndices, IsSectionText, entry_words, section_lines};
-ghost use Rattle.walrus_text.specs.Steps.Builder.{BeginsNoSection, HasBuilderIndices, builder_lines};
+ghost use Rattle.walrus_text.specs.Steps.Builder.{BeginsNoSection, HasBuilderIndices, IsInGroup, builder_lines};
 
 use crate::parse::Line;
 use std::alloc::{AllocError, Global};
@@ -32,7 +32,9 @@ impl SectionBuilder {
     }
 
     /// Whether a recursion group is open.
-    pub fn is_in_group(&self) -> bool {
+    pub fn is_in_group(&self) -> bool
+        ensures { IsTrue result ↔ IsInGroup self.now }
+    {
         self.open.is_some()
     }
 

@@ -1,2 +1,3 @@
+pub mod PassingOn
 pub mod Walks
 pub mod Collecting

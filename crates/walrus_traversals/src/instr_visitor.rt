@@ -1,6 +1,7 @@
 //! Visitors that look at instructions alone.
 ghost use Rattle.std.specs.Prelude.{◌≡◌, OnOk, OnErr};
-ghost use Rattle.walrus_traversals.specs.Instrs.{instr_step};
+ghost use Rattle.walrus_traversals.specs.Instrs.{instr_in};
+ghost use Rattle.walrus_traversals.specs.OneHook.{step_at};
 
 use crate::Visitor;
 use std::fmt::{Debug, Display};
@@ -65,7 +66,7 @@ pub struct OnlyInstrs<V> {
 impl<V: InstrVisitor> Visitor for OnlyInstrs<V> {
     type Error = V::Error;
 
-    ghost step = { λ old e new. instr_step V.step old.visitor e new.visitor };
+    ghost step = { λ old e new. step_at instr_in V.step old.visitor e new.visitor };
 
     fn start_instr_seq(&mut self, _seq: &InstrSeq) -> Result<(), V::Error> {
         Ok(())

@@ -9,10 +9,12 @@ ghost use Rattle.walrus_ir.specs.Calls.{Event, reported};
 ghost use Rattle.walrus_ir.specs.Fields.{fields, instr_calls};
 ghost use Rattle.walrus_traversals.specs.Events.{own_events, events, events_of};
 ghost use Rattle.walrus_traversals.specs.Ids.{instr_seqs_in};
-ghost use Rattle.walrus_traversals.specs.Instrs.{instr_step, instrs_in};
+ghost use Rattle.walrus_traversals.specs.AnyIds.{id_in};
+ghost use Rattle.walrus_traversals.specs.Instrs.{instr_in};
+ghost use Rattle.walrus_traversals.specs.OneHook.{step_at, all_given};
 ghost use Rattle.walrus_traversals.specs.Sequences.{handlers_of, labels_visited};
 
-use crate::InstrVisitor;
+use crate::{IdVisitor, InstrVisitor};
 use walrus_functions::LocalFunction;
 use walrus_ir::InstrSeqId;
 pub use walrus_nesting::laws::{children_are_nested, nested_exactly, nested_throughout};
@@ -42,6 +44,13 @@ pub fn both_walks_visit_the_same()
 /// Where a walk with [`OnlyInstrs`](crate::OnlyInstrs) visits these events, the visitor in it was
 /// given just the instructions among them, in their order.
 pub fn only_instrs_pass_on_the_instructions<V: InstrVisitor>(old: &V, new: &V)
-    ensures { (es : List Event) → FoldsTo (instr_step V.step) old.now es new.now →
-        FoldsTo V.step old.now (instrs_in es) new.now }
+    ensures { (es : List Event) → FoldsTo (step_at instr_in V.step) old.now es new.now →
+        FoldsTo V.step old.now (all_given instr_in es) new.now }
+{}
+
+/// The same of a walk with [`OnlyIds`](crate::OnlyIds): the visitor in it was given just the ids that
+/// these events give, in their order.
+pub fn only_ids_pass_on_the_ids<V: IdVisitor>(old: &V, new: &V)
+    ensures { (es : List Event) → FoldsTo (step_at id_in V.step) old.now es new.now →
+        FoldsTo V.step old.now (all_given id_in es) new.now }
 {}

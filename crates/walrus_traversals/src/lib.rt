@@ -1,7 +1,8 @@
 //! Walks over function bodies of WebAssembly modules that change nothing.
 //!
 //! - [`dfs_in_order`] calls the hooks of a [`Visitor`] over a nested body, in order.
-//! - [`OnlyInstrs`] makes a visitor of an [`InstrVisitor`], which has one hook.
+//! - [`OnlyInstrs`] makes a visitor of an [`InstrVisitor`], which has one hook, and [`OnlyIds`] of an
+//!   [`IdVisitor`], whose one hook takes an [`AnyId`].
 //! - [`check_nesting`], of `walrus_nesting`, says whether a body is nested, and shows why.
 //! - [`UsedIds`] is a visitor that collects the ids that a body names, and [`used_ids`] checks and
 //!   walks in one.
@@ -25,12 +26,14 @@
 #![tactic(auto)]
 
 mod fields;
+mod id_visitor;
 mod ids;
 mod instr_visitor;
 pub mod laws;
 mod traversals;
 mod visitor;
 
+pub use id_visitor::{AnyId, IdVisitor, OnlyIds};
 pub use ids::{UsedIds, used_ids};
 pub use instr_visitor::{InstrVisitor, OnlyInstrs};
 pub use traversals::dfs_in_order;

@@ -3,7 +3,7 @@ use Rattle.std.proofs.lemmas.List.{reverse-append, append-nil}
 use Rattle.std.proofs.lemmas.List.Concat.{flat_map-append}
 use Rattle.std.proofs.Common.{◌≡◌, ℕ, List, [], ◌∷◌, ◌++◌, map, reverse, refl, sym, ap, ◌∙◌, subst}
 use Rattle.std.specs.List.{flat_map}
-use Rattle.walrus_ir.specs.Sequence.{Sequence}
+use Rattle.instr.specs.Sequence.{Sequence}
 use Rattle.instr.specs.declared.instr.Instr.{Instr}
 use Rattle.walrus_functions.specs.Body.{Body, sequence, with_sequence}
 use Rattle.walrus_functions.specs.Nesting.{children, IsChild, IsReachable, at_start, below, IsNested}

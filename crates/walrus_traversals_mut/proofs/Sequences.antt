@@ -4,8 +4,8 @@ use Rattle.instr.specs.declared.instr.Instr.{Instr}
 use Rattle.walrus_ir.specs.Calls.{Calls, leaves, call, and_then, each, Full, Partial, StepRelation, Visits}
 use Rattle.walrus_ir.specs.Fields.{type_fields, instr_calls, sequence_calls}
 use Rattle.walrus_ir.specs.Hooks.{start_instr_seq, end_instr_seq}
-use Rattle.walrus_ir.specs.Sequence.{Sequence}
-use Rattle.walrus_ir.specs.declared.instr_seq_type.InstrSeqType.{InstrSeqType}
+use Rattle.instr.specs.Sequence.{Sequence}
+use Rattle.instr.specs.declared.instr_seq_type.InstrSeqType.{InstrSeqType}
 use Rattle.walrus_ir.proofs.Calls.{visits_then, visits_cut, instrs_whole, sequence_whole}
 
 -- two facts that hold after `Ok`

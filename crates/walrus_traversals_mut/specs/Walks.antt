@@ -4,7 +4,7 @@ use Rattle.std.specs.Prelude.{◌≡◌, ℕ, List, [], ◌∷◌, reverse}
 use Rattle.std.specs.List.{flat_map}
 use Rattle.walrus_ir.specs.Calls.{Extent, Full, Partial, StepRelation, Visits}
 use Rattle.walrus_ir.specs.Fields.{sequence_calls}
-use Rattle.walrus_ir.specs.Sequence.{Sequence}
+use Rattle.instr.specs.Sequence.{Sequence}
 use Rattle.walrus_functions.specs.Body.{Body, sequence, with_sequence}
 use Rattle.walrus_functions.specs.Nesting.{children}
 

@@ -1,6 +1,7 @@
 //! Worked bodies.
 mod fields;
 mod functions;
+mod id_visitor;
 mod instr_visitor;
 mod log;
 mod nesting;

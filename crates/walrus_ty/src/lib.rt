@@ -19,6 +19,7 @@
 
 mod convert;
 mod error;
+mod function_types;
 mod indices;
 pub mod laws;
 mod listed;
@@ -28,6 +29,7 @@ mod ty;
 
 pub use convert::SubType;
 pub use error::{FromRecordError, NoIndex, ToRecordError, UnknownIndex};
+pub use function_types::FunctionTypes;
 pub use indices::{
     Data, DataId, Element, ElementId, Function, FunctionId, Global, GlobalId, IdsToIndices,
     IndicesToIds, Memory, MemoryId, Table, TableId, Tag, TagId, TypeId,

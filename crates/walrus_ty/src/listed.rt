@@ -1,12 +1,14 @@
 //! A list that contracts see as a list.
-ghost use Rattle.std.specs.Prelude.{◌≡◌, ◌<◌, ◌-◌, ℕ, List, length, take, slice_get, IsTrue, IfOk, [], ◌↔◌, ◌++◌, ◌∷◌, OnOk, OnErr, Some, filter, not, nat_eq};
+ghost use Rattle.std.specs.Prelude.{◌≡◌, ◌<◌, ◌≤◌, ◌-◌, ◌^◌, ℕ, List, length, take, insert, remove, slice_get, option_copied, IsTrue, IfOk, [], ◌↔◌, ◌++◌, ◌∷◌, OnOk, OnErr, Some, filter, not, nat_eq};
 ghost use Rattle.std.proofs.Common.{refl};
 ghost use Rattle.std.specs.Cmp.Lexicographic.{pointwise, slice_cmp, slice_partial_cmp, lists_equiv, lists_agrees, lists_total, lists_ties, lists_po, lists_per};
 ghost use Rattle.std.specs.Hash as fed;
 ghost use Rattle.std.specs.Hash.{items_Alike};
 ghost use Rattle.std.specs.Iterator.Adapters.{IterYieldsInOrder};
+ghost use Rattle.std.specs.Iterator.Runs.{EveryRun, ItemsAre, ItemsMapTo};
 ghost use Rattle.std.specs.List.{AllZip};
-ghost use Rattle.std.specs.Slice.Iter.{iter_rest};
+ghost use Rattle.std.specs.Slice.Iter.{iter_rest, iter_steps};
+ghost use Rattle.std.specs.Vec.Iter.{into_iter_items, into_iter_len, into_iter_steps};
 ghost use Rattle.std.specs.Borrow.{sem};
 
 use crate::TypeId;
@@ -17,14 +19,18 @@ use std::hash::{Hash, Hasher};
 use std::marker::Model;
 use std::ops::{Index, IndexMut};
 use std::slice::Iter;
+use std::vec::IntoIter;
 
 /// A `Vec` whose contracts speak of its items alone: two lists are the same where their items are.
 ///
 /// ```
 /// let mut list = Listed::from_vec(vec![in alloc; 3, 4]?);
 /// list.push(5)?;
+/// list.insert(1, 6)?;
 /// list[0] = 7;
-/// assert_eq!(rt; list.as_slice(), [7, 4, 5].as_slice());
+/// for item in &list {
+///     println!(rt; "{item}")?; // 7, 6, 4, 5
+/// }
 /// ```
 #[derive(Drop)]
 pub struct Listed<T> {
@@ -74,6 +80,13 @@ impl<T> Listed<T> {
         self.items.is_empty()
     }
 
+    /// The item at a place, if the list is that long.
+    pub fn get(&self, index: usize) -> Option<&T>
+        ensures { option_copied result ≡ slice_get self.now index }
+    {
+        self.items.get(index)
+    }
+
     /// Its items in order, one by one.
     pub fn iter(&self) -> Iter<'_, T>
         ensures rest { iter_rest result ≡ self.now }
@@ -92,6 +105,29 @@ impl<T> Listed<T> {
     {
         self.items.push(item)?;
         Ok(())
+    }
+
+    /// Puts an item at a place from 0 up to the list's length. The items from there on move up by
+    /// one place. After an `AllocError` the list is as it was, and the item is dropped.
+    pub fn insert(&mut self, index: usize, item: T) -> Result<(), AllocError>
+    where
+        T: Drop,
+        requires { index ≤ length self.old }
+        ensures ok { OnOk result (self.new ≡ insert self.old index item) }
+        ensures err { OnErr result (self.new ≡ self.old) }
+    {
+        self.items.insert(index, item)?;
+        Ok(())
+    }
+
+    /// Takes the item at a place below the list's length out. The later ones move down by one
+    /// place.
+    pub fn remove(&mut self, index: usize) -> T
+        requires { index < length self.old }
+        ensures item { slice_get self.old index ≡ Some result }
+        ensures rest { self.new ≡ remove self.old index }
+    {
+        self.items.remove(index)
     }
 
     /// Takes the last item out, if there is one.
@@ -130,6 +166,48 @@ impl<T> IndexMut<usize> for Listed<T> {
         ensures value { slice_get self.old index ≡ Some result.now }
     {
         &mut self.items[index]
+    }
+}
+
+impl<T> From<Vec<T>> for Listed<T> {
+    ghost from_gives = { λ items list. list ≡ items.items };
+
+    fn from(items: Vec<T>) -> Listed<T> {
+        Listed::from_vec(items)
+    }
+}
+
+/// `for item in list` takes the items in order.
+impl<T: Drop> IntoIterator for Listed<T> {
+    ghost use Rattle.std.proofs.Common.{Global};
+
+    type Item = T;
+
+    type IntoIter = IntoIter<T, Global>;
+
+    ghost into_iter_gives = { λ list items. (into_iter_items items ≡ list)
+        × (into_iter_len items ≡ length list) × (into_iter_len items < 2 ^ 64)
+        × EveryRun (into_iter_steps {X = T} {Z = Global})
+        (λ run. ItemsAre run (into_iter_items run.from)) };
+
+    fn into_iter(self) -> IntoIter<T, Global> {
+        self.into_vec().into_iter()
+    }
+}
+
+/// `for item in &list` lends the items in order.
+impl<'a, T> IntoIterator for &'a Listed<T> {
+    type Item = &'a T;
+
+    type IntoIter = Iter<'a, T>;
+
+    ghost into_iter_gives = { λ list items. (iter_rest items ≡ list.now)
+        × (length (iter_rest items) < 2 ^ 64)
+        × EveryRun (iter_steps {A = T})
+        (λ run. ItemsMapTo run (λ item. item.now) (iter_rest run.from)) };
+
+    fn into_iter(self) -> Iter<'a, T> {
+        self.as_slice().iter()
     }
 }
 

@@ -25,6 +25,7 @@ pub mod Table
 pub mod TableEmission
 pub mod TableLends
 pub mod TableCalls
+pub mod FunctionTypes
 pub mod Steps
 pub mod ReadResult
 pub mod ReaderState

@@ -9,3 +9,4 @@ pub mod WrittenGroups
 pub mod SortKeys
 pub mod LosslessKeys
 pub mod ReadSlots
+pub mod Finding

@@ -10,8 +10,8 @@ use Rattle.walrus_types.specs.declared.error.EmitError.TheVariants as emit
 use Rattle.walrus_ty.specs.Definition.{Definition}
 use Rattle.walrus_sections.specs.Section.{no_place}
 use Rattle.walrus_sections.specs.SlotMap.{TypeGroup}
-use Rattle.walrus_sections.specs.Emission.{WrittenMember, IsEmission}
-use Rattle.walrus_sections.specs.Refusal.{IsMissing, IsFirstMissing, written_count}
+use Rattle.walrus_sections.specs.Emission.{TableView, WrittenMember, IsEmission}
+use Rattle.walrus_sections.specs.Refusal.{NameUse, IsMissing, IsFirstMissing, written_count}
 use Rattle.walrus_ty.specs.Records.{section_of}
 use Rattle.walrus_ty.specs.Types.{ModuleType, type_definition}
 use Rattle.walrus_types.specs.TypesById.{TypeSlots, live_type}
@@ -48,9 +48,18 @@ IfNameMissing (emit.NoIndex from to) P = P from to
 IfNameMissing emit.TooMany P = Unit {0}
 IfNameMissing emit.Memory P = Unit {0}
 
--- the id stands in a written group
-abbrev pub IsWrittenId : List TypeGroup → (ℕ → Bool) → ℕ → Type 0
-IsWrittenId gs is_entry id = (member : WrittenMember gs is_entry) × (member.id ≡ id)
+-- the table as emission sees it
+abbrev pub table_view : Table → TableView
+table_view t =
+    record {
+      groups = type_groups t.groups;
+      definition = definition_at t.types.slots;
+      is_entry = is_entry_at t.types.slots;
+    }
+
+-- the id is in a written group
+abbrev pub IsWrittenId : TableView → ℕ → Type 0
+IsWrittenId table id = (member : WrittenMember table) × (member.id ≡ id)
 
 -- how many types the written groups of the table have
 abbrev pub written_types : Table → ℕ
@@ -59,21 +68,13 @@ written_types t = written_count (is_entry_at t.types.slots) (type_groups t.group
 -- the table is written as these records; as many indices are given as types are written, and
 -- exactly the ids of the written groups have one; each name has one when it is written
 pub record IsEmitted (t : Table) (out : List GroupAt) (x : IndexMap) : Type 0 where
-  pub section :
-      IsEmission (type_groups t.groups) (definition_at t.types.slots) (is_entry_at t.types.slots)
-      (section_of out) (value_or_zero x.index)
+  pub section : IsEmission (table_view t) (section_of out) (value_or_zero x.index)
   pub count : x.count ≡ written_types t
-  pub has_index :
-      (id : ℕ) → (IsSome (x.index id) ↔
-      IsWrittenId (type_groups t.groups) (is_entry_at t.types.slots) id)
-  pub complete :
-      (group place position id named : ℕ) →
-      ¬ (IsMissing (type_groups t.groups) (definition_at t.types.slots)
-      (is_entry_at t.types.slots) group place position id named)
+  pub has_index : (id : ℕ) → (IsSome (x.index id) ↔ IsWrittenId (table_view t) id)
+  pub complete : (name : NameUse) → ¬ (IsMissing (table_view t) name)
 
--- of all names in the table's written groups that have no index when they are written, `to` in
--- `from` is the first
+-- of all names in the table's written groups that have no index when they are written, that of `to`
+-- by `from` is the first
 abbrev pub MissesFirst : Table → ℕ → ℕ → Type 0
 MissesFirst t from to =
-    IsFirstMissing (type_groups t.groups) (definition_at t.types.slots)
-    (is_entry_at t.types.slots) from to
+    (name : NameUse) × IsFirstMissing (table_view t) name × (name.id ≡ from) × (name.named ≡ to)

@@ -9,9 +9,9 @@ use Rattle.walrus_types.specs.contracts.table.ModuleTypes.{the_row as table_row}
 
 -- the table after a write of this type at the id: what is found and the groups stay
 abbrev pub with_type : Table → ℕ → ModuleType → Table
-with_type t id ty =
-    record t { types = record t.types { slots = slice_set t.types.slots id (Some ty) } }
+with_type table id ty =
+    record table { types = record table.types { slots = slice_set table.types.slots id (Some ty) } }
 
--- once the borrow r ends, the id has the last type written through r
+-- once the borrow of the type ends, the id has the last one written through it
 abbrev pub LendsType : MutBor Table → ℕ → MutBor ModuleType → Fml
-LendsType t id r = Lends table_row type_row t r (with_type t.now id)
+LendsType table id ty = Lends table_row type_row table ty (with_type table.now id)

@@ -5,12 +5,12 @@
 //! list of `GroupAt`.
 ghost use Rattle.std.specs.List.{range_with_len};
 ghost use Rattle.std.specs.Prelude.{◌≡◌, ◌≤◌, ◌<◌, ◌^◌, List, false, length, map, ℕ};
-ghost use Rattle.walrus_types.specs.TableEmission.{IsEmitted, type_groups, definition_at, is_entry_at, written_types};
+ghost use Rattle.walrus_types.specs.TableEmission.{IsEmitted, table_view, written_types};
 ghost use Rattle.walrus_ty.specs.Indices.{IndexMap};
 ghost use Rattle.walrus_ty.specs.Lookups.{value_or_zero};
 ghost use Rattle.walrus_sections.specs.NormalForm.{IsNormalForm, image};
 ghost use Rattle.walrus_types.specs.ReaderState.{IsReadInto};
-ghost use Rattle.walrus_sections.specs.Refusal.{IsFirstMissing};
+ghost use Rattle.walrus_sections.specs.Refusal.{IsMissing, NameUse};
 ghost use Rattle.walrus_types.specs.Table.{Table, rec_group_at};
 ghost use Rattle.walrus_ty.specs.declared.records.GroupAt.{GroupAt};
 ghost use Rattle.walrus_ty.specs.Records.{section_of};
@@ -41,9 +41,8 @@ pub fn read_table_is_written()
 
 /// A table that a section was read into can be written: each name has an index when it is written.
 pub fn read_table_can_be_written()
-    ensures { (s : Section) (t : Table) (ids : List ℕ) (i k : ℕ) → IsReadInto s t ids →
-        ¬ (IsFirstMissing (type_groups t.groups) (definition_at t.types.slots)
-        (is_entry_at t.types.slots) i k) }
+    ensures { (s : Section) (t : Table) (ids : List ℕ) (name : NameUse) → IsReadInto s t ids →
+        ¬ (IsMissing (table_view t) name) }
 {}
 
 /// A table that is emitted is written as a section that can be read: no name points past its own

@@ -47,8 +47,8 @@ pub use walrus_arena::{HashKeys, Id};
 pub use walrus_sections::{ReadError, is_normal_form};
 pub use walrus_ty::{
     AbstractHeapType, ArrayType, CompAt, CompositeType, Data, DataId, Element, ElementId, EntryAt,
-    Field, FieldAt, FieldType, FromRecordError, Function, FunctionId, FunctionType, Global,
-    GlobalId, GroupAt, Heap, HeapAt, HeapType, IdsToIndices, IndicesToIds, Listed, Memory,
+    Field, FieldAt, FieldType, FromRecordError, Function, FunctionId, FunctionType, FunctionTypes,
+    Global, GlobalId, GroupAt, Heap, HeapAt, HeapType, IdsToIndices, IndicesToIds, Listed, Memory,
     MemoryId, NoIndex, RefAt, RefType, Reference, Storage, StorageAt, StorageType, StructType,
     Table, TableId, Tag, TagId, ToRecordError, Type, TypeId, UnknownIndex, Val, ValAt, ValType,
     record_laws,

@@ -9,6 +9,7 @@ ghost use Rattle.walrus_types.specs.TableLends.{LendsType};
 mod add;
 mod delete;
 mod find;
+mod function_types;
 mod iter;
 mod laws;
 mod read;

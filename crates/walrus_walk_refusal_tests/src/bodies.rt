@@ -1,7 +1,7 @@
 //! Function bodies of blocks.
 ghost use Rattle.std.specs.Prelude.{◌↔◌, IfOk};
 ghost use Rattle.walrus_functions.specs.Nesting.{IsNested};
-ghost use Rattle.walrus_nesting.specs.Certificates.{AnswersNested};
+ghost use Rattle.walrus_nesting.specs.Certificates.{SaysNested};
 
 use std::alloc::{AllocError, Global};
 use walrus_functions::{BuildError, FunctionBuilder, LocalFunction};
@@ -56,7 +56,7 @@ pub(crate) fn body_again(
 
 /// The answer of the check from sequence 0. It is asked for again after a refusal.
 pub(crate) fn check_again(alloc: Global, func: &LocalFunction) -> Result<Nesting, AllocError>
-    ensures { IfOk result (λ n. AnswersNested n ↔ IsNested func.now.body 0) }
+    ensures { IfOk result (λ n. SaysNested n ↔ IsNested func.now.body 0) }
 {
     let start: InstrSeqId = Id::from_index(0);
     match check_nesting(alloc, func, start) {

@@ -1,20 +1,28 @@
 -- What is known of a module after some of its sections, where the others are not judged.
-use Rattle.std.proofs.Common.{◌≡◌, ℕ, ◌+◌, ◌-◌, ◌<◌, ◌≤◌, List, [], ◌∷◌, ◌++◌, length, take, drop, slice_index_or, Ok, refl, sym, ap, subst, ◌∙◌, arith, append_assoc, append-nil, length-append, take_at}
+use Rattle.std.proofs.Common.{◌≡◌, ℕ, ◌+◌, ◌-◌, ◌<◌, ◌≤◌, List, [], ◌∷◌, ◌++◌, length, take, drop, slice_index_or, Ok, Err, refl, sym, ap, subst, ◌∙◌, arith, append_assoc, append-nil, length-append, take_at}
 use Rattle.std.proofs.lemmas.List.{map-append, drop-drop, take_all, length-drop}
 use Rattle.std.proofs.Math.Seq.{drop-append_seam}
-use Rattle.walrus_binary.specs.Grammar.{none}
+use Rattle.walrus_binary.specs.Grammar.{AreItems, none}
 use Rattle.walrus_binary.specs.Modules.{Section, section, ids, sized, IsSection, AreInOrder, no_more, header, IsModule, framed}
 use Rattle.walrus_binary.specs.Sections.{IsSizeAt}
 use Rattle.walrus_binary.specs.Steps.Framing.{HasPassed, place_after, header_at, section_at}
 use Rattle.walrus_binary.specs.Steps.Reading.{u32_at}
-use Rattle.walrus_binary.proofs.Basics.{Takes}
-use Rattle.walrus_binary.proofs.Integers.{u32_sound}
-use Rattle.walrus_binary.proofs.Modules.Framing.{joined, one_text}
+use Rattle.walrus_binary.specs.declared.error.Fault.{Fault}
+use Rattle.walrus_binary.proofs.Basics.{Reading, Takes}
+use Rattle.walrus_binary.proofs.Integers.{u32_sound, u32_complete}
+use Rattle.walrus_binary.proofs.Modules.Framing.{joined, one_text, others_of}
 use Rattle.walrus_binary.proofs.Modules.Orders.{order_on}
 use Rattle.walrus_binary.proofs.Modules.Readings.{IsNextSection, header_sound, section_sound}
 
 pub size_there : (bytes rest : List ℕ) (n : ℕ) → u32_at bytes ≡ Ok (n, rest) → IsSizeAt n bytes
 size_there bytes rest n e = let t = u32_sound bytes n rest e in (t.text, rest, t.is_text, t.parts)
+
+no_error : (n : ℕ) (rest : List ℕ) (f : Fault) (x : Reading ℕ) → x ≡ Err f → x ≡ Ok (n, rest) → ⊥
+no_error n rest f x e h = absurd cc
+
+pub no_size_there : (bytes : List ℕ) (f : Fault) → u32_at bytes ≡ Err f → (n : ℕ) → IsSizeAt n bytes → ⊥
+no_size_there bytes f e n t =
+    no_error n t.1 f (u32_at bytes) e (ap u32_at t.3 ∙ u32_complete t.0 n t.1 t.2)
 
 pub none_passed : (bytes rest : List ℕ) → header_at bytes ≡ Ok (tt, rest) → HasPassed bytes rest 0
 none_passed bytes rest e =
@@ -25,6 +33,7 @@ none_passed bytes rest e =
       whole = t.parts ∙ ap (λ (u : List ℕ). u ++ rest) t.is_text;
       are = none;
       joins = λ after h. h;
+      splits = λ more all h o. (all, h, o);
     }
 
 one_more : (bytes rest after : List ℕ) (last : ℕ) (s : Section) (p : HasPassed bytes rest last) →
@@ -42,6 +51,11 @@ one_more bytes rest after last s p t =
           subst (λ (u : List ℕ). AreInOrder 0 u) (sym (ap (λ (u : List ℕ). u ++ ks) ids-are
           ∙ append_assoc (ids p.before) (s.id ∷ []) ks))
           (p.joins (s.id ∷ ks) (order_on last s.id ks t.is_text.1 o));
+      splits = λ more all h o.
+          let k = p.splits (t.text ++ more) all
+          (subst (λ (u : List ℕ). AreItems IsSection u all) (append_assoc p.texts t.text more) h) o in
+          let others = others_of last t.text more s k.0 t.is_text (k.1, k.2) in
+          (others.0, others.1.0, others.1.1);
     }
 
 pub one_passed : (bytes rest after content : List ℕ) (last id : ℕ) → HasPassed bytes rest last →
@@ -114,3 +128,11 @@ pub left_behind_id : (bytes rest : List ℕ) (last : ℕ) → HasPassed bytes re
 left_behind_id bytes rest last p =
     sym (drop-drop 1 (length bytes - length rest) bytes)
     ∙ (ap (λ (u : List ℕ). drop 1 u) (left_passed bytes rest last p) ∙ sym (all_behind rest))
+
+-- with nothing left, the bytes are a module
+pub all_passed : (bytes rest : List ℕ) (last : ℕ) → HasPassed bytes rest last → length rest ≡ 0 →
+    (sections : List Section) × IsModule bytes sections
+all_passed bytes rest last p empty =
+    let m = passed_module bytes rest last p in
+    let all = take_all (length bytes - length rest) bytes (omega (arith, empty)) in
+    (m.0, subst (λ (u : List ℕ). IsModule u m.0) all m.1)

@@ -1,6 +1,6 @@
 -- Reading a module's header and sections from left to right: the first fault, or what was read and
 -- the bytes after it.
-use Rattle.std.specs.Prelude.{◌≡◌, ℕ, Bool, false, List, [], ◌∷◌, ◌++◌, length, take, drop, Result, Ok, Err, nat_lt, nat_le, nat_eq, cond}
+use Rattle.std.specs.Prelude.{◌≡◌, ℕ, ◌<◌, Bool, false, List, [], ◌∷◌, ◌++◌, length, take, drop, Result, Ok, Err, nat_lt, nat_le, nat_eq, cond}
 use Rattle.walrus_binary.specs.declared.error.Expected.{Expected}
 use Rattle.walrus_binary.specs.declared.error.Expected.TheVariants as expected
 use Rattle.walrus_binary.specs.declared.error.Fault.{Fault}
@@ -24,6 +24,10 @@ pub record HasPassed (bytes rest : List ℕ) (last : ℕ) : Type 0 where
   pub whole : bytes ≡ header ++ (texts ++ rest)
   pub are : AreItems IsSection texts before
   pub joins : (after : List ℕ) → AreInOrder last after → AreInOrder 0 (ids before ++ after)
+  pub splits :
+      (more : List ℕ) (all : List Section) → AreItems IsSection (texts ++ more) all
+      → AreInOrder 0 (ids all)
+      → (after : List Section) × AreItems IsSection more after × AreInOrder last (ids after)
 
 -- the bytes behind the custom sections with which a module begins
 pub record IsBehindCustoms (bytes rest : List ℕ) : Type 0 where
@@ -83,14 +87,27 @@ id_at last [] = expected_error [] expected.SectionId
 id_at last (b ∷ bytes) =
     cond (nat_eq b 0) (Ok (b, bytes))
     (cond (nat_eq (place_of b) 0) (expected_error (b ∷ bytes) expected.SectionId)
-    (cond (nat_lt last (place_of b)) (Ok (b, bytes)) (expected_error (b ∷ bytes) expected.LaterSection)))
+    (cond (nat_lt last (place_of b)) (Ok (b, bytes))
+    (expected_error (b ∷ bytes) expected.LaterSection)))
 
--- a size, and so many bytes
+-- a size, and as many bytes
 unfoldable pub content_at : List ℕ → Result (List ℕ × List ℕ) Fault
 content_at bytes =
-    u32_at bytes >>= (λ n.
-    cond (nat_le n.0 (length n.1)) (Ok (take n.0 n.1, drop n.0 n.1)) (expected_error [] expected.Content))
+    u32_at bytes >>= (λ size.
+    cond (nat_le size.0 (length size.1)) (Ok (take size.0 size.1, drop size.0 size.1))
+    (expected_error [] expected.Content))
 
 unfoldable pub section_at : ℕ → List ℕ → Result (Section × List ℕ) Fault
 section_at last bytes =
-    id_at last bytes >>= (λ id. content_at id.1 >>= (λ c. Ok (section id.0 c.0, c.1)))
+    id_at last bytes >>= (λ id. content_at id.1 >>= (λ content.
+    Ok (section id.0 content.0, content.1)))
+
+-- fewer bytes than this are left behind the section with which the bytes begin
+abbrev pub LeavesFewer : ℕ → ℕ → List ℕ → Type 0
+LeavesFewer count last bytes =
+    (s : Section) (after : List ℕ) → section_at last bytes ≡ Ok (s, after) → length after < count
+
+-- fewer bytes than this are left behind the header
+abbrev pub HeaderLeavesFewer : ℕ → List ℕ → Type 0
+HeaderLeavesFewer count bytes =
+    (rest : List ℕ) → header_at bytes ≡ Ok (tt, rest) → length rest < count

@@ -20,10 +20,11 @@ abbrev pub progress : List ℕ → ℕ → SectionProgress
 progress bytes remaining =
     record { bytes = bytes; groups = groups_before remaining bytes; remaining = remaining }
 
--- All but so many groups of the section were read, and these bytes are left.
+-- All but the `remaining` groups of the section were read, and these bytes are left.
 pub record IsReadTo (bytes : List ℕ) (remaining : ℕ) (left : List ℕ) : Type 0 where
   pub count : ℕ
   pub texts : List ℕ
   pub counts : u32_at bytes ≡ Ok (count, texts)
   pub within : remaining ≤ count
-  pub groups : items_at group_at (count - remaining) texts ≡ Ok (groups_before remaining bytes, left)
+  pub groups :
+      items_at group_at (count - remaining) texts ≡ Ok (groups_before remaining bytes, left)

@@ -31,58 +31,63 @@ use Rattle.walrus_binary.specs.Grammar.{reference}
 
 infixl 10 ◌>>=◌
 abbrev pub ◌>>=◌ : {A B : Type 0} → Result A Fault → (A → Result B Fault) → Result B Fault
-(Ok x) >>= f = f x
-(Err e) >>= f = Err e
+(Ok value) >>= next = next value
+(Err fault) >>= next = Err fault
 
 abbrev pub expected_error : {A : Type 0} → List ℕ → Expected → Result A Fault
-expected_error bytes e = Err (record { left = length bytes; reason = reason.Expected e })
+expected_error bytes what = Err (record { left = length bytes; reason = reason.Expected what })
 
 -- The error, where so much is left of the input, is the fault that reading ends with, unless memory
 -- was refused.
 abbrev pub Fails : {Y : Type 0} → List ℕ → RawReadError → Result Y Fault → Type 0
 Fails left errors.Memory read = Unit {0}
-Fails left (errors.Reason r) read = read ≡ Err (record { left = length left; reason = r })
+Fails left (errors.Reason why) read = read ≡ Err (record { left = length left; reason = why })
 
--- What a function answered, seen by view, and what it left of the input are what reading gives,
+-- What a function returned, seen by view, and what it left of the input are what reading gives,
 -- unless memory was refused.
-abbrev pub Gives : {X Y : Type 0} → (X → Y) → Result X RawReadError → List ℕ → Result (Y × List ℕ) Fault → Type 0
-Gives view (Ok x) left read = read ≡ Ok (view x, left)
-Gives view (Err e) left read = Fails left e read
+abbrev pub Gives :
+    {X Y : Type 0} → (X → Y) → Result X RawReadError → List ℕ → Result (Y × List ℕ) Fault → Type 0
+Gives view (Ok value) left read = read ≡ Ok (view value, left)
+Gives view (Err error) left read = Fails left error read
 
--- What a function answered says how reading goes on with what it left of the input.
-abbrev pub Leads : {X Y : Type 0} → (X → List ℕ → Result (Y × List ℕ) Fault) → Result X RawReadError → List ℕ → Result (Y × List ℕ) Fault → Type 0
-Leads on (Ok x) left read = read ≡ on x left
-Leads on (Err e) left read = Fails left e read
+-- What a function returned says how reading goes on with what it left of the input.
+abbrev pub Leads :
+    {X Y : Type 0} → (X → List ℕ → Result (Y × List ℕ) Fault) → Result X RawReadError → List ℕ →
+    Result (Y × List ℕ) Fault → Type 0
+Leads on (Ok value) left read = read ≡ on value left
+Leads on (Err error) left read = Fails left error read
 
 -- `Gives` where reading says nothing of what is left
-abbrev pub GivesAll : {X Y : Type 0} → (X → Y) → Result X RawReadError → List ℕ → Result Y Fault → Type 0
-GivesAll view (Ok x) left read = read ≡ Ok (view x)
-GivesAll view (Err e) left read = Fails left e read
+abbrev pub GivesAll :
+    {X Y : Type 0} → (X → Y) → Result X RawReadError → List ℕ → Result Y Fault → Type 0
+GivesAll view (Ok value) left read = read ≡ Ok (view value)
+GivesAll view (Err error) left read = Fails left error read
 
 -- the same of an integer, which has one fault
 abbrev pub Finds : Option ℕ → List ℕ → Result (ℕ × List ℕ) Fault → Type 0
-Finds (Some n) left read = read ≡ Ok (n, left)
+Finds (Some number) left read = read ≡ Ok (number, left)
 Finds None left read = read ≡ expected_error left expected.Integer
 
 abbrev pub not_held_error : {A : Type 0} → List ℕ → NotHeld → Result A Fault
-not_held_error bytes e = Err (record { left = length bytes; reason = reason.NotHeld e })
+not_held_error bytes what = Err (record { left = length bytes; reason = reason.NotHeld what })
 
 -- What is wrong is seen by the first byte that can't stand there. Only how many supertypes there
 -- are is known behind it.
 abbrev pub IsSeenAtOnce : Reason → Type 0
-IsSeenAtOnce (reason.Expected e) = Unit {0}
+IsSeenAtOnce (reason.Expected what) = Unit {0}
 IsSeenAtOnce (reason.NotHeld held.Supertypes) = ⊥
 IsSeenAtOnce (reason.NotHeld held.Shared) = Unit {0}
 IsSeenAtOnce (reason.NotHeld held.Continuation) = Unit {0}
 IsSeenAtOnce (reason.NotHeld held.Descriptor) = Unit {0}
 
--- ---- integers
+-- ---- integers; `b` is the first byte of a text, here and below
 
 unfoldable pub integer_at : ℕ → ℕ → List ℕ → Result (ℕ × List ℕ) Fault
 integer_at end limit [] = expected_error [] expected.Integer
 integer_at end limit (b ∷ bytes) =
     cond (nat_lt b 0x80)
-    (cond (nat_lt b end && nat_lt b limit) (Ok (b, bytes)) (expected_error (b ∷ bytes) expected.Integer))
+    (cond (nat_lt b end && nat_lt b limit) (Ok (b, bytes))
+    (expected_error (b ∷ bytes) expected.Integer))
     (cond (nat_lt b 0x100 && nat_lt 0x80 limit)
     (integer_at end (limit / 0x80) bytes >>= (λ high. Ok (high.0 * 0x80 + (b - 0x80), high.1)))
     (expected_error (b ∷ bytes) expected.Integer))
@@ -95,12 +100,18 @@ s33_at = integer_at 0x40 (2 ^ 32)
 
 -- ---- lists
 
-unfoldable pub items_at : {A : Type 0} → (List ℕ → Result (A × List ℕ) Fault) → ℕ → List ℕ → Result (List A × List ℕ) Fault
-items_at at zero bytes = Ok ([], bytes)
-items_at at (suc n) bytes = at bytes >>= (λ x. items_at at n x.1 >>= (λ xs. Ok (x.0 ∷ xs.0, xs.1)))
+-- each part is read by `item_at`
+unfoldable pub items_at :
+    {A : Type 0} → (List ℕ → Result (A × List ℕ) Fault) → ℕ → List ℕ →
+    Result (List A × List ℕ) Fault
+items_at item_at zero bytes = Ok ([], bytes)
+items_at item_at (suc count) bytes =
+    item_at bytes >>= (λ item. items_at item_at count item.1 >>= (λ items.
+    Ok (item.0 ∷ items.0, items.1)))
 
-unfoldable pub vec_at : {A : Type 0} → (List ℕ → Result (A × List ℕ) Fault) → List ℕ → Result (List A × List ℕ) Fault
-vec_at at bytes = u32_at bytes >>= (λ n. items_at at n.0 n.1)
+unfoldable pub vec_at :
+    {A : Type 0} → (List ℕ → Result (A × List ℕ) Fault) → List ℕ → Result (List A × List ℕ) Fault
+vec_at item_at bytes = u32_at bytes >>= (λ count. items_at item_at count.0 count.1)
 
 -- ---- heap types, reference types and value types
 
@@ -123,25 +134,26 @@ heap_type_of b =
 unfoldable pub index_at : ℕ → List ℕ → Result (Heap ℕ × List ℕ) Fault
 index_at b bytes =
     cond (nat_lt b 0x40 || nat_le 0x80 b)
-    (s33_at bytes >>= (λ k. Ok (heap.Concrete k.0, k.1)))
+    (s33_at bytes >>= (λ index. Ok (heap.Concrete index.0, index.1)))
     (cond (nat_eq b 0x65) (not_held_error bytes held.Shared)
     (cond (nat_eq b 0x68 || nat_eq b 0x75) (not_held_error bytes held.Continuation)
     (expected_error bytes expected.HeapType)))
 
 abbrev pub abstract_or : ℕ → List ℕ → Option AbstractHeapType → Result (Heap ℕ × List ℕ) Fault
-abstract_or b bytes (Some a) = Ok (heap.Abstract a, bytes)
+abstract_or b bytes (Some name) = Ok (heap.Abstract name, bytes)
 abstract_or b bytes None = index_at b (b ∷ bytes)
 
 unfoldable pub heap_at : List ℕ → Result (Heap ℕ × List ℕ) Fault
 heap_at [] = expected_error [] expected.HeapType
 heap_at (b ∷ bytes) =
     cond (nat_eq b 0x62)
-    (u32_at bytes >>= (λ k. Ok (heap.Exact k.0, k.1)))
+    (u32_at bytes >>= (λ index. Ok (heap.Exact index.0, index.1)))
     (abstract_or b bytes (heap_type_of b))
 
 -- a reference type by its abbreviation, or what is wrong with its first byte
-abbrev pub abbreviated_or : ℕ → List ℕ → Option AbstractHeapType → Result (Reference ℕ × List ℕ) Fault
-abbreviated_or b bytes (Some a) = Ok (reference true (heap.Abstract a), bytes)
+abbrev pub abbreviated_or :
+    ℕ → List ℕ → Option AbstractHeapType → Result (Reference ℕ × List ℕ) Fault
+abbreviated_or b bytes (Some name) = Ok (reference true (heap.Abstract name), bytes)
 abbreviated_or b bytes None =
     cond (nat_eq b 0x65) (not_held_error (b ∷ bytes) held.Shared)
     (cond (nat_eq b 0x68 || nat_eq b 0x75) (not_held_error (b ∷ bytes) held.Continuation)
@@ -150,8 +162,8 @@ abbreviated_or b bytes None =
 unfoldable pub reference_at : List ℕ → Result (Reference ℕ × List ℕ) Fault
 reference_at [] = expected_error [] expected.ValType
 reference_at (b ∷ bytes) =
-    cond (nat_eq b 0x63) (heap_at bytes >>= (λ h. Ok (reference true h.0, h.1)))
-    (cond (nat_eq b 0x64) (heap_at bytes >>= (λ h. Ok (reference false h.0, h.1)))
+    cond (nat_eq b 0x63) (heap_at bytes >>= (λ target. Ok (reference true target.0, target.1)))
+    (cond (nat_eq b 0x64) (heap_at bytes >>= (λ target. Ok (reference false target.0, target.1)))
     (abbreviated_or b bytes (heap_type_of b)))
 
 unfoldable pub val_at : List ℕ → Result (Val ℕ × List ℕ) Fault
@@ -162,7 +174,7 @@ val_at (b ∷ bytes) =
     (cond (nat_eq b 0x7D) (Ok (val.F32, bytes))
     (cond (nat_eq b 0x7C) (Ok (val.F64, bytes))
     (cond (nat_eq b 0x7B) (Ok (val.V128, bytes))
-    (reference_at (b ∷ bytes) >>= (λ r. Ok (val.Ref r.0, r.1)))))))
+    (reference_at (b ∷ bytes) >>= (λ ref. Ok (val.Ref ref.0, ref.1)))))))
 
 -- ---- fields and composite types
 
@@ -171,7 +183,7 @@ storage_at [] = expected_error [] expected.StorageType
 storage_at (b ∷ bytes) =
     cond (nat_eq b 0x78) (Ok (storage.I8, bytes))
     (cond (nat_eq b 0x77) (Ok (storage.I16, bytes))
-    (val_at (b ∷ bytes) >>= (λ v. Ok (storage.Val v.0, v.1))))
+    (val_at (b ∷ bytes) >>= (λ ty. Ok (storage.Val ty.0, ty.1))))
 
 unfoldable pub mutability_at : List ℕ → Result (Bool × List ℕ) Fault
 mutability_at [] = expected_error [] expected.Mutability
@@ -181,19 +193,19 @@ mutability_at (b ∷ bytes) =
 
 unfoldable pub field_at : List ℕ → Result (Field ℕ × List ℕ) Fault
 field_at bytes =
-    storage_at bytes >>= (λ s. mutability_at s.1 >>= (λ m.
-    Ok (record { element_type = s.0; mutable = m.0 }, m.1)))
+    storage_at bytes >>= (λ ty. mutability_at ty.1 >>= (λ mutable.
+    Ok (record { element_type = ty.0; mutable = mutable.0 }, mutable.1)))
 
 unfoldable pub function_at : List ℕ → Result (CompAt × List ℕ) Fault
 function_at bytes =
-    vec_at val_at bytes >>= (λ ps. vec_at val_at ps.1 >>= (λ rs.
-    Ok (comp.Function ps.0 rs.0, rs.1)))
+    vec_at val_at bytes >>= (λ params. vec_at val_at params.1 >>= (λ results.
+    Ok (comp.Function params.0 results.0, results.1)))
 
 abbrev pub struct_at : List ℕ → Result (CompAt × List ℕ) Fault
-struct_at bytes = vec_at field_at bytes >>= (λ fs. Ok (comp.Struct fs.0, fs.1))
+struct_at bytes = vec_at field_at bytes >>= (λ fields. Ok (comp.Struct fields.0, fields.1))
 
 abbrev pub array_at : List ℕ → Result (CompAt × List ℕ) Fault
-array_at bytes = field_at bytes >>= (λ f. Ok (comp.Array f.0, f.1))
+array_at bytes = field_at bytes >>= (λ field. Ok (comp.Array field.0, field.1))
 
 -- what stands behind the first byte
 abbrev pub comp_behind : Form → List ℕ → Result (CompAt × List ℕ) Fault
@@ -217,19 +229,20 @@ comp_at (b ∷ bytes) =
 -- the one supertype, if there is one
 unfoldable pub supertype_at : List ℕ → Result (Option ℕ × List ℕ) Fault
 supertype_at bytes =
-    u32_at bytes >>= (λ n.
-    cond (nat_eq n.0 0) (Ok (None, n.1))
-    (cond (nat_eq n.0 1) (u32_at n.1 >>= (λ k. Ok (Some k.0, k.1)))
+    u32_at bytes >>= (λ count.
+    cond (nat_eq count.0 0) (Ok (None, count.1))
+    (cond (nat_eq count.0 1) (u32_at count.1 >>= (λ index. Ok (Some index.0, index.1)))
     (not_held_error bytes held.Supertypes)))
 
 -- what reading a composite type gives, as a definition of it
-abbrev pub as_entry : Bool → Option ℕ → Result (CompAt × List ℕ) Fault → Result (EntryAt × List ℕ) Fault
+abbrev pub as_entry :
+    Bool → Option ℕ → Result (CompAt × List ℕ) Fault → Result (EntryAt × List ℕ) Fault
 as_entry is_final supertype read =
-    read >>= (λ c. Ok (record { comp = c.0; is_final = is_final; supertype = supertype }, c.1))
+    read >>= (λ ty. Ok (record { comp = ty.0; is_final = is_final; supertype = supertype }, ty.1))
 
 -- a definition by its head and its type
 abbrev pub entry_of : Head → CompAt → EntryAt
-entry_of head c = record { comp = c; is_final = head.is_final; supertype = head.supertype }
+entry_of head ty = record { comp = ty; is_final = head.is_final; supertype = head.supertype }
 
 -- what stands behind the head
 abbrev pub entry_behind : Head → List ℕ → Result (EntryAt × List ℕ) Fault
@@ -237,7 +250,7 @@ entry_behind head bytes = as_entry head.is_final head.supertype (comp_behind hea
 
 unfoldable pub declared_at : Bool → List ℕ → Result (EntryAt × List ℕ) Fault
 declared_at is_final bytes =
-    supertype_at bytes >>= (λ s. as_entry is_final s.0 (comp_at s.1))
+    supertype_at bytes >>= (λ supertype. as_entry is_final supertype.0 (comp_at supertype.1))
 
 unfoldable pub entry_at : List ℕ → Result (EntryAt × List ℕ) Fault
 entry_at [] = expected_error [] expected.RecType
@@ -247,10 +260,10 @@ entry_at (b ∷ bytes) =
     (as_entry true None (comp_at (b ∷ bytes))))
 
 abbrev pub rec_at : List ℕ → Result (GroupAt × List ℕ) Fault
-rec_at bytes = vec_at entry_at bytes >>= (λ es. Ok (group.Rec es.0, es.1))
+rec_at bytes = vec_at entry_at bytes >>= (λ entries. Ok (group.Rec entries.0, entries.1))
 
 abbrev pub single_at : List ℕ → Result (GroupAt × List ℕ) Fault
-single_at bytes = entry_at bytes >>= (λ e. Ok (group.Single e.0, e.1))
+single_at bytes = entry_at bytes >>= (λ entry. Ok (group.Single entry.0, entry.1))
 
 unfoldable pub group_at : List ℕ → Result (GroupAt × List ℕ) Fault
 group_at [] = expected_error [] expected.RecType
@@ -260,5 +273,5 @@ group_at (b ∷ bytes) =
 -- all of the bytes
 unfoldable pub types_at : List ℕ → Result (List GroupAt) Fault
 types_at bytes =
-    vec_at group_at bytes >>= (λ gs.
-    cond (nat_eq (length gs.1) 0) (Ok gs.0) (expected_error gs.1 expected.End))
+    vec_at group_at bytes >>= (λ groups.
+    cond (nat_eq (length groups.1) 0) (Ok groups.0) (expected_error groups.1 expected.End))

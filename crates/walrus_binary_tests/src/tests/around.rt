@@ -28,4 +28,7 @@ fn sections_of_bytes(rt: HostRuntime) {
     for (place, wanted) in rows {
         assert!(rt; section_around(&bytes, place) == wanted);
     }
+    // Behind the end of a whole module there is no section.
+    assert!(rt; section_around(&bytes[..12], 12).is_none());
+    assert!(rt; section_around(&bytes[..12], 11) == Some(custom));
 }

@@ -2,8 +2,8 @@
 -- into them.
 use Rattle.std.specs.Prelude.{ℕ, List, slice_set}
 use Rattle.std.specs.Borrow.{Lends, Fml, MutBor}
-use Rattle.walrus_ir.specs.contracts.instr_seq.InstrSeq.{the_row as seq_row}
-use Rattle.walrus_ir.specs.Sequence.{Sequence}
+use Rattle.instr.specs.contracts.instr_seq.InstrSeq.{the_row as seq_row}
+use Rattle.instr.specs.Sequence.{Sequence}
 use Rattle.walrus_functions.specs.contracts.function_builder.FunctionBuilder.{the_row as fn_row}
 use Rattle.walrus_functions.specs.contracts.function_builder.sequences.Sequences.{the_row as seqs_row}
 use Rattle.walrus_functions.specs.Body.{Body, with_sequence}

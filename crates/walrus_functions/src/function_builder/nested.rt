@@ -1,6 +1,6 @@
 //! Instructions that have sequences inside.
 //! WebAssembly core specification, "Control Instructions" and "Structured Control Flow".
-ghost use Rattle.std.specs.Prelude.{◌≡◌, ◌⊎◌, OnOk, IfOk, IfErr, Ok, Err, Some, None};
+ghost use Rattle.std.specs.Prelude.{◌≡◌, ◌⊎◌, [], ◌∷◌, OnOk, IfOk, IfErr, Ok, Err, Some, None};
 ghost use Rattle.instr.specs.declared.instr.Instr.TheVariants as instr;
 
 use super::InstrSeqBuilder;
@@ -10,7 +10,7 @@ use walrus_ir::{Block, IfElse, Instr, InstrSeqId, InstrSeqType, Loop};
 impl<'a> InstrSeqBuilder<'a> {
     ghost use Rattle.walrus_functions.specs.Body.{next_seq};
     ghost use Rattle.walrus_functions.specs.Building.{seq_id, function_of, IsKnown, Stays};
-    ghost use Rattle.walrus_functions.specs.NestedForms.{TakesNew, TakesSecond, KeepsFunction, KeepsSecond, Fills, FailsToFill, Attaches, FailsToAttach, Nests, FailsToNest, NestsBoth, FailsToNestBoth};
+    ghost use Rattle.walrus_functions.specs.NestedForms.{TakesNew, KeepsFunction, Fills, FailsToFill, AfterFilling, Attaches, FailsToAttach, Nests, FailsToNest};
 
     /// Adds a `block` over a new sequence of this type, which `make_block` fills.
     ///
@@ -31,10 +31,11 @@ impl<'a> InstrSeqBuilder<'a> {
         requires keeps { KeepsFunction (F.post make_block) (function_of self.old) ty }
         ensures same { Stays self.old self.new }
         ensures known { OnOk result (IsKnown self.new) }
-        ensures ok { OnOk result (Nests (F.post make_block) ty (seq_id self.old) None
+        ensures ok { OnOk result (Nests (F.post make_block ∷ []) ty (seq_id self.old) None
             (λ seq. instr.Block (record { seq = seq }))
             (function_of self.old) (function_of self.new)) }
-        ensures err { IfErr result (λ e. FailsToNest (F.post make_block) ty (seq_id self.old) None
+        ensures err { IfErr result (λ e.
+            FailsToNest (F.post make_block ∷ []) ty (seq_id self.old) None
             (function_of self.old) e (function_of self.new)) }
     {
         let seq = self.fill_new(ty, make_block)?;
@@ -51,10 +52,11 @@ impl<'a> InstrSeqBuilder<'a> {
         requires keeps { KeepsFunction (F.post make_loop) (function_of self.old) ty }
         ensures same { Stays self.old self.new }
         ensures known { OnOk result (IsKnown self.new) }
-        ensures ok { OnOk result (Nests (F.post make_loop) ty (seq_id self.old) None
+        ensures ok { OnOk result (Nests (F.post make_loop ∷ []) ty (seq_id self.old) None
             (λ seq. instr.Loop (record { seq = seq }))
             (function_of self.old) (function_of self.new)) }
-        ensures err { IfErr result (λ e. FailsToNest (F.post make_loop) ty (seq_id self.old) None
+        ensures err { IfErr result (λ e.
+            FailsToNest (F.post make_loop ∷ []) ty (seq_id self.old) None
             (function_of self.old) e (function_of self.new)) }
     {
         let seq = self.fill_new(ty, make_loop)?;
@@ -69,18 +71,18 @@ impl<'a> InstrSeqBuilder<'a> {
     >(&mut self, ty: InstrSeqType, consequent: F, alternative: G) -> Result<(), BuildError>
         requires takes { TakesNew (F.pre consequent) (function_of self.old) ty }
         requires keeps { KeepsFunction (F.post consequent) (function_of self.old) ty }
-        requires takes_second { TakesSecond (F.post consequent) (G.pre alternative)
-            (function_of self.old) ty }
-        requires keeps_second { KeepsSecond (F.post consequent) (G.post alternative)
-            (function_of self.old) ty }
+        requires takes_second { AfterFilling (F.post consequent) ty (function_of self.old)
+            (λ mid. TakesNew (G.pre alternative) mid ty) }
+        requires keeps_second { AfterFilling (F.post consequent) ty (function_of self.old)
+            (λ mid. KeepsFunction (G.post alternative) mid ty) }
         ensures same { Stays self.old self.new }
         ensures known { OnOk result (IsKnown self.new) }
         ensures ok { OnOk result
-            (NestsBoth (F.post consequent) (G.post alternative) ty (seq_id self.old) None
+            (Nests (F.post consequent ∷ G.post alternative ∷ []) ty (seq_id self.old) None
             (λ first second. instr.IfElse (record { consequent = first; alternative = second }))
             (function_of self.old) (function_of self.new)) }
         ensures err { IfErr result (λ e.
-            FailsToNestBoth (F.post consequent) (G.post alternative) ty (seq_id self.old) None
+            FailsToNest (F.post consequent ∷ G.post alternative ∷ []) ty (seq_id self.old) None
             (function_of self.old) e (function_of self.new)) }
     {
         let same_ty = ty;
@@ -104,11 +106,12 @@ impl<'a> InstrSeqBuilder<'a> {
         requires keeps { KeepsFunction (F.post make_block) (function_of self.old) ty }
         ensures same { Stays self.old self.new }
         ensures known { OnOk result (IsKnown self.new) }
-        ensures ok { OnOk result (Nests (F.post make_block) ty (seq_id self.old) (Some position)
+        ensures ok { OnOk result
+            (Nests (F.post make_block ∷ []) ty (seq_id self.old) (Some position)
             (λ seq. instr.Block (record { seq = seq }))
             (function_of self.old) (function_of self.new)) }
         ensures err { IfErr result (λ e.
-            FailsToNest (F.post make_block) ty (seq_id self.old) (Some position)
+            FailsToNest (F.post make_block ∷ []) ty (seq_id self.old) (Some position)
             (function_of self.old) e (function_of self.new)) }
     {
         let seq = self.fill_new(ty, make_block)?;
@@ -127,11 +130,12 @@ impl<'a> InstrSeqBuilder<'a> {
         requires keeps { KeepsFunction (F.post make_loop) (function_of self.old) ty }
         ensures same { Stays self.old self.new }
         ensures known { OnOk result (IsKnown self.new) }
-        ensures ok { OnOk result (Nests (F.post make_loop) ty (seq_id self.old) (Some position)
+        ensures ok { OnOk result
+            (Nests (F.post make_loop ∷ []) ty (seq_id self.old) (Some position)
             (λ seq. instr.Loop (record { seq = seq }))
             (function_of self.old) (function_of self.new)) }
         ensures err { IfErr result (λ e.
-            FailsToNest (F.post make_loop) ty (seq_id self.old) (Some position)
+            FailsToNest (F.post make_loop ∷ []) ty (seq_id self.old) (Some position)
             (function_of self.old) e (function_of self.new)) }
     {
         let seq = self.fill_new(ty, make_loop)?;
@@ -152,19 +156,19 @@ impl<'a> InstrSeqBuilder<'a> {
     ) -> Result<(), BuildError>
         requires takes { TakesNew (F.pre consequent) (function_of self.old) ty }
         requires keeps { KeepsFunction (F.post consequent) (function_of self.old) ty }
-        requires takes_second { TakesSecond (F.post consequent) (G.pre alternative)
-            (function_of self.old) ty }
-        requires keeps_second { KeepsSecond (F.post consequent) (G.post alternative)
-            (function_of self.old) ty }
+        requires takes_second { AfterFilling (F.post consequent) ty (function_of self.old)
+            (λ mid. TakesNew (G.pre alternative) mid ty) }
+        requires keeps_second { AfterFilling (F.post consequent) ty (function_of self.old)
+            (λ mid. KeepsFunction (G.post alternative) mid ty) }
         ensures same { Stays self.old self.new }
         ensures known { OnOk result (IsKnown self.new) }
         ensures ok { OnOk result
-            (NestsBoth (F.post consequent) (G.post alternative) ty (seq_id self.old)
+            (Nests (F.post consequent ∷ G.post alternative ∷ []) ty (seq_id self.old)
             (Some position)
             (λ first second. instr.IfElse (record { consequent = first; alternative = second }))
             (function_of self.old) (function_of self.new)) }
         ensures err { IfErr result (λ e.
-            FailsToNestBoth (F.post consequent) (G.post alternative) ty (seq_id self.old)
+            FailsToNest (F.post consequent ∷ G.post alternative ∷ []) ty (seq_id self.old)
             (Some position)
             (function_of self.old) e (function_of self.new)) }
     {

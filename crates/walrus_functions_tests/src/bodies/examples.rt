@@ -1,6 +1,6 @@
 //! Examples, with contracts that say which bodies they make.
 ghost use Rattle.std.specs.Prelude.{◌≡◌, OnOk, None};
-ghost use Rattle.walrus_ir.specs.declared.instr_seq_type.InstrSeqType.TheVariants.{Simple};
+ghost use Rattle.instr.specs.declared.instr_seq_type.InstrSeqType.TheVariants.{Simple};
 ghost use Rattle.instr.specs.declared.instr.Instr.TheVariants as instr;
 ghost use Rattle.walrus_functions.specs.Body.{next_seq, with_new, with_instr};
 ghost use Rattle.walrus_functions.specs.Building.{function_of, seq_id, IsKnown, Stays};

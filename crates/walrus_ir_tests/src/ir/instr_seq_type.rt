@@ -1,7 +1,9 @@
 //! Which types of sequences are simple, and which are in the table.
 use crate::assertions::assert_equal;
 use std::test::Fail;
-use walrus_ir::{Heap, Id, InstrSeqType, ModuleTypes, Reference, TypeId, Val, ValType};
+use walrus_ir::{
+    FunctionTypes, Heap, Id, InstrSeqType, ModuleTypes, Reference, TypeId, Val, ValType,
+};
 
 #[test]
 fn simple_types_leave_the_table_empty(rt: HostRuntime) {
@@ -32,6 +34,18 @@ fn other_types_exist_once_they_were_added(rt: HostRuntime) -> Result<(), Fail> {
     assert_equal(&rt, known, Some(added));
     assert_equal(&rt, InstrSeqType::new(&mut types, &[Val::I32], &[])?, added);
     Ok(())
+}
+
+#[test]
+fn a_table_finds_the_function_types_that_it_added(rt: HostRuntime) {
+    let mut types = ModuleTypes::new(rt.alloc());
+    assert_equal(&rt, types.find_function(&[Val::I32], &[Val::I64]), None);
+    let id = types
+        .add_function(&[Val::I32], &[Val::I64])
+        .expect(&rt, "memory");
+    assert_equal(&rt, types.find_function(&[Val::I32], &[Val::I64]), Some(id));
+    assert_equal(&rt, types.find_function(&[Val::I64], &[Val::I32]), None);
+    assert_equal(&rt, types.find(&[Val::I32], &[Val::I64]), Some(id));
 }
 
 #[test]

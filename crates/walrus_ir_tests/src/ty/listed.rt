@@ -44,6 +44,40 @@ fn a_list_grows_and_shrinks_at_the_end(rt: HostRuntime) {
 }
 
 #[test]
+fn items_go_in_and_out_at_places(rt: HostRuntime) {
+    let mut list = numbers(rt.alloc()).expect(&rt, "memory");
+    assert!(rt; list.len() == 3);
+    list.insert(1, 7).expect(&rt, "memory");
+    assert_equal(&rt, list.as_slice(), [3, 7, 1, 4].as_slice());
+    assert!(rt; list.len() == 4);
+    list.insert(4, 9).expect(&rt, "memory");
+    assert_equal(&rt, list.as_slice(), [3, 7, 1, 4, 9].as_slice());
+    assert!(rt; list.len() == 5);
+    assert_equal(&rt, list.remove(0), 3);
+    assert!(rt; list.len() == 4);
+    assert_equal(&rt, list.remove(3), 9);
+    assert_equal(&rt, list.as_slice(), [7, 1, 4].as_slice());
+    assert!(rt; list.get(2) == Some(&4));
+    assert!(rt; list.get(3).is_none());
+}
+
+#[test]
+fn a_list_is_gone_over_by_for(rt: HostRuntime) {
+    let items = vec![in rt.alloc(); 3, 1, 4].expect(&rt, "memory");
+    let list: Listed<u32> = items.into();
+    let mut lent = Vec::new(rt.alloc());
+    for item in &list {
+        lent.push(*item).expect(&rt, "memory");
+    }
+    assert_equal(&rt, lent.as_slice(), list.as_slice());
+    let mut taken = Vec::new(rt.alloc());
+    for item in list {
+        taken.push(item).expect(&rt, "memory");
+    }
+    assert_equal(&rt, taken.as_slice(), [3, 1, 4].as_slice());
+}
+
+#[test]
 fn a_field_is_made_mutable_in_place(rt: HostRuntime) -> Result<(), Fail> {
     let field: FieldType = Field {
         element_type: Storage::Val(Val::I64),

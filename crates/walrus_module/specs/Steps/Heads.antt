@@ -46,6 +46,10 @@ signed_at limit (b ∷ bytes) =
 unfoldable pub raw_at : ℕ → List ℕ → Result (Unit {0} × List ℕ) Fault
 raw_at n bytes = cond (nat_lt 0 n && nat_le n (length bytes)) (Ok (tt, drop n bytes)) (fault [])
 
+unfoldable pub byte_vec_at : List ℕ → Result (Unit {0} × List ℕ) Fault
+byte_vec_at bytes =
+    u32_at bytes >>= (λ n. cond (nat_le n.0 (length n.1)) (Ok (tt, drop n.0 n.1)) (fault []))
+
 -- ---- by kinds
 
 abbrev pub plain : Result (Unit {0} × List ℕ) Fault → Result (Beginning × List ℕ) Fault
@@ -103,6 +107,28 @@ begin_at kind.Vector bytes = number_at kind.Vector bytes
 begin_at kind.Atomic bytes = number_at kind.Atomic bytes
 begin_at kind.Block bytes = byte_at kind.Block bytes
 begin_at kind.Expression bytes = byte_at kind.Expression bytes
+begin_at kind.Expressions bytes = number_at kind.Expressions bytes
+begin_at kind.ByteVec bytes = plain (byte_vec_at bytes)
+begin_at kind.RefType bytes = byte_at kind.RefType bytes
+begin_at kind.Mutability bytes = byte_at kind.Mutability bytes
+begin_at kind.TagType bytes = byte_at kind.TagType bytes
+begin_at kind.TableLimits bytes = byte_at kind.TableLimits bytes
+begin_at kind.MemoryLimits bytes = byte_at kind.MemoryLimits bytes
+begin_at kind.ExternType bytes = byte_at kind.ExternType bytes
+begin_at kind.Import bytes =
+    byte_vec_at bytes >>= (λ u. Ok (beginning None (kind.ByteVec ∷ kind.ExternType ∷ []), u.1))
+begin_at kind.Imports bytes = number_at kind.Imports bytes
+begin_at kind.TypeIndices bytes = number_at kind.TypeIndices bytes
+begin_at kind.FunctionIndices bytes = number_at kind.FunctionIndices bytes
+begin_at kind.Table bytes = byte_at kind.Table bytes
+begin_at kind.Tables bytes = number_at kind.Tables bytes
+begin_at kind.Global bytes = byte_at kind.Global bytes
+begin_at kind.Globals bytes = number_at kind.Globals bytes
+begin_at kind.ElementSegment bytes = number_at kind.ElementSegment bytes
+begin_at kind.ElementSegments bytes = number_at kind.ElementSegments bytes
+begin_at kind.DataSegment bytes = number_at kind.DataSegment bytes
+begin_at kind.DataSegments bytes = number_at kind.DataSegments bytes
+begin_at kind.Tags bytes = number_at kind.Tags bytes
 
 -- ---- what the code returns
 

@@ -1,9 +1,11 @@
 -- What a scan of a text says.
-use Rattle.std.specs.Prelude.{◌≡◌, ℕ, List, ◌++◌}
+use Rattle.std.specs.Prelude.{◌≡◌, ℕ, ◌+◌, ◌<◌, ◌≤◌, List, [], ◌∷◌, ◌++◌, length, Option, Some, None, cond}
 use Rattle.walrus_module.specs.declared.kind.Kind.{Kind}
 use Rattle.walrus_module.specs.declared.scan.ScanError.{ScanError}
 use Rattle.walrus_module.specs.declared.scan.ScanError.TheVariants as scan
-use Rattle.walrus_module.specs.Immediates.{Piece, AreTexts, type_names}
+use Rattle.walrus_module.specs.declared.kind.Space.TheVariants as space
+use Rattle.walrus_module.specs.declared.scan.TypeIndex.{TypeIndex}
+use Rattle.walrus_module.specs.Immediates.{Piece, unsigned, signed, Runs, AreTexts, type_names}
 
 -- the bytes begin with a text of these kinds, and these are the types that it names
 pub record IsScanned (kinds : List Kind) (bytes rest names : List ℕ) : Type 0 where
@@ -19,3 +21,36 @@ IsRefused kinds bytes scan.Malformed =
     (text rest : List ℕ) (pieces : List Piece) → bytes ≡ text ++ rest →
     AreTexts kinds text pieces → ⊥
 IsRefused kinds bytes scan.Memory = Unit {0}
+
+-- the bytes begin with these pieces, and the kinds that are left are still to come behind them
+pub record Reads (kinds left : List Kind) (pieces : List Piece) (bytes rest : List ℕ) : Type 0 where
+  pub text : List ℕ
+  pub parts : bytes ≡ text ++ rest
+  pub runs : Runs kinds text pieces left
+
+-- the piece that an index of a type is
+abbrev pub piece_of : TypeIndex → List ℕ → Piece
+piece_of t text = cond t.is_signed (signed space.Type text t.index)
+    (unsigned space.Type text t.index)
+
+-- pieces that name no type were passed over, and then this index of a type
+pub record PassesType (t : TypeIndex) (kinds left : List Kind) (bytes rest : List ℕ) : Type 0 where
+  pub passed : List Piece
+  pub text : List ℕ
+  pub reads : Reads kinds left (passed ++ piece_of t text ∷ []) bytes rest
+  pub none : type_names passed ≡ []
+  pub long : length text ≡ t.length
+  pub short : t.length ≤ 5
+  pub some : 0 < t.length
+  pub fits : length rest + t.length ≤ length bytes
+
+-- a text was passed over that names no type
+pub record PassesNone (kinds left : List Kind) (bytes rest : List ℕ) : Type 0 where
+  pub passed : List Piece
+  pub reads : Reads kinds [] passed bytes rest
+  pub none : type_names passed ≡ []
+  pub fits : length rest ≤ length bytes
+
+abbrev pub Passes : Option TypeIndex → List Kind → List Kind → List ℕ → List ℕ → Type 0
+Passes (Some t) = PassesType t
+Passes None = PassesNone

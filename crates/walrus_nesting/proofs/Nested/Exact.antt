@@ -5,7 +5,7 @@ use Rattle.std.proofs.lemmas.Bool.{eqb-true, eq-eqb}
 use Rattle.std.proofs.lemmas.Option.{slice_get_within}
 use Rattle.walrus_functions.specs.Body.{Body, Knows}
 use Rattle.walrus_functions.specs.Nesting.{IsReachable, at_start, below, IsRank, IsNested}
-use Rattle.walrus_nesting.specs.Certificates.{ShowsNested, IsPath, ShowsCycle, ShowsUnknown, Shows, AnswersNested}
+use Rattle.walrus_nesting.specs.Certificates.{ShowsNested, IsPath, ShowsCycle, ShowsUnknown, Shows, SaysNested}
 use Rattle.walrus_nesting.specs.declared.nesting.Nesting.{Nesting}
 use Rattle.walrus_nesting.specs.declared.nesting.Nesting.TheVariants.{Nested, Cycle, Unknown}
 use Rattle.walrus_nesting.proofs.Lists.{get_from_contains, all_at, get_at, once_from_distinct}
@@ -98,7 +98,7 @@ module _ (f : Body) (start : ℕ) where
       let past = (s.last_alone (length path - 1) last.0 last.1).0 (n.1.known last.0 reached) in
       omega arith
 
-  pub nested_exactly : (answer : Nesting) → Shows f start answer → AnswersNested answer ↔ IsNested f start
+  pub nested_exactly : (verdict : Nesting) → Shows f start verdict → SaysNested verdict ↔ IsNested f start
   nested_exactly (Nested list) s = (λ _. (place_in list.items, rank_from_list list.items s), λ _. tt)
   nested_exactly (Cycle path back_to) s = (λ h. absurd h, no_rank_on_cycle path.items back_to s)
   nested_exactly (Unknown path) s = (λ h. absurd h, no_rank_beside_unknown path.items s)

@@ -5,7 +5,7 @@ use Rattle.std.proofs.lemmas.Bool.{cases_eq}
 use Rattle.std.proofs.lemmas.Option.{slice_get_within, slice_get_read, get_or_from_slice_get}
 use Rattle.std.proofs.lemmas.List.{length-set, length-map, take_at, reverse-append}
 use Rattle.std.proofs.lemmas.List.Elements.{All-push, Contains-push, Contains-push_cases, Contains-append_left}
-use Rattle.walrus_ir.specs.Sequence.{Sequence}
+use Rattle.instr.specs.Sequence.{Sequence}
 use Rattle.instr.specs.declared.instr.Instr.{Instr}
 use Rattle.walrus_functions.specs.Body.{Body, Knows}
 use Rattle.walrus_functions.specs.Nesting.{IsChild, IsReachable, at_start, below, children_of}

@@ -189,8 +189,8 @@ impl Search {
         Ok(())
     }
 
-    // What a check that found this answers.
-    pub(super) fn answer(self, found: Found) -> Result<Nesting, AllocError>
+    // What a check that found this returns.
+    pub(super) fn verdict(self, found: Found) -> Result<Nesting, AllocError>
         ensures { (f : Body) →
             Finds f self found → (found ≡ Nothing → self.work ≡ []) →
             IfOk result (Shows f self.start) }

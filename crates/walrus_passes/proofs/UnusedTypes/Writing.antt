@@ -9,7 +9,7 @@ use Rattle.walrus_types.specs.Refusal.{HasIndexBy}
 use Rattle.walrus_types.specs.declared.table.rec_group.RecGroup.{RecGroup}
 use Rattle.walrus_types.specs.TypesById.{TypeSlots, live_type, IsLive}
 use Rattle.walrus_types.specs.Table.{Table, IsTable, IsIdAt, rec_group_at, DeletesAll}
-use Rattle.walrus_types.specs.TableEmission.{type_groups, slot_definition, definition_at, slot_is_entry, is_entry_at}
+use Rattle.walrus_types.specs.TableEmission.{type_groups, slot_definition, definition_at, slot_is_entry, table_view}
 use Rattle.walrus_types.proofs.Emission.PairsOfGroups.{at_member, to_member}
 use Rattle.walrus_passes.specs.NeededTypes.{IsNeeded, named, grouped, AreUnused, Keeps}
 use Rattle.walrus_passes.specs.AllIndices.{HasAllIndices}
@@ -72,14 +72,14 @@ module _ (old new : Table) (roots ids : List ℕ) (is : IsTable old) (live : All
     mate : (v j : ℕ) → IsIdAt old.groups g v j → IsNeeded old roots j
     mate v j h = grouped i j n (g, u, v, m, h)
 
-    written_before : IsWritten (type_groups new.groups) (is_entry_at new.types.slots) g →
-        IsWritten (type_groups old.groups) (is_entry_at old.types.slots) g
+    written_before : IsWritten (table_view new) g →
+        IsWritten (table_view old) g
     written_before (v, j, h, e) =
         let there = same_group old new roots ids is live unused all g u i m n v j (in_table new g v j h) in
         (v, j, from_table old g v j there, sym (ap slot_is_entry (keeps.types j (mate v j there))) ∙ e)
 
-    written_after : IsWritten (type_groups old.groups) (is_entry_at old.types.slots) g →
-        IsWritten (type_groups new.groups) (is_entry_at new.types.slots) g
+    written_after : IsWritten (table_view old) g →
+        IsWritten (table_view new) g
     written_after (v, j, h, e) =
         let there = in_table old g v j h in (
           v,
@@ -99,7 +99,7 @@ own_name :
     (t : Table) (old : Table) → IsTable old → (g u i h v k : ℕ) → IsIdAt old.groups g u i →
     IsIdAt old.groups h v k → IsIdAt t.groups g u i → IsIdAt t.groups h v k →
     Names (definition_at t.types.slots i) k →
-    IsFreeGroup (type_groups t.groups) (definition_at t.types.slots) g → g ≡ h
+    IsFreeGroup (table_view t) g → g ≡ h
 own_name t old is g u i h v k m w m' w' n free =
     let e : k ≡ i = free.own u i (from_table t g u i m') k n (h, v, from_table t h v k w') in
     (is.once g u h v k (subst (λ (x : ℕ). IsIdAt old.groups g u x) (sym e) m) w).0
@@ -119,9 +119,7 @@ module _ (old new : Table) (roots ids : List ℕ) (is : IsTable old) (live : All
     also_needed : IsLive old.types.slots k → IsNeeded old roots k
     also_needed l = named i k needed (names_at old.types.slots i k (is.live g u i m) named_old) l
 
-    indexed_after : HasIndexBy (type_groups old.groups) (definition_at old.types.slots)
-        (is_entry_at old.types.slots) g k → HasIndexBy (type_groups new.groups)
-        (definition_at new.types.slots) (is_entry_at new.types.slots) g k
+    indexed_after : HasIndexBy (table_view old) g k → HasIndexBy (table_view new) g k
     indexed_after has =
         let h = has.home in
         let v = has.place in
@@ -153,19 +151,22 @@ module _ (old new : Table) (roots ids : List ℕ) (is : IsTable old) (live : All
         }
 
   pub all_indices_after : HasAllIndices old → HasAllIndices new
-  all_indices_after well g u n i k miss = nothing_stands (rec_group_at new.groups g) u i
-      ((kept old new roots ids is live unused all).emptied g (λ v j m needed.
-      let there = same_group old new roots ids is live unused all g v j m needed u i here in
-      let too : IsNeeded old roots i = grouped j i needed (g, v, u, m, there) in
-      let name : slice_get (names_of (definition_at old.types.slots i)) n ≡ Some k =
-      subst (λ (d : Definition). slice_get (names_of d) n ≡ Some k)
-      (same_definition old new roots ids is live unused all i too) miss.name in
-      well g u n i k (record {
-        written = written_before old new roots ids is live unused all g u i there too miss.written;
-        member = from_table old g u i there;
-        name = name;
-        missing = λ has. miss.missing (indexed_after g u i n k there too name has);
+  all_indices_after well name miss = nothing_stands (rec_group_at new.groups name.group) name.place name.id
+      ((kept old new roots ids is live unused all).emptied name.group (λ v j m needed.
+      let there = same_group old new roots ids is live unused all name.group v j m needed name.place name.id
+      here in
+      let too : IsNeeded old roots name.id = grouped j name.id needed (name.group, v, name.place, m, there) in
+      let used : slice_get (names_of (definition_at old.types.slots name.id)) name.position ≡ Some name.named
+      = subst (λ (d : Definition). slice_get (names_of d) name.position ≡ Some name.named)
+      (same_definition old new roots ids is live unused all name.id too) miss.used in
+      well name (record {
+        written = written_before old new roots ids is live unused all name.group name.place name.id there too
+            miss.written;
+        member = from_table old name.group name.place name.id there;
+        used = used;
+        missing = λ has. miss.missing (indexed_after name.group name.place name.id name.position name.named
+            there too used has);
       }))) here
     where
-      here : IsIdAt new.groups g u i
-      here = in_table new g u i miss.member
+      here : IsIdAt new.groups name.group name.place name.id
+      here = in_table new name.group name.place name.id miss.member

@@ -2,9 +2,9 @@
 use Rattle.std.specs.Prelude.{ℕ, List, ◌∷◌, ◌++◌}
 use Rattle.std.specs.List.{flat_map}
 use Rattle.walrus_ty.specs.Definition.{supertype_names}
-use Rattle.walrus_ir.specs.BlockTypes.{block_type_name}
+use Rattle.instr.specs.BlockTypes.{block_type_name}
 use Rattle.instr.specs.Locals.{LocalVariable}
-use Rattle.walrus_ir.specs.Sequence.{Sequence}
+use Rattle.instr.specs.Sequence.{Sequence}
 use Rattle.walrus_functions.specs.Body.{sequence}
 use Rattle.walrus_functions.specs.FunctionWithArgs.{FunctionWithArgs}
 use Rattle.walrus_passes.specs.UsedTypes.{local_types, instr_types}

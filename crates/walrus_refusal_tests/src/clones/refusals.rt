@@ -151,6 +151,29 @@ fn a_refused_item_is_not_in_its_list(rt: HostRuntime) {
     }
 }
 
+// Puts an `i32` in the middle. After a refusal the list must be as it was, and the call is made
+// again.
+fn insert_again(
+    rt: &impl Abort,
+    list: &mut Listed<ValType>,
+    before: &[ValType],
+) -> Result<(), AllocError> {
+    let middle = list.len() / 2;
+    if list.insert(middle, Val::I32).is_ok() {
+        return Ok(());
+    }
+    assert!(rt; list.as_slice() == before);
+    list.insert(middle, Val::I32)
+}
+
+#[test]
+fn a_refused_insert_leaves_its_list(rt: HostRuntime) {
+    let before = [reference(3), reference(5)];
+    let mut vals = Listed::from_vec(list(rt.alloc(), &before).expect(&rt, "memory"));
+    insert_again(&rt, &mut vals, &before).expect(&rt, "memory");
+    assert!(rt; vals.as_slice() == [reference(3), Val::I32, reference(5)].as_slice());
+}
+
 // Puts the types that the type names at the end. After a refusal the list must be as it was, and
 // the call is made again.
 fn name_types_again(

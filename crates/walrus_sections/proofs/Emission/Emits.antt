@@ -8,7 +8,7 @@ use Rattle.walrus_ty.specs.Definition.{Names, rename, definition_cmp}
 use Rattle.walrus_ty.specs.Groups.{Section}
 use Rattle.walrus_sections.specs.Section.{places_from, index_space, NamesBelowEnds, IsWellNamed, IsInRec}
 use Rattle.walrus_sections.specs.SlotMap.{TypeGroup, read_groups, read_definition, IsSlotMap}
-use Rattle.walrus_sections.specs.Emission.{group_at, IsMember, IsGrouped, WrittenMember, IsFreeGroup, IsInversion, IsWrittenBefore, IsEmission}
+use Rattle.walrus_sections.specs.Emission.{group_at, IsMember, IsGrouped, WrittenMember, read_table, IsFreeGroup, IsInversion, IsWrittenBefore, IsEmission}
 use Rattle.walrus_sections.specs.NormalForm.{image, IsNormalForm}
 use Rattle.walrus_sections.proofs.Sections.Rows.{at, laid_out}
 use Rattle.walrus_sections.proofs.Sections.Numbering.{KeepsRecs, same_numbers}
@@ -111,7 +111,7 @@ module _ (s : Section) (r : ℕ → ℕ) (wn : NamesBelowEnds (index_space s)) (
 
     -- a fixed slot's group is not free
     not_free : (g u i : ℕ) → IsMember S g u i → IsFixed (index_space s) r i →
-        ¬ (IsFreeGroup S (read_definition (index_space s) r) g)
+        ¬ (IsFreeGroup (read_table s r) g)
     not_free g u i m (inl x) f = let y = rec_explicit g u i x.0.0 x.0.1 m x.1 in let a = y.0 in let b =
         f.implicit in cc
     not_free g u i m (inr x) f = x.2 (f.own u i m x.0 x.1 (name_live i (member_is g u i m).0 x.0 x.1))
@@ -132,7 +132,7 @@ module _ (s : Section) (r : ℕ → ℕ) (wn : NamesBelowEnds (index_space s)) (
     -- what a live slot names is in its own group, or in one that stands before it
     pub names_stand : (g u i k : ℕ) → IsMember S g u i → Names (read_definition (index_space s) r i) k →
         (h : ℕ)
-        × (v : ℕ) × IsMember S h v k × ((h ≡ g) ⊎ IsWrittenBefore S (read_definition (index_space s) r) h g)
+        × (v : ℕ) × IsMember S h v k × ((h ≡ g) ⊎ IsWrittenBefore (read_table s r) h g)
     names_stand g u i k m nk =
         let hi = (member_is g u i m).0 in
         let b = named_before r ((index_space s).definition i) k nk in
@@ -177,10 +177,9 @@ module _ (s : Section) (r : ℕ → ℕ) (wn : NamesBelowEnds (index_space s)) (
           ])
         ]
 
-    module _ (out : Section) (place : ℕ → ℕ) (em : IsEmission (read_groups 0 r s)
-        (read_definition (index_space s) r) (λ i. false) out place) where
+    module _ (out : Section) (place : ℕ → ℕ) (em : IsEmission (read_table s r) out place) where
       -- no type is a function's entry, so each member is written
-      abbrev written : {g u i : ℕ} → IsMember S g u i → WrittenMember S (λ i. false)
+      abbrev written : {g u i : ℕ} → IsMember S g u i → WrittenMember (read_table s r)
       written {g} {u} {i} m = written_member (u, i, m, refl) m
 
       em_below : (g u i : ℕ) → IsMember S g u i → place i < (index_space out).count
@@ -216,11 +215,11 @@ module _ (s : Section) (r : ℕ → ℕ) (wn : NamesBelowEnds (index_space s)) (
       em_recs g u i h v j k l lt m m' = em.recs (written m) (written m') k l lt
 
       em_stands : (g u i h v j : ℕ) → g < h → IsMember S g u i → IsMember S h v j →
-          ¬ (IsInversion S (read_definition (index_space s) r) g h) → place i < place j
+          ¬ (IsInversion (read_table s r) g h) → place i < place j
       em_stands g u i h v j lt m m' = em.stands (written m) (written m') lt
 
       em_turned : (g u i h v j : ℕ) → g < h → IsMember S g u i → IsMember S h v j →
-          IsInversion S (read_definition (index_space s) r) g h → place j < place i
+          IsInversion (read_table s r) g h → place j < place i
       em_turned g u i h v j lt m m' = em.inversions (written m) (written m') lt
 
       keeps : KeepsRecs (index_space s) (index_space out) place
@@ -326,7 +325,7 @@ module _ (s : Section) (r : ℕ → ℕ) (wn : NamesBelowEnds (index_space s)) (
                 (let z = inside a w y p q k in fr y z.0 z.1 (member_is a w y k).1) in
                 let turn : definition_cmp (read_definition (index_space s) r j)
                 (read_definition (index_space s) r i) ≡ Less →
-                IsInversion S (read_definition (index_space s) r) m.0 m'.0 = λ le. record {
+                IsInversion (read_table s r) m.0 m'.0 = λ le. record {
                   free = λ a p q w y k. record {
                     implicit = elim (member_is a w y k).2 [
                       | inl e ↦
@@ -375,7 +374,7 @@ slots_through s r place = map (λ i. place (r i)) (range_with_len 0 (index_space
 
 pub read_then_emitted :
     (s out : Section) (r place : ℕ → ℕ) → IsWellNamed s → IsSlotMap (index_space s) r →
-    IsEmission (read_groups 0 r s) (read_definition (index_space s) r) (λ i. false) out place →
+    IsEmission (read_table s r) out place →
     IsNormalForm s out (slots_through s r place)
 read_then_emitted s out r place w d em =
     let n = normal_made (index_space s) (index_space out) r place (laid_out s) w.below_ends d

@@ -1,6 +1,6 @@
 -- The lines that a section was built from, `builder_lines`, and the lines with which no section
 -- begins.
-use Rattle.std.specs.Prelude.{ℕ, List, [], ◌∷◌, ◌++◌, map, Option, Some, None, codes}
+use Rattle.std.specs.Prelude.{ℕ, List, [], ◌∷◌, ◌++◌, map, Option, Some, None, IsSome, codes}
 use Rattle.std.specs.List.{AllByRecursion}
 use Rattle.walrus_ty.specs.Definition.{names_of}
 use Rattle.walrus_ty.specs.Records.{entry_definition}
@@ -29,6 +29,10 @@ HasOpenIndices (Some entries) =
 abbrev pub HasBuilderIndices : SectionBuilder → Type 0
 HasBuilderIndices builder =
     AllByRecursion HasGroupIndices builder.groups.items × HasOpenIndices builder.open
+
+-- a recursion group is open
+abbrev pub IsInGroup : SectionBuilder → Type 0
+IsInGroup builder = IsSome builder.open
 
 -- however these lines go on, they are those of no section
 abbrev pub BeginsNoSection : List (List (List ℕ)) → Type 0

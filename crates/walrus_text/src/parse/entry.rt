@@ -186,6 +186,7 @@ fn values(alloc: Global, line: &[u8]) -> Result<(Vec<ValAt>, &[u8]), AllocError>
     Ok((values, rest))
 }
 
+/// The value type that a line begins with, and the rest of the line.
 pub fn next_value(line: &[u8]) -> Option<(ValAt, &[u8])>
     ensures found { IfSome result (λ found. words_of line.now ≡ val_word found.0 ∷
         words_of found.1.now) }
@@ -216,6 +217,7 @@ fn fields(alloc: Global, line: &[u8]) -> Result<(Vec<FieldAt>, &[u8]), AllocErro
     Ok((fields, rest))
 }
 
+/// The field that a line begins with, and the rest of the line.
 pub fn next_field(line: &[u8]) -> Option<(FieldAt, &[u8])>
     ensures found { IfSome result (λ found. words_of line.now ≡ field_word found.0 ∷
         words_of found.1.now) }

@@ -1,4 +1,5 @@
 //! Where a bad line stops being one of a section, and what has to be there.
+ghost use Rattle.std.specs.Prelude.{◌≤◌, ◌+◌, length};
 ghost use Rattle.walrus_text.specs.Words.{words_of};
 ghost use Rattle.walrus_text.specs.Steps.Parts.{BeginsWith, IsFieldWord, IsValWord};
 
@@ -8,7 +9,12 @@ use crate::words::{is_blank, next_word};
 
 /// What has to be where a bad line goes wrong, and the column of that place, counted from 1. A line
 /// in a recursion group may be `end`, and one outside may be `rec`.
-pub fn find_fault(line: &[u8], is_in_group: bool) -> (Expected, usize) {
+// The clause says only that the column is one of the line, or one past its end: the wording of errors
+// is tested, and not proved.
+pub fn find_fault(line: &[u8], is_in_group: bool) -> (Expected, usize)
+    ensures first { 1 ≤ result.1 }
+    ensures last { result.1 ≤ length line.now + 1 }
+{
     let (expected, rest) = wrong_rest(line, is_in_group);
     (
         expected,

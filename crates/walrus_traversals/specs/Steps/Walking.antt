@@ -5,7 +5,7 @@ use Rattle.instr.specs.declared.instr.Instr.{Instr}
 use Rattle.walrus_ir.specs.Calls.{Event, at, reported}
 use Rattle.walrus_ir.specs.Fields.{type_fields}
 use Rattle.walrus_ir.specs.Hooks.{start_instr_seq, end_instr_seq}
-use Rattle.walrus_ir.specs.Sequence.{Sequence}
+use Rattle.instr.specs.Sequence.{Sequence}
 use Rattle.walrus_functions.specs.Body.{Body, sequence}
 use Rattle.walrus_functions.specs.Nesting.{children}
 use Rattle.walrus_traversals.specs.Events.{own_events, AfterFirst}

@@ -16,7 +16,7 @@ fn reference(index: usize) -> RefType {
 }
 
 // Sequence 0 names sequence 1, in which the rest stands.
-fn body(rt: &impl Abort, alloc: Global) -> LocalFunction {
+pub(super) fn body(rt: &impl Abort, alloc: Global) -> LocalFunction {
     let mut f = empty(alloc);
     let table = table_of_catches(alloc).expect(rt, "memory");
     let outer = vec![in alloc; table].expect(rt, "memory");
@@ -67,7 +67,7 @@ fn named_things(alloc: Global) -> Result<Vec<Instr>, AllocError> {
 }
 
 // The ids are those of these indices, in this order.
-fn hold<T>(rt: &impl Abort, alloc: Global, ids: &[Id<T>], wanted: &[usize]) {
+pub(super) fn hold<T>(rt: &impl Abort, alloc: Global, ids: &[Id<T>], wanted: &[usize]) {
     let mut list = Vec::new(alloc);
     for id in ids {
         list.push(id.index()).expect(rt, "memory");

@@ -21,18 +21,17 @@ use Rattle.walrus_ty.specs.Indices.{IndexMap}
 use Rattle.walrus_ty.specs.Lookups.{value_or_zero}
 use Rattle.walrus_types.specs.Table as table
 use Rattle.walrus_types.specs.Table.{Table, IsTable}
-use Rattle.walrus_types.specs.TableEmission.{type_groups, definition_at, is_entry_at, written_types, IfNameMissing, IsWrittenId, IsEmitted, MissesFirst}
+use Rattle.walrus_types.specs.TableEmission.{type_groups, definition_at, is_entry_at, table_view, written_types, IfNameMissing, IsWrittenId, IsEmitted, MissesFirst}
 use Rattle.walrus_types.specs.declared.emit.order.PendingGroup.{PendingGroup}
 use Rattle.walrus_types.specs.Steps.PendingGroups.{groups_of, places_of}
-use Rattle.walrus_types.specs.Steps.WrittenGroups.{AreWritten, IsMemoryOrMissing, IsApart, IsFirstMissingIn, IsWritingOrder, ids_in, in_order, id_count}
+use Rattle.walrus_types.specs.Steps.WrittenGroups.{AreWritten, IsMemoryOrMissing, IsApart, FirstMissingIs, IsWritingOrder, ids_in, in_order, id_count}
 use Rattle.walrus_sections.proofs.Emission.WrittenMembers.{written_member}
 use Rattle.walrus_types.proofs.Emission.IndexOfId.{Home, home, member_at}
 use Rattle.walrus_types.proofs.Emission.PairsOfGroups.{at_member, to_member, emission, none_missing, first_missing, placed_member}
 use Rattle.walrus_types.proofs.Emission.OrderFromSort.{live_member, single, same_member}
 
 module _ (t : Table) (known : IsTable t) (order : List ℕ)
-    (ord : IsWritingOrder (type_groups t.groups) (definition_at t.types.slots) (is_entry_at t.types.slots)
-    order) where
+    (ord : IsWritingOrder (table_view t) order) where
   abbrev gs : List TypeGroup
   gs = type_groups t.groups
 
@@ -64,8 +63,8 @@ module _ (t : Table) (known : IsTable t) (order : List ℕ)
   apart p q i at_p at_q =
       let h : Home (in_order gs order) p i = home (in_order gs order) p i at_p in
       let k : Home (in_order gs order) q i = home (in_order gs order) q i at_q in
-      let m : _ = placed_member gs def (is_entry_at t.types.slots) order ord h.group h.place i h.is in
-      let n : _ = placed_member gs def (is_entry_at t.types.slots) order ord k.group k.place i k.is in
+      let m : _ = placed_member (table_view t) order ord h.group h.place i h.is in
+      let n : _ = placed_member (table_view t) order ord k.group k.place i k.is in
       let same : _ = same_member t known (slice_index order h.group) h.place (slice_index order k.group)
       k.place i m.1 n.1 in
       let groups_same : h.group ≡ k.group = m.2 k.group n.0 same.0 in
@@ -76,27 +75,27 @@ module _ (t : Table) (known : IsTable t) (order : List ℕ)
       AreWritten def (in_order gs order) out x → IsEmitted t out x
   emitted many out x w = record {
     count = w.indexes.count ∙ many;
-    section = subst (λ (n : Section). IsEmission gs def (is_entry_at t.types.slots) n (value_or_zero x.index))
-        (sym w.section) (emission gs def (is_entry_at t.types.slots) order ord (single t known) x w.indexes);
+    section = subst (λ (n : Section). IsEmission (table_view t) n (value_or_zero x.index)) (sym w.section)
+        (emission (table_view t) order ord (single t known) x w.indexes);
     has_index = λ id. (from id, to id);
-    complete = none_missing gs def (is_entry_at t.types.slots) order ord w.complete;
+    complete = none_missing (table_view t) order ord w.complete;
   }
     where
-      from : (id : ℕ) → IsSome (x.index id) → IsWrittenId gs (is_entry_at t.types.slots) id
+      from : (id : ℕ) → IsSome (x.index id) → IsWrittenId (table_view t) id
       from id s =
           let r : (p : ℕ) × (x.index id ≡ Some p) = found (x.index id) s in
           let h : Home (in_order gs order) r.0 id =
           home (in_order gs order) r.0 id ((w.indexes.index id r.0).0 r.1) in
-          let m : _ = placed_member gs def (is_entry_at t.types.slots) order ord h.group h.place id h.is in
+          let m : _ = placed_member (table_view t) order ord h.group h.place id h.is in
           (written_member (ord.written h.group m.0) m.1, refl)
         where
           found : (o : Option ℕ) → IsSome o → (p : ℕ) × (o ≡ Some p)
           found None h = let z : ⊥ = cc in absurd z
           found (Some p) h = (p, refl)
 
-      to : (id : ℕ) → IsWrittenId gs (is_entry_at t.types.slots) id → IsSome (x.index id)
+      to : (id : ℕ) → IsWrittenId (table_view t) id → IsSome (x.index id)
       to id g =
-          let y : WrittenMember gs (is_entry_at t.types.slots) = g.0 in
+          let y : WrittenMember (table_view t) = g.0 in
           let o : _ = ord.onto y.group y.is_written in
           let at : slice_get (group_at (in_order gs order) o.0).ids y.place ≡ Some y.id =
           ap (λ (z : TypeGroup). slice_get z.ids y.place)
@@ -106,9 +105,9 @@ module _ (t : Table) (known : IsTable t) (order : List ℕ)
           (w.indexes.index y.id _).1 (member_at (in_order gs order) o.0 y.place y.id at) in
           subst (λ (k : ℕ). IsSome (x.index k)) g.1 (rw e refl)
 
-  pub misses : (e : EmitError) → IsMemoryOrMissing e (IsFirstMissingIn def (in_order gs order)) →
+  pub misses : (e : EmitError) → IsMemoryOrMissing e (FirstMissingIs def (in_order gs order)) →
       IsMemoryOrMissing e (MissesFirst t)
-  misses (emit.NoIndex i k) h = first_missing gs def (is_entry_at t.types.slots) order ord i k h
+  misses (emit.NoIndex i k) h = first_missing (table_view t) order ord i k h
   misses emit.TooMany h = h
   misses emit.Memory h = h
 
@@ -124,8 +123,7 @@ live_groups t known k d lt u e in_u =
 
 -- the groups that are written, one by one
 module _ (t : Table) (known : IsTable t) (order : List ℕ)
-    (ord : IsWritingOrder (type_groups t.groups) (definition_at t.types.slots) (is_entry_at t.types.slots)
-    order) (k : ℕ) (d : TypeGroup) (lt : k < length (in_order (type_groups t.groups) order)) where
+    (ord : IsWritingOrder (table_view t) order) (k : ℕ) (d : TypeGroup) (lt : k < length (in_order (type_groups t.groups) order)) where
   below : k < length order
   below = omega (arith, lt, length-map order (group_at (type_groups t.groups)))
 

@@ -15,14 +15,13 @@ use Rattle.walrus_ty.specs.Definition.{Definition, Names, names_of, definition_c
 use Rattle.walrus_ty.specs.Value.{bool_cmp}
 use Rattle.walrus_sections.specs.SlotMap.{TypeGroup}
 use Rattle.walrus_sections.specs.Emission as emission
-use Rattle.walrus_sections.specs.Emission.{IsMember, IsGrouped, IsWritten, IsFreeGroup, IsInversion}
-use Rattle.walrus_sections.specs.Emission.{IsWrittenBefore}
+use Rattle.walrus_sections.specs.Emission.{TableView, IsMember, IsGrouped, IsWritten, IsFreeGroup, IsInversion, IsWrittenBefore}
 use Rattle.walrus_types.specs.declared.emit.order.PendingGroup.{PendingGroup}
 use Rattle.walrus_types.specs.Steps.PendingGroups.{IsTurnedRound, StandsBefore, pending_groups, places_of}
 use Rattle.walrus_ty.specs.Types.{ModuleType, type_definition}
 use Rattle.walrus_types.specs.Table as table
 use Rattle.walrus_types.specs.Table.{Table, IsTable}
-use Rattle.walrus_types.specs.TableEmission.{type_groups, slot_definition, definition_at, slot_is_entry, is_entry_at}
+use Rattle.walrus_types.specs.TableEmission.{type_groups, slot_definition, definition_at, slot_is_entry, is_entry_at, table_view}
 use Rattle.walrus_types.specs.Steps.FreeGroups.{is_own_or_dead, slot_names_none_other, is_free_of, is_free_at, head, is_written_at}
 use Rattle.walrus_types.specs.Steps.WrittenGroups.{IsWritingOrder, id_count}
 use Rattle.walrus_sections.specs.Refusal.{written_count}
@@ -207,6 +206,9 @@ module _ (t : Table) (is : IsTable t) where
   abbrev def : ℕ → Definition
   def = definition_at slots
 
+  abbrev view : TableView
+  view = table_view t
+
   abbrev entry : ℕ → Bool
   entry = is_entry_at slots
 
@@ -249,7 +251,7 @@ module _ (t : Table) (is : IsTable t) where
   abbrev free : ℕ → Bool
   free = is_free_at slots groups
 
-  free_group : (a u i : ℕ) → free a ≡ true → IsMember gs a u i → IsFreeGroup gs def a
+  free_group : (a u i : ℕ) → free a ≡ true → IsMember gs a u i → IsFreeGroup view a
   free_group a u i h m =
       let l : _ = free_list slots (table.rec_group_at groups a).is_explicit
       (table.rec_group_at groups a).types u i h (in_table a u i m) in
@@ -261,12 +263,12 @@ module _ (t : Table) (is : IsTable t) where
             no_names (get slots j) slots j k l'.own n (live_grouped k x));
       }
 
-  from_free_group : (a : ℕ) → a < length groups → ((u i : ℕ) → IsMember gs a u i → IsFreeGroup gs def a) →
+  from_free_group : (a : ℕ) → a < length groups → ((u i : ℕ) → IsMember gs a u i → IsFreeGroup view a) →
       free a ≡ true
   from_free_group a below each =
       from_free_list slots (table.rec_group_at groups a).is_explicit (table.rec_group_at groups a).types
       (λ u i at.
-      (let m : IsMember gs a u i = from_table a u i at in let f : IsFreeGroup gs def a = each u i m in (
+      (let m : IsMember gs a u i = from_table a u i at in let f : IsFreeGroup view a = each u i m in (
         sym (explicit_at groups a below) ∙ f.implicit,
         from_names (get slots i) slots i (λ k n live. f.own u i m k n (grouped_live k live)),
       )))
@@ -303,7 +305,7 @@ module _ (t : Table) (is : IsTable t) where
       by None h = let z : ⊥ = cc in absurd z
       by (Some x) h = (x, refl)
 
-  headed : (g : ℕ) → IsWritten gs entry g → Headed g
+  headed : (g : ℕ) → IsWritten view g → Headed g
   headed g w =
       let m : IsMember gs g w.0 w.1 = w.2 in
       let i : ℕ = get_or (emission.group_at gs g).ids 0 0 in
@@ -314,7 +316,7 @@ module _ (t : Table) (is : IsTable t) where
       record { id = i; type = x.0; member = m0; at = x.1 }
 
   -- a free group that is written has no mark of an entry
-  unmarked : (g : ℕ) (w : IsWritten gs entry g) (h : Headed g) → free g ≡ true →
+  unmarked : (g : ℕ) (w : IsWritten view g) (h : Headed g) → free g ≡ true →
       h.type.is_for_function_entry ≡ false
   unmarked g w h f =
       let same : w.1 ≡ h.id = only_member g 0 h.id w.0 w.1 f h.member w.2 in
@@ -324,7 +326,7 @@ module _ (t : Table) (is : IsTable t) where
       definition_cmp (def j) (def i) ≡ definition_cmp (type_definition y) (type_definition x)
   less_is i j x y at_i at_j = rw (at_i, at_j) refl
 
-  turned_round : (g h : ℕ) (a : Headed g) (b : Headed h) → IsInversion gs def g h →
+  turned_round : (g h : ℕ) (a : Headed g) (b : Headed h) → IsInversion view g h →
       IsTurnedRound type_cmp free g a.type h b.type
   turned_round g h a b tr = record {
     all_free = λ c low high. from_free_group c (omega (arith, high, in_groups h 0 b.id b.member)) (λ u i m.
@@ -333,8 +335,8 @@ module _ (t : Table) (is : IsTable t) where
         ∙ tr.less 0 a.id 0 b.id a.member b.member);
   }
 
-  from_turned_round : (g h : ℕ) (w : IsWritten gs entry g) (w' : IsWritten gs entry h) (a : Headed g)
-      (b : Headed h) → g < h → IsTurnedRound type_cmp free g a.type h b.type → IsInversion gs def g h
+  from_turned_round : (g h : ℕ) (w : IsWritten view g) (w' : IsWritten view h) (a : Headed g)
+      (b : Headed h) → g < h → IsTurnedRound type_cmp free g a.type h b.type → IsInversion view g h
   from_turned_round g h w w' a b lt tr =
       let free_g : free g ≡ true = tr.all_free g (omega arith) (omega (arith, lt)) in
       let free_h : free h ≡ true = tr.all_free h (omega (arith, lt)) (omega arith) in
@@ -356,8 +358,8 @@ module _ (t : Table) (is : IsTable t) where
             ∙ (ap (λ (n : ℕ). definition_cmp (def b.id) (def n)) e ∙ less));
       }
 
-  stands_from : (g h : ℕ) (w : IsWritten gs entry g) (w' : IsWritten gs entry h) (a : Headed g) (b : Headed h)
-      → StandsBefore type_cmp free g a.type h b.type → IsWrittenBefore gs def g h
+  stands_from : (g h : ℕ) (w : IsWritten view g) (w' : IsWritten view h) (a : Headed g) (b : Headed h)
+      → StandsBefore type_cmp free g a.type h b.type → IsWrittenBefore view g h
   stands_from g h w w' a b (inl x) = inl (x.0, λ tr. x.1 (turned_round g h a b tr))
   stands_from g h w w' a b (inr x) = inr (x.0, from_turned_round h g w' w b a x.0 x.1)
 
@@ -366,7 +368,7 @@ module _ (t : Table) (is : IsTable t) where
   abbrev written : ℕ → Bool
   written = is_written_at slots groups
 
-  is_written_from : (g : ℕ) → written g ≡ true → IsWritten gs entry g
+  is_written_from : (g : ℕ) → written g ≡ true → IsWritten view g
   is_written_from g h =
       let r : _ = any_at (λ i. not (entry i)) (table.rec_group_at groups g).types h in
       (r.0, r.1, from_table g r.0 r.1 r.2, flip (entry r.1) r.3)
@@ -375,7 +377,7 @@ module _ (t : Table) (is : IsTable t) where
       flip true e = cc
       flip false e = refl
 
-  is_written_to : (g : ℕ) → IsWritten gs entry g → written g ≡ true
+  is_written_to : (g : ℕ) → IsWritten view g → written g ≡ true
   is_written_to g w = any_from (λ i. not (entry i)) (table.rec_group_at groups g).types w.0 w.1
       (in_table g w.0 w.1 w.2) (ap not w.3)
 
@@ -389,12 +391,12 @@ module _ (t : Table) (is : IsTable t) where
       abbrev order : List ℕ
       order = places_of ps
 
-      written_at : (a : ℕ) → a < length order → IsWritten gs entry (slice_index order a)
+      written_at : (a : ℕ) → a < length order → IsWritten view (slice_index order a)
       written_at a below = is_written_from (slice_index order a)
           (each_written free written (λ g. head slots (table.rec_group_at groups g)) (length groups) ps perm a
           below)
 
-      onto_at : (g : ℕ) → IsWritten gs entry g → (a : ℕ) × (a < length order) × (slice_index order a ≡ g)
+      onto_at : (g : ℕ) → IsWritten view g → (a : ℕ) × (a < length order) × (slice_index order a ≡ g)
       onto_at g w = onto_written free written (λ g. head slots (table.rec_group_at groups g)) (length groups)
           ps
           perm g (in_groups g w.0 w.1 w.2) (is_written_to g w)
@@ -417,15 +419,15 @@ module _ (t : Table) (is : IsTable t) where
           head slots (table.rec_group_at groups (slice_index order a)) ≡ Some x →
           head slots (table.rec_group_at groups (slice_index order b)) ≡ Some y →
           StandsBefore type_cmp free (slice_index order a) x (slice_index order b) y) →
-          IsWritingOrder gs def entry order
+          IsWritingOrder view order
       order_from_sort sorted = record {
         written = written_at;
         onto = onto_at;
         stands = λ a b less below.
             let g : ℕ = slice_index order a in
             let h : ℕ = slice_index order b in
-            let w : IsWritten gs entry g = written_at a (omega (arith, less, below)) in
-            let w' : IsWritten gs entry h = written_at b below in
+            let w : IsWritten view g = written_at a (omega (arith, less, below)) in
+            let w' : IsWritten view h = written_at b below in
             let x : Headed g = headed g w in
             let y : Headed h = headed h w' in
             stands_from g h w w' x y (sorted a b less below x.type y.type

@@ -9,11 +9,10 @@ use Rattle.walrus_ty.specs.Definition.{Definition, rename}
 use Rattle.walrus_ty.specs.Groups.{Section}
 use Rattle.walrus_sections.specs.Section.{places_from, index_space, IsFilled}
 use Rattle.walrus_sections.specs.SlotMap.{TypeGroup}
-use Rattle.walrus_sections.specs.Emission.{no_group, group_at, IsMember, IsWritten, WrittenMember, IsInversion, IsEmission}
-use Rattle.walrus_sections.specs.Emission.{IsWrittenBefore}
-use Rattle.walrus_sections.specs.Refusal.{HasIndexBy, IsMissing, NamePrecedes, IsFirstMissing}
+use Rattle.walrus_sections.specs.Emission.{TableView, no_group, group_at, IsMember, IsWritten, WrittenMember, IsInversion, IsWrittenBefore, IsEmission}
+use Rattle.walrus_sections.specs.Refusal.{NameUse, HasIndexBy, IsMissing, NamePrecedes, IsFirstMissing}
 use Rattle.walrus_ty.specs.Indices.{IndexMap, Indexes}
-use Rattle.walrus_types.specs.Steps.WrittenGroups.{ids_in, in_order, written_group, with_indices, IsMissingIn, IndexPrecedes, IsFirstMissingIn, IsWritingOrder}
+use Rattle.walrus_types.specs.Steps.WrittenGroups.{ids_in, in_order, written_group, with_indices, IsMissingIn, IndexPrecedes, IsFirstMissingIn, FirstMissingIs, IsWritingOrder}
 use Rattle.walrus_types.proofs.Emission.IndexOfId as places
 use Rattle.walrus_types.proofs.Emission.IndexOfId.{IsTidy, AllTidy, recs, rec_position_of, home, member_at}
 use Rattle.walrus_ty.proofs.Basics.{some_inj}
@@ -115,8 +114,13 @@ filled_all d (w ∷ ws) tidy = one w.is_explicit w.ids tidy.0.filled (filled_all
     one true [] some rest = absurd (omega (arith, some))
     one true (i ∷ ids) some rest = rest
 
-module _ (gs : List TypeGroup) (definition : ℕ → Definition) (is_entry : ℕ → Bool) (order : List ℕ)
-    (ord : IsWritingOrder gs definition is_entry order) where
+module _ (table : TableView) (order : List ℕ) (ord : IsWritingOrder table order) where
+  abbrev gs : List TypeGroup
+  gs = table.groups
+
+  abbrev definition : ℕ → Definition
+  definition = table.definition
+
   abbrev ws : List TypeGroup
   ws = in_order gs order
 
@@ -127,21 +131,21 @@ module _ (gs : List TypeGroup) (definition : ℕ → Definition) (is_entry : ℕ
   as_many = length-map order (group_at gs)
 
   -- where a written group stands in the order
-  place_of : (g : ℕ) → IsWritten gs is_entry g → ℕ
+  place_of : (g : ℕ) → IsWritten table g → ℕ
   place_of g w = (ord.onto g w).0
 
-  place_below : (g : ℕ) (w : IsWritten gs is_entry g) → place_of g w < length order
+  place_below : (g : ℕ) (w : IsWritten table g) → place_of g w < length order
   unfolding place_of
   place_below g w = (ord.onto g w).1
 
-  place_is : (g : ℕ) (w : IsWritten gs is_entry g) → slice_index order (place_of g w) ≡ g
+  place_is : (g : ℕ) (w : IsWritten table g) → slice_index order (place_of g w) ≡ g
   unfolding place_of
   place_is g w = (ord.onto g w).2
 
-  group_is : (g : ℕ) (w : IsWritten gs is_entry g) → group_at ws (place_of g w) ≡ group_at gs g
+  group_is : (g : ℕ) (w : IsWritten table g) → group_at ws (place_of g w) ≡ group_at gs g
   group_is g w = at_place (place_of g w) (place_below g w) ∙ ap (group_at gs) (place_is g w)
 
-  member_in : (g u i : ℕ) (w : IsWritten gs is_entry g) → IsMember gs g u i →
+  member_in : (g u i : ℕ) (w : IsWritten table g) → IsMember gs g u i →
       slice_get (group_at ws (place_of g w)).ids u ≡ Some i
   member_in g u i w m = ap (λ (x : TypeGroup). slice_get x.ids u) (group_is g w) ∙ at_member gs g u i m
 
@@ -150,24 +154,24 @@ module _ (gs : List TypeGroup) (definition : ℕ → Definition) (is_entry : ℕ
   member_from a u i below h = to_member gs (slice_index order a) u i
       (ap (λ (x : TypeGroup). slice_get x.ids u) (sym (at_place a below)) ∙ h)
 
-  stands_both : (g h : ℕ) → IsWrittenBefore gs definition g h → IsWrittenBefore gs definition h g → ⊥
+  stands_both : (g h : ℕ) → IsWrittenBefore table g h → IsWrittenBefore table h g → ⊥
   stands_both g h (inl x) (inl y) = omega (arith, x.0, y.0)
   stands_both g h (inl x) (inr y) = x.1 y.1
   stands_both g h (inr x) (inl y) = y.1 x.1
   stands_both g h (inr x) (inr y) = omega (arith, x.0, y.0)
 
-  stands_self : (g : ℕ) → IsWrittenBefore gs definition g g → ⊥
+  stands_self : (g : ℕ) → IsWrittenBefore table g g → ⊥
   stands_self g (inl x) = omega (arith, x.0)
   stands_self g (inr x) = omega (arith, x.0)
 
   -- the order of places
   before_from : (a b : ℕ) → a < length order → b < length order →
-      IsWrittenBefore gs definition (slice_index order a) (slice_index order b) → a < b
+      IsWrittenBefore table (slice_index order a) (slice_index order b) → a < b
   before_from a b in_a in_b s = elim (cases_lt a b) [
     | inl x ↦ x
     | inr x ↦ (elim (cases_eq a b) [
       | inl y ↦ absurd (stands_self (slice_index order b)
-          (subst (λ (n : ℕ). IsWrittenBefore gs definition (slice_index order n) (slice_index order b)) y s))
+          (subst (λ (n : ℕ). IsWrittenBefore table (slice_index order n) (slice_index order b)) y s))
       | inr y ↦ absurd (stands_both (slice_index order a) (slice_index order b) s
           (ord.stands b a (omega (arith, x, y)) in_a))
     ])
@@ -179,10 +183,10 @@ module _ (gs : List TypeGroup) (definition : ℕ → Definition) (is_entry : ℕ
     | inl x ↦ x
     | inr x ↦ (elim (cases_lt a b) [
       | inl y ↦ absurd (stands_self (slice_index order b)
-          (subst (λ (n : ℕ). IsWrittenBefore gs definition n (slice_index order b)) e
+          (subst (λ (n : ℕ). IsWrittenBefore table n (slice_index order b)) e
           (ord.stands a b y in_b)))
       | inr y ↦ absurd (stands_self (slice_index order b)
-          (subst (λ (n : ℕ). IsWrittenBefore gs definition (slice_index order b) n) e
+          (subst (λ (n : ℕ). IsWrittenBefore table (slice_index order b) n) e
           (ord.stands b a (omega (arith, x, y)) in_a)))
     ])
   ]
@@ -195,14 +199,14 @@ module _ (gs : List TypeGroup) (definition : ℕ → Definition) (is_entry : ℕ
       let below : a < length order = omega (arith, in_list ws a u i h, as_many) in
       (below, member_from a u i below h, λ b in_b e. same_from a b below in_b e)
 
-  places_stand : (g h : ℕ) (w : IsWritten gs is_entry g) (w' : IsWritten gs is_entry h) →
-      IsWrittenBefore gs definition g h → place_of g w < place_of h w'
+  places_stand : (g h : ℕ) (w : IsWritten table g) (w' : IsWritten table h) →
+      IsWrittenBefore table g h → place_of g w < place_of h w'
   places_stand g h w w' s = before_from (place_of g w) (place_of h w') (place_below g w) (place_below h w')
       (rw (place_is g w, place_is h w') s)
 
   -- names that have no index
 
-  has_index : (a k : ℕ) → a < length order → HasIndexBy gs definition is_entry (slice_index order a) k →
+  has_index : (a k : ℕ) → a < length order → HasIndexBy table (slice_index order a) k →
       Contains (ids_in (take (a + 1) ws)) k
   has_index a k below h =
       let b : ℕ = place_of h.home h.written in
@@ -210,13 +214,13 @@ module _ (gs : List TypeGroup) (definition : ℕ → Definition) (is_entry : ℕ
         | inl e ↦ (let same : b ≡ a = same_from b a (place_below h.home h.written) below
             (place_is h.home h.written ∙ e) in omega (arith, same))
         | inr s ↦ (let lt : b < a = before_from b a (place_below h.home h.written) below
-            (subst (λ (n : ℕ). IsWrittenBefore gs definition n (slice_index order a))
+            (subst (λ (n : ℕ). IsWrittenBefore table n (slice_index order a))
             (sym (place_is h.home h.written)) s) in omega (arith, lt))
       ] in
       contains_up ws (a + 1) b h.place k le (member_in h.home h.place k h.written h.member)
 
   has_index_from : (a k : ℕ) → a < length order → Contains (ids_in (take (a + 1) ws)) k →
-      HasIndexBy gs definition is_entry (slice_index order a) k
+      HasIndexBy table (slice_index order a) k
   has_index_from a k below c =
       let r : _ = contains_down ws (a + 1) k c in
       let in_b : r.0 < length order = omega (arith, r.2, below) in
@@ -231,54 +235,74 @@ module _ (gs : List TypeGroup) (definition : ℕ → Definition) (is_entry : ℕ
         ];
       }
 
-  missing_in : (g u t i k : ℕ) (m : IsMissing gs definition is_entry g u t i k) →
-      IsMissingIn definition ws (place_of g m.written) u t i k
-  missing_in g u t i k m = record {
-    group = omega (arith, place_below g m.written, as_many);
-    member = member_in g u i m.written m.member;
-    name = m.name;
-    missing = λ c. m.missing (subst (λ (n : ℕ). HasIndexBy gs definition is_entry n k) (place_is g m.written)
-        (has_index_from (place_of g m.written) k (place_below g m.written) c));
+  -- the same name, by the place of its group in the order, and by its group
+  abbrev in_the_order : (name : NameUse) → IsWritten table name.group → NameUse
+  in_the_order name w = record {
+    group = place_of name.group w;
+    place = name.place;
+    position = name.position;
+    id = name.id;
+    named = name.named;
   }
 
-  missing_from : (a u t i k : ℕ) → IsMissingIn definition ws a u t i k →
-      IsMissing gs definition is_entry (slice_index order a) u t i k
-  missing_from a u t i k m =
-      let below : a < length order = omega (arith, m.group, as_many) in
+  abbrev in_the_table : NameUse → NameUse
+  in_the_table name = record {
+    group = slice_index order name.group;
+    place = name.place;
+    position = name.position;
+    id = name.id;
+    named = name.named;
+  }
+
+  missing_in : (name : NameUse) (m : IsMissing table name) →
+      IsMissingIn definition ws (in_the_order name m.written)
+  missing_in name m = record {
+    group = omega (arith, place_below name.group m.written, as_many);
+    member = member_in name.group name.place name.id m.written m.member;
+    used = m.used;
+    missing = λ c. m.missing (subst (λ (n : ℕ). HasIndexBy table n name.named)
+        (place_is name.group m.written)
+        (has_index_from (place_of name.group m.written) name.named (place_below name.group m.written) c));
+  }
+
+  missing_from : (name : NameUse) → IsMissingIn definition ws name → IsMissing table (in_the_table name)
+  missing_from name m =
+      let below : name.group < length order = omega (arith, m.group, as_many) in
       record {
-        written = ord.written a below;
-        member = member_from a u i below m.member;
-        name = m.name;
-        missing = λ h. m.missing (has_index a k below h);
+        written = ord.written name.group below;
+        member = member_from name.group name.place name.id below m.member;
+        used = m.used;
+        missing = λ h. m.missing (has_index name.group name.named below h);
       }
 
-  pub none_missing : ((a u t i k : ℕ) → ¬ (IsMissingIn definition ws a u t i k)) → (g u t i k : ℕ) →
-      ¬ (IsMissing gs definition is_entry g u t i k)
-  none_missing none g u t i k m = none (place_of g m.written) u t i k (missing_in g u t i k m)
+  pub none_missing : ((name : NameUse) → ¬ (IsMissingIn definition ws name)) → (name : NameUse) →
+      ¬ (IsMissing table name)
+  none_missing none name m = none (in_the_order name m.written) (missing_in name m)
 
-  precedes : (g u t b v s : ℕ) (w : IsWritten gs is_entry g) → b < length order →
-      NamePrecedes gs definition is_entry g u t (slice_index order b) v s →
-      IndexPrecedes (place_of g w) u t b v s
-  precedes g u t b v s w below (inl x) = inl (before_from (place_of g w) b (place_below g w) below
-      (subst (λ (n : ℕ). IsWrittenBefore gs definition n (slice_index order b)) (sym (place_is g w)) x))
-  precedes g u t b v s w below (inr x) = inr (
-    same_from (place_of g w) b (place_below g w) below (place_is g w
-        ∙ x.0),
+  precedes : (name second : NameUse) (w : IsWritten table name.group) → second.group < length order →
+      NamePrecedes table name (in_the_table second) → IndexPrecedes (in_the_order name w) second
+  precedes name second w below (inl x) = inl (before_from (place_of name.group w) second.group
+      (place_below name.group w) below (subst (λ (n : ℕ).
+      IsWrittenBefore table n (slice_index order second.group)) (sym (place_is name.group w)) x))
+  precedes name second w below (inr x) = inr (
+    same_from (place_of name.group w) second.group (place_below name.group w) below
+        (place_is name.group w ∙ x.0),
     x.1,
   )
 
-  pub first_missing : (i k : ℕ) → IsFirstMissingIn definition ws i k →
-      IsFirstMissing gs definition is_entry i k
-  first_missing i k f =
-      let below : f.group < length order = omega (arith, f.is.group, as_many) in
+  first_missing_at : (name : NameUse) → IsFirstMissingIn definition ws name →
+      IsFirstMissing table (in_the_table name)
+  first_missing_at name f =
+      let below : name.group < length order = omega (arith, f.is.group, as_many) in
       record {
-        group = slice_index order f.group;
-        place = f.place;
-        name = f.name;
-        is = missing_from f.group f.place f.name i k f.is;
-        first = λ g u t j l m p. f.first (place_of g m.written) u t j l (missing_in g u t j l m)
-            (precedes g u t f.group f.place f.name m.written below p);
+        is = missing_from name f.is;
+        first = λ other m p. f.first (in_the_order other m.written) (missing_in other m)
+            (precedes other name m.written below p);
       }
+
+  pub first_missing : (from to : ℕ) → FirstMissingIs definition ws from to →
+      (name : NameUse) × IsFirstMissing table name × (name.id ≡ from) × (name.named ≡ to)
+  first_missing from to f = (in_the_table f.0, first_missing_at f.0 f.1, f.2, f.3)
 
   -- the section
 
@@ -320,7 +344,7 @@ module _ (gs : List TypeGroup) (definition : ℕ → Definition) (is_entry : ℕ
     stands_at a u i h = places.stands d ws tidy 0 0 a u i h
 
     -- what stands at the index of a member
-    module _ (y : WrittenMember gs is_entry) where
+    module _ (y : WrittenMember table) where
       abbrev group_place : ℕ
       group_place = place_of y.group y.is_written
 
@@ -359,13 +383,13 @@ module _ (gs : List TypeGroup) (definition : ℕ → Definition) (is_entry : ℕ
       number_from k h = let e : Some (k, y.place) ≡ Some (0 + recs (take group_place ws), y.place) = sym h
           ∙ rec_position_at true (explicit_from k h) in ap (λ (a : ℕ × ℕ). a.0) (some_inj e)
 
-    same_place : (y z : WrittenMember gs is_entry) → y.group ≡ z.group → group_place y ≡ group_place z
+    same_place : (y z : WrittenMember table) → y.group ≡ z.group → group_place y ≡ group_place z
     same_place y z e = same_from (group_place y) (group_place z) (place_below y.group y.is_written)
         (place_below z.group z.is_written) (place_is y.group y.is_written
         ∙ (e ∙ sym (place_is z.group z.is_written)))
 
     -- of two members, the one whose group stands first has the lesser index
-    earlier : (y z : WrittenMember gs is_entry) → IsWrittenBefore gs definition y.group z.group →
+    earlier : (y z : WrittenMember table) → IsWrittenBefore table y.group z.group →
         m y.id < m z.id
     earlier y z s =
         let lt : group_place y < group_place z = places_stand y.group z.group y.is_written z.is_written s in
@@ -377,7 +401,7 @@ module _ (gs : List TypeGroup) (definition : ℕ → Definition) (is_entry : ℕ
               (member_there y),
         )
 
-    whole : (y z : WrittenMember gs is_entry) (k : ℕ) → y.group ≡ z.group → explicit_as y true →
+    whole : (y z : WrittenMember table) (k : ℕ) → y.group ≡ z.group → explicit_as y true →
         (index_space n).rec_position (m y.id) ≡ Some (k, y.place) →
         (index_space n).rec_position (m z.id) ≡ Some (k, z.place)
     whole y z k e ex f =
@@ -386,12 +410,12 @@ module _ (gs : List TypeGroup) (definition : ℕ → Definition) (is_entry : ℕ
         ∙ ap (λ (a : ℕ). 0 + recs (take a ws)) (same_place y z e) in
         rec_position_at z true ez ∙ ap (λ (a : ℕ). Some (a, z.place)) (sym number)
 
-    recs_in_order : (y z : WrittenMember gs is_entry) (k l : ℕ) → y.group < z.group →
+    recs_in_order : (y z : WrittenMember table) (k l : ℕ) → y.group < z.group →
         (index_space n).rec_position (m y.id) ≡ Some (k, y.place) →
         (index_space n).rec_position (m z.id) ≡ Some (l, z.place) → k < l
     recs_in_order y z k l lt e f =
         let ex : explicit_as y true = explicit_from y k e in
-        let not_turned : ¬ (IsInversion gs definition y.group z.group) = λ t.
+        let not_turned : ¬ (IsInversion table y.group z.group) = λ t.
         (let i = (t.free y.group (omega arith) (omega (arith, lt)) y.place y.id y.is_member).implicit in
         let j = sym ex ∙ i in cc) in
         let a_b : group_place y < group_place z =
@@ -401,7 +425,7 @@ module _ (gs : List TypeGroup) (definition : ℕ → Definition) (is_entry : ℕ
         (ap (λ (g : TypeGroup). g.is_explicit) (group_is y.group y.is_written) ∙ ex) in
         omega (arith, number_from y k e, number_from z l f, more)
 
-    pub emission : IsEmission gs definition is_entry n m
+    pub emission : IsEmission table n m
     emission = record {
       below = λ y. below_at y;
       onto = λ p h. (

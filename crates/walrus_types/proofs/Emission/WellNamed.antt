@@ -17,14 +17,14 @@ use Rattle.walrus_ty.specs.Records.{section_of}
 use Rattle.walrus_ty.proofs.Names.Definitions.{named_before, names_same}
 use Rattle.walrus_sections.specs.Section.{IndexSpace, index_space, NamesBelowEnds, IsWellNamed}
 use Rattle.walrus_sections.specs.SlotMap.{TypeGroup}
-use Rattle.walrus_sections.specs.Emission.{no_group, group_at, IsMember, IsWritten, WrittenMember, IsWrittenBefore, IsEmission}
-use Rattle.walrus_sections.specs.Refusal.{HasIndexBy, IsMissing, written_count}
+use Rattle.walrus_sections.specs.Emission.{TableView, no_group, group_at, IsMember, IsWritten, WrittenMember, IsWrittenBefore, IsEmission}
+use Rattle.walrus_sections.specs.Refusal.{NameUse, HasIndexBy, IsMissing, written_count}
 use Rattle.walrus_sections.proofs.Sections.Lying.{IsLaidOut}
 use Rattle.walrus_sections.proofs.Sections.Rows.{laid_out}
 use Rattle.walrus_sections.proofs.NormalForms.Fewer.{fewer}
 use Rattle.walrus_sections.proofs.Emission.WrittenMembers.{written_member}
 use Rattle.walrus_types.specs.Table.{Table, no_rec_group, rec_group_at}
-use Rattle.walrus_types.specs.TableEmission.{contents, type_groups, definition_at, is_entry_at, written_types, IsEmitted}
+use Rattle.walrus_types.specs.TableEmission.{contents, type_groups, definition_at, is_entry_at, table_view, written_types, IsEmitted}
 
 -- each member of a `Rec` stands below the end of each
 below_rec_end :
@@ -40,16 +40,22 @@ below_rec_end t l p q k u v in_p in_q at_p at_q = elim (cases_lt p q) [
 
 -- what is named
 
-module _ (gs : List TypeGroup) (definition : ℕ → Definition) (is_entry : ℕ → Bool) where
+module _ (table : TableView) where
+  abbrev gs : List TypeGroup
+  gs = table.groups
+
+  abbrev definition : ℕ → Definition
+  definition = table.definition
+
   abbrev Written : Type 0
-  Written = WrittenMember gs is_entry
+  Written = WrittenMember table
 
   -- of a group that isn't explicit there is only a first member
   abbrev HasLoneTypes : Type 0
   HasLoneTypes =
       (g u i : ℕ) → IsMember gs g u i → (group_at gs g).is_explicit ≡ false → u ≡ 0
 
-  module _ (n : Section) (m : ℕ → ℕ) (em : IsEmission gs definition is_entry n m) where
+  module _ (n : Section) (m : ℕ → ℕ) (em : IsEmission table n m) where
     abbrev end_of : ℕ → ℕ
     end_of i = (index_space n).end (m i)
 
@@ -82,7 +88,7 @@ module _ (gs : List TypeGroup) (definition : ℕ → Definition) (is_entry : ℕ
 
     -- a type of a group that is written before
     earlier_below :
-        (x y : Written) → IsWrittenBefore gs definition y.group x.group → m y.id < end_of x.id
+        (x y : Written) → IsWrittenBefore table y.group x.group → m y.id < end_of x.id
     earlier_below x y (inl before) =
         let less = em.stands y x before.0 before.1 in
         omega (arith, own_end x, less)
@@ -91,7 +97,7 @@ module _ (gs : List TypeGroup) (definition : ℕ → Definition) (is_entry : ℕ
         omega (arith, own_end x, less)
 
     indexed_below :
-        HasLoneTypes → (x : Written) (j : ℕ) → HasIndexBy gs definition is_entry x.group j →
+        HasLoneTypes → (x : Written) (j : ℕ) → HasIndexBy table x.group j →
         m j < end_of x.id
     indexed_below lone x j has =
         let y = written_member has.written has.member in
@@ -101,17 +107,23 @@ module _ (gs : List TypeGroup) (definition : ℕ → Definition) (is_entry : ℕ
         ]
 
     abbrev IsComplete : Type 0
-    IsComplete = (g u t i k : ℕ) → ¬ (IsMissing gs definition is_entry g u t i k)
+    IsComplete = (name : NameUse) → ¬ (IsMissing table name)
 
     module _ (lone : HasLoneTypes) (complete : IsComplete) where
       name_below : (x : Written) (j : ℕ) → Names (definition x.id) j → m j < end_of x.id
       name_below x j name = elim (cases_lt (m j) (end_of x.id)) [
         | inl h ↦ h
         | inr h ↦ (let at = slice_get-get_or (names_of (definition x.id)) name.0 j name.1 in
-            absurd (complete x.group x.place name.0 x.id j (record {
+            absurd (complete (record {
+              group = x.group;
+              place = x.place;
+              position = name.0;
+              id = x.id;
+              named = j;
+            }) (record {
               written = x.is_written;
               member = x.is_member;
-              name = at ∙ ap (λ (a : ℕ). Some a) name.2;
+              used = at ∙ ap (λ (a : ℕ). Some a) name.2;
               missing = λ has. (let z = indexed_below lone x j has in omega (arith, h, z));
             })))
       ]
@@ -156,8 +168,12 @@ module _ (is_entry : ℕ → Bool) where
       let both = length-append (ids_if_written g) (written_ids gs) in
       omega (arith, both, length_if (has_written g) g.ids, as_many gs, more)
 
+  -- what `IsWritten` is of a table of these groups
+  abbrev HasWritten : List TypeGroup → ℕ → Type 0
+  HasWritten gs g = (u : ℕ) × (i : ℕ) × IsMember gs g u i × (is_entry i ≡ false)
+
   has_id :
-      (gs : List TypeGroup) (g u i : ℕ) → IsWritten gs is_entry g → IsMember gs g u i →
+      (gs : List TypeGroup) (g u i : ℕ) → HasWritten gs g → IsMember gs g u i →
       Contains (written_ids gs) i
   has_id [] g u i w is = absurd (omega (arith, is.group))
   has_id (x ∷ gs) zero u i (v, j, other, own) is =
@@ -172,7 +188,8 @@ module _ (is_entry : ℕ → Bool) where
 
   count_at_most :
       (gs : List TypeGroup) (definition : ℕ → Definition) (n : Section) (m : ℕ → ℕ) →
-      IsEmission gs definition is_entry n m → (index_space n).count ≤ written_count is_entry gs
+      IsEmission (record { groups = gs; definition = definition; is_entry = is_entry }) n m →
+      (index_space n).count ≤ written_count is_entry gs
   count_at_most gs definition n m em =
       let all : List ℕ = written_ids gs in
       let few = fewer (length all) (index_space n).count (λ a. m (slice_index_or all a 0)) (λ p in_p.
@@ -215,5 +232,5 @@ module _ (t : Table) (single : HasSingles t) where
       record {
         few = omega (arith, count, bound);
         below_ends =
-            names_below_ends table_groups definition is_entry n m em.section first_only em.complete;
+            names_below_ends (table_view t) n m em.section first_only em.complete;
       }

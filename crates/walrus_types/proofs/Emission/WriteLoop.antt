@@ -27,7 +27,8 @@ use Rattle.walrus_types.specs.Steps.PendingGroups.{groups_of, places_of}
 use Rattle.walrus_types.specs.Steps.SortKeys.{SortKey}
 use Rattle.walrus_types.proofs.Emission.DecodedTypes.{head_key}
 use Rattle.walrus_ty.specs.Records.{group_of, section_of}
-use Rattle.walrus_types.specs.Steps.WrittenGroups.{AllIndexed, AreWritten, IsMemoryOrMissing, IsApart, IsFirstMissingIn, IsFirstUnindexed, IsMissingIn, DecodesToType, ids_in, with_indices, written_group}
+use Rattle.walrus_sections.specs.Refusal.{NameUse}
+use Rattle.walrus_types.specs.Steps.WrittenGroups.{AllIndexed, AreWritten, IsMemoryOrMissing, IsApart, FirstMissingIs, IsFirstUnindexed, IsMissingIn, IndexPrecedes, DecodesToType, ids_in, with_indices, written_group}
 use Rattle.walrus_ty.proofs.Names.Definitions.{rename_agree}
 use Rattle.walrus_types.proofs.Emission.IndexOfId.{member_at}
 use Rattle.walrus_ty.proofs.Basics.{some_inj, slice_get-left}
@@ -191,12 +192,16 @@ contains_further ws m n k le c = go ws m n le (c.0) (slice_get-get_or (ids_in (t
         behind (y ∷ xs) ys i h = let e : length (y ∷ xs) + i ≡ suc (length xs + i) = omega arith in
             ap (slice_get (y ∷ xs ++ ys)) e ∙ behind xs ys i h
 
+abbrev name_use : ℕ → ℕ → ℕ → ℕ → ℕ → NameUse
+name_use group place position id named =
+    record { group = group; place = place; position = position; id = id; named = named }
+
 -- the first j groups are written
 pub record IsProgress (def : ℕ → Definition) (ws : List TypeGroup) (j : ℕ) (out : List GroupAt)
     (x : IndexMap) : Type 0 where
   pub indexes : Indexes (ids_in (take j ws)) x
   pub section : section_of out ≡ map (written_group (with_indices x.index def)) (take j ws)
-  pub complete : (a u t i k : ℕ) → a < j → ¬ (IsMissingIn def ws a u t i k)
+  pub complete : (name : NameUse) → name.group < j → ¬ (IsMissingIn def ws name)
 
 module _ (def : ℕ → Definition) (ws : List TypeGroup) (filled : (a : ℕ) → a < length ws →
     0 < length (group_at ws a).ids) where
@@ -208,7 +213,7 @@ module _ (def : ℕ → Definition) (ws : List TypeGroup) (filled : (a : ℕ) �
           ((λ h. (let z : ⊥ = (let y = sym (e.index id) ∙ h in cc) in absurd z)), (λ h. cc));
     };
     section = refl;
-    complete = λ a u t i k lt. absurd (omega (arith, lt));
+    complete = λ name lt. absurd (omega (arith, lt));
   }
 
   pub finishes : (j : ℕ) (out : List GroupAt) (x : IndexMap) → j ≡ length ws → IsProgress def ws j out x →
@@ -216,7 +221,7 @@ module _ (def : ℕ → Definition) (ws : List TypeGroup) (filled : (a : ℕ) �
   finishes j out x e p = record {
     indexes = subst (λ (gs : List TypeGroup). Indexes (ids_in gs) x) (take_all ws j e) p.indexes;
     section = p.section ∙ ap (map (written_group (with_indices x.index def))) (take_all ws j e);
-    complete = λ a u t i k m. p.complete a u t i k (omega (arith, m.group, e)) m;
+    complete = λ name m. p.complete name (omega (arith, m.group, e)) m;
   }
 
   -- one group more, w
@@ -305,10 +310,16 @@ module _ (def : ℕ → Definition) (ws : List TypeGroup) (filled : (a : ℕ) �
                 let then_p : new.index k ≡ Some p = (indexes.index k p).1
                 (slice_get-left (ids_in (take j ws)) w.ids p k at_p) in
                 ap (λ (o : Option ℕ). unwrap_or o 0) (e ∙ sym then_p)
-            by None e = absurd (so_far.complete a u n.0 i k lt (record {
+            by None e = absurd (so_far.complete (record {
+              group = a;
+              place = u;
+              position = n.0;
+              id = i;
+              named = k;
+            }) lt (record {
               group = omega (arith, lt, below);
               member = m;
-              name = slice_get-get_or (names_of (def i)) n.0 k n.1 ∙ ap (λ (x : ℕ). Some x) n.2;
+              used = slice_get-get_or (names_of (def i)) n.0 k n.1 ∙ ap (λ (x : ℕ). Some x) n.2;
               missing = λ c. (let r : _ = contains_further ws (a + 1) j k (omega (arith, lt)) c in
                   let f : old.index k ≡ Some r.0 = (so_far.indexes.index k r.0).1 r.1 in
                   (let y = sym e ∙ f in cc));
@@ -321,12 +332,23 @@ module _ (def : ℕ → Definition) (ws : List TypeGroup) (filled : (a : ℕ) �
             rename_agree (λ k. unwrap_or (old.index k) 0) (λ k. unwrap_or (new.index k) 0) (def i) (λ k n.
             value_kept a u i k r.0 r.1 n)))
 
-        none_missing : AllIndexed new.index def w.ids → (u t i k : ℕ) → ¬ (IsMissingIn def ws j u t i k)
-        none_missing each u t i k m =
-            let member : slice_get w.ids u ≡ Some i = ap (λ (g : TypeGroup). slice_get g.ids u) (sym at)
-            ∙ m.member in
-            m.missing (contains_indexed (ids_in (take (j + 1) ws)) new k indexes'
-            (none_found (λ l. is_none (new.index l)) (names_of (def i)) t k (each u i member) m.name))
+        -- a name in the j-th group
+        member_is : (name : NameUse) → IsMissingIn def ws name → name.group ≡ j →
+            slice_get w.ids name.place ≡ Some name.id
+        member_is name m e = ap (λ (g : TypeGroup). slice_get g.ids name.place)
+            (sym at ∙ ap (group_at ws) (sym e)) ∙ m.member
+
+        missing_there : (name : NameUse) → IsMissingIn def ws name → name.group ≡ j →
+            ¬ (Contains (ids_in (take (j + 1) ws)) name.named)
+        missing_there name m e = subst (λ (n : ℕ). ¬ (Contains (ids_in (take (n + 1) ws)) name.named)) e
+            m.missing
+
+        none_missing : AllIndexed new.index def w.ids → (name : NameUse) → name.group ≡ j →
+            ¬ (IsMissingIn def ws name)
+        none_missing each name e m = missing_there name m e
+            (contains_indexed (ids_in (take (j + 1) ws)) new name.named indexes'
+            (none_found (λ l. is_none (new.index l)) (names_of (def name.id)) name.position name.named
+            (each name.place name.id (member_is name m e)) m.used))
 
         pub advances : (g : GroupAt) → group_of g ≡ written_group (with_indices new.index def) w →
             AllIndexed new.index def w.ids → IsProgress def ws (j + 1) (out ++ g ∷ []) new
@@ -337,53 +359,45 @@ module _ (def : ℕ → Definition) (ws : List TypeGroup) (filled : (a : ℕ) �
               ∙ (ap (λ (x : Group). map (written_group (with_indices new.index def)) (take j ws) ++ x ∷ []) is
               ∙ (sym (map-append (written_group (with_indices new.index def)) (take j ws) (w ∷ []))
               ∙ ap (map (written_group (with_indices new.index def))) (sym more))));
-          complete = λ a u t i k lt. (elim (cases_lt a j) [
-            | inl x ↦ so_far.complete a u t i k x
-            | inr x ↦ (let e : j ≡ a = omega (arith, x, lt) in
-                subst (λ (n : ℕ). ¬ (IsMissingIn def ws n u t i k)) e (none_missing each u t i k))
+          complete = λ name lt. (elim (cases_lt name.group j) [
+            | inl x ↦ so_far.complete name x
+            | inr x ↦ none_missing each name (omega (arith, x, lt))
           ]);
         }
 
-        pub stops : (i k : ℕ) → IsFirstUnindexed new.index def w.ids i k → IsFirstMissingIn def ws i k
-        stops i k f =
-            let r : Found (λ l. is_none (new.index l)) (names_of (def i)) k =
-            found_at (λ l. is_none (new.index l)) (names_of (def i)) k f.name in
-            record {
-              group = j;
-              place = f.place;
-              name = r.place;
-              is = record {
-                group = below;
-                member = ap (λ (g : TypeGroup). slice_get g.ids f.place) at ∙ f.member;
-                name = r.at;
-                missing = λ c. indexed_contains (ids_in (take (j + 1) ws)) new k indexes' c r.passes;
-              };
-              first = λ a u t i' l m before. elim before [
-                | inl x ↦ so_far.complete a u t i' l x m
-                | inr x ↦ first a u t i' l r m x.0 x.1
-              ];
-            }
+        pub stops : (i k : ℕ) → IsFirstUnindexed new.index def w.ids i k → FirstMissingIs def ws i k
+        stops i k f = (name_use j f.place found.place i k, record { is = is; first = first }, refl, refl)
           where
-            first : (a u t i' l : ℕ) → (r : Found (λ l. is_none (new.index l)) (names_of (def i)) k) →
-                IsMissingIn def ws a u t i' l → a ≡ j → (u < f.place) ⊎ ((u ≡ f.place) × (t < r.place)) → ⊥
-            first a u t i' l r m e (inl lt) =
-                let m' : IsMissingIn def ws j u t i' l =
-                subst (λ (n : ℕ). IsMissingIn def ws n u t i' l) e m in
-                let member : slice_get w.ids u ≡ Some i' = ap (λ (g : TypeGroup). slice_get g.ids u) (sym at)
-                ∙ m'.member in
-                m'.missing (contains_indexed (ids_in (take (j + 1) ws)) new l indexes'
-                (none_found (λ l. is_none (new.index l)) (names_of (def i')) t l (f.earlier u i' lt member)
-                m'.name))
-            first a u t i' l r m e (inr x) =
-                let m' : IsMissingIn def ws j u t i' l =
-                subst (λ (n : ℕ). IsMissingIn def ws n u t i' l) e m in
-                let member : slice_get w.ids u ≡ Some i' = ap (λ (g : TypeGroup). slice_get g.ids u) (sym at)
-                ∙ m'.member in
-                let same : i' ≡ i = some_inj (sym member ∙ ap (slice_get w.ids) x.0 ∙ f.member) in
-                let name : slice_get (names_of (def i)) t ≡ Some l =
-                subst (λ (n : ℕ). slice_get (names_of (def n)) t ≡ Some l) same m'.name in
-                m'.missing (contains_indexed (ids_in (take (j + 1) ws)) new l indexes'
-                (r.earlier t l x.1 name))
+            found : Found (λ l. is_none (new.index l)) (names_of (def i)) k
+            found = found_at (λ l. is_none (new.index l)) (names_of (def i)) k f.name
+
+            is : IsMissingIn def ws (name_use j f.place found.place i k)
+            is = record {
+              group = below;
+              member = ap (λ (g : TypeGroup). slice_get g.ids f.place) at ∙ f.member;
+              used = found.at;
+              missing = λ c. indexed_contains (ids_in (take (j + 1) ws)) new k indexes' c found.passes;
+            }
+
+            in_same_group : (other : NameUse) → IsMissingIn def ws other → other.group ≡ j →
+                (other.place < f.place) ⊎ ((other.place ≡ f.place) × (other.position < found.place)) → ⊥
+            in_same_group other m e (inl lt) = missing_there other m e
+                (contains_indexed (ids_in (take (j + 1) ws)) new other.named indexes'
+                (none_found (λ l. is_none (new.index l)) (names_of (def other.id)) other.position other.named
+                (f.earlier other.place other.id lt (member_is other m e)) m.used))
+            in_same_group other m e (inr x) =
+                let same : other.id ≡ i = some_inj (sym (member_is other m e) ∙ ap (slice_get w.ids) x.0
+                ∙ f.member) in
+                let used : slice_get (names_of (def i)) other.position ≡ Some other.named =
+                subst (λ (n : ℕ). slice_get (names_of (def n)) other.position ≡ Some other.named) same m.used
+                in
+                missing_there other m e (contains_indexed (ids_in (take (j + 1) ws)) new other.named indexes'
+                (found.earlier other.position other.named x.1 used))
+
+            first : (other : NameUse) → IsMissingIn def ws other →
+                ¬ (IndexPrecedes other (name_use j f.place found.place i k))
+            first other m (inl x) = so_far.complete other x m
+            first other m (inr x) = in_same_group other m x.0 x.1
 
 -- groups that are to be written
 

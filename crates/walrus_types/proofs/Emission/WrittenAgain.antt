@@ -10,11 +10,11 @@ use Rattle.walrus_ty.specs.Groups.{Section}
 use Rattle.walrus_sections.specs.Section.{index_space, places_from}
 use Rattle.walrus_sections.specs.NormalForm.{image, IsNormalForm}
 use Rattle.walrus_sections.specs.SlotMap.{TypeGroup, read_definition, read_groups}
-use Rattle.walrus_sections.specs.Emission.{group_at, IsMember, IsEmission}
-use Rattle.walrus_types.specs.TableEmission.{type_groups, definition_at, slot_definition, is_entry_at, IsWrittenId, IsEmitted}
+use Rattle.walrus_sections.specs.Emission.{TableView, group_at, IsMember, IsEmission}
+use Rattle.walrus_types.specs.TableEmission.{type_groups, definition_at, slot_definition, is_entry_at, table_view, IsWrittenId, IsEmitted}
 use Rattle.walrus_ty.specs.Indices.{IndexMap}
 use Rattle.walrus_ty.specs.Lookups.{value_or_zero}
-use Rattle.walrus_sections.specs.Refusal.{HasIndexBy, IsMissing, IsFirstMissing}
+use Rattle.walrus_sections.specs.Refusal.{NameUse, HasIndexBy, IsMissing}
 use Rattle.walrus_types.specs.ReadResult.{type_of_definition}
 use Rattle.walrus_types.specs.ReaderState.{IsReadInto}
 use Rattle.walrus_ty.specs.Records.{section_of}
@@ -67,20 +67,28 @@ module _ (s : Section) (t : Table) (ids : List ℕ) (has : IsReadInto s t ids) w
   no_entry : (g u i : ℕ) → IsMember S g u i → is_entry_at t.types.slots i ≡ false
   no_entry g u i m = rw (slot_of g u i m) refl
 
+  -- the table, if these were its groups
+  abbrev seen : List TypeGroup → TableView
+  seen gs = record {
+    groups = gs;
+    definition = definition_at t.types.slots;
+    is_entry = is_entry_at t.types.slots;
+  }
+
   -- what is written is the normal form, and each index goes where its slot goes
   pub normal_again : (out : List GroupAt) (x : IndexMap) → IsEmitted t out x →
       IsNormalForm s (section_of out) (slots_through s r (value_or_zero x.index))
   normal_again out x em =
-      let on : IsEmission S (definition_at t.types.slots) (is_entry_at t.types.slots) (section_of out)
-      (value_or_zero x.index) = subst (λ (gs : List TypeGroup).
-      IsEmission gs (definition_at t.types.slots) (is_entry_at t.types.slots) (section_of out)
-      (value_or_zero x.index)) has.grouping em.section in
+      let on : IsEmission (seen S) (section_of out) (value_or_zero x.index) =
+      subst (λ (gs : List TypeGroup). IsEmission (seen gs) (section_of out) (value_or_zero x.index))
+      has.grouping em.section in
       read_then_emitted s (section_of out) r (value_or_zero x.index) has.well_named has.rule
-      (same_emission S _ _ _ _ (section_of out) (value_or_zero x.index) defines no_entry on)
+      (same_emission S (definition_at t.types.slots) (read_definition (index_space s) r)
+      (is_entry_at t.types.slots) (λ i. false) defines (section_of out) (value_or_zero x.index) no_entry on)
 
   -- what a member names has an index by the time its group is written
   named_has_index : (g u i k : ℕ) → IsMember S g u i → Names (read_definition (index_space s) r i) k →
-      HasIndexBy S (definition_at t.types.slots) (is_entry_at t.types.slots) g k
+      HasIndexBy (seen S) g k
   named_has_index g u i k m names =
       let home = names_stand s r has.well_named.below_ends has.rule g u i k m names in
       record {
@@ -91,27 +99,25 @@ module _ (s : Section) (t : Table) (ids : List ℕ) (has : IsReadInto s t ids) w
         by = elim home.3 [
           | inl e ↦ inl e
           | inr stands ↦ inr (same_stands S (read_definition (index_space s) r) (definition_at t.types.slots)
-              (λ a v x n. sym (defines a v x n)) home.0 g stands)
+              (λ i. false) (is_entry_at t.types.slots) (λ a v x n. sym (defines a v x n)) home.0 g stands)
         ];
       }
 
   -- so no name lacks its index
-  none_missing : (g u n i k : ℕ) → ¬ (IsMissing S (definition_at t.types.slots) (is_entry_at t.types.slots) g
-      u n i k)
-  none_missing g u n i k x =
-      let names : Names (definition_at t.types.slots i) k = (
-        n,
-        slice_get_within (names_of (definition_at t.types.slots i)) n k x.name,
-        get_or_from_slice_get (names_of (definition_at t.types.slots i)) n k k x.name,
+  none_missing : (name : NameUse) → ¬ (IsMissing (seen S) name)
+  none_missing name x =
+      let names : Names (definition_at t.types.slots name.id) name.named = (
+        name.position,
+        slice_get_within (names_of (definition_at t.types.slots name.id)) name.position name.named x.used,
+        get_or_from_slice_get (names_of (definition_at t.types.slots name.id)) name.position name.named
+            name.named x.used,
       ) in
-      x.missing (named_has_index g u i k x.member
-      (subst (λ (d : Definition). Names d k) (defines g u i x.member) names))
+      x.missing (named_has_index name.group name.place name.id name.named x.member
+      (subst (λ (d : Definition). Names d name.named) (defines name.group name.place name.id x.member) names))
 
-  pub never_missing : (i k : ℕ) → ¬ (IsFirstMissing (type_groups t.groups) (definition_at t.types.slots)
-      (is_entry_at t.types.slots) i k)
-  never_missing i k x = subst (λ (gs : List TypeGroup). (g u n j l : ℕ) →
-      ¬ (IsMissing gs (definition_at t.types.slots) (is_entry_at t.types.slots) g u n j l)) (sym has.grouping)
-      none_missing x.group x.place x.name i k x.is
+  pub never_missing : (name : NameUse) → ¬ (IsMissing (table_view t) name)
+  never_missing = subst (λ (gs : List TypeGroup). (name : NameUse) → ¬ (IsMissing (seen gs) name))
+      (sym has.grouping) none_missing
 
   -- the id that an index stands for has an index in what is written
   pub each_indexed : (out : List GroupAt) (x : IndexMap) → IsEmitted t out x → (i d : ℕ) → i < length ids →
@@ -120,11 +126,10 @@ module _ (s : Section) (t : Table) (ids : List ℕ) (has : IsReadInto s t ids) w
       let within : i < (index_space s).count = omega (arith, below, has.one_each) in
       let lower = down (index_space s) r has.rule i within in
       let home = member_of (r i) (omega (arith, within, lower)) (twice (index_space s) r has.rule i within) in
-      let written : IsWrittenId S (is_entry_at t.types.slots) (r i) =
+      let written : IsWrittenId (seen S) (r i) =
       (written_member (home.1, r i, home.2, no_entry home.0 home.1 (r i) home.2) home.2, refl) in
-      let there : IsWrittenId (type_groups t.groups) (is_entry_at t.types.slots) (r i) =
-      subst (λ (gs : List TypeGroup). IsWrittenId gs (is_entry_at t.types.slots) (r i)) (sym has.grouping)
-      written in
+      let there : IsWrittenId (table_view t) (r i) =
+      subst (λ (gs : List TypeGroup). IsWrittenId (seen gs) (r i)) (sym has.grouping) written in
       subst (λ (k : ℕ). IsSome (x.index k)) (get_or_default ids i 0 d below) ((em.has_index (r i)).1 there)
 
   -- the indices of the ids are where the indices of the section go

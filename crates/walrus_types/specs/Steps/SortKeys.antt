@@ -22,11 +22,12 @@ SortKey = ℕ × ℕ × ℕ × ℕ × ℕ × ℕ
 
 -- by the first number where they differ
 abbrev pub sort_key_cmp : SortKey → SortKey → Ordering
-sort_key_cmp v w =
-    ordering_then (nat_cmp v.0 w.0)
-    (ordering_then (nat_cmp v.1 w.1)
-    (ordering_then (nat_cmp v.2 w.2)
-    (ordering_then (nat_cmp v.3 w.3) (ordering_then (nat_cmp v.4 w.4) (nat_cmp v.5 w.5)))))
+sort_key_cmp key other =
+    ordering_then (nat_cmp key.0 other.0)
+    (ordering_then (nat_cmp key.1 other.1)
+    (ordering_then (nat_cmp key.2 other.2)
+    (ordering_then (nat_cmp key.3 other.3)
+    (ordering_then (nat_cmp key.4 other.4) (nat_cmp key.5 other.5)))))
 
 -- the place of all heap types that name a type, behind the abstract ones
 abbrev pub named_heap : ℕ
@@ -53,43 +54,44 @@ first_packed = 31
 
 -- the place of a heap type in the order; all that name a type have one place
 abbrev pub heap_place : Heap ℕ → ℕ
-heap_place (heap.Abstract a) = abstract_index a
-heap_place (heap.Concrete k) = named_heap
-heap_place (heap.Exact k) = named_heap
+heap_place (heap.Abstract name) = abstract_index name
+heap_place (heap.Concrete id) = named_heap
+heap_place (heap.Exact id) = named_heap
 
--- the place of a value type in the order: references that may be null stand behind the others
+-- the place of a value type in the order: references that may be null come after the others
 abbrev pub val_place : Val ℕ → ℕ
 val_place val.I32 = 0
 val_place val.I64 = 1
 val_place val.F32 = 2
 val_place val.F64 = 3
 val_place val.V128 = 4
-val_place (val.Ref r) =
-    first_reference + (heap_places * bool_index r.nullable + heap_place r.heap_type)
+val_place (val.Ref ref) =
+    first_reference + (heap_places * bool_index ref.nullable + heap_place ref.heap_type)
 
 abbrev pub storage_place : Storage ℕ → ℕ
-storage_place (storage.Val v) = val_place v
+storage_place (storage.Val ty) = val_place ty
 storage_place storage.I8 = first_packed
 storage_place storage.I16 = first_packed + 1
 
 -- whether this is the place of the references to types, nullable or not
 abbrev pub is_named : ℕ → Bool
-is_named i = cond (i == named_place) true (i == named_or_null_place)
+is_named place = cond (place == named_place) true (place == named_or_null_place)
 
--- the rank of what has the place i and is mutable where m says so: the lesser of two has the lesser
--- rank, or both name a type and have the same
+-- the rank of what has this place, and is mutable or not: the lesser of two has the lesser rank, or
+-- both name a type and have the same
 abbrev pub rank : ℕ → Bool → ℕ
-rank i m = 2 * (i + 1) + cond (is_named i) 0 (bool_index m)
+rank place is_mutable = 2 * (place + 1) + cond (is_named place) 0 (bool_index is_mutable)
 
 -- whether this is the rank of something that names a type
 abbrev pub is_open : ℕ → Bool
-is_open n = cond (n == rank named_place false) true (n == rank named_or_null_place false)
+is_open number =
+    cond (number == rank named_place false) true (number == rank named_or_null_place false)
 
 abbrev pub val_rank : Val ℕ → ℕ
-val_rank v = rank (val_place v) false
+val_rank ty = rank (val_place ty) false
 
 abbrev pub field_rank : Field ℕ → ℕ
-field_rank f = rank (storage_place f.element_type) f.mutable
+field_rank field = rank (storage_place field.element_type) field.mutable
 
 -- values, and if they are marked, behind a mark further values
 abbrev pub marked_items : List (Val ℕ) → Bool → List (Val ℕ) → List (Option (Val ℕ))
@@ -98,34 +100,35 @@ marked_items vals is_marked further = map Some vals ++ cond is_marked (None ∷ 
 -- the mark has a lesser rank than each value
 abbrev pub item_rank : Option (Val ℕ) → ℕ
 item_rank None = 1
-item_rank (Some v) = val_rank v
+item_rank (Some ty) = val_rank ty
 
 -- the rank of the first; 0 where there is none
 abbrev pub first_rank : {A : Type 0} → (A → ℕ) → List A → ℕ
-first_rank r [] = 0
-first_rank r (x ∷ xs) = r x
+first_rank rank_of [] = 0
+first_rank rank_of (item ∷ items) = rank_of item
 
--- what is left after the first; nothing after what names a type, whose rank does not tell all of it
+-- what is left after the first; nothing after what names a type, whose rank does not say all of it
 abbrev pub after_first : {A : Type 0} → (A → ℕ) → List A → List A
-after_first r [] = []
-after_first r (x ∷ xs) = cond (is_open (r x)) [] xs
+after_first rank_of [] = []
+after_first rank_of (item ∷ items) = cond (is_open (rank_of item)) [] items
 
--- k, and the ranks of the first five
+-- this number, and the ranks of the first five
 abbrev pub ranks : {A : Type 0} → ℕ → (A → ℕ) → List A → SortKey
-ranks k r xs = (
-  k,
-  first_rank r xs,
-  first_rank r (after_first r xs),
-  first_rank r (after_first r (after_first r xs)),
-  first_rank r (after_first r (after_first r (after_first r xs))),
-  first_rank r (after_first r (after_first r (after_first r (after_first r xs)))),
+ranks number rank_of items = (
+  number,
+  first_rank rank_of items,
+  first_rank rank_of (after_first rank_of items),
+  first_rank rank_of (after_first rank_of (after_first rank_of items)),
+  first_rank rank_of (after_first rank_of (after_first rank_of (after_first rank_of items))),
+  first_rank rank_of
+      (after_first rank_of (after_first rank_of (after_first rank_of (after_first rank_of items)))),
 )
 
 -- of a function type the parameters, a mark and the results are ranked
 abbrev pub kind_sort_key : CompositeType → SortKey
-kind_sort_key (kind.Function f) = ranks 0 item_rank (marked_items f.params true f.results)
-kind_sort_key (kind.Struct s) = ranks 1 field_rank s.fields
-kind_sort_key (kind.Array a) = ranks 2 field_rank (a.field ∷ [])
+kind_sort_key (kind.Function ty) = ranks 0 item_rank (marked_items ty.params true ty.results)
+kind_sort_key (kind.Struct ty) = ranks 1 field_rank ty.fields
+kind_sort_key (kind.Array ty) = ranks 2 field_rank (ty.field ∷ [])
 
 abbrev pub type_sort_key : ModuleType → SortKey
-type_sort_key t = kind_sort_key t.kind
+type_sort_key ty = kind_sort_key ty.kind

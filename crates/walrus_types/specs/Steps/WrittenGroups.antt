@@ -16,8 +16,8 @@ use Rattle.walrus_ty.specs.declared.error.ToRecordError.TheVariants as to_record
 use Rattle.walrus_ty.specs.declared.error.NoIndex.TheVariants.{OfType, OfFunc, OfGlobal}
 use Rattle.walrus_ty.specs.Indices.{IndexMap, Indexes}
 use Rattle.walrus_ty.specs.Lookups.{first_missing}
-use Rattle.walrus_sections.specs.Emission.{group_at, IsWritten}
-use Rattle.walrus_sections.specs.Emission.{IsWrittenBefore}
+use Rattle.walrus_sections.specs.Emission.{TableView, group_at, IsWritten, IsWrittenBefore}
+use Rattle.walrus_sections.specs.Refusal.{NameUse}
 use Rattle.walrus_types.specs.TypesById.{TypeSlots, live_type}
 use Rattle.walrus_types.specs.Steps.LosslessKeys.{IsLosslessKey}
 use Rattle.walrus_types.specs.Steps.SortKeys.{SortKey}
@@ -48,44 +48,43 @@ written_group d w = cond w.is_explicit (Rec (map d w.ids)) (Single (d (slice_ind
 abbrev pub with_indices : (ℕ → Option ℕ) → (ℕ → Definition) → ℕ → Definition
 with_indices index definition i = rename (λ k. unwrap_or (index k) 0) (definition i)
 
--- the id has this place in this group of the list; of its names the one at this position, `named`,
--- is none of the ids up to the end of the group
-pub record IsMissingIn (definition : ℕ → Definition) (ws : List TypeGroup)
-    (group_index place position id named : ℕ) : Type 0 where
-  pub group : group_index < length ws
-  pub member : slice_get (group_at ws group_index).ids place ≡ Some id
-  pub name : slice_get (names_of (definition id)) position ≡ Some named
-  pub missing : ¬ (Contains (ids_in (take (group_index + 1) ws)) named)
+-- of these groups, one at the name's place in the list has the name, and the named id is none of
+-- the ids up to the end of that group
+pub record IsMissingIn (definition : ℕ → Definition) (ws : List TypeGroup) (name : NameUse) :
+    Type 0 where
+  pub group : name.group < length ws
+  pub member : slice_get (group_at ws name.group).ids name.place ≡ Some name.id
+  pub used : slice_get (names_of (definition name.id)) name.position ≡ Some name.named
+  pub missing : ¬ (Contains (ids_in (take (name.group + 1) ws)) name.named)
 
--- of two names, each by its group, its member's place there and its position in the member's
--- definition, the one comes before the other
-abbrev pub IndexPrecedes : ℕ → ℕ → ℕ → ℕ → ℕ → ℕ → Type 0
-IndexPrecedes group place position other_group other_place other_position =
-    (group < other_group) ⊎ ((group ≡ other_group) ×
-    ((place < other_place) ⊎ ((place ≡ other_place) × (position < other_position))))
+-- of two names, the first comes before the second
+abbrev pub IndexPrecedes : NameUse → NameUse → Type 0
+IndexPrecedes first second =
+    (first.group < second.group) ⊎ ((first.group ≡ second.group) ×
+    ((first.place < second.place) ⊎ ((first.place ≡ second.place) ×
+    (first.position < second.position))))
 
--- of all names that are missing in the groups, the name `named` of the id is the first
-pub record IsFirstMissingIn (definition : ℕ → Definition) (ws : List TypeGroup)
-    (id named : ℕ) : Type 0 where
-  pub group : ℕ
-  pub place : ℕ
-  pub name : ℕ
-  pub is : IsMissingIn definition ws group place name id named
+-- of all names that are missing in the groups, this is the first
+pub record IsFirstMissingIn (definition : ℕ → Definition) (ws : List TypeGroup) (name : NameUse) :
+    Type 0 where
+  pub is : IsMissingIn definition ws name
   pub first :
-      (other_group other_place other_name other_id other_named : ℕ) →
-      IsMissingIn definition ws other_group other_place other_name other_id other_named →
-      ¬ (IndexPrecedes other_group other_place other_name group place name)
+      (other : NameUse) → IsMissingIn definition ws other → ¬ (IndexPrecedes other name)
+
+-- of all names that are missing in the groups, that of `to` by `from` is the first
+abbrev pub FirstMissingIs : (ℕ → Definition) → List TypeGroup → ℕ → ℕ → Type 0
+FirstMissingIs definition ws from to =
+    (name : NameUse) × IsFirstMissingIn definition ws name × (name.id ≡ from) × (name.named ≡ to)
 
 -- the written groups, in the order in which they are written
-pub record IsWritingOrder (gs : List TypeGroup) (definition : ℕ → Definition) (is_entry : ℕ → Bool)
-    (order : List ℕ) : Type 0 where
-  pub written : (a : ℕ) → a < length order → IsWritten gs is_entry (slice_index order a)
+pub record IsWritingOrder (table : TableView) (order : List ℕ) : Type 0 where
+  pub written : (a : ℕ) → a < length order → IsWritten table (slice_index order a)
   pub onto :
-      (group : ℕ) → IsWritten gs is_entry group →
+      (group : ℕ) → IsWritten table group →
       (a : ℕ) × (a < length order) × (slice_index order a ≡ group)
   pub stands :
       (a b : ℕ) → a < b → b < length order →
-      IsWrittenBefore gs definition (slice_index order a) (slice_index order b)
+      IsWrittenBefore table (slice_index order a) (slice_index order b)
 
 -- the groups are written one after the other: each id gets the next index, and each name has one by
 -- the end of its group
@@ -93,9 +92,7 @@ pub record AreWritten (definition : ℕ → Definition) (ws : List TypeGroup) (o
     (x : IndexMap) : Type 0 where
   pub indexes : Indexes (ids_in ws) x
   pub section : section_of out ≡ map (written_group (with_indices x.index definition)) ws
-  pub complete :
-      (group place position id named : ℕ) →
-      ¬ (IsMissingIn definition ws group place position id named)
+  pub complete : (name : NameUse) → ¬ (IsMissingIn definition ws name)
 
 -- how many ids the groups at these places have
 abbrev pub id_count : List TypeGroup → List ℕ → ℕ

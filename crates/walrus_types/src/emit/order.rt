@@ -3,7 +3,7 @@ ghost use Rattle.std.specs.Prelude.{◌≡◌, cond, length, All, IfOk, IfSome, 
 ghost use Rattle.walrus_sections.specs.Refusal.{written_count};
 ghost use Rattle.walrus_types.specs.TypesById.{IsLive};
 ghost use Rattle.walrus_types.specs.Table.{rec_group_at};
-ghost use Rattle.walrus_types.specs.TableEmission.{type_groups, definition_at, is_entry_at};
+ghost use Rattle.walrus_types.specs.TableEmission.{type_groups, is_entry_at, table_view};
 ghost use Rattle.walrus_types.specs.declared.table.rec_group.RecGroup.{RecGroup};
 ghost use Rattle.walrus_types.specs.declared.emit.order.PendingGroup.{PendingGroup};
 ghost use Rattle.walrus_types.specs.Steps.FreeGroups.{head};
@@ -43,8 +43,7 @@ pub(super) fn writing_order<'a>(
     table: &'a ModuleTypes,
 ) -> Result<Vec<PendingGroup<'a>>, AllocError>
     ensures order { IfOk result
-        (λ v. IsWritingOrder (type_groups table.now.groups) (definition_at table.now.types.slots)
-        (is_entry_at table.now.types.slots) (places_of v.items)) }
+        (λ v. IsWritingOrder (table_view table.now) (places_of v.items)) }
     ensures count { IfOk result
         (λ v. id_count (type_groups table.now.groups) (places_of v.items) ≡
         written_count (is_entry_at table.now.types.slots) (type_groups table.now.groups)) }

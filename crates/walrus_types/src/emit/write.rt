@@ -13,7 +13,7 @@ ghost use Rattle.walrus_ty.specs.Indices.{IsEmpty, type_index, type_indices, fun
 ghost use Rattle.walrus_ty.specs.Lookups.{first_missing};
 ghost use Rattle.walrus_sections.specs.SlotMap.{TypeGroup};
 ghost use Rattle.walrus_ty.specs.Records.{entry_definition, group_of};
-ghost use Rattle.walrus_types.specs.Steps.WrittenGroups.{AllIndexed, AreWritten, IsMemoryOrMissing, IsApart, IsFirstMissingIn, IsFirstUnindexed, IsLone, RefusesType, DecodesToType, ids_in, with_indices, emit_error, written_group};
+ghost use Rattle.walrus_types.specs.Steps.WrittenGroups.{AllIndexed, AreWritten, IsMemoryOrMissing, IsApart, FirstMissingIs, IsFirstUnindexed, IsLone, RefusesType, DecodesToType, ids_in, with_indices, emit_error, written_group};
 
 use super::order::PendingGroup;
 use super::sort_key::{SortKey, decode};
@@ -46,7 +46,7 @@ pub(super) fn write_groups(
         r.0.items (type_indices r.1)) }
     ensures others { IfOk result (λ r. IsEmpty (func_indices r.1) × IsEmpty (global_indices r.1)) }
     ensures missing { IfErr result
-        (λ e. IsMemoryOrMissing e (IsFirstMissingIn (definition_at table.now.types.slots)
+        (λ e. IsMemoryOrMissing e (FirstMissingIs (definition_at table.now.types.slots)
         (groups_of groups.now pending.now))) }
 {
     let mut written = Vec::with_capacity(alloc, pending.len())?;

@@ -3,22 +3,28 @@ ghost use Rattle.std.specs.Prelude.{◌≡◌, ◌↔◌, IsTrue, true, false, o
 ghost use Rattle.std.specs.String.{string_bytes};
 ghost use Rattle.walrus_ty.specs.Types.{function};
 ghost use Rattle.walrus_types.specs.Table.{IsFirst, IsPlainFunction, IsEntryType, IsNamed};
+ghost use Rattle.walrus_types.specs.Steps.Finding.{IsWanted};
 
 use super::ModuleTypes;
 use crate::{CompositeType, Type, TypeId, ValType};
+
+// What a type is looked for by.
+#[derive(Clone, Copy)]
+enum Wanted<'a> {
+    Name(&'a str),
+    Function {
+        params: &'a [ValType],
+        results: &'a [ValType],
+    },
+    Entry(&'a [ValType]),
+}
 
 impl ModuleTypes {
     /// Returns the first live type with this name, in the order of ids.
     pub fn by_name(&self, name: &str) -> Option<TypeId>
         ensures { IsFirst self.now (IsNamed name.now) result }
     {
-        let mut left = self.types.iter();
-        while let Some(item) = left.next() {
-            if has_name(item.1, name) {
-                return Some(item.0);
-            }
-        }
-        None
+        self.first(&Wanted::Name(name))
     }
 
     /// Returns the first live function type with these parameters and results, in the order of ids,
@@ -38,13 +44,7 @@ impl ModuleTypes {
     pub fn find(&self, params: &[ValType], results: &[ValType]) -> Option<TypeId>
         ensures { IsFirst self.now (IsPlainFunction params.now results.now) result }
     {
-        let mut left = self.types.iter();
-        while let Some(item) = left.next() {
-            if is_plain_function(item.1, params, results) {
-                return Some(item.0);
-            }
-        }
-        None
+        self.first(&Wanted::Function { params, results })
     }
 
     /// Returns the first live type that marks a function body with these results, in the order of
@@ -52,13 +52,30 @@ impl ModuleTypes {
     pub fn find_for_function_entry(&self, results: &[ValType]) -> Option<TypeId>
         ensures { IsFirst self.now (IsEntryType results.now) result }
     {
+        self.first(&Wanted::Entry(results))
+    }
+
+    // The first live type that is wanted, in the order of ids.
+    fn first(&self, wanted: &Wanted<'_>) -> Option<TypeId>
+        ensures { IsFirst self.now (IsWanted wanted.now) result }
+    {
         let mut left = self.types.iter();
         while let Some(item) = left.next() {
-            if is_entry_type(item.1, results) {
+            if is_wanted(item.1, wanted) {
                 return Some(item.0);
             }
         }
         None
+    }
+}
+
+fn is_wanted(ty: &Type, wanted: &Wanted<'_>) -> bool
+    ensures { IsTrue result ↔ IsWanted wanted.now ty.now }
+{
+    match wanted {
+        Wanted::Name(name) => has_name(ty, name),
+        Wanted::Function { params, results } => is_plain_function(ty, params, results),
+        Wanted::Entry(results) => is_entry_type(ty, results),
     }
 }
 

@@ -3,7 +3,8 @@ use Rattle.std.proofs.lemmas.Result.{err_from_is_err_and}
 use Rattle.walrus_module.specs.declared.kind.Kind.{Kind}
 use Rattle.walrus_module.specs.declared.kind.Kind.TheVariants as kind
 use Rattle.walrus_module.specs.Steps.Scans.{IsScanned, IsRefused}
-use Rattle.walrus_module.proofs.WholeTexts.{body, no_body, trailed, not_empty}
+use Rattle.walrus_module.specs.Bodies.{body}
+use Rattle.walrus_module.proofs.WholeTexts.{no_body, trailed, not_empty}
 use Rattle.walrus_module.proofs.bodies.body_types.Goals as goal
 
 pub returns-in_err-types-clause-refused : goal.returns-in_err-types-clause-refused

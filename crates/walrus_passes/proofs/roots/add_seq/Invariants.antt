@@ -1,7 +1,7 @@
 use Rattle.std.proofs.Common.{◌≡◌, ◌++◌, take}
 use Rattle.std.specs.List.{flat_map}
 use Rattle.walrus_ty.specs.Definition.{supertype_names}
-use Rattle.walrus_ir.specs.BlockTypes.{block_type_name}
+use Rattle.instr.specs.BlockTypes.{block_type_name}
 use Rattle.walrus_passes.specs.UsedTypes.{instr_types}
 use Rattle.walrus_passes.proofs.roots.add_seq.Given as goal
 

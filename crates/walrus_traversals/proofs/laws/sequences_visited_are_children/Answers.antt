@@ -1,4 +1,4 @@
-use Rattle.std.proofs.Common.{◌≡◌, ℕ, List, [], ◌∷◌, ◌++◌, refl, ap, ◌∙◌}
+use Rattle.std.proofs.Common.{◌≡◌, List, [], ◌∷◌, ◌++◌, refl, ap, ◌∙◌}
 use Rattle.std.specs.List.{flat_map}
 use Rattle.std.proofs.lemmas.List.Concat.{flat_map-append}
 use Rattle.instr.specs.declared.instr.Instr.{Instr}
@@ -10,7 +10,7 @@ use Rattle.instr.specs.declared.exceptions.TryTableCatch.TheVariants as clause
 use Rattle.walrus_ir.specs.Calls.{Calls, leaves, and_then, each, reported}
 use Rattle.walrus_ir.specs.Fields.{fields, clause_fields, legacy_fields}
 use Rattle.walrus_ir.proofs.Reported.{reported_each, reported_put}
-use Rattle.walrus_functions.specs.Nesting.{children, handlers}
+use Rattle.walrus_functions.specs.Nesting.{children}
 use Rattle.walrus_traversals.specs.Ids.{instr_seqs_in}
 use Rattle.walrus_traversals.specs.Sequences.{handlers_of, labels_visited}
 use Rattle.walrus_traversals.proofs.laws.sequences_visited_are_children.Goals as goal

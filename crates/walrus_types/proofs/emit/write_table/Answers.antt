@@ -9,7 +9,7 @@ use Rattle.walrus_types.specs.TableEmission.{definition_at}
 use Rattle.walrus_ty.specs.Indices.{type_indices}
 use Rattle.walrus_types.specs.Steps.FreeGroups.{head}
 use Rattle.walrus_types.specs.Steps.PendingGroups.{places_of}
-use Rattle.walrus_types.specs.Steps.WrittenGroups.{AreWritten, IsMemoryOrMissing, IsApart, IsFirstMissingIn, ids_in}
+use Rattle.walrus_types.specs.Steps.WrittenGroups.{AreWritten, IsMemoryOrMissing, IsApart, FirstMissingIs, ids_in}
 use Rattle.walrus_types.proofs.Emission.EmittedTables.{within, singles, places_within, carried, apart, emitted, misses, as_ordered, live_groups, filled_in_order}
 use Rattle.walrus_types.proofs.emit.write_table.Goals as goal
 
@@ -55,7 +55,7 @@ returns-clause-missing c =
     let t = c.args.table.now in
     IfErr-weaker c.write_groups.result _ _ (λ e h.
     (let P : List TypeGroup → Type 0 = λ ws. IsMemoryOrMissing e
-    (IsFirstMissingIn (definition_at t.types.slots) ws) in
+    (FirstMissingIs (definition_at t.types.slots) ws) in
     misses t c.rec_groups.ensures.grouping (places_of c.in_ok-pending.pending.items)
     c.in_ok-pending.ensures.order e (subst P given h))) c.write_groups.ensures.missing
 

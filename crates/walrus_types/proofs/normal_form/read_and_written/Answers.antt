@@ -1,5 +1,5 @@
 use Rattle.std.proofs.Common.{◌<◌, ◌≤◌, ◌^◌, ◌∙◌, ℕ, List, sym, ap, subst, arith, IsSome, length, get_or, map, Err}
-use Rattle.walrus_types.specs.TableEmission.{is_entry_at, type_groups}
+use Rattle.walrus_types.specs.TableEmission.{MissesFirst, is_entry_at, type_groups}
 use Rattle.walrus_sections.specs.Refusal.{written_count}
 use Rattle.walrus_ty.specs.Indices.{type_index, type_indices}
 use Rattle.walrus_ty.specs.Lookups.{value_or_zero}
@@ -29,9 +29,11 @@ returns-in-Ok-clause-normal c =
     (type_indices c.in-Ok.indices) c.in-Ok.ensures.written)
 
 pub unreachable-requires : goal.unreachable-requires
-unreachable-requires c = never_missing (section_of c.args.groups.now) c.in_ok-types.types
-    c.in_ok-types.ids.items c.in_ok-types.ensures.ok c.in-Err-NoIndex.field-0-0 c.in-Err-NoIndex.field-0-1
-    (rw c.in-Err-NoIndex.field-0-is at c.in-Err-NoIndex.ensures.missing)
+unreachable-requires c =
+    let first : MissesFirst c.in_ok-types.types c.in-Err-NoIndex.field-0-0 c.in-Err-NoIndex.field-0-1 =
+    rw c.in-Err-NoIndex.field-0-is at c.in-Err-NoIndex.ensures.missing in
+    never_missing (section_of c.args.groups.now) c.in_ok-types.types c.in_ok-types.ids.items
+    c.in_ok-types.ensures.ok first.0 first.1.is
 
 pub unreachable-requires-in-Err-TooMany : goal.unreachable-requires-in-Err-TooMany
 unreachable-requires-in-Err-TooMany c =

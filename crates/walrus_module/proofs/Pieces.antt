@@ -1,0 +1,74 @@
+-- The pieces of a text: their bytes, and which of them name a type.
+use Rattle.std.proofs.Common.{◌≡◌, ℕ, List, ◌++◌, None, refl, ap, ◌∙◌}
+use Rattle.std.specs.List.{flat_map}
+use Rattle.walrus_module.specs.declared.kind.Space.{Space}
+use Rattle.walrus_module.specs.declared.kind.Space.TheVariants as space
+use Rattle.walrus_module.specs.declared.kind.Kind.{Kind}
+use Rattle.walrus_module.specs.Immediates.{Piece, unsigned, signed, plain, type_name, Begins, index, signed_index, number, byte, offset, i32, i64, raw, byte_vec, import, Runs, stop, step}
+use Rattle.walrus_module.specs.Renaming.{type_maps, text_of, map_for}
+
+-- ---- their bytes
+
+pub piece_text : (k : Kind) (text : List ℕ) (piece : Piece) (kinds : List Kind) → Begins k text piece kinds →
+    text ≡ text_of piece
+piece_text _ _ _ _ (index s text k h) = refl
+piece_text _ _ _ _ (signed_index k text m may h) = refl
+piece_text _ _ _ _ (number k text m kinds h e) = refl
+piece_text _ _ _ _ (byte k x kinds e) = refl
+piece_text _ _ _ _ (offset text m h) = refl
+piece_text _ _ _ _ (i32 text h) = refl
+piece_text _ _ _ _ (i64 text h) = refl
+piece_text _ _ _ _ (raw text m some h) = refl
+piece_text _ _ _ _ (byte_vec count bytes h) = refl
+piece_text _ _ _ _ (import count name h) = refl
+
+abbrev pub texts_of : List Piece → List ℕ
+texts_of pieces = flat_map text_of pieces
+
+pub whole_text : (kinds : List Kind) (text : List ℕ) (pieces : List Piece) (left : List Kind) →
+    Runs kinds text pieces left → text ≡ texts_of pieces
+whole_text _ _ _ _ (stop kinds) = refl
+whole_text _ _ _ _ (step k more kinds left text others piece pieces b runs) =
+    ap (λ (u : List ℕ). u ++ others) (piece_text k text piece more b)
+    ∙ ap (λ (u : List ℕ). text_of piece ++ u) (whole_text (more ++ kinds) others pieces left runs)
+
+-- ---- which of them name a type
+
+-- a piece that is the index of a type, or one that names none
+pub data View : Piece → Type 0 where
+  u32_type : (text : List ℕ) (k : ℕ) → View (unsigned space.Type text k)
+  s33_type : (text : List ℕ) (k : ℕ) → View (signed space.Type text k)
+  other :
+      (p : Piece) → type_name p ≡ None → ((new_indices : List ℕ) → map_for (type_maps new_indices) p ≡ None)
+      → View p
+
+unsigned_view : (s : Space) (text : List ℕ) (k : ℕ) → View (unsigned s text k)
+unsigned_view space.Type text k = u32_type text k
+unsigned_view space.Function text k = other _ refl (λ u. refl)
+unsigned_view space.Table text k = other _ refl (λ u. refl)
+unsigned_view space.Memory text k = other _ refl (λ u. refl)
+unsigned_view space.Tag text k = other _ refl (λ u. refl)
+unsigned_view space.Global text k = other _ refl (λ u. refl)
+unsigned_view space.Element text k = other _ refl (λ u. refl)
+unsigned_view space.Data text k = other _ refl (λ u. refl)
+unsigned_view space.Local text k = other _ refl (λ u. refl)
+unsigned_view space.Label text k = other _ refl (λ u. refl)
+unsigned_view space.Field text k = other _ refl (λ u. refl)
+
+signed_view : (s : Space) (text : List ℕ) (k : ℕ) → View (signed s text k)
+signed_view space.Type text k = s33_type text k
+signed_view space.Function text k = other _ refl (λ u. refl)
+signed_view space.Table text k = other _ refl (λ u. refl)
+signed_view space.Memory text k = other _ refl (λ u. refl)
+signed_view space.Tag text k = other _ refl (λ u. refl)
+signed_view space.Global text k = other _ refl (λ u. refl)
+signed_view space.Element text k = other _ refl (λ u. refl)
+signed_view space.Data text k = other _ refl (λ u. refl)
+signed_view space.Local text k = other _ refl (λ u. refl)
+signed_view space.Label text k = other _ refl (λ u. refl)
+signed_view space.Field text k = other _ refl (λ u. refl)
+
+pub view : (p : Piece) → View p
+view (unsigned s text k) = unsigned_view s text k
+view (signed s text k) = signed_view s text k
+view (plain text) = other (plain text) refl (λ u. refl)

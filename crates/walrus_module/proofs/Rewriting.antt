@@ -1,0 +1,299 @@
+-- What is written in place of code that names types.
+use Rattle.std.proofs.Common.{◌≡◌, ℕ, zero, suc, ◌+◌, ◌-◌, ◌<◌, ◌≤◌, Bool, true, false, List, [], ◌∷◌, ◌++◌, length, take, Option, Some, None, Result, Ok, Err, cond, slice_get, refl, sym, ap, subst, ◌∙◌, append_assoc, append-nil, length-append, take_at, arith}
+use Rattle.std.specs.List.{All}
+use Rattle.std.proofs.lemmas.Grind.{flat_map-append}
+use Rattle.std.proofs.lemmas.List.Elements.{All-nil, All-cons}
+use Rattle.walrus_binary.specs.Grammar.{AreItems, none, next}
+use Rattle.walrus_module.specs.declared.kind.Space.TheVariants as space
+use Rattle.walrus_module.specs.declared.kind.Kind.{Kind}
+use Rattle.walrus_module.specs.declared.scan.ScanError.{ScanError}
+use Rattle.walrus_module.specs.declared.scan.ScanError.TheVariants as scan
+use Rattle.walrus_module.specs.declared.renaming.RenameError.{RenameError}
+use Rattle.walrus_module.specs.declared.renaming.RenameError.TheVariants as rename
+use Rattle.walrus_module.specs.declared.scan.TypeIndex.{TypeIndex}
+use Rattle.walrus_module.specs.Immediates.{Piece, unsigned, signed, type_name, stop, names_of, type_names}
+use Rattle.walrus_module.specs.Bodies.{body}
+use Rattle.walrus_module.specs.Renaming.{Maps, type_maps, IsTextOf, text_of, Becomes, stays, u32, s33, IsRenamed, RenamesFront, BeginsNoText, IsNoText, NamesUnknown}
+use Rattle.walrus_module.specs.Steps.Renaming.{Appends, index_end, IsNewIndex, same_error}
+use Rattle.walrus_module.specs.Steps.Scans.{IsRefused, Reads, piece_of, PassesType, PassesNone}
+use Rattle.walrus_module.proofs.Searching.{reads_join, passed_names, type_names_append, refused_behind}
+use Rattle.walrus_module.proofs.WholeTexts.{trailed}
+use Rattle.walrus_module.proofs.Pieces.{texts_of, whole_text, View, u32_type, s33_type, other, view}
+
+-- ---- one piece after another
+
+pub items_join : {A : Type 0} (IsText : List ℕ → A → Type 0) (a b : List ℕ) (xs ys : List A) →
+    AreItems IsText a xs → AreItems IsText b ys → AreItems IsText (a ++ b) (xs ++ ys)
+items_join IsText _ b _ ys none g = g
+items_join IsText _ b _ ys (next text others x xs h hs) g =
+    subst (λ (u : List ℕ). AreItems IsText u (x ∷ (xs ++ ys))) (sym (append_assoc text others b))
+    (next text (others ++ b) x (xs ++ ys) h (items_join IsText others b xs ys hs g))
+
+one_item : {A : Type 0} (IsText : List ℕ → A → Type 0) (text : List ℕ) (x : A) → IsText text x →
+    AreItems IsText text (x ∷ [])
+one_item IsText text x h =
+    subst (λ (u : List ℕ). AreItems IsText u (x ∷ [])) (append-nil text) (next text [] x [] h none)
+
+becomes_index : (new_indices : List ℕ) (least : ℕ → ℕ) (is_signed : Bool) (text new : List ℕ) (k n long : ℕ) →
+    slice_get new_indices k ≡ Some n → IsTextOf (index_end is_signed) (least long) new n → length text ≡ long
+    → Becomes (type_maps new_indices) least new (cond is_signed (signed space.Type text k)
+    (unsigned space.Type text k))
+becomes_index new_indices least true text new k n long e h is =
+    s33 space.Type (λ j. slice_get new_indices j) text new k n refl e
+    (subst (λ w. IsTextOf 0x40 (least w) new n) (sym is) h)
+becomes_index new_indices least false text new k n long e h is =
+    u32 space.Type (λ j. slice_get new_indices j) text new k n refl e
+    (subst (λ w. IsTextOf 0x80 (least w) new n) (sym is) h)
+
+no_name : (o : Option ℕ) (others : List ℕ) → names_of o ++ others ≡ [] → (o ≡ None) × (others ≡ [])
+no_name (Some k) others e = absurd cc
+no_name None others e = (refl, e)
+
+stays_so : (new_indices : List ℕ) (least : ℕ → ℕ) (p : Piece) → View p → type_name p ≡ None →
+    Becomes (type_maps new_indices) least (text_of p) p
+stays_so new_indices least _ (u32_type text k) e = absurd cc
+stays_so new_indices least _ (s33_type text k) e = absurd cc
+stays_so new_indices least _ (other p unnamed maps) e = stays p (maps new_indices)
+
+all_stay : (new_indices : List ℕ) (least : ℕ → ℕ) (pieces : List Piece) → type_names pieces ≡ [] →
+    IsRenamed (type_maps new_indices) least pieces (texts_of pieces)
+all_stay new_indices least [] e = none
+all_stay new_indices least (p ∷ pieces) e =
+    let two = no_name (type_name p) (type_names pieces) e in
+    next (text_of p) (texts_of pieces) p pieces (stays_so new_indices least p (view p) two.0)
+    (all_stay new_indices least pieces two.1)
+
+-- ---- the loop
+
+-- what was read has become what was written
+pub record Renaming (new_indices : List ℕ) (least : ℕ → ℕ) (start : List Kind) (bytes rest : List ℕ)
+    (stack : List Kind) (out : List ℕ) : Type 0 where
+  pub pieces : List Piece
+  pub reads : Reads start stack pieces bytes rest
+  pub renamed : IsRenamed (type_maps new_indices) least pieces out
+
+rename_begun : (new_indices : List ℕ) (least : ℕ → ℕ) (start : List Kind) (bytes : List ℕ) →
+    Renaming new_indices least start bytes bytes start []
+rename_begun new_indices least start bytes =
+    record { pieces = []; reads = record { text = []; parts = refl; runs = stop start }; renamed = none }
+
+index_text : (is_signed : Bool) (text : List ℕ) (k : ℕ) →
+    text_of (cond is_signed (signed space.Type text k) (unsigned space.Type text k)) ≡ text
+index_text true text k = refl
+index_text false text k = refl
+
+texts_append : (a b : List Piece) → texts_of (a ++ b) ≡ texts_of a ++ texts_of b
+texts_append a b = flat_map-append text_of a b
+
+-- the bytes that were passed over before an index
+passed_bytes : (t : TypeIndex) (kinds left : List Kind) (bytes rest : List ℕ) (n : ℕ)
+    (h : PassesType t kinds left bytes rest) → n ≡ length bytes - length rest - t.length →
+    take n bytes ≡ texts_of h.passed
+passed_bytes t kinds left bytes rest n h n-is =
+    let last = piece_of t h.text ∷ [] in
+    let text-is : texts_of last ≡ h.text = ap (λ (u : List ℕ). u ++ [])
+    (index_text t.is_signed h.text t.index)
+    ∙ append-nil h.text in
+    let parts : bytes ≡ texts_of h.passed ++ (h.text ++ rest) = h.reads.parts
+    ∙ ap (λ (u : List ℕ). u ++ rest) (whole_text kinds h.reads.text (h.passed ++ last) left h.reads.runs
+    ∙ texts_append h.passed last ∙ ap (λ (u : List ℕ). texts_of h.passed ++ u) text-is)
+    ∙ append_assoc (texts_of h.passed) h.text rest in
+    let long : length bytes ≡ length (texts_of h.passed) + (length h.text + length rest) =
+    ap (λ (u : List ℕ). length u) parts ∙ length-append (texts_of h.passed) (h.text ++ rest)
+    ∙ ap (λ m. length (texts_of h.passed) + m) (length-append h.text rest) in
+    ap (take n) parts ∙ take_at (texts_of h.passed) (h.text ++ rest) n (omega (arith, long, n-is, h.long))
+
+rename_on : (new_indices : List ℕ) (least : ℕ → ℕ) (start : List Kind) (bytes rest after : List ℕ)
+    (stack left : List Kind) (out mid new text : List ℕ) (n : ℕ) (t : TypeIndex)
+    → Renaming new_indices least start bytes rest stack out → PassesType t stack left rest after
+    → n ≡ length rest - length after - t.length → mid ≡ out ++ take n rest
+    → IsNewIndex new_indices least t text → new ≡ mid ++ text
+    → Renaming new_indices least start bytes after left new
+rename_on new_indices least start bytes rest after stack left out mid new text n t s h n-is mid-is i new-is =
+    let last = piece_of t h.text ∷ [] in
+    let IsText = Becomes (type_maps new_indices) least in
+    let passed = passed_bytes t stack left rest after n h n-is in
+    let is : new ≡ out ++ (texts_of h.passed ++ text) = new-is
+    ∙ ap (λ (u : List ℕ). u ++ text) (mid-is ∙ ap (λ (u : List ℕ). out ++ u) passed)
+    ∙ append_assoc out (texts_of h.passed) text in
+    record {
+      pieces = s.pieces ++ (h.passed ++ last);
+      reads = reads_join start stack left s.pieces (h.passed ++ last) bytes rest after s.reads h.reads;
+      renamed = subst (λ (u : List ℕ). AreItems IsText u (s.pieces ++ (h.passed ++ last))) (sym is)
+          (items_join IsText out (texts_of h.passed ++ text) s.pieces (h.passed ++ last) s.renamed
+          (items_join IsText (texts_of h.passed) text h.passed last
+          (all_stay new_indices least h.passed h.none)
+          (one_item IsText text (piece_of t h.text)
+          (becomes_index new_indices least t.is_signed h.text text t.index i.n t.length i.mapped i.is_text
+          h.long))));
+    }
+
+rename_ended : (new_indices : List ℕ) (least : ℕ → ℕ) (start : List Kind) (bytes rest after : List ℕ)
+    (stack left : List Kind) (out new : List ℕ) (n : ℕ)
+    → Renaming new_indices least start bytes rest stack out → PassesNone stack left rest after
+    → n ≡ length rest - length after → new ≡ out ++ take n rest
+    → RenamesFront (type_maps new_indices) least start bytes after new
+rename_ended new_indices least start bytes rest after stack left out new n s h n-is new-is =
+    let r = reads_join start stack [] s.pieces h.passed bytes rest after s.reads h.reads in
+    let IsText = Becomes (type_maps new_indices) least in
+    let long : length rest ≡ length h.reads.text + length after = ap (λ (u : List ℕ). length u) h.reads.parts
+    ∙ length-append h.reads.text after in
+    let taken : take n rest ≡ texts_of h.passed = ap (take n) h.reads.parts
+    ∙ take_at h.reads.text after n (omega (arith, long, n-is))
+    ∙ whole_text stack h.reads.text h.passed [] h.reads.runs in
+    let is : new ≡ out ++ texts_of h.passed = new-is ∙ ap (λ (u : List ℕ). out ++ u) taken in
+    record {
+      text = r.text;
+      parts = r.parts;
+      renames = record {
+        pieces = s.pieces ++ h.passed;
+        are = r.runs;
+        renamed = subst (λ (u : List ℕ). AreItems IsText u (s.pieces ++ h.passed)) (sym is)
+            (items_join IsText out (texts_of h.passed) s.pieces h.passed s.renamed
+            (all_stay new_indices least h.passed h.none));
+      };
+    }
+
+-- ---- what is refused
+
+pub rename_malformed : (new_indices : List ℕ) (least : ℕ → ℕ) (start : List Kind) (bytes rest : List ℕ)
+    (stack : List Kind) (out : List ℕ) → Renaming new_indices least start bytes rest stack out →
+    IsRefused stack rest scan.Malformed → BeginsNoText start bytes
+rename_malformed new_indices least start bytes rest stack out s h =
+    let k = refused_behind start stack s.pieces bytes rest scan.Malformed s.reads h in
+    λ text after parts pieces are. k text after pieces parts are
+
+below : (xs : List ℕ) (k n : ℕ) → slice_get xs k ≡ Some n → k < length xs
+below [] k n e = absurd cc
+below (x ∷ xs) zero n e = omega arith
+below (x ∷ xs) (suc k) n e = let lt = below xs k n e in omega (arith, lt)
+
+abbrev pub some_map : (ℕ → Option ℕ) → Option (ℕ → Option ℕ)
+some_map m = Some m
+
+pub same_map : (f m : ℕ → Option ℕ) → some_map f ≡ some_map m → f ≡ m
+same_map f m e = cc
+
+is_known : (new_indices : List ℕ) (m : ℕ → Option ℕ) (k n : ℕ) →
+    some_map (λ j. slice_get new_indices j) ≡ some_map m → m k ≡ Some n → k < length new_indices
+is_known new_indices m k n e h =
+    below new_indices k n (ap (λ f. f k) (same_map (λ j. slice_get new_indices j) m e) ∙ h)
+
+abbrev pub some_number : ℕ → Option ℕ
+some_number n = Some n
+
+pub same_number : (j k : ℕ) → some_number j ≡ some_number k → j ≡ k
+same_number j k e = cc
+
+known_next : (count : ℕ) (o : Option ℕ) (others : List ℕ) → ((k : ℕ) → o ≡ Some k → k < count) →
+    All (λ k. k < count) others → All (λ k. k < count) (names_of o ++ others)
+known_next count (Some k) others f g = All-cons (λ j. j < count) k others (f k refl) g
+known_next count None others f g = g
+
+becomes_known : (new_indices : List ℕ) (least : ℕ → ℕ) (p : Piece) (new : List ℕ) → View p →
+    Becomes (type_maps new_indices) least new p → (k : ℕ) → type_name p ≡ Some k → k < length new_indices
+becomes_known new_indices least _ _ (u32_type text j) (stays _ e) k h = absurd cc
+becomes_known new_indices least _ _ (u32_type text j) (u32 s m _ new _ n e g t) k h =
+    subst (λ i. i < length new_indices) (same_number j k h) (is_known new_indices m j n e g)
+becomes_known new_indices least _ _ (s33_type text j) (stays _ e) k h = absurd cc
+becomes_known new_indices least _ _ (s33_type text j) (s33 s m _ new _ n e g t) k h =
+    subst (λ i. i < length new_indices) (same_number j k h) (is_known new_indices m j n e g)
+becomes_known new_indices least _ new (other p unnamed maps) b k h = absurd cc
+
+all_known : (new_indices : List ℕ) (least : ℕ → ℕ) (pieces : List Piece) (new : List ℕ) →
+    IsRenamed (type_maps new_indices) least pieces new →
+    All (λ k. k < length new_indices) (type_names pieces)
+all_known new_indices least _ _ none = All-nil (λ k. k < length new_indices)
+all_known new_indices least _ _ (next text others p pieces h hs) =
+    known_next (length new_indices) (type_name p) (type_names pieces)
+    (becomes_known new_indices least p text (view p) h) (all_known new_indices least pieces others hs)
+
+pub names_unknown : (new_indices : List ℕ) (least : ℕ → ℕ) (start : List Kind) (bytes rest after : List ℕ)
+    (stack left : List Kind) (out : List ℕ) (t : TypeIndex) (k : ℕ)
+    → Renaming new_indices least start bytes rest stack out → PassesType t stack left rest after
+    → (k ≡ t.index) × (length new_indices ≤ k) → NamesUnknown (length new_indices) start bytes k
+names_unknown new_indices least start bytes rest after stack left out t k s h u =
+    let last = piece_of t h.text ∷ [] in
+    let r = reads_join start stack left s.pieces (h.passed ++ last) bytes rest after s.reads h.reads in
+    record {
+      text = r.text;
+      rest = after;
+      parts = r.parts;
+      pieces = s.pieces ++ (h.passed ++ last);
+      left = left;
+      runs = r.runs;
+      known = type_names s.pieces;
+      names = type_names_append s.pieces (h.passed ++ last)
+          ∙ ap (λ (u : List ℕ). type_names s.pieces ++ u) (passed_names t stack left rest after h
+          ∙ ap (λ j. j ∷ []) (sym u.0));
+      are_known = all_known new_indices least s.pieces out s.renamed;
+      unknown = u.1;
+    }
+
+-- ---- the function
+
+-- what is unwritten when the loop looks for the next index is what was not read
+pub record IsWritten (new_indices : List ℕ) (least : ℕ → ℕ) (start : List Kind)
+    (bytes rest unwritten : List ℕ) (stack : List Kind) (out : List ℕ) : Type 0 where
+  pub so_far : Renaming new_indices least start bytes rest stack out
+  pub here : unwritten ≡ rest
+
+pub written_begun : (new_indices : List ℕ) (least : ℕ → ℕ) (start : List Kind) (bytes out : List ℕ) →
+    out ≡ [] → IsWritten new_indices least start bytes bytes bytes start out
+written_begun new_indices least start bytes out e =
+    record {
+      so_far = subst (λ (u : List ℕ). Renaming new_indices least start bytes bytes start u) (sym e)
+          (rename_begun new_indices least start bytes);
+      here = refl;
+    }
+
+pub written_on : (new_indices : List ℕ) (least : ℕ → ℕ) (start : List Kind)
+    (bytes rest after unwritten : List ℕ) (stack left : List Kind) (out mid new : List ℕ) (t : TypeIndex)
+    → IsWritten new_indices least start bytes rest unwritten stack out → PassesType t stack left rest after
+    → mid ≡ out ++ take (length unwritten - length after - t.length) unwritten
+    → Appends (λ text. IsNewIndex new_indices least t text) mid new
+    → IsWritten new_indices least start bytes after after left new
+written_on new_indices least start bytes rest after unwritten stack left out mid new t w h e a =
+    let n : ℕ = length unwritten - length after - t.length in
+    record {
+      so_far = rename_on new_indices least start bytes rest after stack left out mid new a.text n t w.so_far h
+          (ap (λ (u : List ℕ). length u - length after - t.length) w.here)
+          (e ∙ ap (λ (u : List ℕ). out ++ take n u) w.here) a.is_text a.parts;
+      here = refl;
+    }
+
+pub written_ended : (new_indices : List ℕ) (least : ℕ → ℕ) (start : List Kind)
+    (bytes rest after unwritten : List ℕ) (stack left : List Kind) (out new : List ℕ)
+    → IsWritten new_indices least start bytes rest unwritten stack out → PassesNone stack left rest after
+    → new ≡ out ++ take (length unwritten - length after) unwritten
+    → RenamesFront (type_maps new_indices) least start bytes after new
+written_ended new_indices least start bytes rest after unwritten stack left out new w h e =
+    let n : ℕ = length unwritten - length after in
+    rename_ended new_indices least start bytes rest after stack left out new n w.so_far h
+    (ap (λ (u : List ℕ). length u - length after) w.here)
+    (e ∙ ap (λ (u : List ℕ). out ++ take n u) w.here)
+
+pub is_malformed : (e : ScanError) → same_error e ≡ rename.Malformed → e ≡ scan.Malformed
+is_malformed scan.Malformed h = refl
+is_malformed scan.Memory h = absurd cc
+
+abbrev failed : {T : Type 0} → RenameError → Result T RenameError
+failed e = Err e
+
+pub same_failure : {T : Type 0} (r : Result T RenameError) (x y : RenameError) → r ≡ Err x → r ≡ Err y → x ≡ y
+same_failure (Ok v) x y e f = absurd cc
+same_failure (Err z) x y e f = cc
+
+-- ---- whole texts
+
+pub none_whole : (kinds : List Kind) (bytes : List ℕ) → BeginsNoText kinds bytes → IsNoText kinds bytes
+none_whole kinds bytes h = h bytes [] (sym (append-nil bytes))
+
+-- where bytes are left behind a body, there is no body of all of them
+pub renamed_trailed : (maps : Maps) (least : ℕ → ℕ) (bytes rest new : List ℕ) →
+    RenamesFront maps least body bytes rest new → (rest ≡ [] → ⊥) → IsNoText body bytes
+renamed_trailed maps least bytes rest new h some pieces are =
+    let r = h.renames in
+    trailed bytes rest (type_names r.pieces)
+    (record { text = h.text; pieces = r.pieces; parts = h.parts; are = r.are; named = refl }) some
+    (type_names pieces) (record { pieces = pieces; are = are; named = refl })

@@ -1,0 +1,111 @@
+-- Texts with other indices: each piece that is an index gets the text of its new number, and all
+-- else stays byte for byte.
+use Rattle.std.specs.Prelude.{◌≡◌, ℕ, ◌^◌, ◌<◌, ◌≤◌, List, [], ◌∷◌, ◌++◌, length, map, Option, Some, None, slice_get}
+use Rattle.std.specs.List.{All}
+use Rattle.walrus_binary.specs.Grammar.{AreItems}
+use Rattle.walrus_binary.specs.Leb128.{IsInteger}
+use Rattle.walrus_module.specs.declared.kind.Space.{Space}
+use Rattle.walrus_module.specs.declared.kind.Space.TheVariants as space
+use Rattle.walrus_module.specs.declared.kind.Kind.{Kind}
+use Rattle.walrus_module.specs.declared.renaming.Widths.{Widths}
+use Rattle.walrus_module.specs.declared.renaming.Widths.TheVariants as widths
+use Rattle.walrus_module.specs.Bodies.{Names}
+use Rattle.walrus_module.specs.Immediates.{Piece, unsigned, signed, plain, Runs, AreTexts, type_names}
+
+-- Which number an index becomes, by its index space. A space without a map keeps its indices byte
+-- for byte, padded or not. A map has no number for an index that is unknown.
+abbrev pub Maps : Type 0
+Maps = Space → Option (ℕ → Option ℕ)
+
+-- type k becomes the k-th of these, and all other indices stay
+abbrev pub type_maps : List ℕ → Maps
+type_maps new_indices space.Type = Some (λ k. slice_get new_indices k)
+type_maps new_indices _ = None
+
+-- how many bytes a new index has at least, by how many were there
+abbrev pub least_width : Widths → ℕ → ℕ
+least_width widths.Shortest before = 0
+least_width widths.Kept before = before
+
+-- *The* text of a number with this many bytes at least: no text with as many is shorter.
+pub record IsTextOf (end least : ℕ) (text : List ℕ) (n : ℕ) : Type 0 where
+  pub is_text : IsInteger end (2 ^ 32) text n
+  pub wide : least ≤ length text
+  pub shortest :
+      (others : List ℕ) → IsInteger end (2 ^ 32) others n → least ≤ length others
+      → length text ≤ length others
+
+-- the bytes of a piece
+abbrev pub text_of : Piece → List ℕ
+text_of (unsigned s text k) = text
+text_of (signed s text k) = text
+text_of (plain text) = text
+
+-- the map for a piece, if it is an index that is written again
+abbrev pub map_for : Maps → Piece → Option (ℕ → Option ℕ)
+map_for maps (unsigned s text k) = maps s
+map_for maps (signed s text k) = maps s
+map_for maps (plain text) = None
+
+-- the bytes of a piece after renaming
+pub data Becomes (maps : Maps) (least : ℕ → ℕ) : List ℕ → Piece → Type 0 where
+  stays : (piece : Piece) → map_for maps piece ≡ None → Becomes maps least (text_of piece) piece
+  u32 :
+      (s : Space) (m : ℕ → Option ℕ) (text new : List ℕ) (k n : ℕ)
+      → maps s ≡ Some m → m k ≡ Some n → IsTextOf 0x80 (least (length text)) new n
+      → Becomes maps least new (unsigned s text k)
+  s33 :
+      (s : Space) (m : ℕ → Option ℕ) (text new : List ℕ) (k n : ℕ)
+      → maps s ≡ Some m → m k ≡ Some n → IsTextOf 0x40 (least (length text)) new n
+      → Becomes maps least new (signed s text k)
+
+-- the bytes of these pieces after renaming
+abbrev pub IsRenamed : Maps → (ℕ → ℕ) → List Piece → List ℕ → Type 0
+IsRenamed maps least pieces new = AreItems (Becomes maps least) new pieces
+
+-- the bytes are texts of these kinds, and `new` are the same with other indices
+pub record Renames (maps : Maps) (least : ℕ → ℕ) (kinds : List Kind) (bytes new : List ℕ) :
+    Type 0 where
+  pub pieces : List Piece
+  pub are : AreTexts kinds bytes pieces
+  pub renamed : IsRenamed maps least pieces new
+
+-- texts of these kinds were taken from the front of bytes, and `new` are the same with other
+-- indices
+pub record RenamesFront (maps : Maps) (least : ℕ → ℕ) (kinds : List Kind)
+    (bytes rest new : List ℕ) : Type 0 where
+  pub text : List ℕ
+  pub parts : bytes ≡ text ++ rest
+  pub renames : Renames maps least kinds text new
+
+-- both are texts of these kinds, and the types that the second one names are the new ones
+pub record AreRenamed (new_indices : List ℕ) (kinds : List Kind) (bytes new : List ℕ) : Type 0 where
+  pub names : List ℕ
+  pub new_names : List ℕ
+  pub before : Names kinds bytes names
+  pub after : Names kinds new new_names
+  pub mapped : map (λ k. slice_get new_indices k) names ≡ map (λ k. Some k) new_names
+
+-- ---- what is refused
+
+-- the bytes are no texts of these kinds
+abbrev pub IsNoText : List Kind → List ℕ → Type 0
+IsNoText kinds bytes = (pieces : List Piece) → AreTexts kinds bytes pieces → ⊥
+
+-- no texts of these kinds begin the bytes
+abbrev pub BeginsNoText : List Kind → List ℕ → Type 0
+BeginsNoText kinds bytes = (text rest : List ℕ) → bytes ≡ text ++ rest → IsNoText kinds text
+
+-- Texts of these kinds can begin as the bytes do up to the first index of a type that is not below
+-- `count`, which is `k`.
+pub record NamesUnknown (count : ℕ) (kinds : List Kind) (bytes : List ℕ) (k : ℕ) : Type 0 where
+  pub text : List ℕ
+  pub rest : List ℕ
+  pub parts : bytes ≡ text ++ rest
+  pub pieces : List Piece
+  pub left : List Kind
+  pub runs : Runs kinds text pieces left
+  pub known : List ℕ
+  pub names : type_names pieces ≡ known ++ k ∷ []
+  pub are_known : All (λ j. j < count) known
+  pub unknown : count ≤ k

@@ -1,0 +1,28 @@
+//! Laws of code with other indices of types. Each function does nothing; its clause is a theorem,
+//! which a caller gets by calling it.
+ghost use Rattle.std.specs.Prelude.{◌≡◌, ℕ, List, Some, slice_get};
+ghost use Rattle.walrus_module.specs.declared.kind.Kind.{Kind};
+ghost use Rattle.walrus_module.specs.declared.renaming.Widths.{Widths};
+ghost use Rattle.walrus_module.specs.declared.renaming.Widths.TheVariants.{Kept};
+ghost use Rattle.walrus_module.specs.Renaming.{type_maps, least_width, Renames, AreRenamed};
+
+/// The result is determined by the code, the new indices and the widths.
+pub fn one_result()
+    ensures { (new_indices : List ℕ) (widths : Widths) (kinds : List Kind) (bytes a b : List ℕ) →
+        Renames (type_maps new_indices) (least_width widths) kinds bytes a →
+        Renames (type_maps new_indices) (least_width widths) kinds bytes b → a ≡ b }
+{}
+
+/// Where each type keeps its index, and each index its width, all bytes stay.
+pub fn same_indices_keep_all_bytes()
+    ensures { (new_indices : List ℕ) (kinds : List Kind) (bytes new : List ℕ) →
+        ((k n : ℕ) → slice_get new_indices k ≡ Some n → n ≡ k) →
+        Renames (type_maps new_indices) (least_width Kept) kinds bytes new → new ≡ bytes }
+{}
+
+/// The result is code of the same kinds again, and the types that it names are the new ones.
+pub fn names_become_the_new_ones()
+    ensures { (new_indices : List ℕ) (widths : Widths) (kinds : List Kind) (bytes new : List ℕ) →
+        Renames (type_maps new_indices) (least_width widths) kinds bytes new →
+        AreRenamed new_indices kinds bytes new }
+{}

@@ -1,0 +1,216 @@
+//! Code with other indices of types.
+//!
+//! WebAssembly core specification, "Binary Format", expressions and code section.
+ghost use Rattle.std.specs.Prelude.{◌≡◌, ◌≤◌, ℕ, length, IfOk, OnErr, OnOk, IsErrOf};
+ghost use Rattle.walrus_module.specs.Bodies.{expression, body};
+ghost use Rattle.walrus_module.specs.Renaming.{type_maps, least_width, Renames, RenamesFront, BeginsNoText, IsNoText, NamesUnknown, IsTextOf};
+ghost use Rattle.walrus_module.specs.Steps.Renaming.{Appends, IsNewIndex, IsUnknown, index_end};
+ghost use Rattle.walrus_module.specs.declared.renaming.RenameError.TheVariants.{Malformed, UnknownType};
+
+use crate::kind::Kind;
+use crate::leb128::{push_s33, push_u32};
+use crate::scan::{ScanError, TypeIndex, next_type};
+use crate::stack::Stack;
+use std::alloc::{AllocError, Global};
+use thiserror::Error;
+
+/// How many bytes an index has that is written again.
+#[derive(Clone, Copy, PartialEq, Eq, Debug)]
+pub enum Widths {
+    /// As few as its number needs.
+    Shortest,
+    /// As many as were there, or more where the new number needs more.
+    Kept,
+}
+
+/// Why indices were not written again.
+#[derive(Clone, Copy, PartialEq, Eq, Debug, Error)]
+pub enum RenameError {
+    /// The bytes are no code by the grammar of WebAssembly.
+    #[error("malformed code")]
+    Malformed,
+    /// There is no new index for a type that is named.
+    #[error("type {index} has no new index")]
+    UnknownType {
+        /// The type's index.
+        index: u32,
+    },
+    /// Memory was refused.
+    #[error("out of memory")]
+    Memory,
+}
+
+impl From<AllocError> for RenameError {
+    ghost use Rattle.walrus_module.specs.declared.renaming.RenameError.TheVariants.{Memory};
+
+    ghost from_gives = { λ _ e. e ≡ Memory };
+
+    fn from(_: AllocError) -> RenameError {
+        RenameError::Memory
+    }
+}
+
+impl From<ScanError> for RenameError {
+    ghost use Rattle.walrus_module.specs.Steps.Renaming.{same_error};
+
+    ghost from_gives = { λ e new. new ≡ same_error e };
+
+    fn from(error: ScanError) -> RenameError {
+        match error {
+            ScanError::Malformed => RenameError::Malformed,
+            ScanError::Memory => RenameError::Memory,
+        }
+    }
+}
+
+/// Takes an expression from the front of bytes. Returns it with other indices of types: index k
+/// becomes `new_indices[k]`, in the same form (`u32` or `s33`). All other bytes stay (WebAssembly
+/// core specification, "Binary Format", "Expressions").
+///
+/// # Errors
+///
+/// [`RenameError::Malformed`] comes where no expression begins the bytes.
+/// [`RenameError::UnknownType`] comes at the first type that has no new index, even if what is
+/// behind it is no code. [`RenameError::Memory`] comes where memory was refused. After an error the
+/// input is as it was.
+///
+/// # A constant that becomes one of another type
+///
+/// ```
+/// let mut code = [0xD0, 1, 0x0B].as_slice();
+/// let new = rename_expression(alloc, &mut code, &[3, 2], Widths::Shortest)?;
+/// assert_eq!(rt; new.as_slice(), [0xD0, 2, 0x0B].as_slice());
+/// ```
+pub fn rename_expression(
+    alloc: Global,
+    input: &mut &[u8],
+    new_indices: &[u32],
+    widths: Widths,
+) -> Result<Vec<u8>, RenameError>
+    // The input began with an expression, which was taken, and the result is the same with other
+    // indices.
+    ensures renamed { IfOk result (λ new. RenamesFront (type_maps new_indices.now)
+        (least_width widths) expression input.old.now input.new.now new.items) }
+    // What is refused as malformed begins with no expression.
+    ensures malformed { IsErrOf result Malformed → BeginsNoText expression input.old.now }
+    // What is refused for a type names it, and behind types that have new indices.
+    ensures unknown { (k : ℕ) → IsErrOf result (UnknownType k) →
+        NamesUnknown (length new_indices.now) expression input.old.now k }
+    // After an error the input is as it was.
+    ensures unchanged { OnErr result (input.new ≡ input.old) }
+{
+    let mut rest = *input;
+    let kinds = Stack::new(alloc, Kind::Expression);
+    let new = rename(alloc, kinds, &mut rest, new_indices, widths)?;
+    *input = rest;
+    Ok(new)
+}
+
+/// Returns a function body with other indices of types: index k becomes `new_indices[k]`, in the
+/// same form (`u32` or `s33`). All other bytes stay. `content` is what the body has after its size
+/// (WebAssembly core specification, "Binary Format", "Code Section").
+///
+/// # Errors
+///
+/// [`RenameError::Malformed`] comes where the bytes are no function body.
+/// [`RenameError::UnknownType`] comes at the first type that has no new index, even if what is
+/// behind it is no code. [`RenameError::Memory`] comes where memory was refused.
+pub fn rename_body(
+    alloc: Global,
+    content: &[u8],
+    new_indices: &[u32],
+    widths: Widths,
+) -> Result<Vec<u8>, RenameError>
+    // The bytes are a function body, and the result is the same with other indices.
+    ensures renamed { IfOk result (λ new. Renames (type_maps new_indices.now)
+        (least_width widths) body content.now new.items) }
+    // What is refused as malformed is no function body.
+    ensures malformed { IsErrOf result Malformed → IsNoText body content.now }
+    // What is refused for a type names it, and behind types that have new indices.
+    ensures unknown { (k : ℕ) → IsErrOf result (UnknownType k) →
+        NamesUnknown (length new_indices.now) body content.now k }
+{
+    let mut kinds = Stack::new(alloc, Kind::Expression);
+    kinds.push(Kind::Locals)?;
+    let mut rest = content;
+    let new = rename(alloc, kinds, &mut rest, new_indices, widths)?;
+    if !rest.is_empty() {
+        return Err(RenameError::Malformed);
+    }
+    Ok(new)
+}
+
+/// Takes a text of the kinds on the stack from the front. Returns it with other indices of types.
+fn rename(
+    alloc: Global,
+    kinds: Stack,
+    input: &mut &[u8],
+    new_indices: &[u32],
+    widths: Widths,
+) -> Result<Vec<u8>, RenameError>
+    ensures renamed { IfOk result (λ new. RenamesFront (type_maps new_indices.now)
+        (least_width widths) kinds input.old.now input.new.now new.items) }
+    ensures malformed { IsErrOf result Malformed → BeginsNoText kinds input.old.now }
+    ensures unknown { (k : ℕ) → IsErrOf result (UnknownType k) →
+        NamesUnknown (length new_indices.now) kinds input.old.now k }
+{
+    let mut out = Vec::new(alloc);
+    let mut stack = kinds;
+    let mut unwritten = *input;
+    while let Some(found) = next_type(&mut stack, input)? {
+        let passed = unwritten.len() - input.len() - found.length;
+        out.extend_from_slice(&unwritten[..passed])?;
+        write_index(found, new_indices, widths, &mut out)?;
+        unwritten = *input;
+    }
+    out.extend_from_slice(&unwritten[..unwritten.len() - input.len()])?;
+    Ok(out)
+}
+
+/// Puts the new index of a type at the end.
+fn write_index(
+    found: TypeIndex,
+    new_indices: &[u32],
+    widths: Widths,
+    out: &mut Vec<u8>,
+) -> Result<(), RenameError>
+    requires { found.length ≤ 5 }
+    ensures written { OnOk result (Appends (λ text.
+        IsNewIndex new_indices.now (least_width widths) found text) out.old.items out.new.items) }
+    ensures known { IsErrOf result Malformed → ⊥ }
+    ensures unknown { (k : ℕ) → IsErrOf result (UnknownType k) →
+        IsUnknown (length new_indices.now) found k }
+{
+    let index = found.index as usize;
+    if index >= new_indices.len() {
+        return Err(RenameError::UnknownType { index: found.index });
+    }
+    let least = least_width(widths, found.length);
+    push_index(found.is_signed, new_indices[index], least, out)?;
+    Ok(())
+}
+
+fn least_width(widths: Widths, length: usize) -> usize
+    ensures { result ≡ least_width widths length }
+{
+    match widths {
+        Widths::Shortest => 0,
+        Widths::Kept => length,
+    }
+}
+
+fn push_index(
+    is_signed: bool,
+    index: u32,
+    least: usize,
+    out: &mut Vec<u8>,
+) -> Result<(), AllocError>
+    requires { least ≤ 5 }
+    ensures { OnOk result (Appends (λ text. IsTextOf (index_end is_signed) least text index)
+        out.old.items out.new.items) }
+{
+    if is_signed {
+        return push_s33(index, least, out);
+    }
+    push_u32(index, least, out)
+}

@@ -1,0 +1,82 @@
+//! Visitors with one hook for ids.
+ghost use Rattle.walrus_functions.specs.Nesting.{IsNested};
+
+use super::used_ids::{body, hold};
+use super::*;
+use walrus_traversals::{
+    AnyId, IdVisitor, Nesting, OnlyIds, WalkError, check_nesting, dfs_in_order,
+};
+use walrus_types::{FunctionId, Listed, TypeId};
+
+// Collects types and functions.
+#[derive(Drop)]
+struct Collector {
+    types: Listed<TypeId>,
+    functions: Listed<FunctionId>,
+}
+
+impl IdVisitor for Collector {
+    type Error = AllocError;
+
+    ghost step = { λ _ _ _. Unit {0} };
+
+    fn visit_id(&mut self, id: AnyId) -> Result<(), AllocError> {
+        match id {
+            AnyId::Type(id) => self.types.push(id),
+            AnyId::Function(id) => self.functions.push(id),
+            _ => Ok(()),
+        }
+    }
+}
+
+// Refuses tags.
+#[derive(Drop)]
+struct Tagless;
+
+impl IdVisitor for Tagless {
+    type Error = AllocError;
+
+    ghost step = { λ _ _ _. Unit {0} };
+
+    fn visit_id(&mut self, id: AnyId) -> Result<(), AllocError> {
+        match id {
+            AnyId::Tag(_) => Err(AllocError),
+            _ => Ok(()),
+        }
+    }
+}
+
+// The body is nested.
+fn assert_nested(rt: &impl Abort, alloc: Global, func: &LocalFunction)
+    ensures { IsNested func.now.body 0 }
+{
+    let Nesting::Nested(_) = check_nesting(alloc, func, Id::from_index(0)).expect(rt, "memory")
+    else {
+        panic!(rt; "not nested");
+    };
+}
+
+#[test]
+fn types_and_functions_are_collected_by_one_hook(rt: HostRuntime) {
+    let alloc = rt.alloc();
+    let func = body(&rt, alloc);
+    assert_nested(&rt, alloc, &func);
+    let visitor = Collector {
+        types: Listed::from_vec(Vec::new(alloc)),
+        functions: Listed::from_vec(Vec::new(alloc)),
+    };
+    let mut only = OnlyIds { visitor };
+    assert!(rt; dfs_in_order(alloc, &mut only, &func, Id::from_index(0)).is_ok());
+    hold(&rt, alloc, only.visitor.types.as_slice(), &[9, 6, 11]);
+    hold(&rt, alloc, only.visitor.functions.as_slice(), &[5, 5]);
+}
+
+#[test]
+fn a_refused_id_ends_the_walk(rt: HostRuntime) {
+    let alloc = rt.alloc();
+    let func = body(&rt, alloc);
+    assert_nested(&rt, alloc, &func);
+    let mut only = OnlyIds { visitor: Tagless };
+    let ended = dfs_in_order(alloc, &mut only, &func, Id::from_index(0));
+    assert!(rt; matches!(ended, Err(WalkError::Hook(AllocError))));
+}
