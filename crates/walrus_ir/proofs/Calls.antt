@@ -1,6 +1,6 @@
 -- Calls of hooks in turn: none, some, or all of them are made, and what is then in the place of
 -- what was visited.
-use Rattle.std.proofs.lemmas.List.{take_more_set, drop-set-lt}
+use Rattle.std.proofs.lemmas.List.{drop-set-lt}
 use Rattle.std.proofs.Math.ListN.{set, length-set}
 use Rattle.std.proofs.Common.{Some, None, zero, suc, ◌+◌, ◌<◌, inl, inr, length, take, drop, get_or, map, add-one, arith, ◌∙◌, ◌≡◌, ℕ, List, [], ◌∷◌, ◌++◌, refl, sym, ap, subst}
 use Rattle.instr.specs.declared.exceptions.LegacyCatch.TheVariants as legacy
@@ -157,9 +157,6 @@ drop_all [] i e = rw e refl
 drop_all (x ∷ l) i e = rw e (drop_all l (length l) refl)
 
 module _ {V A K : Type 0} (step : StepRelation V) (f : A → Calls A) (key : A → K) where
-  pub done_none : (v : V) (init : List A) → Done step f key v init v init 0
-  done_none v init = record { goes_on = λ e w ys h. h; rest = refl; size = refl; same = refl }
-
   pub done_more : (v : V) (init : List A) (u : V) (now : List A) (i : ℕ) (w : V) (x y : A) →
       Done step f key v init u now i → i < length now → x ≡ get_or now i x → Visits step u (f x) Full w y →
       key y ≡ key x → Done step f key v init w (set now i y) (i + 1)

@@ -59,10 +59,6 @@ module _ {V : Type 0} (step : StepRelation V) where
   pub none_done : (s : V × Body) (q : ℕ) → VisitsBlock step s q Partial s
   none_done s q = (sequence s.1 q, inl (refl, sym (sequence_whole (sequence s.1 q))), sym (same_write s.1 q))
 
-  pub all_none_done : (s : V × Body) (qs : List ℕ) → WalksAll step s qs Partial s
-  all_none_done s [] = none s Partial
-  all_none_done s (q ∷ qs) = stops_in s s q qs (stops s s q (none_done s q))
-
   -- between two visits: walking what is pending from here ends the walk of all, it is nested, and the
   -- nesting is that of the start
   pub record Pending (s0 : V × Body) (start : ℕ) (s : V × Body) (pending : List ℕ) : Type 0 where

@@ -1,5 +1,5 @@
 -- A sequence that is visited, hook by hook.
-use Rattle.std.proofs.Common.{◌≡◌, ℕ, List, inl, inr, refl, sym, ◌∙◌, subst, Result, Ok, Err, OnOk}
+use Rattle.std.proofs.Common.{◌≡◌, ℕ, List, inl, inr, refl, sym, ◌∙◌, subst}
 use Rattle.instr.specs.declared.instr.Instr.{Instr}
 use Rattle.walrus_ir.specs.Calls.{Calls, leaves, call, and_then, each, Full, Partial, StepRelation, Visits}
 use Rattle.walrus_ir.specs.Fields.{type_fields, instr_calls, sequence_calls}
@@ -7,12 +7,6 @@ use Rattle.walrus_ir.specs.Hooks.{start_instr_seq, end_instr_seq}
 use Rattle.instr.specs.Sequence.{Sequence}
 use Rattle.instr.specs.declared.instr_seq_type.InstrSeqType.{InstrSeqType}
 use Rattle.walrus_ir.proofs.Calls.{visits_then, visits_cut, instrs_whole, sequence_whole}
-
--- two facts that hold after `Ok`
-pub on_ok_both :
-    {T E : Type 0} (P Q : Type 0) (r : Result T E) → OnOk r P → OnOk r Q → OnOk r (P × Q)
-on_ok_both P Q (Ok x) h k = (h, k)
-on_ok_both P Q (Err e) h k = tt
 
 -- all calls are some of them
 pub full_partial :

@@ -9,7 +9,7 @@ use Rattle.instr.specs.Sequence.{Sequence}
 use Rattle.instr.specs.declared.instr.Instr.{Instr}
 use Rattle.walrus_functions.specs.Body.{Body, Knows}
 use Rattle.walrus_functions.specs.Nesting.{IsChild, IsReachable, at_start, below, children_of}
-use Rattle.walrus_nesting.specs.Certificates.{ShowsNested, IsPath, ShowsCycle, ShowsUnknown}
+use Rattle.walrus_nesting.specs.Certificates.{ShowsNested, IsPath, ShowsCycle}
 use Rattle.walrus_nesting.specs.Steps.Searching.{State, children_in, with_work, after_enter, after_leave, IsStacked, IsCovered, IsDone, AreMarks, IsSound, work_ahead, steps_left}
 use Rattle.walrus_nesting.specs.declared.nesting.search.Mark.{Mark}
 use Rattle.walrus_nesting.specs.declared.nesting.search.Mark.TheVariants.{New, Open, Done}
@@ -409,25 +409,6 @@ back_shows f s id place mark h =
           ap (slice_get (s.path ++ id ∷ [])) (sym long) ∙ get_last s.path id in
           subst (λ (x : ℕ). IsChild f last x) e (p.children (length s.path - 1) last id
           (get_left s.path (id ∷ []) (length s.path - 1) last at) end);
-    }
-
--- an id that isn't known ends the path
-pub missing_shows :
-    (f : Body) (s : State) (id : ℕ) → (Knows f id → ⊥) → IsSound f (with_work (Enter id) s) →
-    ShowsUnknown f s.start (s.path ++ id ∷ [])
-missing_shows f s id unknown h =
-    let size = length-append s.path (id ∷ []) in
-    record {
-      is_path = h.stacked.0;
-      last_alone = λ i x at. elim (get_cases s.path id i x at) [
-        | inl old ↦ (let w = slice_get_within s.path i x old in
-            (λ k. omega arith, λ l. all_at (Knows f) s.path i x h.known old))
-        | inr last ↦ (let place = last.0 in (
-          λ k. absurd (unknown (subst (Knows f) last.1 k)),
-          λ l.
-              absurd (omega arith),
-        ))
-      ];
     }
 
 -- at the end of all work the list is that of a nested body

@@ -143,7 +143,8 @@ abstract_is abstract.Struct b = elim b as (λ v.
       | abstract.NoExn ↦ refl
     ]
 abstract_is abstract.Array b = elim b as (λ v.
-    (abstract_order.ghosts).cmp abstract.Array v ≡ nat_cmp (abstract_index abstract.Array) (abstract_index v)) [
+    (abstract_order.ghosts).cmp abstract.Array v ≡ nat_cmp (abstract_index abstract.Array)
+    (abstract_index v)) [
       | abstract.Func ↦ refl
       | abstract.Extern ↦ refl
       | abstract.Any ↦ refl
@@ -188,7 +189,8 @@ abstract_is abstract.Exn b = elim b as (λ v.
       | abstract.NoExn ↦ refl
     ]
 abstract_is abstract.NoExn b = elim b as (λ v.
-    (abstract_order.ghosts).cmp abstract.NoExn v ≡ nat_cmp (abstract_index abstract.NoExn) (abstract_index v)) [
+    (abstract_order.ghosts).cmp abstract.NoExn v ≡ nat_cmp (abstract_index abstract.NoExn)
+    (abstract_index v)) [
       | abstract.Func ↦ refl
       | abstract.Extern ↦ refl
       | abstract.Any ↦ refl
