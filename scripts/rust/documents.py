@@ -2,6 +2,7 @@
 import re
 
 import guards
+import twins
 
 LAWS = re.compile(r'(^|/)(record_)?laws(/|\.rt$)')
 HEAD = '| Library | Required | Functions | In Rust |\n|---|---|---|---|\n'
@@ -17,12 +18,16 @@ def is_exported(function, exported, path):
     return function.is_public and (is_law(path) or (function.owner or function.name) in exported)
 
 
-def docs_of(function, is_law):
+def docs_of(function, is_law, has_twin):
     """The lines that the docs of a function get at their end."""
-    lines = [] if is_law else guards.panics(function)
-    if function.lines:
-        lines += ([''] if lines else []) + ['# Contract', '', '```text', *function.lines, '```']
-    return lines
+    panics = ([] if is_law else guards.panics(function)) + (twins.panics(function) if has_twin else [])
+    when = ', and '.join(panics)
+    parts = [
+        twins.note(function) if has_twin else [],
+        ['# Panics', '', f'{when[0].upper()}{when[1:]}.'] if panics else [],
+        ['# Contract', '', '```text', *function.lines, '```'] if function.lines else [],
+    ]
+    return [line for part in parts if part for line in ['', *part]][1:]
 
 
 def fill(text, mark, lines):

@@ -5,8 +5,8 @@ NAME = 'ruffdresser'
 EXPORT = re.compile(r'^pub use (\w+)(?:::\w+)*::(?:\{([^}]*)\}|(\w+));', re.M)
 DOCS = '''//! Type sections and function bodies of WebAssembly modules: all libraries of Ruffdresser in one.
 //!
-//! The allocator that calls ask for is [`alloc::Global`], which is Rust's. Values are copied by
-//! [`TryClone`], which returns an error where memory is refused, or by `Clone`, which panics.
+//! Values are copied by [`TryClone`], which returns an error where memory is refused, or by `Clone`,
+//! which panics.
 '''
 OF_STD = '''pub use rattle_std::{TryClone, alloc};
 '''
@@ -14,6 +14,7 @@ GROUPS = {
     'Arenas': ['walrus_arena'],
     'Types': ['walrus_ty', 'walrus_types'],
     'Type sections': ['walrus_sections', 'walrus_binary', 'walrus_text'],
+    'Modules': ['walrus_module', 'walrus_normalise'],
     'Instructions': ['operators', 'instr', 'const_expr', 'walrus_ir'],
     'Function bodies': ['walrus_functions', 'walrus_nesting', 'walrus_traversals', 'walrus_body'],
     'Passes': ['walrus_passes'],

@@ -1,17 +1,18 @@
-//! What a call requires is tested: a call that breaks it panics, and says what is required.
-use ruffdresser::alloc::{AllocError, Global};
+//! What a call requires is tested: a call that breaks it panics, and says what is required. So does
+//! a call to which memory is refused, where its twin returns an error.
+use ruffdresser::alloc::AllocError;
 use ruffdresser::*;
 use std::convert::Infallible;
 
 fn table() -> (ModuleTypes, TypeId) {
-    let mut types = ModuleTypes::new(Global);
-    let id = types.add(&[], &[]).expect("memory");
+    let mut types = ModuleTypes::new();
+    let id = types.add(&[], &[]);
     (types, id)
 }
 
 fn builder() -> FunctionBuilder {
     let (mut types, _) = table();
-    FunctionBuilder::new(Global, &mut types, &[], &[]).expect("memory")
+    FunctionBuilder::new(&mut types, &[], &[])
 }
 
 /// A function whose body has itself inside.
@@ -27,16 +28,16 @@ fn endless() -> (LocalFunction, InstrSeqId) {
 #[should_panic(expected = "required: `id` is live")]
 fn a_dead_type_is_not_deleted_again() {
     let (mut types, id) = table();
-    types.delete(id).expect("memory");
-    let _ = types.delete(id);
+    types.delete(id);
+    types.delete(id);
 }
 
 #[test]
 #[should_panic(expected = "required: `id` is live")]
 fn a_dead_item_is_not_lent() {
-    let mut arena = TombstoneArena::<Number>::new(Global);
-    let id = arena.alloc(Number).expect("memory");
-    arena.delete(id).expect("memory");
+    let mut arena = TombstoneArena::<Number>::new();
+    let id = arena.alloc(Number);
+    arena.delete(id);
     arena[id] = Number;
 }
 
@@ -48,15 +49,15 @@ impl Tombstone for Number {}
 #[should_panic(expected = "required: no id comes twice in `ids`")]
 fn no_type_is_deleted_twice() {
     let (mut types, id) = table();
-    let _ = types.delete_all(&[id, id]);
+    types.delete_all(&[id, id]);
 }
 
 #[test]
 #[should_panic(expected = "required: each of `roots` is live")]
 fn dead_roots_are_refused() {
     let (mut types, id) = table();
-    types.delete(id).expect("memory");
-    let _ = delete_unused_types(Global, &mut types, &[id]);
+    types.delete(id);
+    delete_unused_types(&mut types, &[id]);
 }
 
 #[test]
@@ -64,7 +65,7 @@ fn dead_roots_are_refused() {
 fn only_functions_have_parameters() {
     let (mut types, _) = table();
     let fields = Vec::new();
-    let id = types.add_struct(fields).expect("memory");
+    let id = types.add_struct(fields);
     let _ = types.params(id);
 }
 
@@ -72,9 +73,9 @@ fn only_functions_have_parameters() {
 #[should_panic(expected = "required: `id` has no index")]
 fn a_type_gets_one_index() {
     let (_, id) = table();
-    let mut indices = IdsToIndices::new(Global);
-    indices.push_type(id).expect("memory");
-    let _ = indices.push_type(id);
+    let mut indices = IdsToIndices::new();
+    indices.push_type(id);
+    indices.push_type(id);
 }
 
 #[test]
@@ -86,7 +87,7 @@ fn no_entries_are_before_a_place_past_the_end() {
 #[test]
 #[should_panic(expected = "required: `index` is not past the end")]
 fn no_item_is_put_past_the_end() {
-    let _ = Listed::from_vec(vec![1]).try_insert(2, 3);
+    Listed::from_vec(vec![1]).insert(2, 3);
 }
 
 #[test]
@@ -104,7 +105,7 @@ fn the_default_location_has_no_number() {
 #[test]
 #[should_panic(expected = "required: `id` is in the list")]
 fn an_unknown_function_is_not_lent() {
-    let _ = LocalFunctions::new(Global).get(FunctionId::from_index(0));
+    let _ = LocalFunctions::new().get(FunctionId::from_index(0));
 }
 
 #[test]
@@ -117,7 +118,7 @@ fn an_unknown_sequence_is_not_lent() {
 #[should_panic(expected = "required: there is an entry")]
 fn a_function_without_entry_has_no_body() {
     let (_, ty) = table();
-    let _ = FunctionBuilder::without_entry(Global, ty).func_body();
+    let _ = FunctionBuilder::without_entry(ty).func_body();
 }
 
 #[test]
@@ -126,7 +127,7 @@ fn nothing_is_added_where_the_function_was_replaced() {
     let (_, ty) = table();
     let mut builder = builder();
     let mut body = builder.func_body();
-    *body.builder_mut() = FunctionBuilder::without_entry(Global, ty);
+    *body.builder_mut() = FunctionBuilder::without_entry(ty);
     let _ = body.unreachable();
 }
 
@@ -153,14 +154,14 @@ fn a_closure_does_not_replace_its_builder() {
 #[should_panic(expected = "required: the body is nested from `start`")]
 fn an_endless_body_is_not_walked() {
     let (func, start) = endless();
-    let _ = dfs_in_order(Global, &mut UsedIds::new(Global), &func, start);
+    let _ = dfs_in_order(&mut UsedIds::new(), &func, start);
 }
 
 #[test]
 #[should_panic(expected = "required: the body is nested from `start`")]
 fn an_endless_body_is_not_changed() {
     let (mut func, start) = endless();
-    let _ = dfs_pre_order_mut(Global, &mut Nester, &mut func, start);
+    let _ = dfs_pre_order_mut(&mut Nester, &mut func, start);
 }
 
 #[test]
@@ -170,7 +171,7 @@ fn a_hook_puts_no_sequence_into_itself() {
     let start = builder.func_body_id();
     builder.func_body().unreachable().expect("memory");
     let mut func = builder.local_func(Vec::new());
-    let _ = dfs_pre_order_mut(Global, &mut Nester, &mut func, start);
+    let _ = dfs_pre_order_mut(&mut Nester, &mut func, start);
 }
 
 /// Puts each sequence into itself.
@@ -246,6 +247,29 @@ impl VisitorMut for Nester {
     }
 }
 
+/// Memory is refused to its clones.
+#[derive(PartialEq, Eq, Hash, Debug)]
+struct Costly;
+
+impl TryClone for Costly {
+    fn try_clone(&self) -> Result<Costly, AllocError> {
+        Err(AllocError)
+    }
+}
+
+#[test]
+#[should_panic(expected = "out of memory")]
+fn a_call_panics_where_memory_is_refused() {
+    ArenaSet::new().insert(Costly);
+}
+
+#[test]
+fn a_twin_returns_an_error_where_memory_is_refused() {
+    let mut set = ArenaSet::new();
+    assert_eq!(set.try_insert(Costly), Err(AllocError));
+    assert_eq!(set.iter().count(), 0);
+}
+
 /// Its clones are not equal to it.
 #[derive(PartialEq, Eq, Hash)]
 struct Fickle {
@@ -261,6 +285,6 @@ impl TryClone for Fickle {
 #[test]
 #[should_panic(expected = "required: a clone of the value is equal to it")]
 fn clones_are_equal() {
-    let mut set = ArenaSet::new(Global);
-    let _ = set.try_insert(Fickle { is_clone: false });
+    let mut set = ArenaSet::new();
+    set.insert(Fickle { is_clone: false });
 }

@@ -22,7 +22,7 @@ class Guard:
 DISTINCT = 'rattle_std::guards::are_distinct(ids.iter().map(|id| id.index()))'
 CLOSURE = 'nothing to test: a closure in Rust takes every argument of its type'
 NOT_NESTED = 'the body is nested from `start`'
-CHECK = '''match walrus_nesting::check_nesting(alloc, func, start) {
+CHECK = '''match walrus_nesting::try_check_nesting(func, start) {
         Ok(walrus_nesting::Nesting::Nested(_)) => {}
         Ok(_) => panic!("required: the body is nested from `start`"),
         Err(_) => return Err(WalkError::Memory),
@@ -99,7 +99,7 @@ INSERTIONS = [
      r'''        let children_of = |seq: &InstrSeq| {
             let mut children: Vec<InstrSeqId> = Vec::new();
             for (instr, _) in &seq.instrs {
-                push_children(&mut children, instr).map_err(|_| WalkError::Memory)?;
+                try_push_children(&mut children, instr).map_err(|_| WalkError::Memory)?;
             }
             Ok::<_, WalkError<V::Error>>(children)
         };
@@ -149,9 +149,9 @@ def statements(function):
 
 
 def panics(function):
-    """What the docs say about the guards, line by line."""
+    """When the function panics at a guard, in words."""
     words = [it.words for it in guards_of(function) if not it.reason]
-    return ['# Panics', '', f'Unless {" and ".join(words)}.'] if words else []
+    return [f'unless {" and ".join(words)}'] if words else []
 
 
 def insert(path, text):

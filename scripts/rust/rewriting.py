@@ -10,9 +10,12 @@ import contracts
 CRATE = 'rattle_std'
 # What Rust's standard library has under the same name and with the same meaning stays as it is.
 OTHER_MODULES = 'alloc|collections|env|fs|hash|process::Abort|random|rt|test'
-REFUSABLE = 'push|insert|reserve|extend_from_slice|sort|push_str|to_vec|clone'
+REFUSABLE = 'push|insert|reserve|extend_from_slice|sort|push_str|to_vec|to_string|clone'
 # Rust's maps and sets: a call `try_insert` of theirs is to come with another meaning.
-MAPS = r'self\.map|self\.by_id|seen|(?<!\.)names'
+MAPS = r'self\.map|self\.by_id|seen|kept|(?<!\.)names'
+# An allocator as an argument, and as a parameter or an argument.
+ALLOCATOR = r'[*&]?(?:\w+\.)*_?alloc(?:ator)?(?:\(\))?(?=[,;)\]])'
+PASSED = rf'(?:{ALLOCATOR}|_?alloc: (?:[\w:]+::)?(?:A|Global)(?=[,)]))'
 # What only clauses name is unused in Rust.
 LINTS = '''#![forbid(unsafe_code)]
 #![allow(unused_imports, unused_variables, dead_code, non_contiguous_range_endpoints)]
@@ -31,14 +34,21 @@ RULES = [
     (r'^ *#\[derive\(Drop\)\]\n', ''),
     (r'(#\[derive\([^)]*?), Drop\b', r'\1'),
     (r'<T: Copy>', '<T: Copy + TryClone>'),
-    # The allocator is always `Global`.
+    # The allocator is always Rust's: no call takes one, and no type has one.
     (r'^ *A: (?:Copy|Clone),\n', ''),
+    (r'\bA: Allocator(?: \+ \w+)*, ', ''),
     (r', A: Allocator(?: \+ \w+)*(?: = Global)?>', '>'),
     (r', A>', '>'),
     (r'\bIntoIter<(\w+), Global>', r'IntoIter<\1>'),
-    (r'\balloc: A\b', 'alloc: Global'),
-    (r'::new\(&alloc\)', '::new(alloc)'),
+    (r'^(?: *(?://|#\[).*\n)* *_?alloc(?:: \w+(?:\.allocator\(\))?)?,\n', ''),
+    (r'^ *(?://[/!] *)?(?:alloc: Global|rt\.alloc\(\)),\n', ''),
+    (rf'^ *let alloc = {ALLOCATOR};\n', ''),
+    (rf'\bvec!\[\s*in {ALLOCATOR};? ?', f'{CRATE}::try_vec!['),
+    (rf'\bformat!\(\s*in {ALLOCATOR}; ?', f'{CRATE}::try_format!('),
+    (rf'\({PASSED}(?:, ?)?', '('),
+    (rf', {PASSED}', ''),
     (r'\*([\w.]+)\.allocator\(\)', f'{CRATE}::alloc::Global'),
+    (r': `alloc`\s*///\s*is needed when the type is deleted\.', '.'),
     # Names of the standard library.
     (r'\bstd::process::\{Abort, (\w+)\}', rf'{CRATE}::process::{{Abort, \1}}'),
     (rf'\bstd::({OTHER_MODULES})\b', rf'{CRATE}::\1'),
@@ -51,15 +61,10 @@ RULES = [
     # A map that users name is Rust's.
     (r'^(pub type .* = )HashMap<', rf'\1{CRATE}::collections::HostMap<'),
     # Macros.
-    (r'\bvec!\[\s*in\b', f'{CRATE}::vec_in!['),
-    (r'\bformat!\(\s*in\b', f'{CRATE}::format_in!('),
     (r'\b(assert(?:_eq|_ne)?|panic|unreachable)!\(&?rt;\s*', r'\1!('),
     # What is refused.
-    (r'\bVec::new\(', f'{CRATE}::vec::new('),
     (r'\bVec::with_capacity\(', f'{CRATE}::vec::with_capacity('),
     (r'\bVec::from_slice\(', f'{CRATE}::vec::from_slice('),
-    (r'\.to_string\((?=\w)', '.try_to_string('),
-    (r'\bString::new\(', f'{CRATE}::string::new('),
     (r'\bString::from_str\(', f'{CRATE}::string::from_str('),
     (r'\bHashMap::(new|with_hasher)\(', rf'{CRATE}::collections::map_\1('),
     (r'\bHashSet::(new|with_hasher)\(', rf'{CRATE}::collections::set_\1('),
@@ -79,6 +84,13 @@ RULES = [
     (r'^(fn main\()rt: HostRuntime(\)[^{]*\{)', r'\1\2\n    let rt = HostRuntime;'),
 ]
 COMPILED = [(re.compile(pattern, re.M), text) for pattern, text in RULES]
+# What examples in docs say of memory and of the system, in the words of a Rust program.
+EXAMPLES = [(re.compile(pattern), text) for pattern, text in [
+    (rf'\b{CRATE}::try_vec!(\[.*?\])\?', r'vec!\1'),
+    (r'\.try_(push|insert|extend_from_slice)\((.*)\)\?', r'.\1(\2)'),
+    (r'\bprintln!\(rt; (.*)\)\?', r'println!(\1)'),
+    (rf'\b{CRATE}::test::fail\((".*?")\)', r'\1.into()'),
+]]
 
 
 def rewrite_derives(text):
@@ -112,15 +124,21 @@ def with_prelude(text, is_root):
     return f'{text[:head.end()]}{lints}use {CRATE}::prelude::*;\n{text[head.end():]}'
 
 
+def as_example(line):
+    for pattern, new in EXAMPLES:
+        line = pattern.sub(new, line)
+    return line
+
+
 def mark_examples(text):
-    """Examples in docs are in Rattle's words, so that `cargo test` does not run them."""
+    """Marks examples in docs, so that `cargo test` does not run them: most are no whole programs."""
     lines, is_inside = [], False
     for line in text.split('\n'):
         fence = re.fullmatch(r'(\s*//[/!] ```)(\w*)', line)
         if fence:
             line = line if is_inside or fence[2] not in ('', 'rust') else f'{fence[1]}ignore'
             is_inside = not is_inside
-        lines.append(line)
+        lines.append(as_example(line) if is_inside else line)
     return '\n'.join(lines)
 
 

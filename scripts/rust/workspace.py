@@ -1,4 +1,5 @@
 """Writes the Cargo workspace: the stand-in for the toolchain's standard library, and a crate for each crate here."""
+import functools
 import os
 import re
 import shutil
@@ -8,6 +9,7 @@ import documents
 import facade
 import guards
 import rewriting
+import twins
 
 HERE = os.path.dirname(os.path.abspath(__file__))
 ROOT = os.path.dirname(os.path.dirname(HERE))
@@ -58,6 +60,7 @@ def crates():
     return {name: [it for it in below.split() if it in named] for name, below in lines}
 
 
+@functools.cache
 def sources(crate):
     """The paths of the files of a crate, from its folder on."""
     top = f'{ROOT}/crates/{crate}'
@@ -75,22 +78,50 @@ def is_library(crate):
     return not is_program(crate) and not crate.endswith('_tests')
 
 
-def rust_text(crate, path):
-    """A file of a crate in Rust."""
+@functools.cache
+def rewritten(crate, path):
+    """A file of a crate in Rust, with marks and without guards, docs and twins."""
     stripped = contracts.strip(read(f'{ROOT}/crates/{crate}/{path}'))
-    text = rewriting.with_prelude(rewriting.rewrite(stripped.text), path in ROOTS)
-    exported = exports(crate) if is_library(crate) else set()
-    for number, function in enumerate(stripped.functions):
-        is_law = documents.is_law(path)
-        docs = documents.docs_of(function, is_law) if documents.is_exported(function, exported, path) else []
+    return contracts.Stripped(rewriting.rewrite(stripped.text), stripped.functions)
+
+
+def is_exported(crate, path, function):
+    """Whether users of the crate can call the function."""
+    return documents.is_exported(function, exports(crate) if is_library(crate) else set(), path)
+
+
+def calls_with_twins():
+    """For each library, and file: the calls that have twins, by the number of their functions."""
+    found = {}
+    for crate in (it for it in crates() if is_library(it)):
+        for path in (it for it in sources(crate) if not documents.is_law(it)):
+            text, functions = rewritten(crate, path).text, rewritten(crate, path).functions
+            calls = {at: twins.call_of(it, text[slice(*twins.signature_of(text, at))])
+                     for at, it in enumerate(functions) if is_exported(crate, path, it)}
+            found[crate, path] = {at: call for at, call in calls.items() if call}
+    return found
+
+
+def rust_text(crate, path, calls, renaming):
+    """A file of a crate in Rust, given the calls of the file that have twins."""
+    text, is_law = rewritten(crate, path).text, documents.is_law(path)
+    text = renaming.uses(renaming.calls(text))
+    for number, function in enumerate(rewritten(crate, path).functions):
+        is_public = is_exported(crate, path, function)
+        if number in calls:
+            text = twins.add_call(text, number, function)
+        elif renaming.is_of_name(function) and not is_public:
+            text = twins.rename(text, number, function)
+        docs = documents.docs_of(function, is_law, number in calls) if is_public else []
         text = documents.fill(text, contracts.docs_mark(number), docs)
-        is_guarded = not is_law and (documents.is_exported(function, exported, path) or function.is_of_trait)
-        first = guards.statements(function) if is_guarded else ''
-        text = text.replace(contracts.body_mark(number), first)
+        is_guarded = not is_law and (is_public or function.is_of_trait)
+        text = text.replace(contracts.body_mark(number), guards.statements(function) if is_guarded else '')
+    text = rewriting.with_prelude(text, path in ROOTS)
     text = re.sub(r'\n{3,}', '\n\n', guards.insert(path, text))
     return facade.with_std(text) if crate == facade.NAME and path in ROOTS else text
 
 
+@functools.cache
 def exports(crate):
     """The names that the root of a library exports."""
     found = re.findall(r'^pub use (?:\w+::)+(?:\{([^}]*)\}|(\w+));', read(f'{ROOT}/crates/{crate}/src/lib.rt'), re.M)
@@ -103,7 +134,7 @@ def required():
     for crate in (it for it in crates() if is_library(it)):
         names = exports(crate)
         for path in (it for it in sources(crate) if not documents.is_law(it)):
-            functions = contracts.strip(read(f'{ROOT}/crates/{crate}/{path}')).functions
+            functions = rewritten(crate, path).functions
             public = [it for it in functions if documents.is_exported(it, names, path)]
             count += len(public)
             found += [(crate, it, guards.guards_of(it)) for it in public if guards.guards_of(it)]
@@ -132,9 +163,11 @@ def write_workspace(out):
         shutil.copytree(f'{HERE}/{crate}', f'{out}/{crate}', dirs_exist_ok=True)
     all_crates = crates()
     guards.check_paths({path for crate in all_crates for path in sources(crate)})
+    calls = calls_with_twins()
+    renaming = twins.Renaming({call for of_file in calls.values() for call in of_file.values()})
     for crate, below in all_crates.items():
         for path in sources(crate):
-            write(f'{out}/{crate}/{path[:-3]}.rs', rust_text(crate, path))
+            write(f'{out}/{crate}/{path[:-3]}.rs', rust_text(crate, path, calls.get((crate, path), {}), renaming))
         write_manifest(out, crate, below)
     if facade.NAME not in all_crates:
         write_facade(out, [it for it in all_crates if is_library(it)])

@@ -1,4 +1,5 @@
-//! What the programs share: their arguments, their input, and the keys of their hashes.
+//! What the programs share: their arguments, their input, what they say of it beside an error, and the
+//! keys of their hashes.
 //!
 //! - [`parse_arguments`] says what the arguments of a program ask for.
 //! - [`open`] opens a file, or takes standard input where the name is `-`. [`read_bytes`] reads all
@@ -9,10 +10,14 @@
 
 mod about;
 mod arguments;
+mod context;
 mod input;
 mod keys;
+mod lookalike;
 
 pub use about::{report_usage, write_version};
 pub use arguments::{Request, parse_arguments};
+pub use context::{Context, context_of};
 pub use input::{Input, open, read_bytes};
 pub use keys::random_keys;
+pub use lookalike::Lookalike;

@@ -141,6 +141,12 @@ pub use Rattle.walrus_module.specs.Contents
 pub use Rattle.walrus_module.specs.Bodies as CodeBodies
 pub use Rattle.walrus_module.specs.Renaming as CodeRenaming
 pub use Rattle.walrus_module.specs.NamedTypes
+pub use Rattle.walrus_module.specs.Changes as CodeChanges
+pub use Rattle.walrus_module.specs.RenamedSections
+pub use Rattle.walrus_module.specs.NameSections
+pub use Rattle.walrus_module.specs.RenamedModules
+pub use Rattle.walrus_module.specs.Customs
+pub use Rattle.walrus_normalise.specs.NormalModules
 pub use Rattle.walrus_binary.specs.declared.error.Expected
 pub use Rattle.walrus_binary.specs.declared.error.NotHeld
 pub use Rattle.walrus_binary.specs.declared.error.DecodeError
@@ -149,6 +155,7 @@ pub use Rattle.walrus_binary.specs.declared.error.ReplaceError
 pub use Rattle.walrus_module.specs.declared.scan.ScanError
 pub use Rattle.walrus_module.specs.declared.renaming.RenameError
 pub use Rattle.walrus_module.specs.declared.renaming.Widths
+pub use Rattle.walrus_normalise.specs.declared.error.NormaliseModuleError
 -- Text.
 pub use Rattle.walrus_text.specs.Words
 pub use Rattle.walrus_text.specs.Spacing

@@ -7,7 +7,8 @@
 //! - Builders: [`FunctionBuilder`], [`LocalFunction`].
 //! - Walks: [`dfs_in_order`], [`dfs_pre_order_mut`], [`check_nesting`].
 //! - Passes: [`delete_unused_types`], [`snip`], [`snip_calls`], [`adapter`].
-//! - Binary: [`decode_types`], [`encode_types`], [`sections`].
+//! - Binary: [`decode_types`], [`encode_types`], [`sections`], [`rename_module`],
+//!   [`normalise_module`].
 //! - Text: [`read_section`], [`write_section`].
 //!
 //! The module `laws` of each library has its theorems. It is here under a name of its own, such as
@@ -207,7 +208,7 @@ pub use walrus_passes::{
     replace_with, snip, snip_calls, unreachable_function, used_types,
 };
 
-// Binary: the sections of a module, and its type section.
+// Binary: the sections of a module, its type section, and modules in normal form.
 pub use walrus_binary::{
     DecodeError, EncodeError, Expected, NotHeld, ReplaceError, SectionPlace, TypeSectionReader,
     decode_types, encode_types, laws as binary_laws, module_types, replace_type_section,
@@ -215,8 +216,10 @@ pub use walrus_binary::{
 };
 pub use walrus_module::{
     RenameError, ScanError, Section, SectionIter, Widths, body_types, expression_types,
-    laws as module_laws, named_types, rename_body, rename_expression, section_types, sections,
+    find_description, laws as module_laws, named_types, rename_body, rename_custom_section,
+    rename_expression, rename_module, rename_section, section_types, sections, strip_descriptions,
 };
+pub use walrus_normalise::{NormaliseModuleError, normalise_module};
 
 // Text: type sections as text.
 pub use walrus_text::{

@@ -9,6 +9,7 @@ pub mod Faults
 pub mod FirstFaults
 pub mod Beginnings
 pub mod SectionBeginnings
+pub mod Places
 pub mod Sections
 pub mod Progress
 pub mod Shortest

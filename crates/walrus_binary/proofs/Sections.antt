@@ -4,6 +4,7 @@ use Rattle.std.proofs.lemmas.Bool.{cases_lt}
 use Rattle.std.proofs.lemmas.List.{take-take}
 use Rattle.std.specs.Prelude.{IfSome}
 use Rattle.walrus_ty.specs.declared.records.GroupAt.{GroupAt}
+use Rattle.walrus_binary.specs.declared.error.Expected.{Expected}
 use Rattle.walrus_binary.specs.declared.error.Reason.{Reason}
 use Rattle.walrus_binary.specs.declared.error.Reason.TheVariants as reason
 use Rattle.walrus_binary.specs.declared.error.NotHeld.{NotHeld}
@@ -15,7 +16,7 @@ use Rattle.walrus_binary.specs.Leb128.{IsU32}
 use Rattle.walrus_ty.specs.declared.ty.value.AbstractHeapType.TheVariants as abstract
 use Rattle.walrus_ty.specs.declared.ty.value.Heap.TheVariants as heap
 use Rattle.walrus_binary.specs.Grammar.{abstract_type, reference, abbreviated, sub_code, IsRecType, IsTypes}
-use Rattle.walrus_binary.specs.Faults.{IsNoText, BeginsNoText, GoesOn, IsFirstBad, IsBegun, begins_text, begins_several_supertypes, IsUnheld, several_supertypes, comp_type, heap_type, ref_type, IsSeenThere, error_offset, NamesUnheld}
+use Rattle.walrus_binary.specs.Faults.{IsNoText, BeginsNoText, GoesOn, IsFirstBad, IsBegun, begins_text, begins_several_supertypes, IsUnheld, several_supertypes, comp_type, heap_type, ref_type, HasNothingUnheld, IsSeenThere, error_offset, NamesUnheld}
 use Rattle.walrus_binary.specs.Steps.Reading.{Fails, vec_at, group_at, types_at, IsSeenAtOnce}
 use Rattle.walrus_binary.specs.Steps.Refusals.{with_reason, refusal, IsWithin, error_refusal}
 use Rattle.walrus_binary.proofs.Basics.{rest_is}
@@ -23,6 +24,7 @@ use Rattle.walrus_binary.proofs.Lists.{vec_complete}
 use Rattle.walrus_binary.proofs.Groups.{group_complete, types_again}
 use Rattle.walrus_binary.proofs.FirstFaults.{types_stop}
 use Rattle.walrus_binary.proofs.Beginnings.{Tail, nothing, sub_of_several, before_comp, before_heap, before_ref, supertypes, tail_bytes, Fills, Begins, counts_several, comp_code, heap_code, ref_code, Names, integer_starts}
+use Rattle.walrus_binary.proofs.Places.{nothing_unheld}
 use Rattle.walrus_binary.proofs.SectionBeginnings.{made_entry, empty_struct_type, empty_struct, is_sub_entry, types_begun}
 
 abbrev read : List GroupAt → Result (List GroupAt) Fault
@@ -225,9 +227,10 @@ names_unheld : (bytes front left : List ℕ) (offset : ℕ) (r : Reason) (tail :
     take offset bytes ≡ front ++ tail_bytes tail
     → drop offset bytes ≡ left → Names r tail left → EndsAtInteger (front ++ tail_bytes tail) left →
     ((text : List ℕ) → Fills tail text → GoesOn IsTypes (front ++ text))
-    → NamesUnheld bytes (with_reason offset r)
-names_unheld bytes front left offset (reason.Expected e) tail first second h stuck goes_on = tt
-names_unheld bytes front left offset (reason.NotHeld what) tail first second h stuck goes_on =
+    → ((e : Expected) → r ≡ reason.Expected e → HasNothingUnheld bytes) →
+    NamesUnheld bytes (with_reason offset r)
+names_unheld bytes front left offset (reason.Expected e) tail first second h stuck goes_on none = none e refl
+names_unheld bytes front left offset (reason.NotHeld what) tail first second h stuck goes_on none =
     subst (λ (u : List ℕ). IsUnheld what u (drop offset bytes)) (sym first)
     (subst (λ (u : List ℕ). IsUnheld what (front ++ tail_bytes tail) u) (sym second)
     (unheld front left tail what h stuck goes_on))
@@ -246,7 +249,7 @@ unheld_there bytes f e =
     let second = ap (λ (u : List ℕ). drop (length bytes - f.left) u) again
     ∙ drop_at before b.left (length bytes - f.left) many in
     names_unheld bytes b.front b.left (length bytes - f.left) f.reason b.tail first second b.names
-    (ends_at_integer bytes f e before b.left again b.place) b.goes_on
+    (ends_at_integer bytes f e before b.left again b.place) b.goes_on (nothing_unheld bytes f e)
 
 -- ---- an error
 

@@ -1,6 +1,6 @@
 -- Where bytes stop being a text of a type section, as an error says it.
 -- None of it is of the WebAssembly specification.
-use Rattle.std.specs.Prelude.{ℕ, ◌+◌, ◌<◌, ◌≤◌, Bool, List, [], ◌∷◌, ◌++◌, length, take, drop, Option, Some, None}
+use Rattle.std.specs.Prelude.{◌≡◌, ℕ, ◌+◌, ◌<◌, ◌≤◌, Bool, List, [], ◌∷◌, ◌++◌, length, take, drop, Option, Some, None}
 use Rattle.walrus_ty.specs.declared.records.GroupAt.{GroupAt}
 use Rattle.walrus_binary.specs.declared.error.DecodeError.{DecodeError}
 use Rattle.walrus_binary.specs.declared.error.DecodeError.TheVariants as decode
@@ -8,6 +8,7 @@ use Rattle.walrus_binary.specs.declared.error.NotHeld.{NotHeld}
 use Rattle.walrus_binary.specs.declared.error.NotHeld.TheVariants as held
 use Rattle.walrus_binary.specs.Leb128.{IsU32}
 use Rattle.walrus_binary.specs.Grammar.{IsHeapType, IsRefType, IsCompType, sub_code, IsSubType, IsTypes}
+use Rattle.walrus_binary.specs.Places.{IsBeforeSubType, IsBeforeCompType, IsBeforeValType, IsBeforeHeapType}
 
 -- no bytes are a text of it
 abbrev pub HasNoText : {A : Type 0} → (List ℕ → A → Type 0) → A → Type 0
@@ -85,6 +86,29 @@ pub data IsUnheld : NotHeld → List ℕ → List ℕ → Type 0 where
       (front others : List ℕ) (what : NotHeld) (code : ℕ)
       → MayFollow IsRefType front → IsUnheldHeap what code → IsUnheld what front (code ∷ others)
 
+-- What no record holds begins behind the first bytes, by the grammar, and the second bytes begin
+-- with it. The place of several supertypes is that of their count.
+pub data BeginsUnheld : NotHeld → List ℕ → List ℕ → Type 0 where
+  supertypes_begin :
+      (front count others : List ℕ) (is_final : Bool) (n : ℕ)
+      → IsBeforeSubType front → IsU32 count n → 2 ≤ n
+      → BeginsUnheld held.Supertypes (front ++ sub_code is_final ∷ []) (count ++ others)
+  comp_begins :
+      (front others : List ℕ) (what : NotHeld) (code : ℕ)
+      → IsBeforeCompType front → IsUnheldComp what code → BeginsUnheld what front (code ∷ others)
+  heap_begins :
+      (front others : List ℕ) (what : NotHeld) (code : ℕ)
+      → IsBeforeHeapType front → IsUnheldHeap what code → BeginsUnheld what front (code ∷ others)
+  ref_begins :
+      (front others : List ℕ) (what : NotHeld) (code : ℕ)
+      → IsBeforeValType front → IsUnheldHeap what code → BeginsUnheld what front (code ∷ others)
+
+-- nothing of the kind begins in the bytes
+abbrev pub HasNothingUnheld : List ℕ → Type 0
+HasNothingUnheld bytes =
+    (what : NotHeld) (front others : List ℕ) → bytes ≡ front ++ others
+    → BeginsUnheld what front others → ⊥
+
 -- ---- errors
 
 -- the place that an error names
@@ -103,9 +127,9 @@ IsSeenThere (decode.NotHeld offset held.Continuation) = Unit {0}
 IsSeenThere (decode.NotHeld offset held.Descriptor) = Unit {0}
 IsSeenThere decode.Memory = Unit {0}
 
--- An error that names what no record holds is right: that begins at its place.
+-- An error names what no record holds where that begins, and no other error comes where it does.
 abbrev pub NamesUnheld : List ℕ → DecodeError → Type 0
 NamesUnheld bytes (decode.NotHeld offset what) =
     IsUnheld what (take offset bytes) (drop offset bytes)
-NamesUnheld bytes (decode.Malformed offset expected) = Unit {0}
+NamesUnheld bytes (decode.Malformed offset expected) = HasNothingUnheld bytes
 NamesUnheld bytes decode.Memory = Unit {0}

@@ -1,5 +1,6 @@
 pub mod Leb128
 pub mod Grammar
+pub mod Places
 pub mod Faults
 pub mod SectionProgress
 pub mod Modules

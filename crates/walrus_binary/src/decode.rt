@@ -54,7 +54,8 @@ pub fn decode_types(alloc: Global, bytes: &[u8]) -> Result<Vec<GroupAt>, DecodeE
     // With the bytes before it some text goes on, unless they begin several supertypes.
     ensures begun { IfErr result (λ e. IfSome (error_offset e) (λ offset.
         IsBegun (take offset bytes.now))) }
-    // Where it names what no record holds, that begins there.
+    // Where it names what no record holds, that begins there; any other error says that nothing of
+    // the kind begins in the bytes.
     ensures unheld { IfErr result (λ e. NamesUnheld bytes.now e) }
 {
     let mut input = bytes;

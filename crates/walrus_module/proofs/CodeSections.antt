@@ -4,23 +4,14 @@ use Rattle.std.specs.List.{concat}
 use Rattle.walrus_binary.specs.Leb128.{IsU32}
 use Rattle.walrus_binary.specs.Grammar.{AreItems, none, next, IsVec, counted}
 use Rattle.walrus_binary.specs.Steps.Reading.{u32_at}
-use Rattle.walrus_binary.proofs.Basics.{Reading, done, value_is, rest_is}
 use Rattle.walrus_binary.proofs.Integers.{u32_sound, u32_complete}
 use Rattle.walrus_module.specs.declared.scan.ScanError.{ScanError}
 use Rattle.walrus_module.specs.declared.scan.ScanError.TheVariants as scan
 use Rattle.walrus_module.specs.Bodies.{IsBody, IsNoBody}
 use Rattle.walrus_module.specs.NamedTypes.{IsSizedBody, sized, IsCode}
 use Rattle.walrus_module.specs.Steps.Heads.{fault}
+use Rattle.walrus_module.proofs.SizedContents.{no_number, same_number}
 use Rattle.walrus_module.specs.Steps.Contents.{BeginsWithBody, BeginsWithNoBody, BeginsWithBodies, BeginsWithNoBodies, IsNoCode}
-
-no_number : (r : Reading ℕ) (left : List ℕ) (n : ℕ) (rest : List ℕ) → r ≡ fault left → r ≡ Ok (n, rest) → ⊥
-no_number r left n rest e h = absurd cc
-
--- two numbers that are read from the same bytes
-same_number : (r : Reading ℕ) (n m : ℕ) (a b : List ℕ) → r ≡ Ok (n, a) → r ≡ Ok (m, b) → (n ≡ m) × (a ≡ b)
-same_number r n m a b e h =
-    let same : done n a ≡ done m b = sym e ∙ h in
-    (value_is n m a b same, rest_is n m a b same)
 
 -- ---- one body
 

@@ -17,7 +17,7 @@ use Rattle.walrus_module.specs.Steps.Tables.{row_kinds}
 
 -- ---- sections
 
-some_kinds : (o : Option (List Kind)) → (o ≡ None → ⊥) → o ≡ Some (kinds_or_none o)
+pub some_kinds : (o : Option (List Kind)) → (o ≡ None → ⊥) → o ≡ Some (kinds_or_none o)
 some_kinds None h = absurd (h refl)
 some_kinds (Some kinds) h = refl
 

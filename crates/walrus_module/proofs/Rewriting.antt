@@ -1,5 +1,5 @@
 -- What is written in place of code that names types.
-use Rattle.std.proofs.Common.{◌≡◌, ℕ, zero, suc, ◌+◌, ◌-◌, ◌<◌, ◌≤◌, Bool, true, false, List, [], ◌∷◌, ◌++◌, length, take, Option, Some, None, Result, Ok, Err, cond, slice_get, refl, sym, ap, subst, ◌∙◌, append_assoc, append-nil, length-append, take_at, arith}
+use Rattle.std.proofs.Common.{◌≡◌, ℕ, zero, suc, ◌+◌, ◌-◌, ◌^◌, ◌<◌, ◌≤◌, Bool, true, false, List, [], ◌∷◌, ◌++◌, length, take, Option, Some, None, IfSome, IfNone, Result, Ok, Err, cond, slice_get, refl, sym, ap, subst, ◌∙◌, append_assoc, append-nil, length-append, take_at, arith}
 use Rattle.std.specs.List.{All}
 use Rattle.std.proofs.lemmas.Grind.{flat_map-append}
 use Rattle.std.proofs.lemmas.List.Elements.{All-nil, All-cons}
@@ -10,14 +10,19 @@ use Rattle.walrus_module.specs.declared.scan.ScanError.{ScanError}
 use Rattle.walrus_module.specs.declared.scan.ScanError.TheVariants as scan
 use Rattle.walrus_module.specs.declared.renaming.RenameError.{RenameError}
 use Rattle.walrus_module.specs.declared.renaming.RenameError.TheVariants as rename
+use Rattle.walrus_module.specs.declared.renaming.Widths.{Widths}
 use Rattle.walrus_module.specs.declared.scan.TypeIndex.{TypeIndex}
-use Rattle.walrus_module.specs.Immediates.{Piece, unsigned, signed, type_name, stop, names_of, type_names}
-use Rattle.walrus_module.specs.Bodies.{body}
-use Rattle.walrus_module.specs.Renaming.{Maps, type_maps, IsTextOf, text_of, Becomes, stays, u32, s33, IsRenamed, RenamesFront, BeginsNoText, IsNoText, NamesUnknown}
+use Rattle.walrus_module.specs.Immediates.{Piece, unsigned, signed, type_name, stop, AreTexts, names_of, type_names}
+use Rattle.walrus_module.specs.Bodies.{Names}
+use Rattle.walrus_module.specs.RenamedSections.{RenamesTexts}
+use Rattle.walrus_module.specs.Renaming.{type_maps, least_width, IsTextOf, text_of, Becomes, stays, u32, s33, IsRenamed, Renames, RenamesFront, BeginsNoText, IsNoText, NamesUnknown}
+use Rattle.walrus_module.specs.Steps.Changes.{StaysInFront, ChangesInFront}
 use Rattle.walrus_module.specs.Steps.Renaming.{Appends, index_end, IsNewIndex, same_error}
 use Rattle.walrus_module.specs.Steps.Scans.{IsRefused, Reads, piece_of, PassesType, PassesNone}
 use Rattle.walrus_module.proofs.Searching.{reads_join, passed_names, type_names_append, refused_behind}
-use Rattle.walrus_module.proofs.WholeTexts.{trailed}
+use Rattle.walrus_module.proofs.WholeTexts.{left_over}
+use Rattle.walrus_module.proofs.Changing.{front_empty, back_empty, before}
+use Rattle.walrus_module.proofs.Padding.{integer_some}
 use Rattle.walrus_module.proofs.Pieces.{texts_of, whole_text, View, u32_type, s33_type, other, view}
 
 -- ---- one piece after another
@@ -72,11 +77,6 @@ pub record Renaming (new_indices : List ℕ) (least : ℕ → ℕ) (start : List
   pub reads : Reads start stack pieces bytes rest
   pub renamed : IsRenamed (type_maps new_indices) least pieces out
 
-rename_begun : (new_indices : List ℕ) (least : ℕ → ℕ) (start : List Kind) (bytes : List ℕ) →
-    Renaming new_indices least start bytes bytes start []
-rename_begun new_indices least start bytes =
-    record { pieces = []; reads = record { text = []; parts = refl; runs = stop start }; renamed = none }
-
 index_text : (is_signed : Bool) (text : List ℕ) (k : ℕ) →
     text_of (cond is_signed (signed space.Type text k) (unsigned space.Type text k)) ≡ text
 index_text true text k = refl
@@ -103,39 +103,78 @@ passed_bytes t kinds left bytes rest n h n-is =
     ∙ ap (λ m. length (texts_of h.passed) + m) (length-append h.text rest) in
     ap (take n) parts ∙ take_at (texts_of h.passed) (h.text ++ rest) n (omega (arith, long, n-is, h.long))
 
+one_some : (k : ℕ) → k ∷ [] ≡ [] → ⊥
+one_some k e = absurd cc
+
+-- the text of a new index is not empty
+index_some : (new_indices : List ℕ) (least : ℕ → ℕ) (t : TypeIndex) (text : List ℕ) →
+    IsNewIndex new_indices least t text → text ≡ [] → ⊥
+index_some new_indices least t text i e =
+    let long = integer_some (index_end t.is_signed) (2 ^ 32) text i.n i.is_text.is_text in
+    let nothing : length text ≡ 0 = ap (λ (u : List ℕ). length u) e in
+    omega (arith, long, nothing)
+
+-- with the index, a type was named
+named_some : (t : TypeIndex) (stack left : List Kind) (rest after : List ℕ) (pieces : List Piece)
+    (h : PassesType t stack left rest after) → type_names (pieces ++ (h.passed ++ piece_of t h.text ∷ [])) ≡ []
+    → ⊥
+named_some t stack left rest after pieces h e =
+    let last = back_empty (type_names pieces) (type_names (h.passed ++ piece_of t h.text ∷ []))
+    (sym (type_names_append pieces (h.passed ++ piece_of t h.text ∷ [])) ∙ e) in
+    one_some t.index (sym (passed_names t stack left rest after h) ∙ last)
+
 rename_on : (new_indices : List ℕ) (least : ℕ → ℕ) (start : List Kind) (bytes rest after : List ℕ)
     (stack left : List Kind) (out mid new text : List ℕ) (n : ℕ) (t : TypeIndex)
     → Renaming new_indices least start bytes rest stack out → PassesType t stack left rest after
     → n ≡ length rest - length after - t.length → mid ≡ out ++ take n rest
     → IsNewIndex new_indices least t text → new ≡ mid ++ text
-    → Renaming new_indices least start bytes after left new
+    → (r : Renaming new_indices least start bytes after left new) × (type_names r.pieces ≡ [] → ⊥)
 rename_on new_indices least start bytes rest after stack left out mid new text n t s h n-is mid-is i new-is =
     let last = piece_of t h.text ∷ [] in
     let IsText = Becomes (type_maps new_indices) least in
     let passed = passed_bytes t stack left rest after n h n-is in
     let is : new ≡ out ++ (texts_of h.passed ++ text) = new-is
     ∙ ap (λ (u : List ℕ). u ++ text) (mid-is ∙ ap (λ (u : List ℕ). out ++ u) passed)
-    ∙ append_assoc out (texts_of h.passed) text in
+    ∙ append_assoc out (texts_of h.passed) text in (
+      record {
+        pieces = s.pieces ++ (h.passed ++ last);
+        reads = reads_join start stack left s.pieces (h.passed ++ last) bytes rest after s.reads h.reads;
+        renamed = subst (λ (u : List ℕ). AreItems IsText u (s.pieces ++ (h.passed ++ last))) (sym is)
+            (items_join IsText out (texts_of h.passed ++ text) s.pieces (h.passed ++ last) s.renamed
+            (items_join IsText (texts_of h.passed) text h.passed last
+            (all_stay new_indices least h.passed h.none)
+            (one_item IsText text (piece_of t h.text)
+            (becomes_index new_indices least t.is_signed h.text text t.index i.n t.length i.mapped i.is_text
+            h.long))));
+      },
+      named_some t stack left rest after s.pieces h,
+    )
+
+texts_stay : (new_indices : List ℕ) (widths : Widths) (kinds : List Kind) (text : List ℕ)
+    (pieces : List Piece) → AreTexts kinds text pieces → type_names pieces ≡ [] →
+    RenamesTexts new_indices widths kinds text text []
+texts_stay new_indices widths kinds text pieces are unnamed =
     record {
-      pieces = s.pieces ++ (h.passed ++ last);
-      reads = reads_join start stack left s.pieces (h.passed ++ last) bytes rest after s.reads h.reads;
-      renamed = subst (λ (u : List ℕ). AreItems IsText u (s.pieces ++ (h.passed ++ last))) (sym is)
-          (items_join IsText out (texts_of h.passed ++ text) s.pieces (h.passed ++ last) s.renamed
-          (items_join IsText (texts_of h.passed) text h.passed last
-          (all_stay new_indices least h.passed h.none)
-          (one_item IsText text (piece_of t h.text)
-          (becomes_index new_indices least t.is_signed h.text text t.index i.n t.length i.mapped i.is_text
-          h.long))));
+      naming = record { pieces = pieces; are = are; named = sym unnamed };
+      renames = record {
+        pieces = pieces;
+        are = are;
+        renamed =
+            subst (λ (u : List ℕ). IsRenamed (type_maps new_indices) (least_width widths) pieces u)
+            (sym (whole_text kinds text pieces [] are))
+            (all_stay new_indices (least_width widths) pieces unnamed);
+      };
     }
 
-rename_ended : (new_indices : List ℕ) (least : ℕ → ℕ) (start : List Kind) (bytes rest after : List ℕ)
+rename_ended : (new_indices : List ℕ) (widths : Widths) (start : List Kind) (bytes rest after : List ℕ)
     (stack left : List Kind) (out new : List ℕ) (n : ℕ)
-    → Renaming new_indices least start bytes rest stack out → PassesNone stack left rest after
+    (s : Renaming new_indices (least_width widths) start bytes rest stack out)
+    → (type_names s.pieces ≡ [] → ⊥) → PassesNone stack left rest after
     → n ≡ length rest - length after → new ≡ out ++ take n rest
-    → RenamesFront (type_maps new_indices) least start bytes after new
-rename_ended new_indices least start bytes rest after stack left out new n s h n-is new-is =
+    → ChangesInFront (RenamesTexts new_indices widths start) bytes after new
+rename_ended new_indices widths start bytes rest after stack left out new n s some h n-is new-is =
     let r = reads_join start stack [] s.pieces h.passed bytes rest after s.reads h.reads in
-    let IsText = Becomes (type_maps new_indices) least in
+    let IsText = Becomes (type_maps new_indices) (least_width widths) in
     let long : length rest ≡ length h.reads.text + length after = ap (λ (u : List ℕ). length u) h.reads.parts
     ∙ length-append h.reads.text after in
     let taken : take n rest ≡ texts_of h.passed = ap (take n) h.reads.parts
@@ -145,12 +184,20 @@ rename_ended new_indices least start bytes rest after stack left out new n s h n
     record {
       text = r.text;
       parts = r.parts;
-      renames = record {
-        pieces = s.pieces ++ h.passed;
-        are = r.runs;
-        renamed = subst (λ (u : List ℕ). AreItems IsText u (s.pieces ++ h.passed)) (sym is)
-            (items_join IsText out (texts_of h.passed) s.pieces h.passed s.renamed
-            (all_stay new_indices least h.passed h.none));
+      changes = record {
+        names = type_names (s.pieces ++ h.passed);
+        becomes = record {
+          naming = record { pieces = s.pieces ++ h.passed; are = r.runs; named = refl };
+          renames = record {
+            pieces = s.pieces ++ h.passed;
+            are = r.runs;
+            renamed = subst (λ (u : List ℕ). AreItems IsText u (s.pieces ++ h.passed)) (sym is)
+                (items_join IsText out (texts_of h.passed) s.pieces h.passed s.renamed
+                (all_stay new_indices (least_width widths) h.passed h.none));
+          };
+        };
+        is_naming = λ e. some (front_empty (type_names s.pieces) (type_names h.passed)
+            (sym (type_names_append s.pieces h.passed) ∙ e));
       };
     }
 
@@ -232,19 +279,27 @@ names_unknown new_indices least start bytes rest after stack left out t k s h u 
 
 -- ---- the function
 
--- what is unwritten when the loop looks for the next index is what was not read
+-- What is unwritten when the loop looks for the next index is what was not read. Where nothing is
+-- written no type was named.
 pub record IsWritten (new_indices : List ℕ) (least : ℕ → ℕ) (start : List Kind)
     (bytes rest unwritten : List ℕ) (stack : List Kind) (out : List ℕ) : Type 0 where
   pub so_far : Renaming new_indices least start bytes rest stack out
   pub here : unwritten ≡ rest
+  pub bare : out ≡ [] → type_names so_far.pieces ≡ []
+  pub named : (out ≡ [] → ⊥) → type_names so_far.pieces ≡ [] → ⊥
 
 pub written_begun : (new_indices : List ℕ) (least : ℕ → ℕ) (start : List Kind) (bytes out : List ℕ) →
     out ≡ [] → IsWritten new_indices least start bytes bytes bytes start out
 written_begun new_indices least start bytes out e =
     record {
-      so_far = subst (λ (u : List ℕ). Renaming new_indices least start bytes bytes start u) (sym e)
-          (rename_begun new_indices least start bytes);
+      so_far = record {
+        pieces = [];
+        reads = record { text = []; parts = refl; runs = stop start };
+        renamed = subst (λ (u : List ℕ). IsRenamed (type_maps new_indices) least [] u) (sym e) none;
+      };
       here = refl;
+      bare = λ h. refl;
+      named = λ some h. some e;
     }
 
 pub written_on : (new_indices : List ℕ) (least : ℕ → ℕ) (start : List Kind)
@@ -255,23 +310,54 @@ pub written_on : (new_indices : List ℕ) (least : ℕ → ℕ) (start : List Ki
     → IsWritten new_indices least start bytes after after left new
 written_on new_indices least start bytes rest after unwritten stack left out mid new t w h e a =
     let n : ℕ = length unwritten - length after - t.length in
+    let r = rename_on new_indices least start bytes rest after stack left out mid new a.text n t w.so_far h
+    (ap (λ (u : List ℕ). length u - length after - t.length) w.here)
+    (e ∙ ap (λ (u : List ℕ). out ++ take n u) w.here) a.is_text a.parts in
     record {
-      so_far = rename_on new_indices least start bytes rest after stack left out mid new a.text n t w.so_far h
-          (ap (λ (u : List ℕ). length u - length after - t.length) w.here)
-          (e ∙ ap (λ (u : List ℕ). out ++ take n u) w.here) a.is_text a.parts;
+      so_far = r.0;
       here = refl;
+      bare = λ nothing. absurd (index_some new_indices least t a.text a.is_text
+          (back_empty mid a.text (sym a.parts ∙ nothing)));
+      named = λ some. r.1;
     }
 
-pub written_ended : (new_indices : List ℕ) (least : ℕ → ℕ) (start : List Kind)
+pub written_stays : (new_indices : List ℕ) (widths : Widths) (start : List Kind)
+    (bytes rest after unwritten : List ℕ) (stack left : List Kind) (out : List ℕ)
+    → IsWritten new_indices (least_width widths) start bytes rest unwritten stack out
+    → PassesNone stack left rest after → out ≡ []
+    → StaysInFront (RenamesTexts new_indices widths start) bytes after
+written_stays new_indices widths start bytes rest after unwritten stack left out w h e =
+    let s = w.so_far in
+    let r = reads_join start stack [] s.pieces h.passed bytes rest after s.reads h.reads in
+    let unnamed : type_names (s.pieces ++ h.passed) ≡ [] = type_names_append s.pieces h.passed
+    ∙ ap (λ (u : List ℕ). u ++ type_names h.passed) (w.bare e) ∙ h.none in
+    record {
+      text = r.text;
+      parts = r.parts;
+      stays = texts_stay new_indices widths start r.text (s.pieces ++ h.passed) r.runs unnamed;
+    }
+
+pub written_ended : (new_indices : List ℕ) (widths : Widths) (start : List Kind)
     (bytes rest after unwritten : List ℕ) (stack left : List Kind) (out new : List ℕ)
-    → IsWritten new_indices least start bytes rest unwritten stack out → PassesNone stack left rest after
-    → new ≡ out ++ take (length unwritten - length after) unwritten
-    → RenamesFront (type_maps new_indices) least start bytes after new
-written_ended new_indices least start bytes rest after unwritten stack left out new w h e =
+    → IsWritten new_indices (least_width widths) start bytes rest unwritten stack out → (out ≡ [] → ⊥)
+    → PassesNone stack left rest after → new ≡ out ++ take (length unwritten - length after) unwritten
+    → ChangesInFront (RenamesTexts new_indices widths start) bytes after new
+written_ended new_indices widths start bytes rest after unwritten stack left out new w some h e =
     let n : ℕ = length unwritten - length after in
-    rename_ended new_indices least start bytes rest after stack left out new n w.so_far h
+    rename_ended new_indices widths start bytes rest after stack left out new n w.so_far (w.named some) h
     (ap (λ (u : List ℕ). length u - length after) w.here)
     (e ∙ ap (λ (u : List ℕ). out ++ take n u) w.here)
+
+-- what is left is no longer than the bytes
+pub written_shorter : (new_indices : List ℕ) (least : ℕ → ℕ) (start : List Kind)
+    (bytes rest after unwritten : List ℕ) (stack left : List Kind) (out : List ℕ)
+    → IsWritten new_indices least start bytes rest unwritten stack out → PassesNone stack left rest after
+    → length after ≤ length bytes
+written_shorter new_indices least start bytes rest after unwritten stack left out w h =
+    let r = w.so_far.reads in
+    let long : length bytes ≡ length r.text + length rest = ap (λ (u : List ℕ). length u) r.parts
+    ∙ length-append r.text rest in
+    omega (arith, long, h.fits)
 
 pub is_malformed : (e : ScanError) → same_error e ≡ rename.Malformed → e ≡ scan.Malformed
 is_malformed scan.Malformed h = refl
@@ -289,11 +375,57 @@ same_failure (Err z) x y e f = cc
 pub none_whole : (kinds : List Kind) (bytes : List ℕ) → BeginsNoText kinds bytes → IsNoText kinds bytes
 none_whole kinds bytes h = h bytes [] (sym (append-nil bytes))
 
--- where bytes are left behind a body, there is no body of all of them
-pub renamed_trailed : (maps : Maps) (least : ℕ → ℕ) (bytes rest new : List ℕ) →
-    RenamesFront maps least body bytes rest new → (rest ≡ [] → ⊥) → IsNoText body bytes
-renamed_trailed maps least bytes rest new h some pieces are =
-    let r = h.renames in
-    trailed bytes rest (type_names r.pieces)
-    (record { text = h.text; pieces = r.pieces; parts = h.parts; are = r.are; named = refl }) some
+-- where bytes are left behind a text, all of them are none
+text_trailed : (kinds : List Kind) (bytes text rest names : List ℕ) → bytes ≡ text ++ rest →
+    Names kinds text names → (rest ≡ [] → ⊥) → IsNoText kinds bytes
+text_trailed kinds bytes text rest names parts n some pieces are =
+    left_over kinds bytes rest names
+    (record { text = text; pieces = n.pieces; parts = parts; are = n.are; named = n.named }) some
     (type_names pieces) (record { pieces = pieces; are = are; named = refl })
+
+pub stays_trailed : (new_indices : List ℕ) (widths : Widths) (kinds : List Kind) (bytes rest : List ℕ) →
+    (rest ≡ [] → ⊥) → StaysInFront (RenamesTexts new_indices widths kinds) bytes rest → IsNoText kinds bytes
+stays_trailed new_indices widths kinds bytes rest some s =
+    text_trailed kinds bytes s.text rest [] s.parts s.stays.naming some
+
+pub changes_trailed : (new_indices : List ℕ) (widths : Widths) (kinds : List Kind)
+    (bytes rest new : List ℕ) →
+    (rest ≡ [] → ⊥) → ChangesInFront (RenamesTexts new_indices widths kinds) bytes rest new →
+    IsNoText kinds bytes
+changes_trailed new_indices widths kinds bytes rest new some c =
+    text_trailed kinds bytes c.text rest c.changes.names c.parts c.changes.becomes.naming some
+
+-- ---- what is returned, or a copy
+
+front_renamed : (new_indices : List ℕ) (widths : Widths) (kinds : List Kind) (bytes rest new : List ℕ) →
+    ChangesInFront (RenamesTexts new_indices widths kinds) bytes rest new →
+    RenamesFront (type_maps new_indices) (least_width widths) kinds bytes rest new
+front_renamed new_indices widths kinds bytes rest new c =
+    record { text = c.text; parts = c.parts; renames = c.changes.becomes.renames }
+
+front_copied : (new_indices : List ℕ) (widths : Widths) (kinds : List Kind) (bytes rest new : List ℕ) →
+    StaysInFront (RenamesTexts new_indices widths kinds) bytes rest →
+    new ≡ take (length bytes - length rest) bytes →
+    RenamesFront (type_maps new_indices) (least_width widths) kinds bytes rest new
+front_copied new_indices widths kinds bytes rest new s e =
+    record {
+      text = s.text;
+      parts = s.parts;
+      renames =
+          subst (λ (u : List ℕ). Renames (type_maps new_indices) (least_width widths) kinds s.text u)
+          (sym (e ∙ before bytes s.text rest s.parts)) s.stays.renames;
+    }
+
+-- what is new was returned, or a copy of the text
+pub front_returned : {A : Type 0} (o : Option A) (items : A → List ℕ) (new_indices : List ℕ)
+    (widths : Widths) (kinds : List Kind) (bytes rest out : List ℕ)
+    → IfNone o (StaysInFront (RenamesTexts new_indices widths kinds) bytes rest)
+    → IfSome o (λ x. ChangesInFront (RenamesTexts new_indices widths kinds) bytes rest (items x))
+    → IfSome o (λ x. out ≡ items x) → IfNone o (out ≡ take (length bytes - length rest) bytes)
+    → RenamesFront (type_maps new_indices) (least_width widths) kinds bytes rest out
+front_returned None items new_indices widths kinds bytes rest out same changes new copy =
+    front_copied new_indices widths kinds bytes rest out same copy
+front_returned (Some x) items new_indices widths kinds bytes rest out same changes new copy =
+    front_renamed new_indices widths kinds bytes rest out
+    (subst (λ (u : List ℕ). ChangesInFront (RenamesTexts new_indices widths kinds) bytes rest u) (sym new)
+    changes)

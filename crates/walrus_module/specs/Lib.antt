@@ -6,3 +6,8 @@ pub mod Bodies
 pub mod Renaming
 pub mod NamedTypes
 pub mod Steps
+pub mod Changes
+pub mod RenamedSections
+pub mod NameSections
+pub mod RenamedModules
+pub mod Customs

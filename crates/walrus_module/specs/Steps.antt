@@ -6,3 +6,7 @@ pub mod Stacks
 pub mod Scans
 pub mod Renaming
 pub mod Contents
+pub mod Changes
+pub mod RenamedModules
+pub mod NameSections
+pub mod Customs

@@ -13,7 +13,7 @@ use std::marker::Model;
 use walrus_binary::{DecodeError, type_section};
 
 /// How many bytes come before the first section.
-const HEADER_LENGTH: usize = 8;
+pub const HEADER_LENGTH: usize = 8;
 
 /// A section of a module, and where it is.
 #[derive(Clone, Copy, PartialEq, Eq, Debug)]

@@ -4,26 +4,42 @@
 //! - [`named_types`] returns the types that a module names outside its type section, and
 //!   [`section_types`] those of one section.
 //! - [`expression_types`] and [`body_types`] return the types that code names.
-//! - [`rename_expression`] and [`rename_body`] return code with other indices of types.
+//! - [`rename_expression`] and [`rename_body`] return code with other indices of types, and
+//!   [`rename_section`] and [`rename_custom_section`] the content of a section.
+//! - [`rename_module`] returns a module with another type section, and with other indices of types
+//!   everywhere else.
+//! - [`strip_descriptions`] returns a module without the custom sections that describe its other
+//!   bytes, such as debug data, and [`find_description`] the place of the first one.
 #![tactic(auto)]
 
 mod bodies;
 mod code;
 mod contents;
+mod customs;
 mod framing;
 mod head;
 mod kind;
 pub mod laws;
 mod leb128;
+mod name_maps;
+mod name_section;
 mod named;
 mod opcodes;
+mod renamed_code;
+mod renamed_content;
+mod renamed_module;
 mod renaming;
 mod scan;
+mod sized;
 mod stack;
 mod texts;
 
 pub use bodies::{body_types, expression_types};
+pub use customs::{find_description, strip_descriptions};
 pub use framing::{Section, SectionIter, sections};
+pub use name_section::rename_custom_section;
 pub use named::{named_types, section_types};
+pub use renamed_content::rename_section;
+pub use renamed_module::rename_module;
 pub use renaming::{RenameError, Widths, rename_body, rename_expression};
 pub use scan::ScanError;

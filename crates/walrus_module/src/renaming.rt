@@ -1,11 +1,14 @@
 //! Code with other indices of types.
 //!
 //! WebAssembly core specification, "Binary Format", expressions and code section.
-ghost use Rattle.std.specs.Prelude.{◌≡◌, ◌≤◌, ℕ, length, IfOk, OnErr, OnOk, IsErrOf};
+ghost use Rattle.std.specs.Prelude.{◌≡◌, ◌≤◌, ℕ, [], length, IfOk, IfSome, IfNone, OnErr, OnOk, IsErrOf};
 ghost use Rattle.walrus_module.specs.Bodies.{expression, body};
+ghost use Rattle.walrus_module.specs.Changes.{Changes};
+ghost use Rattle.walrus_module.specs.RenamedSections.{RenamesTexts};
 ghost use Rattle.walrus_module.specs.Renaming.{type_maps, least_width, Renames, RenamesFront, BeginsNoText, IsNoText, NamesUnknown, IsTextOf};
+ghost use Rattle.walrus_module.specs.Steps.Changes.{StaysInFront, ChangesInFront};
 ghost use Rattle.walrus_module.specs.Steps.Renaming.{Appends, IsNewIndex, IsUnknown, index_end};
-ghost use Rattle.walrus_module.specs.declared.renaming.RenameError.TheVariants.{Malformed, UnknownType};
+ghost use Rattle.walrus_module.specs.declared.renaming.RenameError.TheVariants.{Malformed, UnknownType, TooLong};
 
 use crate::kind::Kind;
 use crate::leb128::{push_s33, push_u32};
@@ -26,8 +29,8 @@ pub enum Widths {
 /// Why indices were not written again.
 #[derive(Clone, Copy, PartialEq, Eq, Debug, Error)]
 pub enum RenameError {
-    /// The bytes are no code by the grammar of WebAssembly.
-    #[error("malformed code")]
+    /// The bytes are no such code, or no such content, by the grammar of WebAssembly.
+    #[error("malformed code or section")]
     Malformed,
     /// There is no new index for a type that is named.
     #[error("type {index} has no new index")]
@@ -35,6 +38,9 @@ pub enum RenameError {
         /// The type's index.
         index: u32,
     },
+    /// A function body or a section would have 2^32 bytes or more, which no size can count.
+    #[error("a function body or a section of 2^32 bytes or more")]
+    TooLong,
     /// Memory was refused.
     #[error("out of memory")]
     Memory,
@@ -102,6 +108,7 @@ pub fn rename_expression(
     let mut rest = *input;
     let kinds = Stack::new(alloc, Kind::Expression);
     let new = rename(alloc, kinds, &mut rest, new_indices, widths)?;
+    let new = new_or_copy(alloc, new, &input[..input.len() - rest.len()])?;
     *input = rest;
     Ok(new)
 }
@@ -130,9 +137,50 @@ pub fn rename_body(
     ensures unknown { (k : ℕ) → IsErrOf result (UnknownType k) →
         NamesUnknown (length new_indices.now) body content.now k }
 {
+    let new = rename_whole_body(alloc, content, new_indices, widths)?;
+    Ok(new_or_copy(alloc, new, content)?)
+}
+
+/// A function body with other indices of types. Returns `None` where it names no type.
+pub fn rename_whole_body(
+    alloc: Global,
+    content: &[u8],
+    new_indices: &[u32],
+    widths: Widths,
+) -> Result<Option<Vec<u8>>, RenameError>
+    ensures stays { IfOk result (λ new. IfNone new
+        (RenamesTexts new_indices.now widths body content.now content.now [])) }
+    ensures changes { IfOk result (λ new. IfSome new (λ text.
+        Changes (RenamesTexts new_indices.now widths body) content.now text.items)) }
+    ensures malformed { IsErrOf result Malformed → IsNoText body content.now }
+    ensures unknown { (k : ℕ) → IsErrOf result (UnknownType k) →
+        NamesUnknown (length new_indices.now) body content.now k }
+    ensures sizeless { IsErrOf result TooLong → ⊥ }
+{
     let mut kinds = Stack::new(alloc, Kind::Expression);
     kinds.push(Kind::Locals)?;
-    let mut rest = content;
+    rename_whole(alloc, kinds, content, new_indices, widths)
+}
+
+/// All of the bytes as a text of the kinds on the stack, with other indices of types. Returns `None`
+/// where it names no type.
+pub fn rename_whole(
+    alloc: Global,
+    kinds: Stack,
+    bytes: &[u8],
+    new_indices: &[u32],
+    widths: Widths,
+) -> Result<Option<Vec<u8>>, RenameError>
+    ensures stays { IfOk result (λ new. IfNone new
+        (RenamesTexts new_indices.now widths kinds bytes.now bytes.now [])) }
+    ensures changes { IfOk result (λ new. IfSome new (λ text.
+        Changes (RenamesTexts new_indices.now widths kinds) bytes.now text.items)) }
+    ensures malformed { IsErrOf result Malformed → IsNoText kinds bytes.now }
+    ensures unknown { (k : ℕ) → IsErrOf result (UnknownType k) →
+        NamesUnknown (length new_indices.now) kinds bytes.now k }
+    ensures sizeless { IsErrOf result TooLong → ⊥ }
+{
+    let mut rest = bytes;
     let new = rename(alloc, kinds, &mut rest, new_indices, widths)?;
     if !rest.is_empty() {
         return Err(RenameError::Malformed);
@@ -140,19 +188,24 @@ pub fn rename_body(
     Ok(new)
 }
 
-/// Takes a text of the kinds on the stack from the front. Returns it with other indices of types.
+/// Takes a text of the kinds on the stack from the front. Returns it with other indices of types, or
+/// `None` where it names no type.
 fn rename(
     alloc: Global,
     kinds: Stack,
     input: &mut &[u8],
     new_indices: &[u32],
     widths: Widths,
-) -> Result<Vec<u8>, RenameError>
-    ensures renamed { IfOk result (λ new. RenamesFront (type_maps new_indices.now)
-        (least_width widths) kinds input.old.now input.new.now new.items) }
+) -> Result<Option<Vec<u8>>, RenameError>
+    ensures stays { IfOk result (λ new. IfNone new (StaysInFront
+        (RenamesTexts new_indices.now widths kinds) input.old.now input.new.now)) }
+    ensures changes { IfOk result (λ new. IfSome new (λ text. ChangesInFront
+        (RenamesTexts new_indices.now widths kinds) input.old.now input.new.now text.items)) }
+    ensures shorter { IfOk result (λ new. length input.new.now ≤ length input.old.now) }
     ensures malformed { IsErrOf result Malformed → BeginsNoText kinds input.old.now }
     ensures unknown { (k : ℕ) → IsErrOf result (UnknownType k) →
         NamesUnknown (length new_indices.now) kinds input.old.now k }
+    ensures sizeless { IsErrOf result TooLong → ⊥ }
 {
     let mut out = Vec::new(alloc);
     let mut stack = kinds;
@@ -163,8 +216,11 @@ fn rename(
         write_index(found, new_indices, widths, &mut out)?;
         unwritten = *input;
     }
+    if out.as_slice().is_empty() {
+        return Ok(None);
+    }
     out.extend_from_slice(&unwritten[..unwritten.len() - input.len()])?;
-    Ok(out)
+    Ok(Some(out))
 }
 
 /// Puts the new index of a type at the end.
@@ -180,6 +236,7 @@ fn write_index(
     ensures known { IsErrOf result Malformed → ⊥ }
     ensures unknown { (k : ℕ) → IsErrOf result (UnknownType k) →
         IsUnknown (length new_indices.now) found k }
+    ensures sizeless { IsErrOf result TooLong → ⊥ }
 {
     let index = found.index as usize;
     if index >= new_indices.len() {
@@ -190,7 +247,7 @@ fn write_index(
     Ok(())
 }
 
-fn least_width(widths: Widths, length: usize) -> usize
+pub fn least_width(widths: Widths, length: usize) -> usize
     ensures { result ≡ least_width widths length }
 {
     match widths {
@@ -213,4 +270,19 @@ fn push_index(
         return push_s33(index, least, out);
     }
     push_u32(index, least, out)
+}
+
+/// What is new, or a copy where nothing is.
+pub fn new_or_copy(alloc: Global, new: Option<Vec<u8>>, old: &[u8]) -> Result<Vec<u8>, AllocError>
+    ensures new { IfSome new (λ text. IfOk result (λ out. out.items ≡ text.items)) }
+    ensures copy { IfNone new (IfOk result (λ out. out.items ≡ old.now)) }
+{
+    match new {
+        Some(new) => Ok(new),
+        None => {
+            let mut copy = Vec::new(alloc);
+            copy.extend_from_slice(old)?;
+            Ok(copy)
+        }
+    }
 }

@@ -1,8 +1,10 @@
 //! The sections of modules that are put together by hand from the specification's grammar.
 mod code;
 mod contents;
+mod customs;
 mod named;
 mod refusals;
+mod renamed_modules;
 mod renaming;
 mod speed;
 

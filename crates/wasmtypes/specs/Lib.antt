@@ -1,4 +1,2 @@
-pub mod Lookalikes
-pub mod Contexts
 pub mod Runs
 pub mod Steps

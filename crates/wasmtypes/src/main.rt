@@ -9,9 +9,7 @@ ghost use Rattle.walrus_binary.specs.ModuleSections.{HasBadTypes};
 ghost use Rattle.wasmtypes.specs.Runs.{IsPrinted};
 ghost use Rattle.wasmtypes.specs.Steps.Failures.{Explains, status_of};
 
-mod context;
 mod failure;
-mod lookalike;
 mod texts;
 
 use command_line::{Request, open, parse_arguments, read_bytes, report_usage, write_version};

@@ -83,7 +83,8 @@ impl<'a> TypeSectionReader<'a> {
         // With the bytes before it some text goes on.
         ensures begun { IfErr result (λ e. IfSome (error_offset e) (λ offset.
             IsBegun (take offset bytes.now))) }
-        // Where it names what no record holds, that begins there.
+        // Where it names what no record holds, that begins there; any other error says that nothing
+        // of the kind begins in the bytes.
         ensures unheld { IfErr result (λ e. NamesUnheld bytes.now e) }
     {
         let mut rest = bytes;
@@ -147,7 +148,8 @@ impl<'a> TypeSectionReader<'a> {
         // With the bytes before it some text goes on, unless they begin several supertypes.
         ensures begun { IfErr result (λ e. IfSome (error_offset e) (λ offset.
             IsBegun (take offset self.old.bytes))) }
-        // Where it names what no record holds, that begins there.
+        // Where it names what no record holds, that begins there; any other error says that nothing
+        // of the kind begins in the bytes.
         ensures unheld { IfErr result (λ e. NamesUnheld self.old.bytes e) }
     {
         let mut rest = self.rest;

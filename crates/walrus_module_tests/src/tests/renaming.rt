@@ -1,6 +1,8 @@
 //! Code with other indices of types. The bytes are put together by hand from the specification's
 //! grammar of instructions.
+mod custom;
 mod refusals;
+mod sections;
 mod widths;
 
 use std::alloc::Global;

@@ -4,7 +4,7 @@ use Rattle.std.specs.Prelude.{Option, Some, None, codes, decimal, not, if◌then
 use Rattle.std.proofs.lemmas.Bool.{false≢true}
 use Rattle.walrus_text.specs.Words.{has_items}
 use Rattle.walrus_text.specs.Text.{AreIndices, IsText, heap_word, val_word, field_word, open_words, supertype_words, composite_words}
-use Rattle.walrus_text.specs.Steps.Parts.{BeginsWith, IsValWord, IsFieldWord, IsSupertypeWord, IsArrayLine, IsCompositeLine, IsSubtypeLine, IsEntryLine}
+use Rattle.walrus_text.specs.Steps.Parts.{BeginsWith, PassesOver, one_passed, IsValWord, IsFieldWord, IsSupertypeWord, IsArrayLine, IsCompositeLine, IsSubtypeLine, IsEntryLine}
 use Rattle.std.specs.List.{flat_map, AllByRecursion}
 use Rattle.walrus_ty.specs.declared.ty.value.Val.{Val}
 use Rattle.walrus_ty.specs.declared.ty.value.Val.TheVariants as val
@@ -223,3 +223,16 @@ pub not_alone :
     (ws others : List (List ℕ)) (w : List ℕ) → ws ≡ w ∷ others → not (has_items others) ≡ false →
     ws ≢ w ∷ []
 not_alone ws others w e h k = not_blank others h (ap rest_of (sym e ∙ k))
+
+-- one more word is passed over
+pub passes_value : (words others after : List (List ℕ)) (v : Val ℕ) → PassesOver IsValWord words others →
+    others ≡ val_word v ∷ after → AreIndices (val_names v) → PassesOver IsValWord words after
+passes_value words others after v h e fits =
+    one_passed (val_word v) after (subst (λ (ws : List (List ℕ)). PassesOver IsValWord words ws) e h)
+    (v, fits, refl)
+
+pub passes_field : (words others after : List (List ℕ)) (f : Field ℕ) → PassesOver IsFieldWord words others →
+    others ≡ field_word f ∷ after → AreIndices (field_names f) → PassesOver IsFieldWord words after
+passes_field words others after f h e fits =
+    one_passed (field_word f) after (subst (λ (ws : List (List ℕ)). PassesOver IsFieldWord words ws) e h)
+    (f, fits, refl)

@@ -12,6 +12,13 @@ abbrev pub BeginsWith : (List ℕ → Type 0) → List (List ℕ) → Type 0
 BeginsWith P [] = ⊥
 BeginsWith P (w ∷ ws) = P w
 
+-- The second words are the first ones without some at the front, each of which has P.
+pub data PassesOver (P : List ℕ → Type 0) (words : List (List ℕ)) : List (List ℕ) → Type 0 where
+  all_left : PassesOver P words words
+  one_passed :
+      (word : List ℕ) (others : List (List ℕ))
+      → PassesOver P words (word ∷ others) → P word → PassesOver P words others
+
 abbrev pub IsIndexWord : List ℕ → Type 0
 IsIndexWord word = IsText decimal (λ k. k < 2 ^ 32) word
 

@@ -1,7 +1,7 @@
 //! Where a bad line stops being one of a section, and what has to be there.
 ghost use Rattle.std.specs.Prelude.{◌≤◌, ◌+◌, length};
 ghost use Rattle.walrus_text.specs.Words.{words_of};
-ghost use Rattle.walrus_text.specs.Steps.Parts.{BeginsWith, IsFieldWord, IsValWord};
+ghost use Rattle.walrus_text.specs.Steps.Parts.{BeginsWith, PassesOver, IsFieldWord, IsValWord};
 
 use crate::error::Expected;
 use crate::parse::entry::{after_word, finality, next_field, next_value, supertype};
@@ -9,8 +9,8 @@ use crate::words::{is_blank, next_word};
 
 /// What has to be where a bad line goes wrong, and the column of that place, counted from 1. A line
 /// in a recursion group may be `end`, and one outside may be `rec`.
-// The clause says only that the column is one of the line, or one past its end: the wording of errors
-// is tested, and not proved.
+// The clauses say only that the column is one of the line, or one past its end: the wording of
+// errors is tested, and not proved.
 pub fn find_fault(line: &[u8], is_in_group: bool) -> (Expected, usize)
     ensures first { 1 ≤ result.1 }
     ensures last { result.1 ≤ length line.now + 1 }
@@ -95,8 +95,10 @@ fn in_array(line: &[u8]) -> (Expected, &[u8]) {
 }
 
 /// The rest of a line after the value types that it begins with.
+#[tactic(auto, using(crate::proofs::Parsing::Entries::passes_value))]
 fn after_values(line: &[u8]) -> &[u8]
-    ensures { ¬ BeginsWith IsValWord (words_of result.now) }
+    ensures passed { PassesOver IsValWord (words_of line.now) (words_of result.now) }
+    ensures stops { ¬ BeginsWith IsValWord (words_of result.now) }
 {
     let mut rest = line;
     while let Some((_, after)) = next_value(rest) {
@@ -106,8 +108,10 @@ fn after_values(line: &[u8]) -> &[u8]
 }
 
 /// The rest of a line after the fields that it begins with.
+#[tactic(auto, using(crate::proofs::Parsing::Entries::passes_field))]
 fn after_fields(line: &[u8]) -> &[u8]
-    ensures { ¬ BeginsWith IsFieldWord (words_of result.now) }
+    ensures passed { PassesOver IsFieldWord (words_of line.now) (words_of result.now) }
+    ensures stops { ¬ BeginsWith IsFieldWord (words_of result.now) }
 {
     let mut rest = line;
     while let Some((_, after)) = next_field(rest) {

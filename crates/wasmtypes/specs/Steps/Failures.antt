@@ -6,7 +6,7 @@ use Rattle.walrus_binary.specs.Faults.{error_offset}
 use Rattle.wasmtypes.specs.declared.failure.Failure.{Failure}
 use Rattle.wasmtypes.specs.declared.failure.Failure.TheVariants as failure
 use Rattle.walrus_binary.specs.ModuleSections.{HasBadTypes}
-use Rattle.wasmtypes.specs.Contexts.{IsContext}
+use Rattle.command_line.specs.Contexts.{IsContext}
 
 -- what a failure says of the bytes
 abbrev pub Explains : Failure → List ℕ → Type 0

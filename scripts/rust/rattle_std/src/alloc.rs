@@ -1,4 +1,4 @@
-//! The allocator, and what a refused request for memory leads to.
+//! What a refused request for memory leads to.
 use std::collections::TryReserveError;
 use std::{error, fmt};
 
@@ -47,7 +47,19 @@ impl<T> From<AllocFailed<T>> for AllocError {
     }
 }
 
-/// Rust's global allocator.
+/// The value of a call to which memory was not refused.
+///
+/// # Panics
+///
+/// Where memory was refused.
+pub fn or_panic<T>(result: Result<T, AllocError>) -> T {
+    match result {
+        Ok(value) => value,
+        Err(error) => panic!("{error}"),
+    }
+}
+
+/// Rust's global allocator. No call takes it.
 #[derive(Clone, Copy, PartialEq, Eq, PartialOrd, Ord, Hash, Debug, Default, crate::TryClone)]
 pub struct Global;
 

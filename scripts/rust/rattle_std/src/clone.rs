@@ -82,6 +82,6 @@ impl<T: TryClone> TryClone for Vec<T> {
 
 impl TryClone for String {
     fn try_clone(&self) -> Result<Self, AllocError> {
-        crate::string::from_str(crate::alloc::Global, self)
+        crate::string::from_str(self)
     }
 }

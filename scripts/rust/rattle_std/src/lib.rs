@@ -1,8 +1,8 @@
 //! What the libraries of Ruffdresser need of the Rattle toolchain's standard library, over Rust's.
 //!
 //! Containers are Rust's own. A call that takes memory has a twin here that returns an error where
-//! memory is refused, such as [`try_push`](vec::VecExt::try_push) for `push`. The
-//! allocator is always [`Global`](alloc::Global), Rust's.
+//! memory is refused, such as [`try_push`](vec::VecExt::try_push) for `push`. The allocator is
+//! Rust's, so that no call takes one.
 #![forbid(unsafe_code)]
 
 extern crate self as rattle_std;
@@ -35,22 +35,19 @@ pub mod prelude {
 /// A list of these items, or of an item and its repetitions, or the error of a refused request for
 /// memory.
 #[macro_export]
-macro_rules! vec_in {
-    ($alloc:expr) => {
-        $crate::vec::from_array($alloc, [])
+macro_rules! try_vec {
+    ($item:expr; $count:expr) => {
+        $crate::vec::repeated($item, $count)
     };
-    ($alloc:expr; $item:expr; $count:expr) => {
-        $crate::vec::repeated($alloc, $item, $count)
-    };
-    ($alloc:expr; $($item:expr),* $(,)?) => {
-        $crate::vec::from_array($alloc, [$($item),*])
+    ($($item:expr),* $(,)?) => {
+        $crate::vec::from_array([$($item),*])
     };
 }
 
 /// A text, as `format!` makes it, or the error of a refused request for memory.
 #[macro_export]
-macro_rules! format_in {
-    ($alloc:expr; $($format:tt)*) => {
-        $crate::string::format($alloc, format_args!($($format)*))
+macro_rules! try_format {
+    ($($format:tt)*) => {
+        $crate::string::format(format_args!($($format)*))
     };
 }

@@ -1,5 +1,4 @@
 //! What a program has of the system.
-use crate::alloc::Global;
 use std::fs::File;
 use std::io::{self, Read, Stderr, Stdin, Stdout};
 
@@ -8,11 +7,6 @@ use std::io::{self, Read, Stderr, Stdin, Stdout};
 pub struct HostRuntime;
 
 impl HostRuntime {
-    /// The allocator.
-    pub fn alloc(&self) -> Global {
-        Global
-    }
-
     /// The standard input.
     pub fn stdin(&self) -> Stdin {
         std::io::stdin()
@@ -29,13 +23,8 @@ impl HostRuntime {
     }
 }
 
-/// A system whose allocator is [`Global`].
-pub trait AllocGlobal {
-    /// The allocator.
-    fn alloc(&self) -> Global {
-        Global
-    }
-}
+/// A system with Rust's allocator.
+pub trait AllocGlobal {}
 
 impl AllocGlobal for HostRuntime {}
 
@@ -124,21 +113,21 @@ pub mod test {
 
 /// Counted references.
 pub mod rc {
-    use crate::alloc::{AllocError, Global};
+    use crate::alloc::AllocError;
     use std::rc::Rc;
 
     /// A value with a count of references.
-    pub fn new<T>(_: Global, value: T) -> Result<Rc<T>, AllocError> {
+    pub fn new<T>(value: T) -> Result<Rc<T>, AllocError> {
         Ok(Rc::new(value))
     }
 }
 
 /// Values in memory of their own.
 pub mod boxed {
-    use crate::alloc::{AllocError, Global};
+    use crate::alloc::AllocError;
 
     /// A value in memory of its own.
-    pub fn new<T>(_: Global, value: T) -> Result<Box<T>, AllocError> {
+    pub fn new<T>(value: T) -> Result<Box<T>, AllocError> {
         Ok(Box::new(value))
     }
 }

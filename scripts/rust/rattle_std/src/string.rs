@@ -1,21 +1,16 @@
 //! Texts.
-use crate::alloc::{AllocError, Global};
+use crate::alloc::AllocError;
 use std::fmt::{self, Arguments, Write};
 
-/// An empty text. It takes no memory.
-pub fn new(_: Global) -> String {
-    String::new()
-}
-
 /// A copy of the text.
-pub fn from_str(_: Global, text: &str) -> Result<String, AllocError> {
+pub fn from_str(text: &str) -> Result<String, AllocError> {
     let mut copy = String::new();
     copy.try_push_str(text)?;
     Ok(copy)
 }
 
 /// The text that the arguments of `format!` make.
-pub fn format(_: Global, arguments: Arguments<'_>) -> Result<String, AllocError> {
+pub fn format(arguments: Arguments<'_>) -> Result<String, AllocError> {
     let mut text = String::new();
     match Refusable(&mut text).write_fmt(arguments) {
         Ok(()) => Ok(text),
@@ -56,11 +51,11 @@ impl StringExt for String {
 /// Printing that returns an error where memory is refused.
 pub trait DisplayExt {
     /// The text that the value is printed as.
-    fn try_to_string(&self, alloc: Global) -> Result<String, AllocError>;
+    fn try_to_string(&self) -> Result<String, AllocError>;
 }
 
 impl<T: fmt::Display + ?Sized> DisplayExt for T {
-    fn try_to_string(&self, alloc: Global) -> Result<String, AllocError> {
-        format(alloc, format_args!("{self}"))
+    fn try_to_string(&self) -> Result<String, AllocError> {
+        format(format_args!("{self}"))
     }
 }

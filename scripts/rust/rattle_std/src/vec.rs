@@ -1,34 +1,29 @@
 //! Lists.
-use crate::alloc::{AllocError, AllocFailed, Global};
+use crate::alloc::{AllocError, AllocFailed};
 use crate::clone::TryClone;
 
-/// A list without items. It takes no memory.
-pub fn new<T>(_: Global) -> Vec<T> {
-    Vec::new()
-}
-
 /// A list without items, with memory for this number of them.
-pub fn with_capacity<T>(_: Global, capacity: usize) -> Result<Vec<T>, AllocError> {
+pub fn with_capacity<T>(capacity: usize) -> Result<Vec<T>, AllocError> {
     let mut items = Vec::new();
     items.try_reserve_exact(capacity)?;
     Ok(items)
 }
 
 /// The list of these items.
-pub fn from_array<T, const N: usize>(alloc: Global, array: [T; N]) -> Result<Vec<T>, AllocError> {
-    let mut items = with_capacity(alloc, N)?;
+pub fn from_array<T, const N: usize>(array: [T; N]) -> Result<Vec<T>, AllocError> {
+    let mut items = with_capacity(N)?;
     items.extend(array);
     Ok(items)
 }
 
 /// A list of copies of these items.
-pub fn from_slice<T: TryClone>(alloc: Global, items: &[T]) -> Result<Vec<T>, AllocError> {
-    items.try_to_vec(alloc)
+pub fn from_slice<T: TryClone>(items: &[T]) -> Result<Vec<T>, AllocError> {
+    items.try_to_vec()
 }
 
 /// The list that has the item this number of times.
-pub fn repeated<T: TryClone>(alloc: Global, item: T, count: usize) -> Result<Vec<T>, AllocError> {
-    let mut items = with_capacity(alloc, count)?;
+pub fn repeated<T: TryClone>(item: T, count: usize) -> Result<Vec<T>, AllocError> {
+    let mut items = with_capacity(count)?;
     for _ in 1..count {
         items.push(item.try_clone()?);
     }
@@ -58,9 +53,6 @@ pub trait VecExt<T> {
     fn try_sort(&mut self) -> Result<(), AllocError>
     where
         T: Ord;
-
-    /// The allocator.
-    fn allocator(&self) -> &Global;
 }
 
 impl<T> VecExt<T> for Vec<T> {
@@ -112,20 +104,16 @@ impl<T> VecExt<T> for Vec<T> {
         self.sort_by(Ord::cmp);
         Ok(())
     }
-
-    fn allocator(&self) -> &Global {
-        &Global
-    }
 }
 
 /// Calls of slices that return an error where memory is refused.
 pub trait SliceExt<T> {
     /// A list of copies of the items.
-    fn try_to_vec(&self, alloc: Global) -> Result<Vec<T>, AllocError>;
+    fn try_to_vec(&self) -> Result<Vec<T>, AllocError>;
 }
 
 impl<T: TryClone> SliceExt<T> for [T] {
-    fn try_to_vec(&self, _: Global) -> Result<Vec<T>, AllocError> {
+    fn try_to_vec(&self) -> Result<Vec<T>, AllocError> {
         let mut items = Vec::new();
         items.try_extend_from_slice(self)?;
         Ok(items)

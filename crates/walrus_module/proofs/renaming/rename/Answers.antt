@@ -4,7 +4,8 @@ use Rattle.walrus_module.specs.declared.renaming.RenameError.TheVariants as rena
 use Rattle.walrus_module.specs.Renaming.{least_width}
 use Rattle.walrus_module.specs.Steps.Scans.{IsRefused}
 use Rattle.walrus_module.proofs.Searching.{found_type, found_none, passes_shorter}
-use Rattle.walrus_module.proofs.Rewriting.{written_begun, written_on, written_ended, rename_malformed, names_unknown, is_malformed, same_failure}
+use Rattle.walrus_module.proofs.Rewriting.{written_begun, written_on, written_stays, written_shorter, written_ended, rename_malformed, names_unknown, is_malformed, same_failure}
+use Rattle.walrus_module.proofs.WholeTexts.{empty, not_empty}
 use Rattle.walrus_module.proofs.renaming.rename.Goals as goal
 
 pub loop-stack-init : goal.loop-stack-init
@@ -89,12 +90,40 @@ slice_bounds-extend_from_slice-count c =
     let here : length l.unwritten.now ≡ length l.input.now = ap (λ (u : List ℕ). length u) l.invariant.here in
     omega (arith, h.fits, here)
 
-pub returns-clause-renamed : goal.returns-clause-renamed
-returns-clause-renamed c =
+pub returns-then-is_empty-clause-stays : goal.returns-then-is_empty-clause-stays
+returns-then-is_empty-clause-stays c =
     let l = c.loop-stack in
     let n = c.next_type.new in
     let h = found_none c.in_ok-found.field-0 l.stack n.stack l.input.now n.input.now c.in_default.not-Some
     c.in_ok-found.ensures.passed in
-    written_ended c.args.new_indices.now (least_width c.args.widths) c.args.kinds c.args.input.now.now
+    written_stays c.args.new_indices.now c.args.widths c.args.kinds c.args.input.now.now
+    l.input.now n.input.now l.unwritten.now l.stack n.stack l.out.items l.invariant h
+    (sym c.as_slice.ensures.value ∙ empty c.as_slice.result.now c.if-is_empty.ensures)
+
+pub returns-then-is_empty-clause-shorter : goal.returns-then-is_empty-clause-shorter
+returns-then-is_empty-clause-shorter c =
+    let l = c.loop-stack in
+    let n = c.next_type.new in
+    let h = found_none c.in_ok-found.field-0 l.stack n.stack l.input.now n.input.now c.in_default.not-Some
+    c.in_ok-found.ensures.passed in
+    written_shorter c.args.new_indices.now (least_width c.args.widths) c.args.kinds c.args.input.now.now
+    l.input.now n.input.now l.unwritten.now l.stack n.stack l.out.items l.invariant h
+
+pub returns-clause-shorter : goal.returns-clause-shorter
+returns-clause-shorter c =
+    let l = c.loop-stack in
+    let n = c.next_type.new in
+    let h = found_none c.in_ok-found.field-0 l.stack n.stack l.input.now n.input.now c.in_default.not-Some
+    c.in_ok-found.ensures.passed in
+    written_shorter c.args.new_indices.now (least_width c.args.widths) c.args.kinds c.args.input.now.now
+    l.input.now n.input.now l.unwritten.now l.stack n.stack l.out.items l.invariant h
+
+pub returns-clause-changes : goal.returns-clause-changes
+returns-clause-changes c =
+    let l = c.loop-stack in
+    let n = c.next_type.new in
+    let h = found_none c.in_ok-found.field-0 l.stack n.stack l.input.now n.input.now c.in_default.not-Some
+    c.in_ok-found.ensures.passed in
+    written_ended c.args.new_indices.now c.args.widths c.args.kinds c.args.input.now.now
     l.input.now n.input.now l.unwritten.now l.stack n.stack l.out.items c.extend_from_slice-2.new.self.items
-    l.invariant h c.in_ok-extend_from_slice-2.ensures.items
+    l.invariant (λ e. not_empty c.as_slice.result.now c.if-is_empty.ensures (c.as_slice.ensures.value ∙ e)) h c.in_ok-extend_from_slice-2.ensures.items

@@ -3,7 +3,7 @@
 use crate::assertions::assert_equal;
 use std::alloc::Global;
 use std::test::*;
-use walrus_module::{RenameError, Widths, rename_body, rename_expression};
+use walrus_module::{RenameError, Widths, rename_body, rename_expression, rename_section};
 
 fn renamed(alloc: Global, input: &mut &[u8]) -> Result<Vec<u8>, RenameError> {
     rename_expression(alloc, input, &[1, 0], Widths::Shortest)
@@ -11,6 +11,10 @@ fn renamed(alloc: Global, input: &mut &[u8]) -> Result<Vec<u8>, RenameError> {
 
 fn renamed_body(alloc: Global, content: &[u8]) -> Result<Vec<u8>, RenameError> {
     rename_body(alloc, content, &[1, 0], Widths::Kept)
+}
+
+fn renamed_code(alloc: Global, content: &[u8]) -> Result<Vec<u8>, RenameError> {
+    rename_section(alloc, 10, content, &[1, 0], Widths::Kept)
 }
 
 #[test]
@@ -42,4 +46,18 @@ fn a_refused_body_is_written_when_it_is_asked_for_again(rt: HostRuntime) {
         }
     };
     assert!(rt; new.as_slice() == [1, 1, 0x63, 1, 0x02, 0, 0x0B, 0x0B].as_slice());
+}
+
+#[test]
+fn a_refused_section_is_written_when_it_is_asked_for_again(rt: HostRuntime) {
+    // two bodies: call_ref 0, and nothing
+    let content = [2, 4, 0, 0x14, 0, 0x0B, 2, 0, 0x0B];
+    let new = match renamed_code(rt.alloc(), &content) {
+        Ok(new) => new,
+        Err(error) => {
+            assert_equal(&rt, error, RenameError::Memory);
+            renamed_code(rt.alloc(), &content).expect(&rt, "memory")
+        }
+    };
+    assert!(rt; new.as_slice() == [2, 4, 0, 0x14, 1, 0x0B, 2, 0, 0x0B].as_slice());
 }

@@ -1,6 +1,6 @@
 use Rattle.std.proofs.Common.{rules, sym}
 use Rattle.walrus_binary.proofs.Progress.{begins_with_groups, group_follows, ends, fails, trails, nothing_left, something_left, some_remain}
-use Rattle.walrus_binary.proofs.Sections.{refused, stuck_there, begun_before, left_fits, error_within, error_refused, error_stuck, error_begun, error_unheld}
+use Rattle.walrus_binary.proofs.Sections.{refused, stuck_there, begun_before, unheld_there, left_fits, error_within, error_refused, error_stuck, error_begun, error_unheld}
 use Rattle.walrus_binary.proofs.decode.reader.TypeSectionReader.next_group.Goals as goal
 
 pub returns-then-is_empty-clause-begins : goal.returns-then-is_empty-clause-begins
@@ -38,6 +38,13 @@ pub returns-then-self-eq0-clause-begun : goal.returns-then-self-eq0-clause-begun
 returns-then-self-eq0-clause-begun c =
     rw (c.refusal.ensures, c.expected-error.ensures, ← c.self.view_is)
     (begun_before c.self.inside.bytes.now _ (trails c.self.inside.bytes.now c.self.inside.remaining
+    c.self.inside.rest.now c.self.invariant c.if-self-eq0.true
+    (something_left c.self.inside.rest.now (sym c.if-is_empty.ensures))))
+
+pub returns-then-self-eq0-clause-unheld : goal.returns-then-self-eq0-clause-unheld
+returns-then-self-eq0-clause-unheld c =
+    rw (c.refusal.ensures, c.expected-error.ensures, ← c.self.view_is)
+    (unheld_there c.self.inside.bytes.now _ (trails c.self.inside.bytes.now c.self.inside.remaining
     c.self.inside.rest.now c.self.invariant c.if-self-eq0.true
     (something_left c.self.inside.rest.now (sym c.if-is_empty.ensures))))
 

@@ -1,0 +1,35 @@
+use Rattle.std.proofs.Common.{◌∙◌, Err, sym, ap}
+use Rattle.std.proofs.lemmas.Result.{err_from_is_err_and}
+use Rattle.walrus_module.specs.declared.renaming.RenameError.TheVariants as rename
+use Rattle.walrus_module.specs.Steps.NameSections.{IsFollowing}
+use Rattle.walrus_module.proofs.NameMaps.{following_free}
+use Rattle.walrus_module.proofs.TypeMaps.{entries_begun, entries_on, entries_malformed, entries_unknown}
+use Rattle.walrus_module.proofs.Rewriting.{same_failure}
+use Rattle.walrus_module.proofs.name_maps.take_entries.Goals as goal
+
+pub loop-init : goal.loop-init
+loop-init c =
+    entries_begun (IsFollowing c.args.follows) c.args.new_indices.now c.args.input.now.now
+    c.new-kept.result.entries c.new-kept.ensures.empty
+
+pub returns-in_err-new_index-clause-malformed : goal.returns-in_err-new_index-clause-malformed
+returns-in_err-new_index-clause-malformed c =
+    let p = err_from_is_err_and c.from_residual.result c.from_residual.ensures.1 in
+    λ e. let is = sym p.2 ∙ same_failure c.from_residual.result p.0 rename.Malformed p.1 e in
+    entries_malformed (IsFollowing c.args.follows) c.args.new_indices.now (following_free c.args.follows)
+    c.args.count c.loop.counter c.loop.kept.entries c.args.input.now.now c.loop.input.now c.loop.invariant
+    c.loop-test.true (c.in_err-new_index.ensures.malformed (ap (λ x. Err x) is))
+
+pub returns-in_err-new_index-clause-unknown : goal.returns-in_err-new_index-clause-unknown
+returns-in_err-new_index-clause-unknown c =
+    let p = err_from_is_err_and c.from_residual.result c.from_residual.ensures.1 in
+    λ k e. let is = sym p.2 ∙ same_failure c.from_residual.result p.0 (rename.UnknownType k) p.1 e in
+    entries_unknown (IsFollowing c.args.follows) c.args.new_indices.now c.args.count c.loop.counter k
+    c.loop.kept.entries c.args.input.now.now c.loop.input.now c.loop.invariant c.loop-test.true
+    (c.in_err-new_index.ensures.unknown k (ap (λ x. Err x) is))
+
+pub loop-preserved : goal.loop-preserved
+loop-preserved c =
+    entries_on (IsFollowing c.args.follows) c.args.new_indices.now c.loop.counter c.loop.kept.entries
+    c.keep.new.kept.entries c.args.input.now.now c.loop.input.now c.take_entry.new.input.now
+    c.in_ok-new_index.new_index _ c.loop.invariant c.in_ok-new_index.ensures.taken c.in_ok-keep.ensures

@@ -1,0 +1,84 @@
+use Rattle.std.proofs.Common.{◌∙◌, ◌+◌, ◌++◌, List, ℕ, Err, length, sym, ap}
+use Rattle.std.proofs.lemmas.Result.{err_from_is_err_and}
+use Rattle.walrus_module.specs.declared.renaming.RenameError.TheVariants as rename
+use Rattle.walrus_module.specs.declared.scan.ScanError.TheVariants as scan
+use Rattle.walrus_module.specs.Bodies.{body}
+use Rattle.walrus_module.specs.Changes.{BecomesTooLong, InSized}
+use Rattle.walrus_module.specs.RenamedSections.{RenamesTexts, RenamesBody}
+use Rattle.walrus_module.specs.Renaming.{NamesUnknown}
+use Rattle.walrus_module.proofs.Changing.{if_none, if_some, written_none, written_is, written_passed, written_on, written_first}
+use Rattle.walrus_module.proofs.ChangedCode.{changed_some, written_bodies}
+use Rattle.walrus_module.proofs.CodeSections.{bodies_malformed}
+use Rattle.walrus_module.proofs.Rewriting.{same_failure}
+use Rattle.walrus_module.specs.Steps.Changes.{ChangesInFront}
+use Rattle.walrus_module.proofs.renamed_code.rename_bodies.Goals.{in-Some+in_ok-extend_from_slice+in_ok-extend_from_slice-2, in_default}
+use Rattle.walrus_module.proofs.renamed_code.rename_bodies.Goals as goal
+
+pub loop-init : goal.loop-init
+loop-init c =
+    written_none (RenamesBody c.args.new_indices.now c.args.widths) c.args.input.now.now
+    c.new-out.result.items c.new-out.ensures.items
+
+pub returns-in_err-new-clause-malformed : goal.returns-in_err-new-clause-malformed
+returns-in_err-new-clause-malformed c =
+    let l = c.loop in
+    let r = c.from_residual in
+    let p = err_from_is_err_and r.result r.ensures.1 in
+    λ e. let is = sym p.2 ∙ same_failure r.result p.0 rename.Malformed p.1 e in
+    bodies_malformed c.args.count l.counter c.args.input.now.now l.input.now l.invariant.names scan.Malformed
+    (written_bodies c.args.new_indices.now c.args.widths l.counter c.args.input.now.now l.input.now
+    l.unwritten.now l.out.items l.invariant) c.loop-test.true
+    (c.in_err-new.ensures.malformed (ap (λ x. Err x) is))
+
+pub returns-in_err-new-clause-unknown : goal.returns-in_err-new-clause-unknown
+returns-in_err-new-clause-unknown c =
+    let l = c.loop in
+    let r = c.from_residual in
+    let p = err_from_is_err_and r.result r.ensures.1 in
+    λ k e. let is = sym p.2 ∙ same_failure r.result p.0 (rename.UnknownType k) p.1 e in
+    written_first (RenamesBody c.args.new_indices.now c.args.widths)
+    (InSized (λ b. NamesUnknown (length c.args.new_indices.now) body b k)) c.args.count l.counter
+    c.args.input.now.now l.input.now l.unwritten.now l.out.items l.invariant c.loop-test.true
+    (c.in_err-new.ensures.unknown k (ap (λ x. Err x) is))
+
+pub returns-in_err-new-clause-too_long : goal.returns-in_err-new-clause-too_long
+returns-in_err-new-clause-too_long c =
+    let l = c.loop in
+    let r = c.from_residual in
+    let p = err_from_is_err_and r.result r.ensures.1 in
+    λ e. let is = sym p.2 ∙ same_failure r.result p.0 rename.TooLong p.1 e in
+    written_first (RenamesBody c.args.new_indices.now c.args.widths)
+    (InSized (BecomesTooLong (RenamesTexts c.args.new_indices.now c.args.widths body))) c.args.count
+    l.counter c.args.input.now.now l.input.now l.unwritten.now l.out.items l.invariant c.loop-test.true
+    (c.in_err-new.ensures.too_long (ap (λ x. Err x) is))
+
+pub loop-preserved : goal.loop-preserved
+loop-preserved c =
+    let l = c.loop in
+    let new_indices = c.args.new_indices.now in
+    let w = c.args.widths in
+    let R = RenamesBody new_indices w in
+    let bytes = c.args.input.now.now in
+    let rest = l.input.now in
+    let after = c.rename_sized_body.new.input.now in
+    let merged = c.match-branch-2 in
+    elim c.match-branch-2.branch [
+      | in-Some+in_ok-extend_from_slice+in_ok-extend_from_slice-2 b ↦
+          let new = b.in-Some.new.items in
+          let changes = if_some c.in_ok-new.field-0 b.in-Some.new (λ x. ChangesInFront R rest after x.items)
+          b.in-Some.is c.in_ok-new.ensures.changes in
+          written_is R (l.counter + 1) bytes after merged.unwritten.now after merged.out.items
+          b.extend_from_slice-in-Some.new.self.items (ap (λ x. x.now) b.unwritten-is)
+          (ap (λ v. v.items) b.out-is)
+          (written_on R l.counter bytes rest after l.unwritten.now l.out.items
+          b.extend_from_slice.new.self.items new b.extend_from_slice-in-Some.new.self.items l.invariant
+          changes (changed_some w (RenamesTexts new_indices w body) rest after new changes)
+          b.in_ok-extend_from_slice.ensures.items
+          (b.in_ok-extend_from_slice-2.ensures.items
+          ∙ ap (λ (u : List ℕ). b.extend_from_slice.new.self.items ++ u) b.deref.ensures.value))
+      | in_default b ↦
+          written_is R (l.counter + 1) bytes after merged.unwritten.now l.unwritten.now merged.out.items
+          l.out.items (ap (λ x. x.now) b.unwritten-is) (ap (λ v. v.items) b.out-is)
+          (written_passed R l.counter bytes rest after l.unwritten.now l.out.items l.invariant
+          (if_none c.in_ok-new.field-0 _ b.in_default.not-Some c.in_ok-new.ensures.stays))
+    ]

@@ -1,0 +1,173 @@
+//! Modules with another type section. They are put together by hand from the specification's
+//! grammar, and so are the results.
+use crate::assertions::assert_equal;
+use std::alloc::Global;
+use std::test::*;
+use walrus_module::{RenameError, Widths, rename_module};
+
+// Types of a function without parameters and of one with an i32; the import of a function of type 1;
+// a function of type 0; a memory; a body with `call_indirect 1`; a custom section `x`. Most sizes are
+// padded, and so is the index in the function section.
+const MODULE: [u8; 58] = [
+    0, 0x61, 0x73, 0x6D, 1, 0, 0, 0, 1, 0x88, 0, 2, 0x60, 0, 0, 0x60, 1, 0x7F, 0, 2, 7, 1, 1, 0x61,
+    1, 0x62, 0, 1, 3, 0x83, 0, 1, 0x80, 0, 5, 0x83, 0x80, 0, 1, 0, 1, 10, 0x88, 0x80, 0, 1, 0x85,
+    0, 0, 0x11, 1, 0, 0x0B, 0, 0x82, 0, 1, 0x78,
+];
+
+// where a section of it ends
+const ENDS: [usize; 7] = [8, 19, 28, 34, 41, 53, 58];
+
+// the two types in the other order
+const TYPES: [u8; 8] = [2, 0x60, 1, 0x7F, 0, 0x60, 0, 0];
+
+const MOVED: [u32; 2] = [1, 0];
+
+/// Whether the bytes become these, where the two types change places.
+fn becomes(alloc: Global, bytes: &[u8], widths: Widths, expected: &[u8]) -> bool {
+    match rename_module(alloc, bytes, &TYPES, &MOVED, widths) {
+        Ok(new) => new.as_slice() == expected,
+        Err(_) => false,
+    }
+}
+
+/// Why the bytes are refused.
+fn refusal(alloc: Global, bytes: &[u8]) -> Option<RenameError> {
+    rename_module(alloc, bytes, &TYPES, &MOVED, Widths::Kept).err()
+}
+
+#[test]
+fn sizes_and_indices_are_the_shortest(rt: HostRuntime) {
+    let expected = [
+        0, 0x61, 0x73, 0x6D, 1, 0, 0, 0, 1, 8, 2, 0x60, 1, 0x7F, 0, 0x60, 0, 0, 2, 7, 1, 1, 0x61,
+        1, 0x62, 0, 0, 3, 2, 1, 1, 5, 0x83, 0x80, 0, 1, 0, 1, 10, 7, 1, 5, 0, 0x11, 0, 0, 0x0B, 0,
+        0x82, 0, 1, 0x78,
+    ];
+    assert!(rt; becomes(rt.alloc(), &MODULE, Widths::Shortest, &expected));
+}
+
+#[test]
+fn sizes_and_indices_keep_their_widths(rt: HostRuntime) {
+    // but the size of the type section
+    let expected = [
+        0, 0x61, 0x73, 0x6D, 1, 0, 0, 0, 1, 8, 2, 0x60, 1, 0x7F, 0, 0x60, 0, 0, 2, 7, 1, 1, 0x61,
+        1, 0x62, 0, 0, 3, 0x83, 0, 1, 0x81, 0, 5, 0x83, 0x80, 0, 1, 0, 1, 10, 0x88, 0x80, 0, 1,
+        0x85, 0, 0, 0x11, 0, 0, 0x0B, 0, 0x82, 0, 1, 0x78,
+    ];
+    assert!(rt; becomes(rt.alloc(), &MODULE, Widths::Kept, &expected));
+}
+
+#[test]
+fn a_kept_width_grows_where_an_index_needs_more_room(rt: HostRuntime) {
+    let bytes = [0, 0x61, 0x73, 0x6D, 1, 0, 0, 0, 3, 2, 1, 0];
+    let new = rename_module(rt.alloc(), &bytes, &TYPES, &[128], Widths::Kept).expect(
+        &rt, "a module",
+    );
+    let expected = [0, 0x61, 0x73, 0x6D, 1, 0, 0, 0, 3, 3, 1, 0x80, 1];
+    assert!(rt; new.as_slice() == expected.as_slice());
+}
+
+#[test]
+fn a_module_without_a_type_section_gets_none(rt: HostRuntime) {
+    let bytes = [0, 0x61, 0x73, 0x6D, 1, 0, 0, 0, 3, 2, 1, 0];
+    let expected = [0, 0x61, 0x73, 0x6D, 1, 0, 0, 0, 3, 2, 1, 1];
+    assert!(rt; becomes(rt.alloc(), &bytes, Widths::Shortest, &expected));
+    let header = [0, 0x61, 0x73, 0x6D, 1, 0, 0, 0];
+    assert!(rt; becomes(rt.alloc(), &header, Widths::Shortest, &header));
+}
+
+#[test]
+fn a_section_that_names_no_type_stays(rt: HostRuntime) {
+    // the function section has no functions, and a padded size and count
+    let bytes = [0, 0x61, 0x73, 0x6D, 1, 0, 0, 0, 3, 0x82, 0, 0x80, 0];
+    assert!(rt; becomes(rt.alloc(), &bytes, Widths::Shortest, &bytes));
+}
+
+#[test]
+fn names_of_types_follow_them(rt: HostRuntime) {
+    // a custom section `name`: type 0 is `a`, type 1 is `b`
+    let bytes = [
+        0, 0x61, 0x73, 0x6D, 1, 0, 0, 0, 0, 14, 4, 0x6E, 0x61, 0x6D, 0x65, 4, 7, 2, 0, 1, 0x61, 1,
+        1, 0x62,
+    ];
+    let expected = [
+        0, 0x61, 0x73, 0x6D, 1, 0, 0, 0, 0, 14, 4, 0x6E, 0x61, 0x6D, 0x65, 4, 7, 2, 0, 1, 0x62, 1,
+        1, 0x61,
+    ];
+    assert!(rt; becomes(rt.alloc(), &bytes, Widths::Shortest, &expected));
+}
+
+#[test]
+fn a_type_without_a_new_index_is_refused(rt: HostRuntime) {
+    let function = [0, 0x61, 0x73, 0x6D, 1, 0, 0, 0, 3, 2, 1, 2];
+    let unknown = RenameError::UnknownType { index: 2 };
+    assert_equal(&rt, refusal(rt.alloc(), &function), Some(unknown));
+    // behind it a code section that has no body for its count of 1
+    let before_a_fault = [0, 0x61, 0x73, 0x6D, 1, 0, 0, 0, 3, 2, 1, 2, 10, 1, 1];
+    assert_equal(&rt, refusal(rt.alloc(), &before_a_fault), Some(unknown));
+}
+
+#[test]
+fn a_content_that_is_malformed_is_refused(rt: HostRuntime) {
+    let malformed = Some(RenameError::Malformed);
+    // a code section that has no body for its count of 1
+    let code = [0, 0x61, 0x73, 0x6D, 1, 0, 0, 0, 10, 1, 1];
+    assert_equal(&rt, refusal(rt.alloc(), &code), malformed);
+    // behind it types that have no new index: a global of (ref null 2)
+    let behind = [
+        0, 0x61, 0x73, 0x6D, 1, 0, 0, 0, 3, 1, 1, 6, 7, 1, 0x63, 2, 0, 0xD0, 2, 0x0B,
+    ];
+    assert_equal(&rt, refusal(rt.alloc(), &behind), malformed);
+}
+
+#[test]
+fn a_custom_section_begins_with_a_name(rt: HostRuntime) {
+    let bytes = [0, 0x61, 0x73, 0x6D, 1, 0, 0, 0, 0, 1, 1];
+    assert_equal(
+        &rt,
+        refusal(rt.alloc(), &bytes),
+        Some(RenameError::Malformed),
+    );
+}
+
+#[test]
+fn the_framing_is_checked_first(rt: HostRuntime) {
+    // a function of type 2, and a second function section
+    let bytes = [0, 0x61, 0x73, 0x6D, 1, 0, 0, 0, 3, 2, 1, 2, 3, 1, 0];
+    assert_equal(
+        &rt,
+        refusal(rt.alloc(), &bytes),
+        Some(RenameError::Malformed),
+    );
+}
+
+#[test]
+fn a_module_that_is_cut_off_is_malformed(rt: HostRuntime) {
+    for length in 0..MODULE.len() + 1 {
+        let error = refusal(rt.alloc(), &MODULE[..length]);
+        let expected = if ENDS.contains(&length) {
+            None
+        } else {
+            Some(RenameError::Malformed)
+        };
+        assert!(rt; error == expected);
+    }
+}
+
+#[test]
+fn a_refused_module_is_written_when_it_is_asked_for_again(rt: HostRuntime) {
+    let new = match rename_module(rt.alloc(), &MODULE, &TYPES, &MOVED, Widths::Shortest) {
+        Ok(new) => new,
+        Err(error) => {
+            assert_equal(&rt, error, RenameError::Memory);
+            rename_module(rt.alloc(), &MODULE, &TYPES, &MOVED, Widths::Shortest).expect(
+                &rt, "memory",
+            )
+        }
+    };
+    let expected = [
+        0, 0x61, 0x73, 0x6D, 1, 0, 0, 0, 1, 8, 2, 0x60, 1, 0x7F, 0, 0x60, 0, 0, 2, 7, 1, 1, 0x61,
+        1, 0x62, 0, 0, 3, 2, 1, 1, 5, 0x83, 0x80, 0, 1, 0, 1, 10, 7, 1, 5, 0, 0x11, 0, 0, 0x0B, 0,
+        0x82, 0, 1, 0x78,
+    ];
+    assert!(rt; new.as_slice() == expected.as_slice());
+}

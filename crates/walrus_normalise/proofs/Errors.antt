@@ -1,0 +1,39 @@
+-- What an error of a step says after it became an error of the whole.
+use Rattle.std.proofs.Common.{◌≡◌, Result, Ok, Err, refl}
+use Rattle.std.specs.Prelude.{IsErrAnd, IsErrOf}
+use Rattle.walrus_binary.specs.declared.error.EncodeError.{EncodeError}
+use Rattle.walrus_binary.specs.declared.error.EncodeError.TheVariants as encode
+use Rattle.walrus_module.specs.declared.renaming.RenameError.{RenameError}
+use Rattle.walrus_module.specs.declared.renaming.RenameError.TheVariants as rename
+use Rattle.walrus_normalise.specs.declared.error.NormaliseModuleError.{NormaliseModuleError}
+use Rattle.walrus_normalise.specs.declared.error.NormaliseModuleError.TheVariants as error
+use Rattle.walrus_normalise.specs.Steps.Errors.{encode_failure, rename_failure}
+
+-- a text too long to be written is one of too many items
+pub encode_too_long :
+    {A B P : Type 0} (result : Result B NormaliseModuleError) (e : EncodeError)
+    → IsErrAnd result (λ x. x ≡ encode_failure e) → (IsErrOf {T = A} (Err e) encode.TooMany → P)
+    → IsErrOf result error.TooLong → P
+encode_too_long (Ok new) e is says h = absurd is
+encode_too_long (Err x) encode.TooMany is says h = says refl
+encode_too_long (Err x) encode.Memory is says h = absurd cc
+
+pub rename_malformed :
+    {A B P : Type 0} (result : Result B NormaliseModuleError) (e : RenameError)
+    → IsErrAnd result (λ x. x ≡ rename_failure e) → (IsErrOf {T = A} (Err e) rename.Malformed → P)
+    → IsErrOf result error.Malformed → P
+rename_malformed (Ok new) e is says h = absurd is
+rename_malformed (Err x) rename.Malformed is says h = says refl
+rename_malformed (Err x) (rename.UnknownType index) is says h = absurd cc
+rename_malformed (Err x) rename.TooLong is says h = absurd cc
+rename_malformed (Err x) rename.Memory is says h = absurd cc
+
+pub rename_too_long :
+    {A B P : Type 0} (result : Result B NormaliseModuleError) (e : RenameError)
+    → IsErrAnd result (λ x. x ≡ rename_failure e) → (IsErrOf {T = A} (Err e) rename.TooLong → P)
+    → IsErrOf result error.TooLong → P
+rename_too_long (Ok new) e is says h = absurd is
+rename_too_long (Err x) rename.Malformed is says h = absurd cc
+rename_too_long (Err x) (rename.UnknownType index) is says h = absurd cc
+rename_too_long (Err x) rename.TooLong is says h = says refl
+rename_too_long (Err x) rename.Memory is says h = absurd cc

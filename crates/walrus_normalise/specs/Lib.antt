@@ -1,0 +1,2 @@
+pub mod NormalModules
+pub mod Steps

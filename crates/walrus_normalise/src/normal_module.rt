@@ -1,0 +1,124 @@
+//! A module with its type section in normal form.
+//!
+//! WebAssembly core specification, "Binary Format", modules.
+ghost use Rattle.std.specs.Prelude.{◌≡◌, ℕ, List, IfOk, IfNone, IfSome, IsErrOf};
+ghost use Rattle.walrus_binary.specs.ModuleSections.{HasBadTypesBy};
+ghost use Rattle.walrus_binary.specs.declared.error.DecodeError.{DecodeError};
+ghost use Rattle.walrus_binary.specs.Modules.{Section, IsModule};
+ghost use Rattle.walrus_module.specs.Customs.{HasDescriptionAt};
+ghost use Rattle.walrus_module.specs.RenamedModules.{CanNotBeRenamed};
+ghost use Rattle.walrus_normalise.specs.NormalModules.{IsNormalised, HasFirstError, NamesUnknownType, BecomesTooLong, DescriptionsFit, BecomesOutdated};
+ghost use Rattle.walrus_normalise.specs.declared.error.NormaliseModuleError.TheVariants.{Types, BadIndex, TooMany, Malformed, UnknownType, TooLong, Outdated};
+ghost use Rattle.walrus_sections.specs.declared.error.ReadError.TheVariants as read;
+
+use crate::{HashKeys, NormaliseModuleError, Widths};
+use std::alloc::Global;
+use walrus_binary::{encode_types, module_types};
+use walrus_module::{find_description, rename_module};
+use walrus_types::normalise;
+
+/// Returns the module with its type section in normal form, and with every other index of a type
+/// written again, so that it names the same type as before. All else stays byte for byte
+/// (WebAssembly core specification, "Binary Format", "Modules").
+///
+/// The normal form is that of [`normalise`]: equal lone types are merged, lone types are sorted as
+/// far as references allow, and recursion groups keep their order. Its text is the shortest one. An
+/// index elsewhere is written as `widths` says: in the shortest form, or in as many bytes as were
+/// there. The size of a function body, a section or a subsection is written again where an index is
+/// in it. A module without type section that names no type stays as it is.
+///
+/// The names of types and of their fields in the custom section `name` follow the types. Other
+/// custom sections are copied as they are. **A section that describes other bytes of the module
+/// stops this**, unless all bytes stay: debug data, source maps, branch hints, relocations and
+/// signatures would no longer fit.
+/// [`strip_descriptions`](walrus_module::strip_descriptions) returns the module without such
+/// sections. Its docs list their names.
+///
+/// The keys begin the hash by which equal types are found. They change how long the call takes, and
+/// no result. Fixed keys are safe where the module is trusted: see [`HashKeys`].
+///
+/// # Errors
+///
+/// The type section is judged before all other sections.
+///
+/// - [`NormaliseModuleError::Types`] comes where the bytes are no module, or the type section is
+///   malformed or has a type that no record holds. The error inside says at which byte.
+/// - [`NormaliseModuleError::BadIndex`] and [`NormaliseModuleError::TooMany`] come where
+///   [`normalise`] refuses the type section.
+/// - [`NormaliseModuleError::Malformed`] comes where another section that can name types is
+///   malformed.
+/// - [`NormaliseModuleError::UnknownType`] comes where another section names a type that the type
+///   section does not have.
+/// - [`NormaliseModuleError::TooLong`] comes where a function body or a section would get 2^32
+///   bytes or more.
+/// - [`NormaliseModuleError::Outdated`] comes where some byte would change, and the module has a
+///   custom section that describes other bytes of it. The error says where the first one is.
+/// - [`NormaliseModuleError::Memory`] comes where memory was refused.
+///
+/// # A struct and a function type change places
+///
+/// ```
+/// // (type (struct)) (type (func)) (func (type 1))
+/// let module = [
+///     0, 0x61, 0x73, 0x6D, 1, 0, 0, 0, 1, 6, 2, 0x5F, 0, 0x60, 0, 0, 3, 2, 1, 1,
+/// ];
+/// let new = normalise_module(alloc, HashKeys::fixed(), &module, Widths::Shortest)?;
+/// assert_eq!(rt; new[8..], [1, 6, 2, 0x60, 0, 0, 0x5F, 0, 3, 2, 1, 0]);
+/// ```
+pub fn normalise_module(
+    alloc: Global,
+    keys: HashKeys,
+    bytes: &[u8],
+    widths: Widths,
+) -> Result<Vec<u8>, NormaliseModuleError>
+    // The result is the same module, with its type section in normal form.
+    ensures normal { IfOk result (λ new. IsNormalised widths bytes.now new.items) }
+    // A module with a section that describes other bytes of it stays byte for byte.
+    ensures fits { IfOk result (λ new. DescriptionsFit bytes.now new.items) }
+    // Bytes that are refused for their types are no module, or their types can't be read. The error
+    // says where.
+    ensures bad_types { (e : DecodeError) → IsErrOf result (Types e) →
+        HasBadTypesBy bytes.now e }
+    // The first group of the type section that can't be read decides which index is bad,
+    ensures bad_index { (entry index end : ℕ) → IsErrOf result (BadIndex entry index end) →
+        HasFirstError bytes.now (read.BadIndex entry index end) }
+    // or that there are too many entries.
+    ensures too_many { IsErrOf result TooMany → HasFirstError bytes.now read.TooMany }
+    // What is refused as malformed has a section that is so.
+    ensures malformed { IsErrOf result Malformed → CanNotBeRenamed bytes.now }
+    // What is refused for a type names one that its type section does not have.
+    ensures unknown { (k : ℕ) → IsErrOf result (UnknownType k) →
+        NamesUnknownType widths k bytes.now }
+    // What is refused as too long becomes so.
+    ensures too_long { IsErrOf result TooLong → BecomesTooLong widths bytes.now }
+    // What is refused for a section has it there, as the first that describes other bytes, and
+    // would change.
+    ensures outdated { (k : ℕ) → IsErrOf result (Outdated k) →
+        BecomesOutdated widths k bytes.now }
+{
+    let groups = module_types(alloc, bytes)?;
+    let (normal, map) = normalise(alloc, keys, groups.as_slice())?;
+    let types = encode_types(alloc, normal.as_slice())?;
+    let new = rename_module(alloc, bytes, types.as_slice(), map.as_slice(), widths)?;
+    match outdated_section(bytes, new.as_slice()) {
+        Some(offset) => Err(NormaliseModuleError::Outdated { offset }),
+        None => Ok(new),
+    }
+}
+
+/// The place of the first section of a module that describes its other bytes, where the module
+/// becomes another one.
+fn outdated_section(bytes: &[u8], new: &[u8]) -> Option<usize>
+    requires { (sections : List Section) × IsModule bytes.now sections }
+    ensures found { IfSome result (λ offset. HasDescriptionAt bytes.now offset) }
+    ensures differs { IfSome result (λ offset. new.now ≡ bytes.now → ⊥) }
+    ensures none { IfNone result (DescriptionsFit bytes.now new.now) }
+{
+    if new == bytes {
+        return None;
+    }
+    match find_description(bytes) {
+        Ok(found) => found,
+        Err(_) => None,
+    }
+}

@@ -1,0 +1,121 @@
+//! What ends a run without a module: its line on standard error and its exit status.
+ghost use Rattle.std.specs.Prelude.{◌≡◌, ◌≤◌, ◌⊎◌};
+ghost use Rattle.walrus_module.specs.declared.renaming.Widths.{Widths};
+ghost use Rattle.wasmnorm.specs.Steps.Failures.{Explains, ExplainsError, IsOfStreams, error_status, status_of};
+
+use command_line::{Context, context_of};
+use std::alloc::AllocError;
+use std::fmt;
+use std::fmt::Formatter;
+use std::io::{self, ErrorKind, Write};
+use walrus_binary::DecodeError;
+use walrus_normalise::NormaliseModuleError;
+
+/// What ends a run without a module.
+#[derive(Debug, Drop)]
+pub enum Failure {
+    /// The module was not normalised.
+    Refused {
+        /// Why.
+        error: NormaliseModuleError,
+        /// What else is known of the input.
+        context: Context,
+    },
+    /// Memory was refused.
+    Memory,
+    /// The system has no random bytes.
+    Keys,
+    /// The input could not be opened, or a read failed.
+    Input(io::Error),
+    /// A write of the output failed.
+    Output(io::Error),
+}
+
+impl fmt::Display for Failure {
+    fn fmt<W: fmt::Write>(&self, f: &mut Formatter<W>) -> fmt::Result {
+        match self {
+            Failure::Refused { error, context } => write!(f, "{error}{context}"),
+            Failure::Memory => write!(f, "out of memory"),
+            Failure::Keys => write!(f, "no random keys"),
+            Failure::Input(error) => write!(f, "input failed: {error}"),
+            Failure::Output(error) => write!(f, "output failed: {error}"),
+        }
+    }
+}
+
+impl From<AllocError> for Failure {
+    ghost use Rattle.std.specs.Prelude.{◌≡◌};
+    ghost use Rattle.wasmnorm.specs.declared.failure.Failure.TheVariants.{Memory};
+
+    ghost from_gives = { λ _ e. e ≡ Memory };
+
+    fn from(_: AllocError) -> Failure {
+        Failure::Memory
+    }
+}
+
+/// The failure of a module that was not normalised.
+pub fn refusal(bytes: &[u8], error: NormaliseModuleError) -> Failure
+    ensures explains { (widths : Widths) → ExplainsError widths bytes.now error →
+        Explains widths bytes.now result }
+    ensures status { status_of result ≡ error_status error }
+{
+    let context = match error {
+        NormaliseModuleError::Types(DecodeError::Malformed { offset, .. }) => {
+            context_of(bytes, offset)
+        }
+        NormaliseModuleError::Types(DecodeError::NotHeld { offset, .. }) => {
+            context_of(bytes, offset)
+        }
+        _ => Context::Nothing,
+    };
+    Failure::Refused { error, context }
+}
+
+/// What a failed read ends the run with. Its status is 3 if memory was refused, and 4 otherwise.
+pub fn failed_input(error: io::Error) -> Failure
+    ensures { IsOfStreams result }
+{
+    if error.kind() == ErrorKind::OutOfMemory {
+        return Failure::Memory;
+    }
+    Failure::Input(error)
+}
+
+/// Writes the line that explains the failure, and returns its exit status, which is 4 where that
+/// write failed.
+#[tactic(auto, using(crate::proofs::Failures::status_range))]
+pub fn report<E: Write>(failure: &Failure, err: &mut E) -> u8
+    ensures status { (result ≡ status_of failure.now) ⊎ (result ≡ 4) }
+    ensures range { result ≤ 4 }
+{
+    if writeln!(err, "{failure}").is_err() {
+        return 4;
+    }
+    status(failure)
+}
+
+fn status(failure: &Failure) -> u8
+    ensures { result ≡ status_of failure.now }
+{
+    match failure {
+        Failure::Refused { error, .. } => refusal_status(*error),
+        Failure::Memory => 3,
+        Failure::Keys | Failure::Input(_) | Failure::Output(_) => 4,
+    }
+}
+
+fn refusal_status(error: NormaliseModuleError) -> u8
+    ensures { result ≡ error_status error }
+{
+    match error {
+        NormaliseModuleError::Types(_)
+        | NormaliseModuleError::Malformed
+        | NormaliseModuleError::TooLong
+        | NormaliseModuleError::Outdated { .. } => 1,
+        NormaliseModuleError::BadIndex { .. }
+        | NormaliseModuleError::TooMany
+        | NormaliseModuleError::UnknownType { .. } => 2,
+        NormaliseModuleError::Memory => 3,
+    }
+}

@@ -1,0 +1,176 @@
+//! Reads a WebAssembly module and writes it with its type section in normal form.
+#![tactic(auto)]
+
+ghost use Rattle.std.specs.Prelude.{◌≡◌, ◌<◌, ◌≤◌, IfErr, IfOk, OnOk, IfSome};
+ghost use Rattle.std.specs.Io.KnownBytes.{Appends, Keeps};
+ghost use Rattle.walrus_normalise.specs.NormalModules.{IsNormalised};
+ghost use Rattle.wasmnorm.specs.Runs.{IsWritten, IsRefused, IsIllNamed};
+ghost use Rattle.wasmnorm.specs.Steps.Failures.{Explains, ExplainsError, status_of};
+
+mod failure;
+mod texts;
+
+use command_line::{
+    Request, open, parse_arguments, random_keys, read_bytes, report_usage, write_version,
+};
+use failure::{Failure, failed_input, refusal, report};
+use std::alloc::Global;
+use std::io::{self, BufWriter, Read, Write};
+use std::process::ExitCode;
+use texts::{HELP, USAGE};
+use walrus_normalise::{HashKeys, NormaliseModuleError, Widths, normalise_module};
+
+/// Reads a module from `reader`, and writes the same module to `out`, with its type section in
+/// normal form and every other index of a type written again.
+///
+/// Equal types outside recursion groups are merged, and such types are sorted as far as references
+/// allow. Recursion groups keep their order and are never merged. Custom sections other than `name`
+/// are copied as they are. Where one of them describes bytes that would change, such as debug data,
+/// the module is refused.
+///
+/// It returns the exit status. One line on `err` explains each of 1 to 4.
+///
+/// - 0: done.
+/// - 1: the bytes are no module, or a section of it is malformed, or one with types that no record
+///   holds. Or a section or a function body would be too long. Or a custom section describes bytes
+///   that would change.
+/// - 2: the type section names a type that it may not name, or has too many entries. Or another
+///   section names a type that the type section does not have.
+/// - 3: memory was refused.
+/// - 4: a read or a write failed.
+///
+/// `out` gains nothing at 1 to 3, since the whole module is there before it is written. At 4 it may
+/// have gained the module or a part of it.
+///
+/// The keys begin the hash by which equal types are found. No result depends on them. Where they
+/// can be foreseen, a module can be made that takes time quadratic in its length.
+pub fn run<R: Read, W: Write, E: Write>(
+    alloc: Global,
+    keys: HashKeys,
+    widths: Widths,
+    reader: &mut R,
+    out: &mut W,
+    err: &mut E,
+) -> u8
+    ensures done { result ≡ 0 → IfSome (R.remaining reader.old)
+        (λ bytes. IsWritten widths bytes (W.contents out.old) (W.contents out.new)) }
+    ensures silent { result ≡ 0 → Keeps (E.contents err.old) (E.contents err.new) }
+    ensures refused { result ≡ 1 → IfSome (R.remaining reader.old)
+        (λ bytes. IsRefused widths bytes) }
+    ensures ill_named { result ≡ 2 → IfSome (R.remaining reader.old)
+        (λ bytes. IsIllNamed widths bytes) }
+    ensures range { result ≤ 4 }
+    ensures unwritten { 0 < result → result < 4 → Keeps (W.contents out.old) (W.contents out.new) }
+{
+    match normalise_input(alloc, keys, widths, reader, out) {
+        Ok(()) => 0,
+        Err(failure) => report(&failure, err),
+    }
+}
+
+fn normalise_input<R: Read, W: Write>(
+    alloc: Global,
+    keys: HashKeys,
+    widths: Widths,
+    reader: &mut R,
+    out: &mut W,
+) -> Result<(), Failure>
+    ensures done { OnOk result (IfSome (R.remaining reader.old)
+        (λ bytes. IsWritten widths bytes (W.contents out.old) (W.contents out.new))) }
+    ensures failed { IfErr result (λ failure.
+        IfSome (R.remaining reader.old) (λ bytes. Explains widths bytes failure)) }
+    ensures unwritten { IfErr result (λ failure. status_of failure < 4 →
+        Keeps (W.contents out.old) (W.contents out.new)) }
+{
+    let bytes = match read_bytes(alloc, reader) {
+        Ok(bytes) => bytes,
+        Err(error) => return Err(failed_input(error)),
+    };
+    let module = match normal_module(alloc, keys, widths, bytes.as_slice()) {
+        Ok(module) => module,
+        Err(error) => return Err(refusal(bytes.as_slice(), error)),
+    };
+    match write_and_flush(out, module.as_slice()) {
+        Ok(()) => Ok(()),
+        Err(error) => Err(Failure::Output(error)),
+    }
+}
+
+/// The module with its type section in normal form.
+fn normal_module(
+    alloc: Global,
+    keys: HashKeys,
+    widths: Widths,
+    bytes: &[u8],
+) -> Result<Vec<u8>, NormaliseModuleError>
+    ensures normal { IfOk result (λ new. IsNormalised widths bytes.now new.items) }
+    ensures refused { IfErr result (λ e. ExplainsError widths bytes.now e) }
+{
+    normalise_module(alloc, keys, bytes, widths)
+}
+
+/// Writes the whole module, and flushes the writer.
+fn write_and_flush<W: Write>(out: &mut W, module: &[u8]) -> io::Result<()>
+    ensures { OnOk result (Appends (W.contents out.old) (W.contents out.new) module.now) }
+{
+    out.write_all(module)?;
+    out.flush()
+}
+
+fn main(rt: HostRuntime) -> ExitCode {
+    let mut err = rt.stderr();
+    let status = match start(&rt, &mut err) {
+        Ok(status) => status,
+        Err(failure) => report(&failure, &mut err),
+    };
+    ExitCode::from(status)
+}
+
+/// Does what the arguments ask for, and returns the exit status.
+fn start<E: Write>(rt: &HostRuntime, err: &mut E) -> Result<u8, Failure> {
+    match parse_arguments(rt, Some("--keep-widths"))? {
+        Request::Help => printed(rt.stdout().write_all(HELP.as_bytes())),
+        Request::Version => printed(write_version("wasmnorm", &mut rt.stdout())),
+        Request::Work { names, has_option } => match names.as_slice() {
+            [] => normalise_file(rt, "-", widths(has_option), err),
+            [name] => normalise_file(rt, name.as_str(), widths(has_option), err),
+            _ => Ok(report_usage(USAGE, err)),
+        },
+        Request::Usage => Ok(report_usage(USAGE, err)),
+    }
+}
+
+/// The widths of indices, with the option `--keep-widths` or without it.
+fn widths(has_option: bool) -> Widths {
+    if has_option {
+        Widths::Kept
+    } else {
+        Widths::Shortest
+    }
+}
+
+fn normalise_file<E: Write>(
+    rt: &HostRuntime,
+    name: &str,
+    widths: Widths,
+    err: &mut E,
+) -> Result<u8, Failure> {
+    let mut input = match open(rt, name, err) {
+        Ok(input) => input,
+        Err(error) => return Err(failed_input(error)),
+    };
+    let Ok(keys) = random_keys(rt) else {
+        return Err(Failure::Keys);
+    };
+    let Ok(mut out) = BufWriter::new(rt.alloc(), rt.stdout()) else {
+        return Err(Failure::Memory);
+    };
+    Ok(run(rt.alloc(), keys, widths, &mut input, &mut out, err))
+}
+
+fn printed(written: io::Result<()>) -> Result<u8, Failure> {
+    match written {
+        Ok(()) => Ok(0),
+        Err(error) => Err(Failure::Output(error)),
+    }
+}

@@ -1,0 +1,13 @@
+//! What the program prints about itself.
+
+pub const USAGE: &str = "usage: wasmnorm [--keep-widths] [FILE]\n";
+
+pub const HELP: &str = "usage: wasmnorm [--keep-widths] [FILE]
+Writes the WebAssembly module in FILE to standard output, with its type section in normal form and
+every other index of a type written again. Without FILE, or if it is -, the module comes from
+standard input. Custom sections other than the one named name are copied as they are, and a module
+is refused if one of them, such as debug data, describes bytes that would change.
+  --keep-widths  writes an index in as many bytes as it had, or in more where it needs them
+  --help         prints this text
+  --version      prints the version
+";
