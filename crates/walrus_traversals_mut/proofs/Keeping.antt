@@ -58,6 +58,25 @@ pub flat_map_kept :
     flat_map f xs ≡ flat_map f ys
 flat_map_kept f xs ys e = flat_map_joined f xs ∙ ap joined e ∙ sym (flat_map_joined f ys)
 
+-- an instruction without children at the end
+nonempty_end : (ls : List (List ℕ)) → nonempty (ls ++ [] ∷ []) ≡ nonempty ls
+nonempty_end [] = refl
+nonempty_end ([] ∷ ls) = nonempty_end ls
+nonempty_end ((c ∷ cs) ∷ ls) = ap (λ l. (c ∷ cs) ∷ l) (nonempty_end ls)
+
+map_end :
+    (is : List (Instr × ℕ)) (x : Instr × ℕ) →
+    map (λ y. children y.0) (is ++ x ∷ []) ≡ map (λ y. children y.0) is ++ children x.0 ∷ []
+map_end [] x = refl
+map_end (i ∷ is) x = ap (λ l. children i.0 ∷ l) (map_end is x)
+
+pub no_child_added :
+    (is : List (Instr × ℕ)) (x : Instr × ℕ) → children x.0 ≡ [] →
+    nonempty (map (λ y. children y.0) (is ++ x ∷ [])) ≡ nonempty (map (λ y. children y.0) is)
+no_child_added is x e =
+    ap nonempty (map_end is x) ∙ ap (λ l. nonempty (map (λ (y : Instr × ℕ). children y.0) is ++ l ∷ [])) e
+    ∙ nonempty_end (map (λ y. children y.0) is)
+
 pub keeps_children_same : (a b : Sequence) → b ≡ a → KeepsChildren a b
 keeps_children_same a b e = (ap (λ s. s.id) e, ap child_lists e)
 
