@@ -35,7 +35,7 @@ impl InstrSeqType {
             (λ of. result ≡ Ok (Simple of)) }
         ensures unchanged { IfSome (simple_result params.now results.now)
             (λ of. types.new ≡ types.old) }
-        ensures answer { simple_result params.now results.now ≡ None →
+        ensures holds { simple_result params.now results.now ≡ None →
             IfOk result (λ ty. IsMultiValue ty
             (λ id. T.has types.old params.now results.now types.new id)) }
         ensures ok { simple_result params.now results.now ≡ None →

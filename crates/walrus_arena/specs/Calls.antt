@@ -1,10 +1,10 @@
 -- What calls on an arena or a set do to its slots, each in the words of the calls' contracts, and
--- which ids of new slots they answer.
+-- which ids of new slots they return.
 use Rattle.std.specs.Prelude.{◌≡◌, ℕ, ◌≤◌, List, [], ◌∷◌, ◌++◌, length, map, Some, All, nat_eq, ⊤}
 use Rattle.std.specs.List.{IsDistinct}
 use Rattle.walrus_arena.specs.Arena.{Slots, with_value, without, without_all, range}
 
--- one call: the slots before and after it, and the ids of new slots that it answers
+-- one call: the slots before and after it, and the ids of new slots that it returns
 pub data Call {T : Type 0} (old new : Slots T) (ids : List ℕ) : Type 0 where
   -- `alloc`, `alloc_with_id`, `alloc_unique` and `alloc_and_register`, and an `insert` that found
   -- nothing; `alloc_dead` is this, and then `deletes` of the new id
@@ -24,7 +24,7 @@ pub data Call {T : Type 0} (old new : Slots T) (ids : List ℕ) : Type 0 where
   -- a call that is refused, an `insert` that found an equal item, and a call that only reads
   stays : ids ≡ [] → new ≡ old → Call old new ids
 
--- what a call left, and the ids of new slots that it answered
+-- what a call left, and the ids of new slots that it returned
 pub record Step (T : Type 0) : Type 0 where
   pub slots : Slots T
   pub ids : List ℕ
@@ -35,12 +35,12 @@ module _ {T : Type 0} where
   AreCalls s [] = ⊤
   AreCalls s (step ∷ steps) = Call s step.slots step.ids × AreCalls step.slots steps
 
-  -- the ids of new slots that these steps answer
+  -- the ids of new slots that these steps return
   abbrev pub new_ids : List (Step T) → List ℕ
   new_ids [] = []
   new_ids (step ∷ steps) = step.ids ++ new_ids steps
 
-  -- no id is answered twice, and none that a slot had before
+  -- no id is returned twice, and none that a slot had before
   pub record AnswersFreshIds (s : Slots T) (steps : List (Step T)) : Type 0 where
     pub once : IsDistinct nat_eq (new_ids steps)
     pub fresh : All (λ id. length s ≤ id) (new_ids steps)

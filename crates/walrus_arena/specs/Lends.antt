@@ -5,11 +5,13 @@ use Rattle.std.specs.declared.alloc.Allocator.{Ghosts}
 use Rattle.walrus_arena.specs.Arena.{Slots, with_value}
 use Rattle.walrus_arena.specs.contracts.tombstone_arena.TombstoneArena.{the_row}
 
-module _ (T A : RattleType) (alloc : Ghosts A.Denot) (s : MutBor (Slots T.Denot)) (id : ℕ) where
-  -- once the borrow r ends, the id has the last value written through r
-  abbrev pub LendsItem : MutBor T.Denot → Fml
-  LendsItem r = Lends (the_row T A alloc) T s r (with_value s.now id)
+module _ (Item Alloc : RattleType) (allocation : Ghosts Alloc.Denot)
+    (arena : MutBor (Slots Item.Denot)) (id : ℕ) where
+  -- once the borrow of the item ends, the id has the last value written through it
+  abbrev pub LendsItem : MutBor Item.Denot → Fml
+  LendsItem item = Lends (the_row Item Alloc allocation) Item arena item (with_value arena.now id)
 
-  -- the same where r is a reference, and at `None` the arena stays as it is
-  abbrev pub LendsItemIf : Option (MutBor T.Denot) → Fml
-  LendsItemIf r = LendsIf (the_row T A alloc) T s r (with_value s.now id) s.now
+  -- the same where there is an item, and at `None` the arena stays as it is
+  abbrev pub LendsItemIf : Option (MutBor Item.Denot) → Fml
+  LendsItemIf item =
+      LendsIf (the_row Item Alloc allocation) Item arena item (with_value arena.now id) arena.now

@@ -9,16 +9,18 @@ use Rattle.walrus_arena.specs.contracts.arena_set.ArenaSet.{the_row}
 
 -- what a clause has as T.Hash: equality, and what of a value is hashed
 abbrev pub HashMembers : Type 0 → Type 0
-HashMembers T = record { eq : T → T → Bool; hash_input : T → List (List ℕ) }
+HashMembers Item = record { eq : Item → Item → Bool; hash_input : Item → List (List ℕ) }
 
 -- the set after a write of this value at the id
-abbrev pub with_item : {T : Type 0} → Set T → ℕ → T → Set T
-with_item s id value = record s { slots = with_value s.slots id value }
+abbrev pub with_item : {Item : Type 0} → Set Item → ℕ → Item → Set Item
+with_item set id value = record set { slots = with_value set.slots id value }
 
--- once the borrow r ends, the id has the last value written through r, and the map is as it was
+-- once the borrow of the item ends, the id has the last value written through it, and the map is as
+-- it was
 abbrev pub LendsSetItem :
-    (T A : RattleType) → clone.Ghosts T.Denot → HashMembers T.Denot → alloc.Ghosts A.Denot →
-    MutBor (Set T.Denot) → ℕ → MutBor T.Denot → Fml
-LendsSetItem T A c h a s id r =
-    Lends (the_row T A c (record { eq = h.eq }) (record { hash_input = h.hash_input }) a) T s r
-    (with_item s.now id)
+    (Item Alloc : RattleType) → clone.Ghosts Item.Denot → HashMembers Item.Denot →
+    alloc.Ghosts Alloc.Denot → MutBor (Set Item.Denot) → ℕ → MutBor Item.Denot → Fml
+LendsSetItem Item Alloc cloning hashing allocation set id item =
+    Lends (the_row Item Alloc cloning (record { eq = hashing.eq })
+    (record { hash_input = hashing.hash_input }) allocation)
+    Item set item (with_item set.now id)

@@ -8,7 +8,7 @@ use Rattle.walrus_types.specs.declared.table.rec_group.RecGroup.{RecGroup}
 use Rattle.walrus_ty.specs.Types.{ModuleType}
 use Rattle.walrus_types.specs.TypesById.{TypeSlots, live_type, found_id}
 use Rattle.walrus_ty.specs.SameTypes.{IsSameType}
-use Rattle.walrus_types.specs.Table.{Table, own_group, IsSameTable, AddsType, FindsOrAdds, IsAnswer}
+use Rattle.walrus_types.specs.Table.{Table, own_group, IsSameTable, AddsType, FindsOrAdds, HoldsAlone}
 
 live_below :
     (s : TypeSlots) (id : ℕ) (P : ModuleType → Type 0) → IsSomeAnd (live_type s id) P →
@@ -26,13 +26,13 @@ live_pushed s new y id P e some =
     let Q : Option ModuleType → Type 0 = λ o. IsSomeAnd o P in
     subst Q (sym read) some
 
-pub answer_stays :
-    (between new : Table) (x y : ModuleType) (id other : ℕ) → IsAnswer between x id →
-    FindsOrAdds between new y other → IsAnswer new x id
-answer_stays between new x y id other answer step = go (found_id between.types y) step
+pub holds-stays :
+    (between new : Table) (x y : ModuleType) (id other : ℕ) → HoldsAlone between x id →
+    FindsOrAdds between new y other → HoldsAlone new x id
+holds-stays between new x y id other answer step = go (found_id between.types y) step
   where
     go : (o : Option ℕ) → MatchOption o (AddsType between new y other) (λ known. (other ≡ known)
-        × IsSameTable between new) → IsAnswer new x id
+        × IsSameTable between new) → HoldsAlone new x id
     go None adds =
         let InGroups : List RecGroup → Type 0 = λ g. Contains g (own_group id) in
         record {

@@ -2,7 +2,7 @@
 use Rattle.std.specs.Prelude.{◌≡◌, ℕ, List, [], ◌∷◌, ◌⊎◌, Some, None, true}
 use Rattle.walrus_ty.specs.declared.ty.value.Val.{Val}
 use Rattle.walrus_ty.specs.Types.{ModuleType, unnamed_type, function}
-use Rattle.walrus_types.specs.Table.{Table, next_id, FindsOrAdds, IsAnswer, IsSameTable}
+use Rattle.walrus_types.specs.Table.{Table, next_id, FindsOrAdds, HoldsAlone, IsSameTable}
 use Rattle.walrus_types.specs.FunctionTypes.{new_function}
 use Rattle.instr.specs.Sequence.{empty_sequence}
 use Rattle.instr.specs.declared.instr_seq_type.InstrSeqType.TheVariants.{MultiValue}
@@ -23,15 +23,15 @@ begun ty entry_ty = record {
 }
 
 -- the function type was found or added, then the type of the body, and the function has an entry
--- sequence of that type; in the table as it is afterwards both ids are answers for their types
+-- sequence of that type; in the table as it is afterwards both ids hold their types
 pub record Begins (old : Table) (params results : List (Val ℕ)) (f : Body) (new : Table)
     : Type 0 where
   pub between : Table
   pub entry_ty : ℕ
   pub ty : FindsOrAdds old between (new_function old params results) f.ty
-  pub ty_answers : IsAnswer new (new_function old params results) f.ty
+  pub ty_holds : HoldsAlone new (new_function old params results) f.ty
   pub entry : FindsOrAdds between new (new_entry_type between results) entry_ty
-  pub entry_answers : IsAnswer new (new_entry_type between results) entry_ty
+  pub entry_holds : HoldsAlone new (new_entry_type between results) entry_ty
   pub body : f ≡ begun f.ty entry_ty
 
 -- the table is as it was, or the function type was found or added, or both types were

@@ -13,7 +13,7 @@ use Rattle.walrus_functions.specs.Building.{seq_id, function_of, loan_of}
 abbrev pub Pre : Type 1
 Pre = MutBor InstrSeqBuilder → Type 0
 
--- a builder before a call of a closure on it, what the closure answers, and the builder after the
+-- a builder before a call of a closure on it, what the closure returns, and the builder after the
 -- call
 abbrev pub Post : Type 1
 Post = MutBor InstrSeqBuilder → Result (Unit {0}) BuildError → MutBor InstrSeqBuilder → Type 0
@@ -33,7 +33,7 @@ KeepsFunction post f ty =
     → loan_of c.now ≡ loan_of b.now
 
 -- a new sequence of this type was added to old, and the closure, called on a builder of it, may
--- answer r and leave new
+-- return r and leave new
 pub record Fills (post : Post) (ty : InstrSeqType) (old : Body)
     (r : Result (Unit {0}) BuildError) (new : Body) : Type 0 where
   pub given : MutBor InstrSeqBuilder
@@ -43,7 +43,7 @@ pub record Fills (post : Post) (ty : InstrSeqType) (old : Body)
   pub before : function_of given.now ≡ with_new old ty
   pub after : function_of left.now ≡ new
 
--- memory for the sequence was refused, and nothing changed; or the closure answered this error
+-- memory for the sequence was refused, and nothing changed; or the closure returned this error
 abbrev pub FailsToFill : Post → InstrSeqType → Body → BuildError → Body → Type 0
 FailsToFill post ty old e new = ((e ≡ Memory) × (new ≡ old)) ⊎ Fills post ty old (Err e) new
 

@@ -4,7 +4,7 @@ ghost use Rattle.std.specs.Prelude.{◌≡◌, Some, None, IfSome, IfOk, OnErr, 
 ghost use Rattle.instr.specs.BlockTypes.{simple_result, IsMultiValue};
 ghost use Rattle.instr.specs.declared.instr_seq_type.InstrSeqType.TheVariants.{Simple};
 ghost use Rattle.walrus_types.specs.FunctionTypes.{new_function};
-ghost use Rattle.walrus_types.specs.Table.{FindsOrAdds, IsAnswer, IsSameTable, IsFirst, IsPlainFunction};
+ghost use Rattle.walrus_types.specs.Table.{FindsOrAdds, HoldsAlone, IsSameTable, IsFirst, IsPlainFunction};
 
 use crate::{InstrSeqType, ModuleTypes, ValType};
 pub use const_expr::laws::operations_come_back;
@@ -24,9 +24,9 @@ pub fn new_block_type(
         (λ of. result ≡ Ok (Simple of)) }
     ensures unchanged { IfSome (simple_result params.now results.now)
         (λ of. types.new ≡ types.old) }
-    ensures answer { simple_result params.now results.now ≡ None →
+    ensures holds { simple_result params.now results.now ≡ None →
         IfOk result (λ ty. IsMultiValue ty
-        (λ id. IsAnswer types.new (new_function types.old params.now results.now) id)) }
+        (λ id. HoldsAlone types.new (new_function types.old params.now results.now) id)) }
     ensures ok { simple_result params.now results.now ≡ None →
         IfOk result (λ ty. IsMultiValue ty
         (λ id. FindsOrAdds types.old types.new

@@ -58,7 +58,8 @@ whole : (bytes text rest : List ℕ) → bytes ≡ text ++ rest → rest ≡ [] 
 whole bytes text rest parts e =
     sym (append-nil text) ∙ ap (λ (u : List ℕ). text ++ u) (sym e) ∙ sym parts
 
-pub whole_stays : (R : Change) (bytes rest : List ℕ) → rest ≡ [] → StaysInFront R bytes rest → R bytes bytes []
+pub whole_stays :
+    (R : Change) (bytes rest : List ℕ) → rest ≡ [] → StaysInFront R bytes rest → R bytes bytes []
 whole_stays R bytes rest e s = subst (λ (u : List ℕ). R u u []) (whole bytes s.text rest s.parts e) s.stays
 
 pub whole_changes : (R : Change) (bytes rest new : List ℕ) → rest ≡ [] → ChangesInFront R bytes rest new →

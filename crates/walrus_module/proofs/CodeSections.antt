@@ -120,7 +120,8 @@ items_on : (text : List ℕ) (bodies : List (List ℕ)) (last names : List ℕ) 
     AreItems IsSizedBody text bodies → IsSizedBody last names →
     AreItems IsSizedBody (text ++ last) (bodies ++ names ∷ [])
 items_on _ _ last names none h =
-    subst (λ (u : List ℕ). AreItems IsSizedBody u (names ∷ [])) (append-nil last) (next last [] names [] h none)
+    subst (λ (u : List ℕ). AreItems IsSizedBody u (names ∷ [])) (append-nil last)
+    (next last [] names [] h none)
 items_on _ _ last names (next text others first bodies k ks) h =
     subst (λ (u : List ℕ). AreItems IsSizedBody u (first ∷ (bodies ++ names ∷ [])))
     (sym (append_assoc text others last))

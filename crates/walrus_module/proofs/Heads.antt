@@ -247,13 +247,16 @@ number_again kind.ExternType text n kinds rest h e = absurd cc
 number_again kind.Import text n kinds rest h e = absurd cc
 number_again kind.Imports text n kinds rest h e = number_reads kind.Imports text n kinds rest h e
 number_again kind.TypeIndices text n kinds rest h e = number_reads kind.TypeIndices text n kinds rest h e
-number_again kind.FunctionIndices text n kinds rest h e = number_reads kind.FunctionIndices text n kinds rest h e
+number_again kind.FunctionIndices text n kinds rest h e =
+    number_reads kind.FunctionIndices text n kinds rest h e
 number_again kind.Table text n kinds rest h e = absurd cc
 number_again kind.Tables text n kinds rest h e = number_reads kind.Tables text n kinds rest h e
 number_again kind.Global text n kinds rest h e = absurd cc
 number_again kind.Globals text n kinds rest h e = number_reads kind.Globals text n kinds rest h e
-number_again kind.ElementSegment text n kinds rest h e = number_reads kind.ElementSegment text n kinds rest h e
-number_again kind.ElementSegments text n kinds rest h e = number_reads kind.ElementSegments text n kinds rest h e
+number_again kind.ElementSegment text n kinds rest h e =
+    number_reads kind.ElementSegment text n kinds rest h e
+number_again kind.ElementSegments text n kinds rest h e =
+    number_reads kind.ElementSegments text n kinds rest h e
 number_again kind.DataSegment text n kinds rest h e = number_reads kind.DataSegment text n kinds rest h e
 number_again kind.DataSegments text n kinds rest h e = number_reads kind.DataSegments text n kinds rest h e
 number_again kind.Tags text n kinds rest h e = number_reads kind.Tags text n kinds rest h e

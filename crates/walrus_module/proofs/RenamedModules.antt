@@ -363,7 +363,8 @@ malformed_next others indices w count id size content rest h bad c =
     first_is (suc count) _ c.new c.names c.are refl refl
   where
     first_is : (n : ℕ) (texts new names : List ℕ) →
-        ChangeAll (RenamesSection others indices w) n texts new names → n ≡ suc count → texts ≡ (id ∷ (size ++ content)) ++ rest → ⊥
+        ChangeAll (RenamesSection others indices w) n texts new names → n ≡ suc count →
+        texts ≡ (id ∷ (size ++ content)) ++ rest → ⊥
     first_is _ _ _ _ none e is = absurd (omega (arith, e))
     first_is _ _ _ _ (next m text after new new_after names more r rs) e is =
         malformed_section others indices w text new names id size content after rest h r is bad

@@ -116,7 +116,8 @@ index_some new_indices least t text i e =
 
 -- with the index, a type was named
 named_some : (t : TypeIndex) (stack left : List Kind) (rest after : List ℕ) (pieces : List Piece)
-    (h : PassesType t stack left rest after) → type_names (pieces ++ (h.passed ++ piece_of t h.text ∷ [])) ≡ []
+    (h : PassesType t stack left rest after) →
+    type_names (pieces ++ (h.passed ++ piece_of t h.text ∷ [])) ≡ []
     → ⊥
 named_some t stack left rest after pieces h e =
     let last = back_empty (type_names pieces) (type_names (h.passed ++ piece_of t h.text ∷ []))

@@ -31,7 +31,8 @@ other_place _ _ code_section e = absurd cc
 other_place _ _ data_section e = absurd cc
 
 -- without a custom section the others are in order
-custom_passed : (last id : ℕ) (others : List ℕ) → id ≡ 0 → AreInOrder last (id ∷ others) → AreInOrder last others
+custom_passed :
+    (last id : ℕ) (others : List ℕ) → id ≡ 0 → AreInOrder last (id ∷ others) → AreInOrder last others
 custom_passed _ _ _ e (custom last others h) = h
 custom_passed _ _ _ e (later last id place others p lt h) = absurd (other_place id place p e)
 
@@ -99,7 +100,8 @@ one_place offset _ others _ sections (sized id size content h) fails more =
     record {
       at = here ∷ r.at;
       are =
-          subst (λ (u : List ℕ). ArePlaced offset (id ∷ u) (here ∷ r.at)) (sym (append_assoc size content others))
+          subst (λ (u : List ℕ). ArePlaced offset (id ∷ u) (here ∷ r.at))
+          (sym (append_assoc size content others))
           (placed_next offset id size content others r.at h r.are);
       same = ap (λ (u : List Section). section id content ∷ u) r.same;
       undescribed =
@@ -127,8 +129,10 @@ stripped_has_none bytes new r =
     let l = are_left r.texts r.new_texts r.are in
     let m = module_parts bytes r.sections r.is_module in
     let texts-are : m.0 ≡ r.texts = append_cancel_left header m.0 r.texts (sym m.1 ∙ r.parts) in
-    let ids-are : ids r.sections ≡ ids l.all = same_ids m.0 r.texts r.sections l.all m.2.0 l.before texts-are in
-    let order : AreInOrder 0 (ids l.others) = l.order 0 (subst (λ (u : List ℕ). AreInOrder 0 u) ids-are m.2.1) in
+    let ids-are : ids r.sections ≡ ids l.all =
+    same_ids m.0 r.texts r.sections l.all m.2.0 l.before texts-are in
+    let order : AreInOrder 0 (ids l.others) =
+    l.order 0 (subst (λ (u : List ℕ). AreInOrder 0 u) ids-are m.2.1) in
     let p = have_places (length header) r.new_texts l.others l.after l.undescribed in
     let is : IsModule new l.others = subst (λ (u : List ℕ). IsModule u l.others) (sym r.new_parts)
     (framed r.new_texts l.others l.after order) in

@@ -119,7 +119,8 @@ aggregate_opcodes =
     ∷ row 18 18 (type_index ∷ data_index ∷ [])  -- array.init_data
     ∷ row 19 19 (type_index ∷ element_index ∷ [])  -- array.init_elem
     ∷ row 20 23 (kind.HeapType ∷ [])  -- ref.test, ref.cast
-    ∷ row 24 25 (kind.CastFlags ∷ label_index ∷ kind.HeapType ∷ kind.HeapType ∷ [])  -- br_on_cast, br_on_cast_fail
+    -- br_on_cast, br_on_cast_fail
+    ∷ row 24 25 (kind.CastFlags ∷ label_index ∷ kind.HeapType ∷ kind.HeapType ∷ [])
     ∷ row 26 30 []  -- conversions, i31
     ∷ []
 

@@ -58,7 +58,8 @@ sequence-more maps old now i id x y m same below here there change =
     ∙ ap (λ n. get_or now.body.seqs n x) here in
     let next = mapped-more (IsMappedSequence maps) old.body.seqs now.body.seqs i x y m below at change in
     let seqs = set now.body.seqs id y in (
-      subst (λ n. Mapped (IsMappedSequence maps) old.body.seqs (set now.body.seqs n y) (i + 1)) (sym here) next,
+      subst (λ n. Mapped (IsMappedSequence maps) old.body.seqs (set now.body.seqs n y) (i + 1))
+          (sym here) next,
       ap (λ (f : FunctionWithArgs). record f { body = record (f.body) { seqs = seqs } }) same,
     )
 

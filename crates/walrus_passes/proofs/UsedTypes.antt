@@ -84,7 +84,9 @@ module _ (locals : List LocalVariable) (f : FunctionWithArgs) where
   seq_uses : (seq id : ℕ) → IsInBody f.body seq → Contains (types_at seq) id → UsesType locals f id
   seq_uses seq id there c =
       let s = sequence f.body seq in
-      elim (Contains-append_cases (supertype_names (block_type_name s.ty)) (flat_map types_in s.instrs) id c) [
+      elim
+      (Contains-append_cases (supertype_names (block_type_name s.ty)) (flat_map types_in s.instrs)
+      id c) [
         | inl k ↦ block seq there (name_from (block_type_name s.ty) id k)
         | inr k ↦ (let r = in_flat types_in s.instrs id k in instruction seq r.0 there r.1 r.2)
       ]

@@ -4,6 +4,7 @@ use Rattle.std.specs.Prelude.{ℕ, List, slice_set}
 use Rattle.std.specs.Borrow.{Lends, Fml, RattleType, MutBor}
 use Rattle.walrus_ty.specs.contracts.listed.Listed.{the_row}
 
--- once the borrow r ends, the item at i is the last value written through r
-abbrev pub LendsItem : (T : RattleType) → MutBor (List T.Denot) → ℕ → MutBor T.Denot → Fml
-LendsItem T s i r = Lends (the_row T) T s r (slice_set s.now i)
+-- once the borrow of the item ends, the list has the last value written through it at this place
+abbrev pub LendsItem :
+    (Item : RattleType) → MutBor (List Item.Denot) → ℕ → MutBor Item.Denot → Fml
+LendsItem Item list place item = Lends (the_row Item) Item list item (slice_set list.now place)

@@ -84,14 +84,14 @@ module _ (old new : Table) where
     pub types : Gains old.types new.types ty id
     pub groups : new.groups ≡ old.groups ++ own_group id ∷ []
 
--- what is found is answered and nothing changes; where nothing is found the type is added
+-- what is found is returned and nothing changes; where nothing is found the type is added
 abbrev pub FindsOrAdds : Table → Table → ModuleType → ℕ → Type 0
 FindsOrAdds old new ty id =
     MatchOption (found_id old.types ty) (AddsType old new ty id)
     (λ found. (id ≡ found) × IsSameTable old new)
 
 -- the id is live, its type is the same, and it has a group of its own
-pub record IsAnswer (t : Table) (ty : ModuleType) (id : ℕ) : Type 0 where
+pub record HoldsAlone (t : Table) (ty : ModuleType) (id : ℕ) : Type 0 where
   pub same : IsSomeAnd (live_type t.types.slots id) (IsSameType ty)
   pub alone : Contains t.groups (own_group id)
 

@@ -12,11 +12,11 @@ use Rattle.walrus_types.specs.TableLends.{with_type}
 
 -- what one call makes of the table old, as the clauses of the call say it
 pub data Call (old new : Table) : Type 0 where
-  -- `add`, `add_struct`, `add_array`, `add_composite` or `add_entry_ty`, which answers `Ok` or an
+  -- `add`, `add_struct`, `add_array`, `add_composite` or `add_entry_ty`, which returns `Ok` or an
   -- error
   Adds : (ty : ModuleType) (id : ℕ) (ok : FindsOrAdds old new ty id) → Call old new
   AddFails : (err : IsSameTable old new) → Call old new
-  -- `add_rec_group`, which answers `Ok` or an error
+  -- `add_rec_group`, which returns `Ok` or an error
   AddsRec :
       (count : ℕ) (members : List Member)
       (ok : (length members ≡ count) × AddsGroup old new members) → Call old new
@@ -31,7 +31,7 @@ pub data Call (old new : Table) : Type 0 where
   DeletesMany :
       (ids : List ℕ) (live : All (IsLive old.types.slots) ids) (distinct : IsDistinct nat_eq ids)
       (ok : DeletesAll old ids new) → Call old new
-  -- `try_delete`, which answers this
+  -- `try_delete`, which returns this
   TriesToDelete :
       (id : ℕ) (deleted : Bool) (live : IsLive old.types.slots id)
       (ok : MatchBool deleted (Deletes old new id) (new ≡ old)) → Call old new
@@ -55,7 +55,7 @@ new_ids (DeletesWhole id live ok) = []
 abbrev pub IsCall : Table → Table → List ℕ → Type 0
 IsCall old new ids = (call : Call old new) × (new_ids call ≡ ids)
 
--- one call adds the type, or finds it, and answers the id, which is that of a new type where
+-- one call adds the type, or finds it, and returns the id, which is that of a new type where
 -- nothing was found
 abbrev pub IsAddition : Table → Table → ModuleType → ℕ → Type 0
 IsAddition old new ty id = IsCall old new (if is_some (found_id old.types ty) then [] else id ∷ [])

@@ -182,7 +182,8 @@ nothing_reads last bytes s rest e h =
     (ap (section_at last) (sym e) ∙ h)
 
 -- the sections after one that is read
-pub others_of : (last : ℕ) (text more : List ℕ) (s : Section) (all : List Section) → IsNextSection last text s →
+pub others_of :
+    (last : ℕ) (text more : List ℕ) (s : Section) (all : List Section) → IsNextSection last text s →
     AreBehind last (text ++ more) all → (after : List Section) × AreBehind (place_after last s.id) more after
 others_of last text more s all h k =
     let reads = section_complete last text s more h in

@@ -50,7 +50,8 @@ no_further bytes rest last place p some fewer end behind within sections h =
       | inr b ↦
           let t = section_sound last k.between b.first b.rest b.reads in
           let reads = ap (section_at last) (k.shorter ∙ (ap (λ (u : List ℕ). u ++ back) t.parts
-          ∙ append_assoc t.text b.rest back)) ∙ section_complete last t.text b.first (b.rest ++ back) t.is_text in
+          ∙ append_assoc t.text b.rest back))
+          ∙ section_complete last t.text b.first (b.rest ++ back) t.is_text in
           let less = fewer b.first (b.rest ++ back) reads in
           absurd (omega (arith, less, length-append b.rest back, back-long, within))
     ]

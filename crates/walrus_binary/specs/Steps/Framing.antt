@@ -43,7 +43,7 @@ unfoldable pub begins_custom : List ℕ → Bool
 begins_custom [] = false
 begins_custom (b ∷ bytes) = nat_eq b 0
 
--- What a function answered, seen by view, is what reading gives.
+-- What a function returned, seen by view, is what reading gives.
 abbrev pub Reads : {X Y : Type 0} → (X → Y) → Result X Fault → Result Y Fault → Type 0
 Reads view (Ok x) read = read ≡ Ok (view x)
 Reads view (Err f) read = read ≡ Err f

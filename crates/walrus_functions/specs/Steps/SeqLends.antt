@@ -8,10 +8,11 @@ use Rattle.walrus_functions.specs.contracts.function_builder.FunctionBuilder.{th
 use Rattle.walrus_functions.specs.contracts.function_builder.sequences.Sequences.{the_row as seqs_row}
 use Rattle.walrus_functions.specs.Body.{Body, with_sequence}
 
--- once the borrow r ends, the id has the last sequence written through r
+-- once the borrow of the sequence ends, the id has the last one written through it
 abbrev pub LendsAt : MutBor (List Sequence) → ℕ → MutBor Sequence → Fml
-LendsAt seqs id r = Lends seqs_row seq_row seqs r (slice_set seqs.now id)
+LendsAt sequences id sequence =
+    Lends seqs_row seq_row sequences sequence (slice_set sequences.now id)
 
--- once the borrow r ends, the id has the last sequence written through r
+-- the same for a sequence of a function's body
 abbrev pub LendsSeq : MutBor Body → ℕ → MutBor Sequence → Fml
-LendsSeq f id r = Lends fn_row seq_row f r (with_sequence f.now id)
+LendsSeq body id sequence = Lends fn_row seq_row body sequence (with_sequence body.now id)

@@ -21,7 +21,8 @@ unfoldable pub first_at : ℕ → List ℕ → Option (PlacedSection × List ℕ
 first_at offset [] = None
 first_at offset (id ∷ bytes) = sized_at offset (length bytes) id (u32_at bytes)
 
-abbrev pub and_then : {A : Type 0} → Option (PlacedSection × List ℕ) → (PlacedSection → List ℕ → List A) → List A
+abbrev pub and_then :
+    {A : Type 0} → Option (PlacedSection × List ℕ) → (PlacedSection → List ℕ → List A) → List A
 and_then (Some x) f = f x.0 x.1
 and_then None f = []
 

@@ -123,7 +123,8 @@ live_groups t known k d lt u e in_u =
 
 -- the groups that are written, one by one
 module _ (t : Table) (known : IsTable t) (order : List ℕ)
-    (ord : IsWritingOrder (table_view t) order) (k : ℕ) (d : TypeGroup) (lt : k < length (in_order (type_groups t.groups) order)) where
+    (ord : IsWritingOrder (table_view t) order) (k : ℕ) (d : TypeGroup)
+    (lt : k < length (in_order (type_groups t.groups) order)) where
   below : k < length order
   below = omega (arith, lt, length-map order (group_at (type_groups t.groups)))
 

@@ -8,7 +8,7 @@ use Rattle.walrus_types.specs.declared.table.rec_group.RecGroup.{RecGroup}
 use Rattle.walrus_ty.specs.Types.{ModuleType}
 use Rattle.walrus_ty.specs.SameTypes.{type_eq, IsSameType}
 use Rattle.walrus_types.specs.TypesById.{passes, known_id, found_id}
-use Rattle.walrus_types.specs.Table.{Table, rec_group_at, no_rec_group, own_group, IsIdAt, AddsType, IsAnswer}
+use Rattle.walrus_types.specs.Table.{Table, rec_group_at, no_rec_group, own_group, IsIdAt, AddsType, HoldsAlone}
 use Rattle.walrus_types.specs.Steps.TableIndex.{IsIndexed}
 use Rattle.walrus_ty.proofs.Equality.Types.{same_from_eq}
 use Rattle.walrus_types.proofs.Tables.Places.{Grows, Extends, table_grown, member_below, none_some}
@@ -55,7 +55,7 @@ pub IsSameType-refl : (ty : ModuleType) → IsSameType ty ty
 IsSameType-refl ty = record { kind = refl; is_final = refl; supertype = refl; is_for_function_entry = refl }
 
 pub answer_new :
-    (t new : Table) (ty : ModuleType) (id : ℕ) → AddsType t new ty id → IsAnswer new ty id
+    (t new : Table) (ty : ModuleType) (id : ℕ) → AddsType t new ty id → HoldsAlone new ty id
 answer_new t new ty id adds =
     let shown : get new.types.slots id ≡ Some ty = ap (λ (s : Slots ModuleType). get s id) adds.types.slots
     ∙ get_or_at t.types.slots (Some ty) [] None id (sym adds.types.is_next) in
@@ -95,7 +95,7 @@ holds_same ty (Some x) h = (same_from_eq ty x h, refl)
 module _ (t : Table) (go : List ℕ) (ty : ModuleType) (is : IsIndexed t go) where
   -- what the map leads to, where it is equal
   answer_mapped : (id : ℕ) → known_id t.types ty ≡ Some id →
-      passes (type_eq ty) (get t.types.slots id) ≡ true → IsAnswer t ty id
+      passes (type_eq ty) (get t.types.slots id) ≡ true → HoldsAlone t ty id
   answer_mapped id leads equal =
       let same : _ = holds_same ty (get t.types.slots id) equal in
       let home : ℕ = slice_index go id in
@@ -116,12 +116,13 @@ module _ (t : Table) (go : List ℕ) (ty : ModuleType) (is : IsIndexed t go) whe
         );
       }
 
-  pub answer_found : (o : Option ℕ) → o ≡ found_id t.types ty → IfSome o (λ id. IsAnswer t ty id)
-  answer_found None e = tt
-  answer_found (Some id) e = by_map (known_id t.types ty) refl (sym e)
+  pub found-holds : (o : Option ℕ) → o ≡ found_id t.types ty → IfSome o (λ id. HoldsAlone t ty id)
+  found-holds None e = tt
+  found-holds (Some id) e = by_map (known_id t.types ty) refl (sym e)
     where
       by_map : (m : Option ℕ) → m ≡ known_id t.types ty → option_and_then
-          (λ i. cond (passes (type_eq ty) (get t.types.slots i)) (Some i) None) m ≡ Some id → IsAnswer t ty id
+          (λ i. cond (passes (type_eq ty) (get t.types.slots i)) (Some i) None) m ≡ Some id →
+          HoldsAlone t ty id
       by_map None e f = absurd (none_some f)
       by_map (Some i) e f =
           let two : _ = found_parts (passes (type_eq ty) (get t.types.slots i)) i id f in

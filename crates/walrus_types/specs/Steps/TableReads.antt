@@ -14,7 +14,7 @@ pub record UsesUpId (old new : Table) : Type 0 where
   pub groups : new.groups ≡ old.groups
   pub keys : new.types.keys ≡ old.types.keys
 
--- what is found is answered and the next id is used up; where nothing is found the type is added
+-- what is found is returned and the next id is used up; where nothing is found the type is added
 abbrev pub ReadsSingle : Table → Table → ModuleType → ℕ → Type 0
 ReadsSingle old new ty id =
     MatchOption (found_id old.types ty) (AddsType old new ty id)

@@ -119,7 +119,7 @@ pub fn delete_all(types: &mut ModuleTypes, ids: &[TypeId]) -> Result<(), AllocEr
 /// `try_delete` of a table.
 pub fn try_delete(types: &mut ModuleTypes, id: TypeId) -> Result<bool, AllocError>
     requires { IsLive types.old.types.slots id }
-    ensures answer { IfOk result
+    ensures deleted { IfOk result
         (λ deleted. MatchBool deleted (IsNamedInGroup types.old id → ⊥)
         (IsNamedInGroup types.old id)) }
     ensures deletes { IfOk result

@@ -2,7 +2,7 @@
 ghost use Rattle.std.specs.Prelude.{◌≡◌, [], IfOk, OnErr, Some, None, IfSome, true, false};
 ghost use Rattle.walrus_types.specs.TypesById.{found_id};
 ghost use Rattle.walrus_ty.specs.Types.{unnamed_type, function};
-ghost use Rattle.walrus_types.specs.Table.{FindsOrAdds, IsAnswer, AddsType, IsSameTable, next_id};
+ghost use Rattle.walrus_types.specs.Table.{FindsOrAdds, HoldsAlone, AddsType, IsSameTable, next_id};
 ghost use Rattle.walrus_ty.specs.declared.ty.composite.CompositeType.TheVariants as kind;
 
 use super::{ModuleTypes, RecGroup};
@@ -32,8 +32,8 @@ impl ModuleTypes {
     /// assert_eq!(rt; first, again);
     /// ```
     pub fn add(&mut self, params: &[ValType], results: &[ValType]) -> Result<TypeId, AllocError>
-        ensures answer { IfOk result
-            (λ id. IsAnswer self.new
+        ensures holds { IfOk result
+            (λ id. HoldsAlone self.new
             (unnamed_type (function params.now results.now) true None false (next_id self.old))
             id) }
         ensures ok { IfOk result
@@ -50,8 +50,8 @@ impl ModuleTypes {
     /// Returns the id of the final struct type with these fields, and without supertype. It is
     /// found or added as by [`add_composite`](ModuleTypes::add_composite), with the same errors.
     pub fn add_struct(&mut self, fields: Vec<FieldType>) -> Result<TypeId, AllocError>
-        ensures answer { IfOk result
-            (λ id. IsAnswer self.new
+        ensures holds { IfOk result
+            (λ id. HoldsAlone self.new
             (unnamed_type (kind.Struct (record { fields = fields.items })) true None false
             (next_id self.old)) id) }
         ensures ok { IfOk result
@@ -69,8 +69,8 @@ impl ModuleTypes {
     /// Returns the id of the final array type with these elements, and without supertype. It is
     /// found or added as by [`add_composite`](ModuleTypes::add_composite), with the same errors.
     pub fn add_array(&mut self, element: FieldType) -> Result<TypeId, AllocError>
-        ensures answer { IfOk result
-            (λ id. IsAnswer self.new
+        ensures holds { IfOk result
+            (λ id. HoldsAlone self.new
             (unnamed_type (kind.Array (record { field = element })) true None false
             (next_id self.old)) id) }
         ensures ok { IfOk result
@@ -102,8 +102,8 @@ impl ModuleTypes {
         is_final: bool,
         supertype: Option<TypeId>,
     ) -> Result<TypeId, AllocError>
-        ensures answer { IfOk result
-            (λ id. IsAnswer self.new
+        ensures holds { IfOk result
+            (λ id. HoldsAlone self.new
             (unnamed_type comp is_final supertype false (next_id self.old)) id) }
         ensures ok { IfOk result
             (λ id. FindsOrAdds self.old self.new
@@ -120,8 +120,8 @@ impl ModuleTypes {
     /// added as by [`add_composite`](ModuleTypes::add_composite), with the same errors. Such a type
     /// is not written.
     pub fn add_entry_ty(&mut self, results: &[ValType]) -> Result<TypeId, AllocError>
-        ensures answer { IfOk result
-            (λ id. IsAnswer self.new
+        ensures holds { IfOk result
+            (λ id. HoldsAlone self.new
             (unnamed_type (function [] results.now) true None true (next_id self.old)) id) }
         ensures ok { IfOk result
             (λ id. FindsOrAdds self.old self.new
@@ -135,7 +135,7 @@ impl ModuleTypes {
 
     // The id of an equal type that was added alone, or of this one as a new type.
     fn insert(&mut self, ty: Type) -> Result<TypeId, AllocError>
-        ensures answer { IfOk result (λ id. IsAnswer self.new ty id) }
+        ensures holds { IfOk result (λ id. HoldsAlone self.new ty id) }
         ensures ok { IfOk result (λ id. FindsOrAdds self.old self.new ty id) }
         ensures err { OnErr result (IsSameTable self.old self.new) }
     {
@@ -148,7 +148,7 @@ impl ModuleTypes {
     // The id of an equal type that was added alone.
     pub(super) fn find_equal(&self, ty: &Type) -> Option<TypeId>
         ensures value { result ≡ found_id self.now.types ty.now }
-        ensures answer { IfSome result (λ id. IsAnswer self.now ty.now id) }
+        ensures holds { IfSome result (λ id. HoldsAlone self.now ty.now id) }
     {
         self.types.find(ty)
     }
@@ -156,7 +156,7 @@ impl ModuleTypes {
     // A type that isn't found gets a new slot, and a group of its own.
     pub(super) fn add_new(&mut self, ty: Type) -> Result<TypeId, AllocError>
         requires { found_id self.old.types ty ≡ None }
-        ensures answer { IfOk result (λ id. IsAnswer self.new ty id) }
+        ensures holds { IfOk result (λ id. HoldsAlone self.new ty id) }
         ensures ok { IfOk result (λ id. AddsType self.old self.new ty id) }
         ensures err { OnErr result (IsSameTable self.old self.new) }
     {

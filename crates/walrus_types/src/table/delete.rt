@@ -55,7 +55,7 @@ impl ModuleTypes {
     /// A type that names itself is deleted. Names from outside the group are not looked at.
     pub fn try_delete(&mut self, id: TypeId) -> Result<bool, AllocError>
         requires { IsLive self.old.types.slots id }
-        ensures answer { IfOk result
+        ensures deleted { IfOk result
             (λ deleted. MatchBool deleted (IsNamedInGroup self.old id → ⊥)
             (IsNamedInGroup self.old id)) }
         ensures ok { IfOk result

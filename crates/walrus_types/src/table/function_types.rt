@@ -1,6 +1,6 @@
 //! The table as one of function types, for the types of instruction sequences.
 ghost use Rattle.walrus_types.specs.FunctionTypes.{new_function};
-ghost use Rattle.walrus_types.specs.Table.{FindsOrAdds, IsAnswer, IsFirst, IsPlainFunction, IsSameTable};
+ghost use Rattle.walrus_types.specs.Table.{FindsOrAdds, HoldsAlone, IsFirst, IsPlainFunction, IsSameTable};
 
 use super::ModuleTypes;
 use crate::{FunctionTypes, TypeId, ValType};
@@ -12,7 +12,7 @@ impl FunctionTypes for ModuleTypes {
     ghost adds = { λ old params results new id.
         FindsOrAdds old new (new_function old params results) id };
 
-    ghost has = { λ old params results new id. IsAnswer new (new_function old params results) id };
+    ghost has = { λ old params results new id. HoldsAlone new (new_function old params results) id };
 
     ghost is_same = { IsSameTable };
 

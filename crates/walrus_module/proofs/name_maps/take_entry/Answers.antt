@@ -20,7 +20,8 @@ returns-then-index-new_indices-clause-unknown c = λ k e.
     (length c.args.new_indices.now) k
     c.in-Some.ensures (omega (arith, c.if-index-new_indices.true)) (unknown_is c.in-Some.index k e)
 
-pub returns-in_default-take_following-clause-malformed : goal.returns-in_default-take_following-clause-malformed
+pub returns-in_default-take_following-clause-malformed :
+    goal.returns-in_default-take_following-clause-malformed
 returns-in_default-take_following-clause-malformed c = λ e.
     entry_malformed (IsFollowing c.args.follows) c.args.input.now.now c.in-Some.index c.read_u32.new.input.now
     c.in-Some.ensures c.in_default-take_following.ensures.none

@@ -24,7 +24,8 @@ returns-in_err-new_bodies-clause-malformed c =
     let r = c.from_residual in
     let p = err_from_is_err_and r.result r.ensures.1 in
     λ e. let is = sym p.2 ∙ same_failure r.result p.0 rename.Malformed p.1 e in
-    code_malformed c.args.content.now c.in-Some.count c.read_u32.new.input.now scan.Malformed c.in-Some.ensures
+    code_malformed c.args.content.now c.in-Some.count c.read_u32.new.input.now scan.Malformed
+    c.in-Some.ensures
     (c.in_err-new_bodies.ensures.malformed (ap (λ x. Err x) is))
 
 pub returns-in_err-new_bodies-clause-unknown : goal.returns-in_err-new_bodies-clause-unknown

@@ -61,7 +61,8 @@ returns-in-Some-clause-too_long c =
     c.in-Some.new.items c.requires (λ k. omega (arith, k, c.if-section-eq-TYPES.false)) changed
     (subst (λ x. 2 ^ 32 ≤ length x) c.deref.ensures.value (c.push_section-in-Some.ensures.too_long e))
 
-pub returns-in_ok-extend_from_slice-in-None-clause-written : goal.returns-in_ok-extend_from_slice-in-None-clause-written
+pub returns-in_ok-extend_from_slice-in-None-clause-written :
+    goal.returns-in_ok-extend_from_slice-in-None-clause-written
 returns-in_ok-extend_from_slice-in-None-clause-written c =
     let id = c.args.section.id in
     let content = c.args.section.content.now in

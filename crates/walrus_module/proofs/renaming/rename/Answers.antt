@@ -126,4 +126,6 @@ returns-clause-changes c =
     c.in_ok-found.ensures.passed in
     written_ended c.args.new_indices.now c.args.widths c.args.kinds c.args.input.now.now
     l.input.now n.input.now l.unwritten.now l.stack n.stack l.out.items c.extend_from_slice-2.new.self.items
-    l.invariant (λ e. not_empty c.as_slice.result.now c.if-is_empty.ensures (c.as_slice.ensures.value ∙ e)) h c.in_ok-extend_from_slice-2.ensures.items
+    l.invariant
+    (λ e. not_empty c.as_slice.result.now c.if-is_empty.ensures (c.as_slice.ensures.value ∙ e))
+    h c.in_ok-extend_from_slice-2.ensures.items

@@ -14,7 +14,8 @@ returns-in_err-rest-clause-none c =
 pub returns-in_default-clause-none : goal.returns-in_default-clause-none
 returns-in_default-clause-none c =
     let p = c.in_ok-rest.ensures.passed in
-    let m = all_passed c.args.bytes.now c.in_ok-rest.rest.now p.0 p.1 (omega (arith, c.in_default.len_below)) in
+    let m = all_passed c.args.bytes.now c.in_ok-rest.rest.now p.0 p.1
+    (omega (arith, c.in_default.len_below)) in
     inr (m.0, m.1, omega (arith, c.in_default.len_below, c.in_ok-rest.ensures.place))
 
 pub returns-clause-before : goal.returns-clause-before

@@ -66,8 +66,8 @@ invariant_of-self-2 c =
     ) in
     rw (c.push_reserved.ensures.items, c.reserve-2.ensures.items, many) is
 
-pub returns-clause-answer : goal.returns-clause-answer
-returns-clause-answer c =
+pub returns-clause-holds : goal.returns-clause-holds
+returns-clause-holds c =
     let old : Table = record { types = seen c.self.inside.types; groups = c.self.inside.groups.items } in
     let new : Table = record {
       types = seen c.alloc_and_register.new.self;

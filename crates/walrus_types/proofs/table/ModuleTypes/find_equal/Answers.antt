@@ -1,7 +1,7 @@
 use Rattle.std.proofs.Common.{◌∙◌}
 use Rattle.walrus_types.specs.Table.{Table}
 use Rattle.walrus_ty.specs.SameTypes.{type_eq}
-use Rattle.walrus_types.proofs.Tables.NewType.{answer_found}
+use Rattle.walrus_types.proofs.Tables.NewType.{found-holds}
 use Rattle.walrus_types.proofs.Tables.TypeSet.{seen, found_seen}
 use Rattle.walrus_types.proofs.table.ModuleTypes.find_equal.Goals as goal
 
@@ -9,9 +9,9 @@ pub returns-clause-value : goal.returns-clause-value
 unfolding type_eq
 returns-clause-value c = rw (← c.self.view_is) (c.find.ensures ∙ found_seen c.self.inside.types c.args.ty.now)
 
-pub returns-clause-answer : goal.returns-clause-answer
+pub returns-clause-holds : goal.returns-clause-holds
 unfolding type_eq
-returns-clause-answer c =
+returns-clause-holds c =
     let t : Table = record { types = seen c.self.inside.types; groups = c.self.inside.groups.items } in
-    rw (← c.self.view_is) (answer_found t c.self.inside.group_of.items c.args.ty.now c.self.invariant
+    rw (← c.self.view_is) (found-holds t c.self.inside.group_of.items c.args.ty.now c.self.invariant
     c.find.result (c.find.ensures ∙ found_seen c.self.inside.types c.args.ty.now))
