@@ -1,8 +1,10 @@
 """Docs of public functions: what they panic at, and their contracts. Also the table of docs/RUST.md."""
 import re
 
+import contracts
 import guards
 import twins
+import wording
 
 LAWS = re.compile(r'(^|/)(record_)?laws(/|\.rt$)')
 HEAD = '| Library | Required | Functions | In Rust |\n|---|---|---|---|\n'
@@ -18,26 +20,25 @@ def is_exported(function, exported, path):
     return function.is_public and (is_law(path) or (function.owner or function.name) in exported)
 
 
-def docs_of(function, is_law, has_twin):
-    """The lines that the docs of a function get at their end."""
-    panics = ([] if is_law else guards.panics(function)) + (twins.panics(function) if has_twin else [])
-    when = ', and '.join(panics)
+def docs_of(function, is_law, call, then=''):
+    """The lines that the docs of a function get at their end. It may be a call with a twin, of which something may be
+    said for the time after it panics."""
+    panics = ([] if is_law else guards.panics(function)) + (twins.panics(function, call) if call else [])
+    note = twins.note(function, call) if call else []
     parts = [
-        twins.note(function) if has_twin else [],
-        ['# Panics', '', f'{when[0].upper()}{when[1:]}.'] if panics else [],
-        ['# Contract', '', '```text', *function.lines, '```'] if function.lines else [],
+        ['# Panics', '', f'Panics if {", or if ".join(panics)}. {then}'.rstrip()] if panics else [],
+        ['# Contract', '', *note, '```text', *function.lines, '```'] if function.lines else [],
     ]
     return [line for part in parts if part for line in ['', *part]][1:]
 
 
-def fill(text, mark, lines):
-    """Puts the lines of docs in the place of a mark, behind an empty one where there are docs before."""
-    found = re.search(rf'^( *){mark}\n', text, re.M)
-    if not found:
-        return text
-    before = text[:found.start()].rstrip('\n').rsplit('\n', 1)[-1].lstrip()
-    lines = ['', *lines] if lines and before.startswith('///') else lines
-    docs = ''.join(f'{found[1]}/// {it}'.rstrip() + '\n' for it in lines)
+def fill(text, number, function, is_law, call):
+    """Ends the docs of a public function, at its mark. It may be a call with a twin."""
+    found = re.search(rf'^(?P<before>(?: *///.*\n)*)(?P<indent> *){contracts.docs_mark(number)}\n', text, re.M)
+    before, then = wording.without_errors(found['before']) if call and call.error else (found['before'], '')
+    lines = docs_of(function, is_law, call, then)
+    lines = ['', *lines] if lines and before else lines
+    docs = before + ''.join(f'{found["indent"]}/// {it}'.rstrip() + '\n' for it in lines)
     return text[:found.start()] + docs + text[found.end():]
 
 

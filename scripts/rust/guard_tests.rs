@@ -3,6 +3,7 @@
 use ruffdresser::alloc::AllocError;
 use ruffdresser::*;
 use std::convert::Infallible;
+use std::panic::{AssertUnwindSafe, catch_unwind};
 
 fn table() -> (ModuleTypes, TypeId) {
     let mut types = ModuleTypes::new();
@@ -20,7 +21,7 @@ fn endless() -> (LocalFunction, InstrSeqId) {
     let mut builder = builder();
     let mut body = builder.func_body();
     let seq = body.id();
-    body.instr(Block { seq }).expect("memory");
+    body.instr(Block { seq });
     (builder.local_func(Vec::new()), seq)
 }
 
@@ -128,13 +129,13 @@ fn nothing_is_added_where_the_function_was_replaced() {
     let mut builder = builder();
     let mut body = builder.func_body();
     *body.builder_mut() = FunctionBuilder::without_entry(ty);
-    let _ = body.unreachable();
+    body.unreachable();
 }
 
 #[test]
 #[should_panic(expected = "required: `position` is not past the end")]
 fn nothing_is_put_past_the_end() {
-    let _ = builder().func_body().instr_at(1, Unreachable {});
+    builder().func_body().instr_at(1, Unreachable {});
 }
 
 #[test]
@@ -169,7 +170,7 @@ fn an_endless_body_is_not_changed() {
 fn a_hook_puts_no_sequence_into_itself() {
     let mut builder = builder();
     let start = builder.func_body_id();
-    builder.func_body().unreachable().expect("memory");
+    builder.func_body().unreachable();
     let mut func = builder.local_func(Vec::new());
     let _ = dfs_pre_order_mut(&mut Nester, &mut func, start);
 }
@@ -247,27 +248,36 @@ impl VisitorMut for Nester {
     }
 }
 
-/// Memory is refused to its clones.
-#[derive(PartialEq, Eq, Hash, Debug)]
-struct Costly;
-
-impl TryClone for Costly {
-    fn try_clone(&self) -> Result<Costly, AllocError> {
-        Err(AllocError)
-    }
-}
-
 #[test]
 #[should_panic(expected = "out of memory")]
 fn a_call_panics_where_memory_is_refused() {
-    ArenaSet::new().insert(Costly);
+    IndicesToIds::new().push_types(0, usize::MAX);
 }
 
 #[test]
 fn a_twin_returns_an_error_where_memory_is_refused() {
+    let mut ids = IndicesToIds::new();
+    assert_eq!(ids.try_push_types(0, usize::MAX), Err(AllocError));
+    assert_eq!(ids.type_count(), 0);
+}
+
+/// Memory is refused to its clones.
+#[derive(PartialEq, Eq, Hash)]
+struct Costly;
+
+impl Clone for Costly {
+    fn clone(&self) -> Costly {
+        panic!("out of memory")
+    }
+}
+
+#[test]
+fn a_set_stays_where_a_clone_panics() {
     let mut set = ArenaSet::new();
-    assert_eq!(set.try_insert(Costly), Err(AllocError));
+    let inserted = catch_unwind(AssertUnwindSafe(|| set.insert(Costly)));
+    assert!(inserted.is_err());
     assert_eq!(set.iter().count(), 0);
+    assert_eq!(set.find(&Costly), None);
 }
 
 /// Its clones are not equal to it.
@@ -276,9 +286,9 @@ struct Fickle {
     is_clone: bool,
 }
 
-impl TryClone for Fickle {
-    fn try_clone(&self) -> Result<Fickle, AllocError> {
-        Ok(Fickle { is_clone: true })
+impl Clone for Fickle {
+    fn clone(&self) -> Fickle {
+        Fickle { is_clone: true }
     }
 }
 
@@ -287,4 +297,33 @@ impl TryClone for Fickle {
 fn clones_are_equal() {
     let mut set = ArenaSet::new();
     set.insert(Fickle { is_clone: false });
+}
+
+#[test]
+fn tables_and_functions_may_go_to_other_threads() {
+    fn is_shared<T: Send + Sync>() {}
+    is_shared::<ModuleTypes>();
+    is_shared::<LocalFunctions>();
+    is_shared::<FunctionBuilder>();
+    is_shared::<ConstExpr>();
+}
+
+/// Function types that a user of the libraries keeps.
+struct OneType;
+
+impl FunctionTypes for OneType {
+    fn add_function(&mut self, _: &[ValType], _: &[ValType]) -> TypeId {
+        TypeId::from_index(7)
+    }
+
+    fn find_function(&self, _: &[ValType], _: &[ValType]) -> Option<TypeId> {
+        None
+    }
+}
+
+#[test]
+fn a_table_of_function_types_needs_no_twins() {
+    let two = [ValType::I32, ValType::I64];
+    let ty = InstrSeqType::new(&mut OneType, &two, &[]);
+    assert_eq!(ty, InstrSeqType::MultiValue(TypeId::from_index(7)));
 }

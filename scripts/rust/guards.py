@@ -21,7 +21,7 @@ class Guard:
 
 DISTINCT = 'rattle_std::guards::are_distinct(ids.iter().map(|id| id.index()))'
 CLOSURE = 'nothing to test: a closure in Rust takes every argument of its type'
-NOT_NESTED = 'the body is nested from `start`'
+NESTED = 'the body is nested from `start`'
 CHECK = '''match walrus_nesting::try_check_nesting(func, start) {
         Ok(walrus_nesting::Nesting::Nested(_)) => {}
         Ok(_) => panic!("required: the body is nested from `start`"),
@@ -77,16 +77,50 @@ GUARDS = [
     (r'position ≤ length \(instrs_of .*\)',
      Guard('`position` is not past the end', 'position <= self.instrs().len()')),
     (r'KeepsFunction .*|AfterFilling .*KeepsFunction .*', Guard('the closure does not replace its builder')),
-    (r'IsNested func\.old\.body start', Guard(NOT_NESTED, statements=CHECK)),
-    (r'IsNested func\.now\.body start', Guard(NOT_NESTED, statements=CHECK)),
+    (r'IsNested func\.old\.body start', Guard(NESTED, statements=CHECK)),
+    (r'IsNested func\.now\.body start', Guard(NESTED, statements=CHECK)),
 ]
+# When a guard panics, by what it requires.
+BROKEN = {
+    '`id` is live': '`id` is not live',
+    'each of `ids` is live': 'one of `ids` is not live',
+    'each of `roots` is live': 'one of `roots` is not live',
+    'no id comes twice in `ids`': 'an id comes twice in `ids`',
+    'a clone of the value is equal to it': 'a clone of the value is not equal to it',
+    '`id` is a live function type': '`id` is not a live function type',
+    '`ty` is a live function type': '`ty` is not a live function type',
+    'there are fewer than 2^32 entries': 'there are 2^32 entries or more',
+    '`place` is not past the end': '`place` is past the end',
+    'it is a function type': 'it is no function type',
+    'it is a struct type': 'it is no struct type',
+    'it is an array type': 'it is no array type',
+    '`id` has no index': '`id` has an index',
+    'the next index is below 2^32': 'no index below 2^32 is left',
+    'none of `ids` has an index': 'one of `ids` has an index',
+    'the next indices are below 2^32': 'too few indices below 2^32 are left',
+    '`index` has a type': '`index` has no type',
+    '`index` is below the length': '`index` is not below the length',
+    '`index` is not past the end': '`index` is past the end',
+    '`first + count` is below 2^64': '`first + count` is 2^64 or more',
+    '`number` is not 0xffff_ffff': '`number` is 0xffff_ffff',
+    'it is not the default location': 'it is the default location',
+    '`id` is in the list': '`id` is not in the list',
+    '`id` is one of `funcs`': '`id` is none of `funcs`',
+    '`id` is known': '`id` is not known',
+    'there is an entry': 'there is no entry',
+    'the sequence is known': 'the sequence is not known',
+    '`position` is not past the end': '`position` is past the end',
+    'the closure does not replace its builder': 'the closure replaces its builder',
+    NESTED: 'the body is not nested from `start`',
+    'hooks keep which sequences stand in a sequence': 'a hook changes which sequences stand in a sequence',
+}
 # Calls whose guard is in the call that they make.
 DELEGATED = {'ArenaSet::insert', 'UsedIds::of'}
 
 # By file: a pattern for lines of the rewritten text, and what takes their place.
 INSERTIONS = [
-    ('src/arena_set.rt', r'( +let key = value\.try_clone\(\)\?;\n)',
-     r'\1        assert!(key == value, "required: a clone of the value is equal to it");\n'),
+    ('src/arena_set.rt', r'( +let key = value\.)try_clone\(\)\?;\n',
+     r'\1clone();\n        assert!(key == value, "required: a clone of the value is equal to it");\n'),
     ('src/function_builder/nested.rt', r'( +let id = self\.builder\.add_seq\(ty\)\?;\n)',
      r'\1        let function: *const _ = &*self.builder;\n'),
     ('src/function_builder/nested.rt', r'( +make\(&mut inner\)\?;\n)', r'''\1        assert!(
@@ -150,8 +184,7 @@ def statements(function):
 
 def panics(function):
     """When the function panics at a guard, in words."""
-    words = [it.words for it in guards_of(function) if not it.reason]
-    return [f'unless {" and ".join(words)}'] if words else []
+    return [BROKEN[it.words] for it in guards_of(function) if not it.reason]
 
 
 def insert(path, text):

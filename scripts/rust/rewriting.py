@@ -49,6 +49,10 @@ RULES = [
     (rf', {PASSED}', ''),
     (r'\*([\w.]+)\.allocator\(\)', f'{CRATE}::alloc::Global'),
     (r': `alloc`\s*///\s*is needed when the type is deleted\.', '.'),
+    # Laws are for tests. Docs don't show them.
+    (r'^pub mod ((?:record_)?laws);', r'#[doc(hidden)]\npub mod \1;'),
+    (r'\b(?:record_laws|laws as \w+),\s*|,\s*laws as \w+(?=\s*\})', ''),
+    (r'^pub use \w+::laws as \w+;\n', ''),
     # Names of the standard library.
     (r'\bstd::process::\{Abort, (\w+)\}', rf'{CRATE}::process::{{Abort, \1}}'),
     (rf'\bstd::({OTHER_MODULES})\b', rf'{CRATE}::\1'),
@@ -62,6 +66,8 @@ RULES = [
     (r'^(pub type .* = )HashMap<', rf'\1{CRATE}::collections::HostMap<'),
     # Macros.
     (r'\b(assert(?:_eq|_ne)?|panic|unreachable)!\(&?rt;\s*', r'\1!('),
+    # An id may go to another thread.
+    (r'\bof: PhantomData<P>', 'of: PhantomData<fn() -> P>'),
     # What is refused.
     (r'\bVec::with_capacity\(', f'{CRATE}::vec::with_capacity('),
     (r'\bVec::from_slice\(', f'{CRATE}::vec::from_slice('),
@@ -81,16 +87,26 @@ RULES = [
     (r'\bFail::new\(', f'{CRATE}::test::fail('),
     # Entries of programs and of tests.
     (r'(#\[test\]\n\s*fn \w+\()rt: HostRuntime(\)[^{]*\{)', r'\1\2 let rt = HostRuntime;'),
+    # A copy by Rust's `Clone` can't be refused.
+    (r'(#\[test\]\n)(fn \w+_with_a_refused_clone\()', r'\1#[should_panic(expected = "out of memory")]\n\2'),
     (r'^(fn main\()rt: HostRuntime(\)[^{]*\{)', r'\1\2\n    let rt = HostRuntime;'),
 ]
 COMPILED = [(re.compile(pattern, re.M), text) for pattern, text in RULES]
-# What examples in docs say of memory and of the system, in the words of a Rust program.
-EXAMPLES = [(re.compile(pattern), text) for pattern, text in [
-    (rf'\b{CRATE}::try_vec!(\[.*?\])\?', r'vec!\1'),
-    (r'\.try_(push|insert|extend_from_slice)\((.*)\)\?', r'.\1(\2)'),
-    (r'\bprintln!\(rt; (.*)\)\?', r'println!(\1)'),
-    (rf'\b{CRATE}::test::fail\((".*?")\)', r'\1.into()'),
-]]
+
+
+ITEM = re.compile(r'(?P<attributes>(?:^#\[.*\]\n)*)(?P<item>^(?:pub(?:\(\w+\))? )?(?:struct|enum) (?P<name>\w+))', re.M)
+# What is not to be printed: the keys of a hash.
+SECRET = {'HashKeys'}
+
+
+def add_debug(text):
+    """The text with `Debug` for each type that has none."""
+    def derived(item):
+        name = item['name']
+        has_debug = 'Debug' in item['attributes'] or re.search(rf'\bDebug for {name}\b', text)
+        return item[0] if has_debug or name in SECRET else f'{item["attributes"]}#[derive(Debug)]\n{item["item"]}'
+
+    return ITEM.sub(derived, text)
 
 
 def rewrite_derives(text):
@@ -104,9 +120,10 @@ def rewrite_derives(text):
 
 
 def rewrite_clones(text):
-    """The trait `Clone` can be refused. A type that has it gets Rust's too."""
+    """The trait `Clone` can be refused. A type that has it gets Rust's too, which is all that a set wants of its items."""
     parts = re.split(r'(#\[derive[^\n]*\n|//[^\n]*\n)', text)
-    parts = [part if at % 2 else re.sub(r'(?<!::)\bClone\b', 'TryClone', part) for at, part in enumerate(parts)]
+    names = r'(?<!::)\bClone\b(?! \+ Eq \+ Hash)'
+    parts = [part if at % 2 else re.sub(names, 'TryClone', part) for at, part in enumerate(parts)]
     text = ''.join(parts)
     return re.sub(r'^impl(<.*>)? TryClone for (.*?) \{\n', add_clone, text, flags=re.M)
 
@@ -124,24 +141,6 @@ def with_prelude(text, is_root):
     return f'{text[:head.end()]}{lints}use {CRATE}::prelude::*;\n{text[head.end():]}'
 
 
-def as_example(line):
-    for pattern, new in EXAMPLES:
-        line = pattern.sub(new, line)
-    return line
-
-
-def mark_examples(text):
-    """Marks examples in docs, so that `cargo test` does not run them: most are no whole programs."""
-    lines, is_inside = [], False
-    for line in text.split('\n'):
-        fence = re.fullmatch(r'(\s*//[/!] ```)(\w*)', line)
-        if fence:
-            line = line if is_inside or fence[2] not in ('', 'rust') else f'{fence[1]}ignore'
-            is_inside = not is_inside
-        lines.append(as_example(line) if is_inside else line)
-    return '\n'.join(lines)
-
-
 def rewrite(text):
     """The text in Rust, without its prelude. Rules see no strings."""
     strings = []
@@ -155,5 +154,5 @@ def rewrite(text):
     text = contracts.TOKEN.sub(hide, text)
     for pattern, new in COMPILED:
         text = pattern.sub(new, text)
-    text = contracts.without_gaps(rewrite_clones(rewrite_derives(text)))
-    return mark_examples(re.sub('"\x05(\\d+)\x06"', lambda found: strings[int(found[1])], text))
+    text = contracts.without_gaps(rewrite_clones(rewrite_derives(add_debug(text))))
+    return re.sub('"\x05(\\d+)\x06"', lambda found: strings[int(found[1])], text)

@@ -3,6 +3,9 @@
 Such a call keeps its body as a twin, which has another name: `try_add` for `add`. Libraries and tests call twins, so
 that they need no other change. Before each twin comes the call itself. It returns what is in the twin's `Ok`, and
 panics where the twin returns an error. Docs don't show twins.
+
+A call whose closure can be refused nothing but memory has a twin too. The closure of the call itself returns no
+`Result`. In a trait the call itself is the one to implement, and the twin is provided.
 """
 import dataclasses
 import re
@@ -15,12 +18,22 @@ OR_PANIC = 'rattle_std::alloc::or_panic'
 NAMES = {'delete': 'delete_or_error', 'try_delete': 'try_delete_or_error'}
 # Names that calls without twins have too. What is before the dot decides: such a call is on the receiver of WITHOUT, or
 # on none of WITH.
-WITHOUT = {'add': 'funcs'}
-WITH = {'remove': ['set', 'types']}
+WITHOUT = {'block': 'func'}
+WITH = {'remove': ['set', 'types'], 'finish': ['builder', 'f']}
 SIGNATURE = re.compile(
-    r'(?P<head>.*?\bfn )(?P<name>\w+)(?P<middle>.*)\) -> Result<(?P<value>.*), AllocError>(?P<where>\s+where\b.*?)?\s*',
-    re.S)
-PARAMETER = re.compile(r'(?:^|,)\s*(?:mut )?(\w+)\s*:(?!:)')
+    r'(?P<head>.*?\bfn )(?P<name>\w+)(?P<middle>.*)\) -> Result<(?P<value>.*), (?P<error>\w+)>'
+    r'(?P<where>\s+where\b.*?)?\s*', re.S)
+# The type of a closure that can be refused memory.
+CLOSURE = re.compile(r'(?P<type>\w+): FnOnce\((?P<given>[^)]*)\) -> Result<(?P<value>.*), AllocError>')
+# What clauses say of an error of a type with other values, if it is refused memory.
+ONLY_MEMORY = {'IfErr result (AddsNothing self.old self.new)', 'IfErr result (λ e. e ≡ BuildError.Memory)'}
+# By the type of an error that means no more than refused memory: what else it means.
+HANDED_BACK = {'LocalFunction': 'or no id is left'}
+# Calls of traits that have twins.
+OF_TRAITS = {'add_function'}
+# Builders: where a twin returns nothing, the call itself returns its receiver.
+CHAINED = {'InstrSeqBuilder'}
+PARAMETER = re.compile(r'(?:^|,)\s*(?:mut )?(\w+)\s*:(?!:)\s*(\w*)')
 RECEIVER = re.compile(r'\s*(?:&\s*)?(?:mut )?self\b')
 USE = re.compile(r'^(?:pub )?use [^;]*;', re.M)
 
@@ -32,6 +45,10 @@ class Call:
     # The type that it is a call of, or nothing.
     owner: str
     has_receiver: bool
+    # The type of the error that its twin returns and the call itself does not, or nothing.
+    error: str
+    # Whether it returns its receiver, so that calls make chains.
+    is_chained: bool
 
 
 def twin(name):
@@ -41,7 +58,8 @@ def twin(name):
 def signature_of(text, number):
     """The place of a function's signature in a text with marks, behind the mark of its docs."""
     start = text.index(contracts.docs_mark(number)) + len(contracts.docs_mark(number)) + 1
-    return start, text.find(f'{{{contracts.body_mark(number)}', start)
+    body = text.find(f'{{{contracts.body_mark(number)}', start)
+    return start, body if body >= 0 else text.index(';', start)
 
 
 def parameters(middle):
@@ -57,38 +75,82 @@ def parameters(middle):
 def call_of(function, signature):
     """The function as a call with a twin, or None."""
     found = SIGNATURE.fullmatch(signature)
-    if not found or not function.is_public or function.is_of_trait:
+    is_callable = function.is_public and not function.is_of_trait or function.name in OF_TRAITS
+    if not found or not is_callable:
         return None
-    return Call(function.name, function.owner, bool(RECEIVER.match(parameters(found['middle']))))
+    error = found['error'] if is_refusal(function, found['error']) else ''
+    if not error and not CLOSURE.search(found['middle']):
+        return None
+    has_receiver = bool(RECEIVER.match(parameters(found['middle'])))
+    is_chained = bool(error) and function.owner in CHAINED and found['value'] == '()'
+    return Call(function.name, function.owner, has_receiver, error, is_chained)
 
 
-def note(function):
-    """What the docs of a call say about its twin."""
-    return [f'Text and contract are of `{twin(function.name)}`, which returns a `Result`.',
-            'This call returns what is in its `Ok`.']
+def is_refusal(function, error):
+    """Whether an error of this type means refused memory, and nothing that a caller could mend."""
+    clauses = {text for _, text in function.ensures}
+    return error == 'AllocError' or error in HANDED_BACK or bool(clauses & ONLY_MEMORY)
 
 
-def panics(function):
+def note(function, call):
+    """What the docs of a call say about its contract."""
+    what = ('whose closure returns a `Result`' if not call.error else
+            'which returns `Ok(())` where this call returns the builder' if call.is_chained else
+            'which returns what this call returns in an `Ok`')
+    return [f'It is the contract of `{twin(function.name)}`, {what}.', '']
+
+
+def panics(function, call):
     """When a call with a twin panics beside its guards, in words."""
-    always = any(text == 'IsOk result' for _, text in function.ensures)
-    return [] if always else ['where memory is refused']
+    if not call.error or any(text == 'IsOk result' for _, text in function.ensures):
+        return []
+    return [' '.join(['memory is refused', *([HANDED_BACK[call.error]] if call.error in HANDED_BACK else [])])]
 
 
-def add_call(text, number, function):
-    """Puts the call itself before its twin."""
+def add_call(text, number, function, call):
+    """Puts the call itself before its twin, or the twin behind what a trait declares."""
     start, end = signature_of(text, number)
     found = SIGNATURE.fullmatch(text[start:end])
-    given = parameters(found['middle'])
+    signature = text[start:end].replace(f'fn {found["name"]}', f'fn {twin(function.name)}', 1)
     indent = '    ' if function.owner else ''
-    value = '' if found['value'] == '()' else f' -> {found["value"]}'
+    head = head_of(function, found, call)
+    hidden = f'\n\n{indent}#[doc(hidden)]\n'
+    if text[end] == ';':
+        body = f'Ok({called(function, found, function.name)})'
+        return f'{text[:start]}{head};{hidden}{signature.rstrip()} {{\n{indent}    {body}\n{indent}}}{text[end + 1:]}'
     where = f'{found["where"]}\n{indent}' if found['where'] else ' '
+    body = body_of(function, found, call, f'\n{indent}    ')
+    return f'{text[:start]}{head}{where}{{{body}\n{indent}}}{hidden}{signature}{text[end:]}'
+
+
+def head_of(function, found, call):
+    """The signature of the call itself, up to its bounds, given its twin's."""
+    if not call.error:
+        middle = CLOSURE.sub(r'\g<type>: FnOnce(\g<given>) -> \g<value>', found['middle'])
+        return f'{found["head"]}{function.name}{middle}) -> Result<{found["value"]}, {found["error"]}>'
+    value = '&mut Self' if call.is_chained else found['value']
+    return f'{found["head"]}{function.name}{found["middle"]})' + ('' if value == '()' else f' -> {value}')
+
+
+def body_of(function, found, call, line):
+    """The body of the call itself, each line behind what a line begins with."""
+    value = called(function, found, twin(function.name))
+    if not call.error:
+        return f'{line}{value}'
+    if call.error in HANDED_BACK:
+        message = f'out of memory, {HANDED_BACK[call.error]}'
+        return f'{line}{value}.unwrap_or_else(|_| panic!("{message}"))'
+    return f'{line}{OR_PANIC}({value})' + (f';{line}self' if call.is_chained else '')
+
+
+def called(function, found, callee):
+    """A call of a function of this name, with the parameters as they are. Where it is the twin, the value of a closure
+    gets an `Ok` round it."""
+    given = parameters(found['middle'])
     receiver = 'self.' if RECEIVER.match(given) else 'Self::' if function.owner else ''
-    arguments = ', '.join(PARAMETER.findall(given))
-    name = twin(function.name)
-    call = (f'{found["head"]}{function.name}{found["middle"]}){value}{where}{{\n'
-            f'{indent}    {OR_PANIC}({receiver}{name}({arguments}))\n{indent}}}\n\n{indent}#[doc(hidden)]\n')
-    signature = text[start:end].replace(f'fn {found["name"]}', f'fn {name}', 1)
-    return text[:start] + call + signature + text[end:]
+    closures = [] if function.name == callee else [it['type'] for it in CLOSURE.finditer(found['middle'])]
+    arguments = [f'|it| Ok({name}(it))' if kind in closures else name for name, kind in PARAMETER.findall(given)]
+    return f'{receiver}{callee}({", ".join(arguments)})'
 
 
 def rename(text, number, function):
@@ -139,12 +201,11 @@ def method_pattern(name):
 
 
 def edit_of(text, start, end):
-    """What takes the place of what, so that the call named here calls its twin. An example in a comment may have `?`
-    behind its call. Then the call stays, and the `?` goes."""
+    """What takes the place of what, so that the call named here calls its twin. A call in an example in a comment stays,
+    and the `?` behind it goes."""
     if text[text.rfind('\n', 0, start) + 1:start].lstrip().startswith('//'):
         behind = contracts.end_of(text, end, '(', ')')
-        if text.startswith('?', behind):
-            return behind, behind + 1, ''
+        return behind, behind + text.startswith('?', behind), ''
     name = re.search(r'\w+$', text[start:end])[0]
     return end - len(name), end, twin(name)
 

@@ -6,10 +6,12 @@ import shutil
 
 import contracts
 import documents
+import examples
 import facade
 import guards
 import rewriting
 import twins
+import wording
 
 HERE = os.path.dirname(os.path.abspath(__file__))
 ROOT = os.path.dirname(os.path.dirname(HERE))
@@ -26,12 +28,16 @@ license = "MIT OR Apache-2.0"
 {dependencies}'''
 WORKSPACE = '''[workspace]
 members = [{members}]
+# All but what has only tests, or derives alone.
+default-members = [{default_members}]
 resolver = "3"
 
 [profile.release]
 lto = "fat"
 codegen-units = 1
 '''
+# What a type has in Rust alone, by the file that it is in.
+ADDITIONS = {('walrus_ty', 'src/listed.rt'): 'listed.rs'}
 LICENSES = ['LICENSE.md', 'LICENSE-MIT', 'LICENSE-APACHE']
 PAGE = '''# Ruffdresser for Rust
 
@@ -97,7 +103,7 @@ def calls_with_twins():
         for path in (it for it in sources(crate) if not documents.is_law(it)):
             text, functions = rewritten(crate, path).text, rewritten(crate, path).functions
             calls = {at: twins.call_of(it, text[slice(*twins.signature_of(text, at))])
-                     for at, it in enumerate(functions) if is_exported(crate, path, it)}
+                     for at, it in enumerate(functions) if is_exported(crate, path, it) or it.is_of_trait}
             found[crate, path] = {at: call for at, call in calls.items() if call}
     return found
 
@@ -105,20 +111,27 @@ def calls_with_twins():
 def rust_text(crate, path, calls, renaming):
     """A file of a crate in Rust, given the calls of the file that have twins."""
     text, is_law = rewritten(crate, path).text, documents.is_law(path)
-    text = renaming.uses(renaming.calls(text))
+    text = wording.rewrite(examples.rewrite(renaming.uses(renaming.calls(text))))
     for number, function in enumerate(rewritten(crate, path).functions):
         is_public = is_exported(crate, path, function)
         if number in calls:
-            text = twins.add_call(text, number, function)
+            text = twins.add_call(text, number, function, calls[number])
         elif renaming.is_of_name(function) and not is_public:
             text = twins.rename(text, number, function)
-        docs = documents.docs_of(function, is_law, number in calls) if is_public else []
-        text = documents.fill(text, contracts.docs_mark(number), docs)
+        if is_public:
+            text = documents.fill(text, number, function, is_law, calls.get(number))
+        text = without_mark(text, number)
         is_guarded = not is_law and (is_public or function.is_of_trait)
         text = text.replace(contracts.body_mark(number), guards.statements(function) if is_guarded else '')
     text = rewriting.with_prelude(text, path in ROOTS)
     text = re.sub(r'\n{3,}', '\n\n', guards.insert(path, text))
+    text += '\n' + read(f'{HERE}/{ADDITIONS[crate, path]}') if (crate, path) in ADDITIONS else ''
     return facade.with_std(text) if crate == facade.NAME and path in ROOTS else text
+
+
+def without_mark(text, number):
+    """The text without the mark of a function's docs, if it is still there."""
+    return re.sub(rf'^ *{contracts.docs_mark(number)}\n', '', text, flags=re.M)
 
 
 @functools.cache
@@ -146,13 +159,6 @@ def write_manifest(out, crate, below):
     write(f'{out}/{crate}/Cargo.toml', MANIFEST.format(name=crate, dependencies=''.join(lines)))
 
 
-def write_facade(out, libraries):
-    """Writes the crate with the names of all libraries, where this repository has none."""
-    roots = {it: read(f'{ROOT}/crates/{it}/src/lib.rt') for it in libraries}
-    write(f'{out}/{facade.NAME}/src/lib.rs', facade.root(roots))
-    write_manifest(out, facade.NAME, libraries)
-
-
 def is_writable(out):
     """Whether the folder is missing or empty, or a workspace that was written before."""
     return not os.path.isdir(out) or not os.listdir(out) or os.path.isdir(f'{out}/{STAND_INS[0]}')
@@ -169,11 +175,11 @@ def write_workspace(out):
         for path in sources(crate):
             write(f'{out}/{crate}/{path[:-3]}.rs', rust_text(crate, path, calls.get((crate, path), {}), renaming))
         write_manifest(out, crate, below)
-    if facade.NAME not in all_crates:
-        write_facade(out, [it for it in all_crates if is_library(it)])
     write(f'{out}/{facade.NAME}/tests/guards.rs', read(f'{HERE}/guard_tests.rs'))
     for name in LICENSES:
         shutil.copy(f'{ROOT}/{name}', f'{out}/{name}')
     write(f'{out}/README.md', PAGE)
-    members = [*STAND_INS, *all_crates, *([] if facade.NAME in all_crates else [facade.NAME])]
-    write(f'{out}/Cargo.toml', WORKSPACE.format(members=', '.join(f'"{it}"' for it in members)))
+    members = [*STAND_INS, *all_crates]
+    default = [it for it in members if it != STAND_INS[1] and not it.endswith('_tests')]
+    lists = [', '.join(f'"{it}"' for it in names) for names in (members, default)]
+    write(f'{out}/Cargo.toml', WORKSPACE.format(members=lists[0], default_members=lists[1]))

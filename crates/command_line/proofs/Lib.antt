@@ -1,1 +1,2 @@
 pub mod Lookalikes
+pub mod Options

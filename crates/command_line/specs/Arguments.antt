@@ -1,5 +1,5 @@
 -- What the arguments of a program ask for: the names of files among them.
-use Rattle.std.specs.Prelude.{◌≡◌, ℕ, true, List, [], ◌∷◌, Option, IsSome, All}
+use Rattle.std.specs.Prelude.{◌≡◌, ℕ, List, [], ◌∷◌, All}
 use Rattle.std.specs.String.{string_bytes}
 use Rattle.command_line.specs.declared.arguments.Request.{Request}
 use Rattle.command_line.specs.declared.arguments.Request.TheVariants as request
@@ -18,19 +18,19 @@ IsName (b ∷ c ∷ bytes) = ¬ (b ≡ dash)
 abbrev pub HasNames : Request → Type 0
 HasNames request.Help = Unit {0}
 HasNames request.Version = Unit {0}
-HasNames (request.Work names has_option) = All (λ name. IsName (string_bytes name)) names.items
+HasNames (request.Work names options) = All (λ name. IsName (string_bytes name)) names.items
 HasNames request.Usage = Unit {0}
 
 -- no work is asked for
 abbrev pub IsNoWork : Request → Type 0
 IsNoWork request.Help = Unit {0}
 IsNoWork request.Version = Unit {0}
-IsNoWork (request.Work names has_option) = ⊥
+IsNoWork (request.Work names options) = ⊥
 IsNoWork request.Usage = Unit {0}
 
--- where the request has the option of a program, the program has one
-abbrev pub HasOptionOf : {T : Type 0} → Option T → Request → Type 0
-HasOptionOf option request.Help = Unit {0}
-HasOptionOf option request.Version = Unit {0}
-HasOptionOf option (request.Work names has_option) = has_option ≡ true → IsSome option
-HasOptionOf option request.Usage = Unit {0}
+-- where work is asked for, each option in it is one that the program has
+abbrev pub HasOptionsOf : (List ℕ → Type 0) → Request → Type 0
+HasOptionsOf IsOwn request.Help = Unit {0}
+HasOptionsOf IsOwn request.Version = Unit {0}
+HasOptionsOf IsOwn (request.Work names options) = All (λ o. IsOwn (string_bytes o)) options.items
+HasOptionsOf IsOwn request.Usage = Unit {0}

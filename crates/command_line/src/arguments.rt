@@ -1,6 +1,8 @@
 //! What the arguments of a program ask for.
-ghost use Rattle.std.specs.Prelude.{◌↔◌, IfOk, IsSome, IsTrue};
-ghost use Rattle.command_line.specs.Arguments.{HasNames, HasOptionOf, IsName, IsNoWork};
+ghost use Rattle.std.specs.Prelude.{◌≡◌, ◌↔◌, IfOk, IsTrue, bytes_eq};
+ghost use Rattle.std.specs.List.{Any, list_any};
+ghost use Rattle.std.specs.String.{string_bytes};
+ghost use Rattle.command_line.specs.Arguments.{HasNames, HasOptionsOf, IsName, IsNoWork};
 
 use std::alloc::{AllocError, Global};
 use std::env::{self, Args, Env};
@@ -17,27 +19,30 @@ pub enum Request {
     Work {
         /// The names of files, in their order. The name `-` is for standard input.
         names: Vec<String>,
-        /// Whether the option of the program is there.
-        has_option: bool,
+        /// The options of the program that are there, each as often as it is there.
+        /// [`has_option`] finds one.
+        options: Vec<String>,
     },
     /// Nothing that any program does: the arguments are wrong.
     Usage,
 }
 
-/// Returns what the arguments ask for. `option` is the option that the program has besides `--help`
-/// and `--version`. Any other argument that begins with `-` and is longer is wrong. The first
-/// argument that is wrong, or is `--help` or `--version`, decides. One that is not UTF-8 is wrong
-/// wherever it is.
+/// Returns what the arguments ask for. `options` are the options that the program has besides
+/// `--help` and `--version`. Any other argument that begins with `-` and is longer is wrong. The
+/// first argument that is wrong, or is `--help` or `--version`, decides. One that is not UTF-8 is
+/// wrong wherever it is.
 ///
 /// # Errors
 ///
 /// An error comes where memory was refused.
 pub fn parse_arguments<R: Env + AllocGlobal>(
     rt: &R,
-    option: Option<&str>,
+    options: &[&str],
 ) -> Result<Request, AllocError>
+    // Each name that is returned is the name of a file.
     ensures names { IfOk result HasNames }
-    ensures option { IfOk result (HasOptionOf option.entry) }
+    // Each option that is returned is one of the program.
+    ensures options { IfOk result (HasOptionsOf (λ o. Any (λ k. k.now ≡ o) options.now)) }
 {
     let mut arguments = match env::args(rt) {
         Ok(arguments) => arguments,
@@ -45,29 +50,41 @@ pub fn parse_arguments<R: Env + AllocGlobal>(
         Err(_) => return Ok(Request::Usage),
     };
     let _program = arguments.next();
-    work(rt.alloc(), arguments, option)
+    work(rt.alloc(), arguments, options)
 }
 
-/// The names of files among the arguments, and whether the option is there too.
-fn work(alloc: Global, arguments: Args, option: Option<&str>) -> Result<Request, AllocError>
+/// Whether an option is among the ones that are there.
+pub fn has_option(options: &[String], option: &str) -> bool
+    ensures { result ≡ list_any (λ o. bytes_eq (string_bytes o) option.now) options.now }
+{
+    for given in options {
+        if given.as_str() == option {
+            return true;
+        }
+    }
+    false
+}
+
+/// The names of files among the arguments, and the options.
+fn work(alloc: Global, arguments: Args, own: &[&str]) -> Result<Request, AllocError>
     ensures names { IfOk result HasNames }
-    ensures option { IfOk result (HasOptionOf option.entry) }
+    ensures options { IfOk result (HasOptionsOf (λ o. Any (λ k. k.now ≡ o) own.now)) }
 {
     let mut names = Vec::new(alloc);
-    let mut has_option = false;
+    let mut options = Vec::new(alloc);
     for argument in arguments {
-        if is_option(argument.as_str(), option) {
-            has_option = true;
+        if is_option(argument.as_str(), own) {
+            options.push(argument)?;
         } else if is_name(argument.as_str()) {
             names.push(argument)?;
         } else {
             return Ok(without_work(argument.as_str()));
         }
     }
-    Ok(Request::Work { names, has_option })
+    Ok(Request::Work { names, options })
 }
 
-/// What an argument asks for that is no name and not the option.
+/// What an argument asks for that is no name and no option of the program.
 fn without_work(argument: &str) -> Request
     ensures { IsNoWork result }
 {
@@ -78,14 +95,11 @@ fn without_work(argument: &str) -> Request
     }
 }
 
-/// Whether an argument is the option of the program.
-fn is_option(argument: &str, option: Option<&str>) -> bool
-    ensures { IsTrue result → IsSome option.entry }
+/// Whether an argument is an option of the program.
+fn is_option(argument: &str, own: &[&str]) -> bool
+    ensures { IsTrue result ↔ Any (λ k. k.now ≡ argument.now) own.now }
 {
-    match option {
-        Some(own) => argument == own,
-        None => false,
-    }
+    own.contains(&argument)
 }
 
 /// Whether an argument is the name of a file, or the one of standard input.

@@ -120,11 +120,13 @@ pub use Rattle.walrus_passes.specs.NeededTypes
 pub use Rattle.walrus_passes.specs.AllIndices
 pub use Rattle.walrus_passes.specs.UsedTypes
 pub use Rattle.walrus_passes.specs.IndexMaps
+pub use Rattle.walrus_passes.specs.UsedSections
 pub use Rattle.walrus_passes.specs.SnippedFunctions
 pub use Rattle.walrus_passes.specs.UnreachableFunctions
 pub use Rattle.walrus_passes.specs.MappedInstrs
 pub use Rattle.walrus_passes.specs.ChangedCalls
 pub use Rattle.walrus_passes.specs.Adapters
+pub use Rattle.walrus_passes.specs.declared.error.NormaliseUsedError
 -- Binary.
 pub use Rattle.walrus_binary.specs.Leb128
 pub use Rattle.walrus_binary.specs.Grammar

@@ -6,7 +6,7 @@
 //! - Instructions: [`Instr`], [`InstrSeq`], [`ConstExpr`].
 //! - Builders: [`FunctionBuilder`], [`LocalFunction`].
 //! - Walks: [`dfs_in_order`], [`dfs_pre_order_mut`], [`check_nesting`].
-//! - Passes: [`delete_unused_types`], [`snip`], [`snip_calls`], [`adapter`].
+//! - Passes: [`delete_unused_types`], [`normalise_used`], [`snip`], [`snip_calls`], [`adapter`].
 //! - Binary: [`decode_types`], [`encode_types`], [`sections`], [`rename_module`],
 //!   [`normalise_module`].
 //! - Text: [`read_section`], [`write_section`].
@@ -204,8 +204,9 @@ pub use walrus_traversals_mut::{
 
 // Passes over types and functions.
 pub use walrus_passes::{
-    adapter, delete_unused_types, laws as passes_laws, map_instrs, new_indices, redirect_calls,
-    replace_with, snip, snip_calls, unreachable_function, used_types,
+    NormaliseUsedError, adapter, delete_unused_types, laws as passes_laws, map_instrs, new_indices,
+    normalise_used, redirect_calls, replace_with, snip, snip_calls, unreachable_function,
+    used_types,
 };
 
 // Binary: the sections of a module, its type section, and modules in normal form.
@@ -219,7 +220,9 @@ pub use walrus_module::{
     find_description, laws as module_laws, named_types, rename_body, rename_custom_section,
     rename_expression, rename_module, rename_section, section_types, sections, strip_descriptions,
 };
-pub use walrus_normalise::{NormaliseModuleError, normalise_module};
+pub use walrus_normalise::{
+    Descriptions, NormaliseModuleError, NormaliseOptions, normalise_module,
+};
 
 // Text: type sections as text.
 pub use walrus_text::{

@@ -11,7 +11,9 @@ ghost use Rattle.typenorm.specs.Steps.Failures.{Explains, status_of};
 mod failure;
 mod texts;
 
-use command_line::{Request, open, parse_arguments, random_keys, report_usage, write_version};
+use command_line::{
+    Request, has_option, open, parse_arguments, random_keys, report_usage, write_version,
+};
 use failure::{Failure, report};
 use std::alloc::Global;
 use std::io::{self, BufWriter, Read, Write};
@@ -127,15 +129,27 @@ fn main(rt: HostRuntime) -> ExitCode {
 
 /// Does what the arguments ask for, and returns the exit status.
 fn start<E: Write>(rt: &HostRuntime, err: &mut E) -> Result<u8, Failure> {
-    match parse_arguments(rt, Some("--no-map"))? {
+    match parse_arguments(rt, &["--no-map"])? {
         Request::Help => printed(rt.stdout().write_all(HELP.as_bytes())),
         Request::Version => printed(write_version("typenorm", &mut rt.stdout())),
-        Request::Work { names, has_option } => match names.as_slice() {
-            [] => normalise_file(rt, "-", !has_option, err),
-            [name] => normalise_file(rt, name.as_str(), !has_option, err),
-            _ => Ok(report_usage(USAGE, err)),
-        },
+        Request::Work { names, options } => {
+            let has_map = !has_option(options.as_slice(), "--no-map");
+            normalise_named(rt, names.as_slice(), has_map, err)
+        }
         Request::Usage => Ok(report_usage(USAGE, err)),
+    }
+}
+
+fn normalise_named<E: Write>(
+    rt: &HostRuntime,
+    names: &[String],
+    has_map: bool,
+    err: &mut E,
+) -> Result<u8, Failure> {
+    match names {
+        [] => normalise_file(rt, "-", has_map, err),
+        [name] => normalise_file(rt, name.as_str(), has_map, err),
+        _ => Ok(report_usage(USAGE, err)),
     }
 }
 

@@ -170,16 +170,15 @@ code_stays new_indices w content count after rest e nothing s =
     (whole_stays (ChangeAll (RenamesBody new_indices w) count) after rest nothing s))
 
 pub code_changes : (new_indices : List ℕ) (w : Widths) (content : List ℕ) (count : ℕ)
-    (after rest new old mid out : List ℕ) → u32_at content ≡ Ok (count, after) → rest ≡ [] →
-    ChangesInFront (ChangeAll (RenamesBody new_indices w) count) after rest new → old ≡ []
-    → mid ≡ old ++ take (length content - length after) content → out ≡ mid ++ new →
+    (after rest new out : List ℕ) → u32_at content ≡ Ok (count, after) → rest ≡ [] →
+    ChangesInFront (ChangeAll (RenamesBody new_indices w) count) after rest new
+    → out ≡ take (length content - length after) content ++ new →
     Changes (RenamesCode new_indices w) content out
-code_changes new_indices w content count after rest new old mid out e nothing s empty mid-is out-is =
+code_changes new_indices w content count after rest new out e nothing s out-is =
     let t = u32_sound content count after e in
     let c = whole_changes (ChangeAll (RenamesBody new_indices w) count) after rest new nothing s in
-    let is : out ≡ t.text ++ new = out-is ∙ ap (λ (u : List ℕ). u ++ new) (mid-is
-    ∙ ap (λ (u : List ℕ). u ++ take (length content - length after) content) empty
-    ∙ before content t.text after t.parts) in
+    let is : out ≡ t.text ++ new = out-is
+    ∙ ap (λ (u : List ℕ). u ++ new) (before content t.text after t.parts) in
     record {
       names = c.names;
       becomes =

@@ -73,7 +73,7 @@ number_takes k bytes b rest e =
       parts = t.parts ∙ ap (λ (u : List ℕ). t.text ++ u) s.3;
     }
 
-space_name : (s : Space) (text : List ℕ) (k : ℕ) → type_name (unsigned s text k) ≡ name_in s k
+pub space_name : (s : Space) (text : List ℕ) (k : ℕ) → type_name (unsigned s text k) ≡ name_in s k
 space_name space.Type text k = refl
 space_name space.Function text k = refl
 space_name space.Table text k = refl
@@ -267,7 +267,7 @@ own_block x kinds e = grind (arith, common_steps)
 own_heap : (x : ℕ) (kinds : List Kind) → behind_byte kind.HeapType x ≡ Some kinds → IsOwn x
 own_heap x kinds e = grind (arith, common_steps)
 
-byte_again : (k : Kind) (x : ℕ) (kinds : List Kind) (rest : List ℕ) → behind_byte k x ≡ Some kinds →
+pub byte_again : (k : Kind) (x : ℕ) (kinds : List Kind) (rest : List ℕ) → behind_byte k x ≡ Some kinds →
     begin_at k (x ∷ rest) ≡ Ok (beginning None kinds, rest)
 unfolding begin_at
 byte_again (kind.Index s) x kinds rest e = absurd cc

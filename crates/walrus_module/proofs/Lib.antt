@@ -5,6 +5,8 @@ pub mod Heads
 pub mod Stacks
 pub mod Scanning
 pub mod Searching
+pub mod PlainInstructions
+pub mod ShortForms
 pub mod Pieces
 pub mod Rewriting
 pub mod RenamingLaws
@@ -28,3 +30,6 @@ pub mod Subsections
 pub mod NameSections
 pub mod Descriptions
 pub mod StrippedModules
+pub mod OneResult
+pub mod OneMap
+pub mod OneModule

@@ -173,7 +173,7 @@ no_indexed_name bytes count taken behind rest e t less h after m =
     (omega (arith, t.many, less))
     h m.is_text.indices after v.0 v.1
 
-name_map_free : IsPrefixFree IsNameMap
+pub name_map_free : IsPrefixFree IsNameMap
 name_map_free a b rest after h k e =
     vec_free IsIndexedName indexed_name_free a b rest after h.indices k.indices h.is_vec k.is_vec e
 

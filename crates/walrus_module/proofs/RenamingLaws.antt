@@ -36,7 +36,7 @@ same_text end _ _ _ (longer limit x high bytes big is wide t) _ _ _
     ∙ ap (λ (u : List ℕ). y ∷ u) (same_text end (limit / 0x80) bytes high t (limit' / 0x80) high' bytes' t'
     tail (omega (arith, long)))
 
-text_once : (end least : ℕ) (a b : List ℕ) (n m : ℕ) → IsTextOf end least a n → IsTextOf end least b m →
+pub text_once : (end least : ℕ) (a b : List ℕ) (n m : ℕ) → IsTextOf end least a n → IsTextOf end least b m →
     n ≡ m → a ≡ b
 text_once end least a b n m h g e =
     let ab = h.shortest b (subst (λ k. IsInteger end (2 ^ 32) b k) (sym e) g.is_text) g.wide in

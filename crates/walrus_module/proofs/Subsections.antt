@@ -1,10 +1,10 @@
 -- Subsections of a name section, one after another, with other indices of types.
-use Rattle.std.proofs.Common.{◌≡◌, ℕ, zero, suc, ◌+◌, ◌-◌, ◌<◌, ◌≤◌, ◌^◌, List, [], ◌∷◌, ◌++◌, length, take, take_all, drop, get_or, slice_index_or, Option, Some, None, Result, Ok, Err, refl, sym, ap, subst, ◌∙◌, arith, append_assoc, append-nil, length-append, take_at}
+use Rattle.std.proofs.Common.{◌≡◌, ℕ, zero, suc, ◌+◌, ◌-◌, ◌<◌, ◌≤◌, ◌^◌, List, [], ◌∷◌, ◌++◌, length, take, drop, get_or, Option, Some, None, Result, Ok, Err, refl, sym, ap, subst, ◌∙◌, arith, append_assoc, append-nil, length-append, take_at}
 use Rattle.std.specs.Prelude.{IfSome, IfNone, IfOk}
 use Rattle.walrus_module.specs.declared.renaming.Widths.{Widths}
 use Rattle.walrus_module.specs.Changes.{Change, Changes, ChangesSized, stays, resized, ChangeAll, none, next, IsMalformed, BecomesTooLong, InSized, in_content}
 use Rattle.walrus_module.specs.Renaming.{least_width, IsTextOf}
-use Rattle.walrus_module.specs.NameSections.{IsName, IsNameMap, RenamesMap, RenamesNames, RenamesSubsection, subsection, other}
+use Rattle.walrus_module.specs.NameSections.{IsName, IsNameMap, RenamesMap, RenamesNames, RenamesSubsection, subsection}
 use Rattle.walrus_module.specs.NameSections.RenamesNames.{type_names, field_names, others as any_names}
 use Rattle.walrus_module.specs.Steps.Renaming.{Appends}
 use Rattle.walrus_module.specs.Steps.NameSections.{Takes, BeginsNone, TakesSized, BeginsUnsized, IsRenamedUpTo, IsSomeSubsection, BeginsSubsectionIn, begins}
@@ -35,12 +35,6 @@ pub ok_some : {A E : Type 0} {P Q : A → Type 0} → ((x : A) → P x → Q x) 
     IfOk r (λ o. IfSome o P) → IfOk r (λ o. IfSome o Q)
 ok_some f (Ok o) h = if_some f o h
 ok_some f (Err e) h = tt
-
-pub first_apart : (bytes : List ℕ) → 1 ≤ length bytes →
-    bytes ≡ slice_index_or bytes 0 0 ∷ take (length bytes - 1) (drop 1 bytes)
-first_apart [] h = absurd (omega (arith, h))
-first_apart (b ∷ bytes) h =
-    ap (λ (u : List ℕ). b ∷ u) (sym (take_all (length (b ∷ bytes) - 1) bytes (omega arith)))
 
 -- ---- the content of one, by its id
 

@@ -27,7 +27,7 @@ not_in true true x y e = absurd cc
 not_in true false x y e = refl
 not_in false b x y e = refl
 
-none_from : (rows : List Row) (end n : ℕ) → all_below rows end ≡ true → end ≤ n → kinds_in rows n ≡ None
+pub none_from : (rows : List Row) (end n : ℕ) → all_below rows end ≡ true → end ≤ n → kinds_in rows n ≡ None
 none_from [] end n e le = refl
 none_from (r ∷ rows) end n e le =
     let two = both (nat_lt r.last end) (all_below rows end) e in
@@ -59,7 +59,7 @@ none_there [] n le = refl
 none_there (entry ∷ table) zero le = absurd (omega (arith, le))
 none_there (entry ∷ table) (suc n) le = none_there table n (omega (arith, le))
 
-either : {P : Type 0} (b : Bool) → (b ≡ true → P) → (b ≡ false → P) → P
+pub either : {P : Type 0} (b : Bool) → (b ≡ true → P) → (b ≡ false → P) → P
 either true f g = f refl
 either false f g = g refl
 

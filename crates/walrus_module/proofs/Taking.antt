@@ -1,5 +1,5 @@
 -- What is taken section by section is the module's sections.
-use Rattle.std.proofs.Common.{◌≡◌, ℕ, zero, suc, ◌+◌, ◌-◌, ◌<◌, ◌≤◌, nat_le, List, [], ◌∷◌, ◌++◌, length, take, drop, Option, Some, None, Ok, Err, refl, sym, ap, subst, ◌∙◌, arith, append_assoc, length-append, take_at, drop_at, le-leb, leb-true, length-take-le, length-drop, Result}
+use Rattle.std.proofs.Common.{◌≡◌, ℕ, zero, suc, ◌+◌, ◌-◌, ◌<◌, ◌≤◌, nat_le, List, [], ◌∷◌, ◌++◌, length, take, drop, Option, Some, None, Ok, Err, refl, sym, ap, subst, ◌∙◌, arith, append_assoc, length-append, take_at, drop_at, le-leb, leb-true, length-take-le, length-drop, take_all, slice_index_or, Result}
 use Rattle.std.specs.Prelude.{IfSome, IfNone}
 use Rattle.std.specs.Iterator.{MakesProgress, item_count}
 use Rattle.walrus_binary.specs.Leb128.{IsU32}
@@ -14,6 +14,13 @@ use Rattle.walrus_binary.proofs.Modules.Uniqueness.{located_types}
 use Rattle.walrus_module.specs.Sections.{PlacedSection, placed, framing, ArePlaced}
 use Rattle.walrus_module.specs.Sections.ArePlaced.{none as nothing, next as placed_next}
 use Rattle.walrus_module.specs.Steps.Sections.{sized_at, first_at, sections_at}
+
+-- the first byte, and the bytes behind it
+pub first_apart : (bytes : List ℕ) → 1 ≤ length bytes →
+    bytes ≡ slice_index_or bytes 0 0 ∷ take (length bytes - 1) (drop 1 bytes)
+first_apart [] h = absurd (omega (arith, h))
+first_apart (b ∷ bytes) h =
+    ap (λ (u : List ℕ). b ∷ u) (sym (take_all (length (b ∷ bytes) - 1) bytes (omega arith)))
 
 -- a section is taken from the front
 first_again : (offset id : ℕ) (size content others : List ℕ) → IsU32 size (length content)

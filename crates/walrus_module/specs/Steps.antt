@@ -4,6 +4,7 @@ pub mod Tables
 pub mod Heads
 pub mod Stacks
 pub mod Scans
+pub mod ShortForms
 pub mod Renaming
 pub mod Contents
 pub mod Changes

@@ -15,6 +15,13 @@ pub fn one_result()
         Renames (type_maps new_indices) (least_width widths) kinds bytes b → a ≡ b }
 {}
 
+/// The result is determined by the module, its new types, the new indices and the widths.
+pub fn one_module()
+    ensures { (types new_indices : List ℕ) (widths : Widths) (bytes a b : List ℕ) →
+        RenamesModule types new_indices widths bytes a →
+        RenamesModule types new_indices widths bytes b → a ≡ b }
+{}
+
 /// Where each type keeps its index, and each index its width, all bytes stay.
 pub fn same_indices_keep_all_bytes()
     ensures { (new_indices : List ℕ) (kinds : List Kind) (bytes new : List ℕ) →

@@ -11,6 +11,7 @@ ghost use Rattle.walrus_module.specs.Steps.Contents.{IsNoCode, BeginsWithNoBody,
 ghost use Rattle.walrus_module.specs.declared.renaming.RenameError.TheVariants.{Malformed, UnknownType, TooLong};
 ghost use Rattle.walrus_module.specs.declared.scan.ScanError.TheVariants as scan;
 
+use crate::joining::{push_front, put_in_front};
 use crate::leb128::read_u32;
 use crate::renaming::{RenameError, Widths, least_width, rename_whole_body};
 use crate::sized::push_sized;
@@ -47,9 +48,7 @@ pub fn rename_code(
     let Some(new_bodies) = new_bodies else {
         return Ok(None);
     };
-    let mut new = Vec::new(alloc);
-    new.extend_from_slice(&content[..content.len() - bodies.len()])?;
-    new.extend_from_slice(&new_bodies)?;
+    let new = put_in_front(&content[..content.len() - bodies.len()], new_bodies)?;
     Ok(Some(new))
 }
 
@@ -80,7 +79,7 @@ fn rename_bodies(
     for _ in 0..count {
         let before = *input;
         if let Some(new) = rename_sized_body(alloc, input, new_indices, widths)? {
-            out.extend_from_slice(&unwritten[..unwritten.len() - before.len()])?;
+            push_front(unwritten, unwritten.len() - before.len(), &mut out)?;
             out.extend_from_slice(&new)?;
             unwritten = *input;
         }

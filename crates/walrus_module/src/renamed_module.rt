@@ -12,7 +12,7 @@ use crate::framing::{HEADER_LENGTH, Section, sections};
 use crate::name_section::rename_custom;
 use crate::renamed_content::rename_content;
 use crate::renaming::{RenameError, Widths, least_width};
-use crate::sized::push_sized;
+use crate::sized::{push_sized, push_sized_whole};
 use std::alloc::Global;
 
 /// The id of a custom section.
@@ -119,7 +119,7 @@ fn write_section(
     match rename_any(alloc, section.id, section.content, new_indices, widths)? {
         Some(new) => {
             let least = least_width(widths, text.len() - section.content.len() - 1);
-            push_section(section.id, &new, least, out)
+            push_new_section(section.id, new, least, out)
         }
         None => {
             out.extend_from_slice(text)?;
@@ -164,4 +164,22 @@ fn push_section(id: u8, content: &[u8], least: usize, out: &mut Vec<u8>) -> Resu
 {
     out.extend_from_slice(&[id])?;
     push_sized(content, least, out)
+}
+
+/// The same, for a content that is no longer needed.
+fn push_new_section(
+    id: u8,
+    content: Vec<u8>,
+    least: usize,
+    out: &mut Vec<u8>,
+) -> Result<(), RenameError>
+    requires { least ≤ 5 }
+    ensures written { OnOk result (Appends (λ text. IsSectionOf least text id content.items)
+        out.old.items out.new.items) }
+    ensures malformed { IsErrOf result Malformed → ⊥ }
+    ensures unknown { (k : ℕ) → IsErrOf result (UnknownType k) → ⊥ }
+    ensures too_long { IsErrOf result TooLong → 2 ^ 32 ≤ length content.items }
+{
+    out.extend_from_slice(&[id])?;
+    push_sized_whole(content, least, out)
 }

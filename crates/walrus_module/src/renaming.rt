@@ -10,6 +10,7 @@ ghost use Rattle.walrus_module.specs.Steps.Changes.{StaysInFront, ChangesInFront
 ghost use Rattle.walrus_module.specs.Steps.Renaming.{Appends, IsNewIndex, IsUnknown, index_end};
 ghost use Rattle.walrus_module.specs.declared.renaming.RenameError.TheVariants.{Malformed, UnknownType, TooLong};
 
+use crate::joining::push_front;
 use crate::kind::Kind;
 use crate::leb128::{push_s33, push_u32};
 use crate::scan::{ScanError, TypeIndex, next_type};
@@ -212,7 +213,7 @@ fn rename(
     let mut unwritten = *input;
     while let Some(found) = next_type(&mut stack, input)? {
         let passed = unwritten.len() - input.len() - found.length;
-        out.extend_from_slice(&unwritten[..passed])?;
+        push_front(unwritten, passed, &mut out)?;
         write_index(found, new_indices, widths, &mut out)?;
         unwritten = *input;
     }
@@ -247,6 +248,7 @@ fn write_index(
     Ok(())
 }
 
+/// The least number of bytes of an integer that replaces one of this many bytes.
 pub fn least_width(widths: Widths, length: usize) -> usize
     ensures { result ≡ least_width widths length }
 {

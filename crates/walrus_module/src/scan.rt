@@ -6,6 +6,7 @@ ghost use Rattle.walrus_module.specs.Steps.Scans.{IsScanned, IsRefused, Passes};
 
 use crate::head::{Head, read_head};
 use crate::kind::Kind;
+use crate::plain::skip_plain;
 use crate::stack::Stack;
 use std::alloc::{AllocError, Global};
 use thiserror::Error;
@@ -70,6 +71,7 @@ pub fn next_type(stack: &mut Stack, input: &mut &[u8]) -> Result<Option<TypeInde
     ensures refused { IfErr result (λ e. IsRefused stack.old input.old.now e) }
 {
     while let Some(kind) = stack.next_kind() {
+        skip_plain(kind, input);
         let before = *input;
         let Some(head) = read_head(kind, input) else {
             return Err(ScanError::Malformed);

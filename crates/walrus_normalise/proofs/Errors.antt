@@ -1,5 +1,5 @@
 -- What an error of a step says after it became an error of the whole.
-use Rattle.std.proofs.Common.{◌≡◌, Result, Ok, Err, refl}
+use Rattle.std.proofs.Common.{◌≡◌, ℕ, Result, Ok, Err, refl, ap}
 use Rattle.std.specs.Prelude.{IsErrAnd, IsErrOf}
 use Rattle.walrus_binary.specs.declared.error.EncodeError.{EncodeError}
 use Rattle.walrus_binary.specs.declared.error.EncodeError.TheVariants as encode
@@ -27,6 +27,19 @@ rename_malformed (Err x) rename.Malformed is says h = says refl
 rename_malformed (Err x) (rename.UnknownType index) is says h = absurd cc
 rename_malformed (Err x) rename.TooLong is says h = absurd cc
 rename_malformed (Err x) rename.Memory is says h = absurd cc
+
+pub rename_unknown :
+    {A B : Type 0} (P : ℕ → Type 0) (result : Result B NormaliseModuleError) (e : RenameError)
+    → IsErrAnd result (λ x. x ≡ rename_failure e)
+    → ((k : ℕ) → IsErrOf {T = A} (Err e) (rename.UnknownType k) → P k) → (k : ℕ)
+    → IsErrOf result (error.UnknownType k) → P k
+rename_unknown P (Ok new) e is says k h = absurd is
+rename_unknown P (Err x) rename.Malformed is says k h = absurd cc
+rename_unknown P (Err x) (rename.UnknownType index) is says k h =
+    let known : index ≡ k = cc in
+    says k (ap (λ j. Err (rename.UnknownType j)) known)
+rename_unknown P (Err x) rename.TooLong is says k h = absurd cc
+rename_unknown P (Err x) rename.Memory is says k h = absurd cc
 
 pub rename_too_long :
     {A B P : Type 0} (result : Result B NormaliseModuleError) (e : RenameError)

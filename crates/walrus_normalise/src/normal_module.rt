@@ -6,15 +6,15 @@ ghost use Rattle.walrus_binary.specs.ModuleSections.{HasBadTypesBy};
 ghost use Rattle.walrus_binary.specs.declared.error.DecodeError.{DecodeError};
 ghost use Rattle.walrus_binary.specs.Modules.{Section, IsModule};
 ghost use Rattle.walrus_module.specs.Customs.{HasDescriptionAt};
-ghost use Rattle.walrus_module.specs.RenamedModules.{CanNotBeRenamed};
-ghost use Rattle.walrus_normalise.specs.NormalModules.{IsNormalised, HasFirstError, NamesUnknownType, BecomesTooLong, DescriptionsFit, BecomesOutdated};
+ghost use Rattle.walrus_normalise.specs.NormalModules.{IsNormalised, HasFirstError, LeavesMalformed, NamesUnknownType, BecomesTooLong, DescriptionsFit, BecomesOutdated};
 ghost use Rattle.walrus_normalise.specs.declared.error.NormaliseModuleError.TheVariants.{Types, BadIndex, TooMany, Malformed, UnknownType, TooLong, Outdated};
+ghost use Rattle.walrus_normalise.specs.declared.options.Descriptions.TheVariants as descriptions;
 ghost use Rattle.walrus_sections.specs.declared.error.ReadError.TheVariants as read;
 
-use crate::{HashKeys, NormaliseModuleError, Widths};
+use crate::{Descriptions, HashKeys, NormaliseModuleError, NormaliseOptions};
 use std::alloc::Global;
 use walrus_binary::{encode_types, module_types};
-use walrus_module::{find_description, rename_module};
+use walrus_module::{find_description, rename_module, strip_descriptions};
 use walrus_types::normalise;
 
 /// Returns the module with its type section in normal form, and with every other index of a type
@@ -23,16 +23,15 @@ use walrus_types::normalise;
 ///
 /// The normal form is that of [`normalise`]: equal lone types are merged, lone types are sorted as
 /// far as references allow, and recursion groups keep their order. Its text is the shortest one. An
-/// index elsewhere is written as `widths` says: in the shortest form, or in as many bytes as were
-/// there. The size of a function body, a section or a subsection is written again where an index is
-/// in it. A module without type section that names no type stays as it is.
+/// index elsewhere is written as [`NormaliseOptions::widths`] says: in the shortest form, or in as
+/// many bytes as were there. The size of a function body, a section or a subsection is written again
+/// where an index is in it. A module without type section that names no type stays as it is.
 ///
 /// The names of types and of their fields in the custom section `name` follow the types. Other
 /// custom sections are copied as they are. **A section that describes other bytes of the module
 /// stops this**, unless all bytes stay: debug data, source maps, branch hints, relocations and
-/// signatures would no longer fit.
-/// [`strip_descriptions`](walrus_module::strip_descriptions) returns the module without such
-/// sections. Its docs list their names.
+/// signatures would no longer fit. With [`Descriptions::Stripped`] such sections are left out.
+/// [`strip_descriptions`](walrus_module::strip_descriptions) lists their names.
 ///
 /// The keys begin the hash by which equal types are found. They change how long the call takes, and
 /// no result. Fixed keys are safe where the module is trusted: see [`HashKeys`].
@@ -52,7 +51,8 @@ use walrus_types::normalise;
 /// - [`NormaliseModuleError::TooLong`] comes where a function body or a section would get 2^32
 ///   bytes or more.
 /// - [`NormaliseModuleError::Outdated`] comes where some byte would change, and the module has a
-///   custom section that describes other bytes of it. The error says where the first one is.
+///   custom section that describes other bytes of it. The error says where the first one is. With
+///   [`Descriptions::Stripped`] it never comes.
 /// - [`NormaliseModuleError::Memory`] comes where memory was refused.
 ///
 /// # A struct and a function type change places
@@ -62,19 +62,25 @@ use walrus_types::normalise;
 /// let module = [
 ///     0, 0x61, 0x73, 0x6D, 1, 0, 0, 0, 1, 6, 2, 0x5F, 0, 0x60, 0, 0, 3, 2, 1, 1,
 /// ];
-/// let new = normalise_module(alloc, HashKeys::fixed(), &module, Widths::Shortest)?;
+/// let options = NormaliseOptions {
+///     widths: Widths::Shortest,
+///     descriptions: Descriptions::Kept,
+/// };
+/// let new = normalise_module(alloc, HashKeys::fixed(), &module, options)?;
 /// assert_eq!(rt; new[8..], [1, 6, 2, 0x60, 0, 0, 0x5F, 0, 3, 2, 1, 0]);
 /// ```
 pub fn normalise_module(
     alloc: Global,
     keys: HashKeys,
     bytes: &[u8],
-    widths: Widths,
+    options: NormaliseOptions,
 ) -> Result<Vec<u8>, NormaliseModuleError>
-    // The result is the same module, with its type section in normal form.
-    ensures normal { IfOk result (λ new. IsNormalised widths bytes.now new.items) }
-    // A module with a section that describes other bytes of it stays byte for byte.
-    ensures fits { IfOk result (λ new. DescriptionsFit bytes.now new.items) }
+    // The result is the same module, or the same without sections that describe other bytes, with
+    // its type section in normal form.
+    ensures normal { IfOk result (λ new. IsNormalised options bytes.now new.items) }
+    // Where such sections are kept, a module with one stays byte for byte.
+    ensures fits { options.descriptions ≡ descriptions.Kept →
+        IfOk result (λ new. DescriptionsFit bytes.now new.items) }
     // Bytes that are refused for their types are no module, or their types can't be read. The error
     // says where.
     ensures bad_types { (e : DecodeError) → IsErrOf result (Types e) →
@@ -85,24 +91,36 @@ pub fn normalise_module(
     // or that there are too many entries.
     ensures too_many { IsErrOf result TooMany → HasFirstError bytes.now read.TooMany }
     // What is refused as malformed has a section that is so.
-    ensures malformed { IsErrOf result Malformed → CanNotBeRenamed bytes.now }
+    ensures malformed { IsErrOf result Malformed → LeavesMalformed options.descriptions bytes.now }
     // What is refused for a type names one that its type section does not have.
     ensures unknown { (k : ℕ) → IsErrOf result (UnknownType k) →
-        NamesUnknownType widths k bytes.now }
+        NamesUnknownType options k bytes.now }
     // What is refused as too long becomes so.
-    ensures too_long { IsErrOf result TooLong → BecomesTooLong widths bytes.now }
+    ensures too_long { IsErrOf result TooLong → BecomesTooLong options bytes.now }
     // What is refused for a section has it there, as the first that describes other bytes, and
     // would change.
     ensures outdated { (k : ℕ) → IsErrOf result (Outdated k) →
-        BecomesOutdated widths k bytes.now }
+        BecomesOutdated options k bytes.now }
 {
     let groups = module_types(alloc, bytes)?;
     let (normal, map) = normalise(alloc, keys, groups.as_slice())?;
     let types = encode_types(alloc, normal.as_slice())?;
-    let new = rename_module(alloc, bytes, types.as_slice(), map.as_slice(), widths)?;
-    match outdated_section(bytes, new.as_slice()) {
-        Some(offset) => Err(NormaliseModuleError::Outdated { offset }),
-        None => Ok(new),
+    match options.descriptions {
+        Descriptions::Kept => {
+            let new = rename_module(alloc, bytes, &types, &map, options.widths)?;
+            match outdated_section(bytes, new.as_slice()) {
+                Some(offset) => Err(NormaliseModuleError::Outdated { offset }),
+                None => Ok(new),
+            }
+        }
+        Descriptions::Stripped => {
+            // The bytes are a module, since they have a list of types. So only memory was refused.
+            let Ok(left) = strip_descriptions(alloc, bytes) else {
+                return Err(NormaliseModuleError::Memory);
+            };
+            let stripped = rename_module(alloc, &left, &types, &map, options.widths)?;
+            Ok(stripped)
+        }
     }
 }
 

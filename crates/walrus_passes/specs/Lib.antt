@@ -2,6 +2,7 @@ pub mod NeededTypes
 pub mod AllIndices
 pub mod UsedTypes
 pub mod IndexMaps
+pub mod UsedSections
 pub mod SnippedFunctions
 pub mod UnreachableFunctions
 pub mod MappedInstrs

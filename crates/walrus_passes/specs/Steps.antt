@@ -2,3 +2,4 @@
 -- law cites these modules: who wants to know what the crate promises can pass them over.
 pub mod Marking
 pub mod UsedTypes
+pub mod UsedSections

@@ -11,6 +11,8 @@
 //! - [`map_instrs`] changes each instruction of a function by a closure.
 //! - [`new_indices`] maps the type indices of a section to its indices once it is written again.
 //!   The rest of the module still names the old ones.
+//! - [`normalise_used`] returns the normal form of a section without the types that no root uses,
+//!   and that map.
 //! - [`laws`] has the theorems, such as that no type dies which a function uses.
 //!
 //! One of two types is used, and the written section has that one alone:
@@ -29,18 +31,22 @@
 mod adapters;
 mod bodies;
 mod calls;
+mod error;
 mod index_maps;
 mod instrs;
 pub mod laws;
 mod roots;
 mod unreachable;
 mod unused_types;
+mod used_section;
 
 pub use adapters::adapter;
 pub use bodies::{replace_with, snip};
 pub use calls::{redirect_calls, snip_calls};
+pub use error::NormaliseUsedError;
 pub use index_maps::new_indices;
 pub use instrs::map_instrs;
 pub use roots::used_types;
 pub use unreachable::unreachable_function;
 pub use unused_types::delete_unused_types;
+pub use used_section::normalise_used;

@@ -5,12 +5,13 @@
 use crate::assertions::assert_equal;
 use crate::index_maps::section;
 use crate::unused_types::{are, table};
+use crate::used_sections::{function, single, structure};
 use std::alloc::Global;
 use std::test::Fail;
 use walrus_binary::encode_types;
 use walrus_functions::{BuildError, FunctionBuilder, LocalFunction};
 use walrus_ir::{ConstExpr, InstrSeqType, ModuleLocals};
-use walrus_passes::{delete_unused_types, new_indices, used_types};
+use walrus_passes::{delete_unused_types, new_indices, normalise_used, used_types};
 use walrus_types::{
     HashKeys, Heap, ModuleTypes, Reference, TypeId, ValType, normalise, parse_types,
 };
@@ -97,4 +98,18 @@ fn new_indices_are_those_of_the_normal_form(rt: HostRuntime) {
             .zip(&places)
             .all(|(index, place)| *index == Some(*place))
     );
+}
+
+#[test]
+fn the_used_types_of_a_section_are_written(rt: HostRuntime) {
+    let alloc = rt.alloc();
+    let structure = single(structure(alloc));
+    let function = single(function(alloc));
+    let groups = [structure, function];
+    let (output, map) = normalise_used(alloc, HashKeys::fixed(), &groups, &[1]).expect(
+        &rt,
+        "section and root",
+    );
+    assert_equal(&rt, output.len(), 1);
+    assert_equal(&rt, map.as_slice(), [None, Some(0)].as_slice());
 }

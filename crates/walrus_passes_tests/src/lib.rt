@@ -17,3 +17,5 @@ mod refusals;
 mod speed;
 #[cfg(test)]
 mod unused_types;
+#[cfg(test)]
+mod used_sections;

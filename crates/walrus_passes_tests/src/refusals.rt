@@ -3,10 +3,13 @@
 use crate::assertions::assert_equal;
 use crate::index_maps::{are as are_indices, read};
 use crate::unused_types::{are, delete_all_but, table};
-use std::alloc::Global;
-use walrus_passes::new_indices;
+use crate::used_sections::{MAP_OF_THE_REC, section, section_of_the_rec};
+use std::alloc::{AllocError, Global};
+use std::process::Abort;
+use walrus_passes::{NormaliseUsedError, new_indices, normalise_used};
 use walrus_types::{
-    AddRecGroupError, EmitError, GroupAt, IdsToIndices, ModuleTypes, ReadError, TypeId, ValType,
+    AddRecGroupError, EmitError, GroupAt, HashKeys, IdsToIndices, ModuleTypes, ReadError, TypeId,
+    ValType,
 };
 
 // The table of types. It is made again after a refusal.
@@ -93,4 +96,43 @@ fn a_refused_map_of_indices_is_made_again(rt: HostRuntime) {
         Err(_) => new_indices(rt.alloc(), ids.as_slice(), &indices).expect(&rt, "memory"),
     };
     assert!(rt; are_indices(new.as_slice(), &[Some(1), Some(0), Some(1)]));
+}
+
+// A section. It is made again after a refusal.
+fn section_again(alloc: Global) -> Result<Vec<GroupAt>, AllocError> {
+    match section(alloc) {
+        Ok(groups) => Ok(groups),
+        Err(_) => section(alloc),
+    }
+}
+
+// What is written of it where the `Rec` is used. It is made again after a refusal.
+fn output_again(alloc: Global) -> Result<Vec<GroupAt>, AllocError> {
+    match section_of_the_rec(alloc) {
+        Ok(groups) => Ok(groups),
+        Err(_) => section_of_the_rec(alloc),
+    }
+}
+
+fn normalise_again(
+    rt: &impl Abort,
+    alloc: Global,
+    groups: &[GroupAt],
+) -> Result<(Vec<GroupAt>, Vec<Option<u32>>), NormaliseUsedError> {
+    match normalise_used(alloc, HashKeys::fixed(), groups, &[3]) {
+        Ok(used) => Ok(used),
+        Err(error) => {
+            assert!(rt; error == NormaliseUsedError::Memory);
+            normalise_used(alloc, HashKeys::fixed(), groups, &[3])
+        }
+    }
+}
+
+#[test]
+fn a_refused_normal_form_of_the_used_types_is_made_again(rt: HostRuntime) {
+    let groups = section_again(rt.alloc()).expect(&rt, "memory");
+    let output = output_again(rt.alloc()).expect(&rt, "memory");
+    let (written, new) = normalise_again(&rt, rt.alloc(), groups.as_slice()).expect(&rt, "memory");
+    assert!(rt; written == output);
+    assert!(rt; are_indices(new.as_slice(), &MAP_OF_THE_REC));
 }

@@ -3,10 +3,9 @@ use Rattle.std.proofs.Common.{◌≡◌, ◌≤◌, ◌∙◌, ℕ, List, Option
 use Rattle.std.specs.Prelude.{IfErr, IfSome, IsErrOf}
 use Rattle.walrus_binary.specs.ModuleSections.{HasBadTypesBy}
 use Rattle.walrus_binary.specs.declared.error.DecodeError.{DecodeError}
-use Rattle.walrus_module.specs.RenamedModules.{CanNotBeRenamed}
-use Rattle.walrus_module.specs.declared.renaming.Widths.{Widths}
+use Rattle.walrus_normalise.specs.declared.options.NormaliseOptions.{NormaliseOptions}
 use Rattle.walrus_sections.specs.declared.error.ReadError.TheVariants as read
-use Rattle.walrus_normalise.specs.NormalModules.{HasFirstError, NamesUnknownType, BecomesTooLong, BecomesOutdated}
+use Rattle.walrus_normalise.specs.NormalModules.{HasFirstError, LeavesMalformed, NamesUnknownType, BecomesTooLong, BecomesOutdated}
 use Rattle.walrus_normalise.specs.declared.error.NormaliseModuleError.{NormaliseModuleError}
 use Rattle.walrus_normalise.specs.declared.error.NormaliseModuleError.TheVariants as error
 use Rattle.wasmnorm.specs.declared.failure.Failure.{Failure}
@@ -25,103 +24,104 @@ error_range (error.Outdated offset) = omega arith
 error_range error.Memory = omega arith
 
 pub status_range : (f : Failure) → status_of f ≤ 4
-status_range (failure.Refused e context) = error_range e
+status_range (failure.Refused e context advice) = error_range e
 status_range failure.Memory = omega arith
 status_range failure.Keys = omega arith
 status_range (failure.Input error) = omega arith
 status_range (failure.Output error) = omega arith
 
 error_refused :
-    (widths : Widths) (bytes : List ℕ) (e : NormaliseModuleError) → ExplainsError widths bytes e
-    → error_status e ≡ 1 → IsRefused widths bytes
-error_refused widths bytes (error.Types e) why is = bad_types e why
-error_refused widths bytes (error.BadIndex entry index end) why is = absurd (omega (arith, is))
-error_refused widths bytes error.TooMany why is = absurd (omega (arith, is))
-error_refused widths bytes error.Malformed why is = malformed why
-error_refused widths bytes (error.UnknownType index) why is = absurd (omega (arith, is))
-error_refused widths bytes error.TooLong why is = too_long why
-error_refused widths bytes (error.Outdated offset) why is = outdated offset why
-error_refused widths bytes error.Memory why is = absurd (omega (arith, is))
+    (options : NormaliseOptions) (bytes : List ℕ) (e : NormaliseModuleError) → ExplainsError options bytes e
+    → error_status e ≡ 1 → IsRefused options bytes
+error_refused options bytes (error.Types e) why is = bad_types e why
+error_refused options bytes (error.BadIndex entry index end) why is = absurd (omega (arith, is))
+error_refused options bytes error.TooMany why is = absurd (omega (arith, is))
+error_refused options bytes error.Malformed why is = malformed why
+error_refused options bytes (error.UnknownType index) why is = absurd (omega (arith, is))
+error_refused options bytes error.TooLong why is = too_long why
+error_refused options bytes (error.Outdated offset) why is = outdated offset why
+error_refused options bytes error.Memory why is = absurd (omega (arith, is))
 
 error_ill_named :
-    (widths : Widths) (bytes : List ℕ) (e : NormaliseModuleError) → ExplainsError widths bytes e
-    → error_status e ≡ 2 → IsIllNamed widths bytes
-error_ill_named widths bytes (error.Types e) why is = absurd (omega (arith, is))
-error_ill_named widths bytes (error.BadIndex entry index end) why is =
+    (options : NormaliseOptions) (bytes : List ℕ) (e : NormaliseModuleError) → ExplainsError options bytes e
+    → error_status e ≡ 2 → IsIllNamed options bytes
+error_ill_named options bytes (error.Types e) why is = absurd (omega (arith, is))
+error_ill_named options bytes (error.BadIndex entry index end) why is =
     in_types (read.BadIndex entry index end) why
-error_ill_named widths bytes error.TooMany why is = in_types read.TooMany why
-error_ill_named widths bytes error.Malformed why is = absurd (omega (arith, is))
-error_ill_named widths bytes (error.UnknownType index) why is = elsewhere index why
-error_ill_named widths bytes error.TooLong why is = absurd (omega (arith, is))
-error_ill_named widths bytes (error.Outdated offset) why is = absurd (omega (arith, is))
-error_ill_named widths bytes error.Memory why is = absurd (omega (arith, is))
+error_ill_named options bytes error.TooMany why is = in_types read.TooMany why
+error_ill_named options bytes error.Malformed why is = absurd (omega (arith, is))
+error_ill_named options bytes (error.UnknownType index) why is = elsewhere index why
+error_ill_named options bytes error.TooLong why is = absurd (omega (arith, is))
+error_ill_named options bytes (error.Outdated offset) why is = absurd (omega (arith, is))
+error_ill_named options bytes error.Memory why is = absurd (omega (arith, is))
 
 explains_refused :
-    (widths : Widths) (bytes : List ℕ) (f : Failure) → Explains widths bytes f → status_of f ≡ 1
-    → IsRefused widths bytes
-explains_refused widths bytes (failure.Refused e context) why is = error_refused widths bytes e why.0 is
-explains_refused widths bytes failure.Memory why is = absurd (omega (arith, is))
-explains_refused widths bytes failure.Keys why is = absurd (omega (arith, is))
-explains_refused widths bytes (failure.Input error) why is = absurd (omega (arith, is))
-explains_refused widths bytes (failure.Output error) why is = absurd (omega (arith, is))
+    (options : NormaliseOptions) (bytes : List ℕ) (f : Failure) → Explains options bytes f → status_of f ≡ 1
+    → IsRefused options bytes
+explains_refused options bytes (failure.Refused e context advice) why is =
+    error_refused options bytes e why.0 is
+explains_refused options bytes failure.Memory why is = absurd (omega (arith, is))
+explains_refused options bytes failure.Keys why is = absurd (omega (arith, is))
+explains_refused options bytes (failure.Input error) why is = absurd (omega (arith, is))
+explains_refused options bytes (failure.Output error) why is = absurd (omega (arith, is))
 
 explains_ill_named :
-    (widths : Widths) (bytes : List ℕ) (f : Failure) → Explains widths bytes f → status_of f ≡ 2
-    → IsIllNamed widths bytes
-explains_ill_named widths bytes (failure.Refused e context) why is =
-    error_ill_named widths bytes e why.0 is
-explains_ill_named widths bytes failure.Memory why is = absurd (omega (arith, is))
-explains_ill_named widths bytes failure.Keys why is = absurd (omega (arith, is))
-explains_ill_named widths bytes (failure.Input error) why is = absurd (omega (arith, is))
-explains_ill_named widths bytes (failure.Output error) why is = absurd (omega (arith, is))
+    (options : NormaliseOptions) (bytes : List ℕ) (f : Failure) → Explains options bytes f → status_of f ≡ 2
+    → IsIllNamed options bytes
+explains_ill_named options bytes (failure.Refused e context advice) why is =
+    error_ill_named options bytes e why.0 is
+explains_ill_named options bytes failure.Memory why is = absurd (omega (arith, is))
+explains_ill_named options bytes failure.Keys why is = absurd (omega (arith, is))
+explains_ill_named options bytes (failure.Input error) why is = absurd (omega (arith, is))
+explains_ill_named options bytes (failure.Output error) why is = absurd (omega (arith, is))
 
 pub known_refused :
-    (widths : Widths) (known : Option (List ℕ)) (f : Failure) (result : ℕ)
-    → IfSome known (λ bytes. Explains widths bytes f) → (result ≡ status_of f) ⊎ (result ≡ 4)
-    → result ≡ 1 → IfSome known (λ bytes. IsRefused widths bytes)
-known_refused widths None f result why status is = tt
-known_refused widths (Some bytes) f result why (inl e) is =
-    explains_refused widths bytes f why (sym e ∙ is)
-known_refused widths (Some bytes) f result why (inr e) is = absurd (omega (arith, sym e ∙ is))
+    (options : NormaliseOptions) (known : Option (List ℕ)) (f : Failure) (result : ℕ)
+    → IfSome known (λ bytes. Explains options bytes f) → (result ≡ status_of f) ⊎ (result ≡ 4)
+    → result ≡ 1 → IfSome known (λ bytes. IsRefused options bytes)
+known_refused options None f result why status is = tt
+known_refused options (Some bytes) f result why (inl e) is =
+    explains_refused options bytes f why (sym e ∙ is)
+known_refused options (Some bytes) f result why (inr e) is = absurd (omega (arith, sym e ∙ is))
 
 pub known_ill_named :
-    (widths : Widths) (known : Option (List ℕ)) (f : Failure) (result : ℕ)
-    → IfSome known (λ bytes. Explains widths bytes f) → (result ≡ status_of f) ⊎ (result ≡ 4)
-    → result ≡ 2 → IfSome known (λ bytes. IsIllNamed widths bytes)
-known_ill_named widths None f result why status is = tt
-known_ill_named widths (Some bytes) f result why (inl e) is =
-    explains_ill_named widths bytes f why (sym e ∙ is)
-known_ill_named widths (Some bytes) f result why (inr e) is = absurd (omega (arith, sym e ∙ is))
+    (options : NormaliseOptions) (known : Option (List ℕ)) (f : Failure) (result : ℕ)
+    → IfSome known (λ bytes. Explains options bytes f) → (result ≡ status_of f) ⊎ (result ≡ 4)
+    → result ≡ 2 → IfSome known (λ bytes. IsIllNamed options bytes)
+known_ill_named options None f result why status is = tt
+known_ill_named options (Some bytes) f result why (inl e) is =
+    explains_ill_named options bytes f why (sym e ∙ is)
+known_ill_named options (Some bytes) f result why (inr e) is = absurd (omega (arith, sym e ∙ is))
 
 -- what each error says, as the clauses of `normalise_module` have it
 pub explains_each :
-    {A : Type 0} (widths : Widths) (bytes : List ℕ) (result : Result A NormaliseModuleError)
+    {A : Type 0} (options : NormaliseOptions) (bytes : List ℕ) (result : Result A NormaliseModuleError)
     → ((e : DecodeError) → IsErrOf result (error.Types e) → HasBadTypesBy bytes e)
     → ((entry index end : ℕ) → IsErrOf result (error.BadIndex entry index end)
     → HasFirstError bytes (read.BadIndex entry index end))
     → (IsErrOf result error.TooMany → HasFirstError bytes read.TooMany)
-    → (IsErrOf result error.Malformed → CanNotBeRenamed bytes)
-    → ((k : ℕ) → IsErrOf result (error.UnknownType k) → NamesUnknownType widths k bytes)
-    → (IsErrOf result error.TooLong → BecomesTooLong widths bytes)
-    → ((k : ℕ) → IsErrOf result (error.Outdated k) → BecomesOutdated widths k bytes)
-    → IfErr result (λ e. ExplainsError widths bytes e)
-explains_each widths bytes (Ok new) a b c d e f g = tt
-explains_each widths bytes (Err (error.Types t)) a b c d e f g = a t refl
-explains_each widths bytes (Err (error.BadIndex entry index end)) a b c d e f g = b entry index end refl
-explains_each widths bytes (Err error.TooMany) a b c d e f g = c refl
-explains_each widths bytes (Err error.Malformed) a b c d e f g = d refl
-explains_each widths bytes (Err (error.UnknownType k)) a b c d e f g = e k refl
-explains_each widths bytes (Err error.TooLong) a b c d e f g = f refl
-explains_each widths bytes (Err (error.Outdated k)) a b c d e f g = g k refl
-explains_each widths bytes (Err error.Memory) a b c d e f g = tt
+    → (IsErrOf result error.Malformed → LeavesMalformed options.descriptions bytes)
+    → ((k : ℕ) → IsErrOf result (error.UnknownType k) → NamesUnknownType options k bytes)
+    → (IsErrOf result error.TooLong → BecomesTooLong options bytes)
+    → ((k : ℕ) → IsErrOf result (error.Outdated k) → BecomesOutdated options k bytes)
+    → IfErr result (λ e. ExplainsError options bytes e)
+explains_each options bytes (Ok new) a b c d e f g = tt
+explains_each options bytes (Err (error.Types t)) a b c d e f g = a t refl
+explains_each options bytes (Err (error.BadIndex entry index end)) a b c d e f g = b entry index end refl
+explains_each options bytes (Err error.TooMany) a b c d e f g = c refl
+explains_each options bytes (Err error.Malformed) a b c d e f g = d refl
+explains_each options bytes (Err (error.UnknownType k)) a b c d e f g = e k refl
+explains_each options bytes (Err error.TooLong) a b c d e f g = f refl
+explains_each options bytes (Err (error.Outdated k)) a b c d e f g = g k refl
+explains_each options bytes (Err error.Memory) a b c d e f g = tt
 
 -- what was read is explained, where the bytes that were read are known
 pub input_explained :
-    (widths : Widths) (known : Option (List ℕ)) (read lent again : List ℕ) (e : NormaliseModuleError)
-    (f : Failure) → IfSome known (λ bytes. read ≡ bytes) → lent ≡ read → again ≡ read
-    → ExplainsError widths lent e → ((w : Widths) → ExplainsError w again e → Explains w again f)
-    → IfSome known (λ bytes. Explains widths bytes f)
-input_explained widths None read lent again e f is first second why says = tt
-input_explained widths (Some bytes) read lent again e f is first second why says =
-    subst (λ (x : List ℕ). Explains widths x f) (second ∙ is)
-    (says widths (subst (λ (x : List ℕ). ExplainsError widths x e) (first ∙ sym second) why))
+    (options : NormaliseOptions) (known : Option (List ℕ)) (read lent again : List ℕ)
+    (e : NormaliseModuleError) (f : Failure) → IfSome known (λ bytes. read ≡ bytes) → lent ≡ read → again ≡ read
+    → ExplainsError options lent e → (ExplainsError options again e → Explains options again f)
+    → IfSome known (λ bytes. Explains options bytes f)
+input_explained options None read lent again e f is first second why says = tt
+input_explained options (Some bytes) read lent again e f is first second why says =
+    subst (λ (x : List ℕ). Explains options x f) (second ∙ is)
+    (says (subst (λ (x : List ℕ). ExplainsError options x e) (first ∙ sym second) why))

@@ -4,27 +4,27 @@ use Rattle.std.specs.Prelude.{ℕ, List, Option}
 use Rattle.std.specs.Io.KnownBytes.{Appends}
 use Rattle.walrus_binary.specs.ModuleSections.{HasBadTypesBy}
 use Rattle.walrus_binary.specs.declared.error.DecodeError.{DecodeError}
-use Rattle.walrus_module.specs.RenamedModules.{CanNotBeRenamed}
-use Rattle.walrus_module.specs.declared.renaming.Widths.{Widths}
-use Rattle.walrus_normalise.specs.NormalModules.{IsNormalised, HasFirstError, NamesUnknownType, BecomesTooLong, BecomesOutdated}
+use Rattle.walrus_normalise.specs.declared.options.NormaliseOptions.{NormaliseOptions}
+use Rattle.walrus_normalise.specs.NormalModules.{IsNormalised, HasFirstError, LeavesMalformed, NamesUnknownType, BecomesTooLong, BecomesOutdated}
 use Rattle.walrus_sections.specs.declared.error.ReadError.{ReadError}
 
 -- the bytes are a module, and a writer gained the same module with its type section in normal form
-pub record IsWritten (widths : Widths) (bytes : List ℕ) (old new : Option (List ℕ)) : Type 0 where
+pub record IsWritten (options : NormaliseOptions) (bytes : List ℕ) (old new : Option (List ℕ)) :
+    Type 0 where
   pub normal : List ℕ
-  pub is_normalised : IsNormalised widths bytes normal
+  pub is_normalised : IsNormalised options bytes normal
   pub written : Appends old new normal
 
 -- The bytes are no module, or its types can't be read; or another section is malformed; or a
 -- section or a function body would be too long; or a section describes bytes that would change.
-pub data IsRefused (widths : Widths) (bytes : List ℕ) : Type 0 where
-  bad_types : (e : DecodeError) → HasBadTypesBy bytes e → IsRefused widths bytes
-  malformed : CanNotBeRenamed bytes → IsRefused widths bytes
-  too_long : BecomesTooLong widths bytes → IsRefused widths bytes
-  outdated : (offset : ℕ) → BecomesOutdated widths offset bytes → IsRefused widths bytes
+pub data IsRefused (options : NormaliseOptions) (bytes : List ℕ) : Type 0 where
+  bad_types : (e : DecodeError) → HasBadTypesBy bytes e → IsRefused options bytes
+  malformed : LeavesMalformed options.descriptions bytes → IsRefused options bytes
+  too_long : BecomesTooLong options bytes → IsRefused options bytes
+  outdated : (offset : ℕ) → BecomesOutdated options offset bytes → IsRefused options bytes
 
 -- The type section names what it may not name, or has too many entries; or another section names a
 -- type that the type section does not have.
-pub data IsIllNamed (widths : Widths) (bytes : List ℕ) : Type 0 where
-  in_types : (e : ReadError) → HasFirstError bytes e → IsIllNamed widths bytes
-  elsewhere : (k : ℕ) → NamesUnknownType widths k bytes → IsIllNamed widths bytes
+pub data IsIllNamed (options : NormaliseOptions) (bytes : List ℕ) : Type 0 where
+  in_types : (e : ReadError) → HasFirstError bytes e → IsIllNamed options bytes
+  elsewhere : (k : ℕ) → NamesUnknownType options k bytes → IsIllNamed options bytes

@@ -1,7 +1,6 @@
 //! What ends a run without a module: its line on standard error and its exit status.
 ghost use Rattle.std.specs.Prelude.{◌≡◌, ◌≤◌, ◌⊎◌};
-ghost use Rattle.walrus_module.specs.declared.renaming.Widths.{Widths};
-ghost use Rattle.wasmnorm.specs.Steps.Failures.{Explains, ExplainsError, IsOfStreams, error_status, status_of};
+ghost use Rattle.wasmnorm.specs.Steps.Failures.{Explains, ExplainsError, HasContext, IsOfStreams, error_status, status_of};
 
 use command_line::{Context, context_of};
 use std::alloc::AllocError;
@@ -9,7 +8,7 @@ use std::fmt;
 use std::fmt::Formatter;
 use std::io::{self, ErrorKind, Write};
 use walrus_binary::DecodeError;
-use walrus_normalise::NormaliseModuleError;
+use walrus_normalise::{NormaliseModuleError, NormaliseOptions, Widths};
 
 /// What ends a run without a module.
 #[derive(Debug, Drop)]
@@ -20,6 +19,8 @@ pub enum Failure {
         error: NormaliseModuleError,
         /// What else is known of the input.
         context: Context,
+        /// What may help.
+        advice: Advice,
     },
     /// Memory was refused.
     Memory,
@@ -31,10 +32,35 @@ pub enum Failure {
     Output(io::Error),
 }
 
+/// The options that may help where a module was refused.
+#[derive(Clone, Copy, PartialEq, Eq, Debug)]
+pub enum Advice {
+    /// None.
+    Nothing,
+    /// `--strip`.
+    Strip,
+    /// `--keep-widths` and `--strip`.
+    KeepWidthsOrStrip,
+}
+
+impl fmt::Display for Advice {
+    fn fmt<W: fmt::Write>(&self, f: &mut Formatter<W>) -> fmt::Result {
+        match self {
+            Advice::Nothing => Ok(()),
+            Advice::Strip => write!(f, "; --strip may help"),
+            Advice::KeepWidthsOrStrip => write!(f, "; --keep-widths or --strip may help"),
+        }
+    }
+}
+
 impl fmt::Display for Failure {
     fn fmt<W: fmt::Write>(&self, f: &mut Formatter<W>) -> fmt::Result {
         match self {
-            Failure::Refused { error, context } => write!(f, "{error}{context}"),
+            Failure::Refused {
+                error,
+                context,
+                advice,
+            } => write!(f, "{error}{context}{advice}"),
             Failure::Memory => write!(f, "out of memory"),
             Failure::Keys => write!(f, "no random keys"),
             Failure::Input(error) => write!(f, "input failed: {error}"),
@@ -54,13 +80,23 @@ impl From<AllocError> for Failure {
     }
 }
 
-/// The failure of a module that was not normalised.
-pub fn refusal(bytes: &[u8], error: NormaliseModuleError) -> Failure
-    ensures explains { (widths : Widths) → ExplainsError widths bytes.now error →
-        Explains widths bytes.now result }
+/// The failure of a module that was not normalised with these options.
+pub fn refusal(bytes: &[u8], options: NormaliseOptions, error: NormaliseModuleError) -> Failure
+    ensures explains { ExplainsError options bytes.now error → Explains options bytes.now result }
     ensures status { status_of result ≡ error_status error }
 {
-    let context = match error {
+    Failure::Refused {
+        error,
+        context: context_beside(bytes, error),
+        advice: advice_for(options, error),
+    }
+}
+
+/// What is known of the input beside an error.
+fn context_beside(bytes: &[u8], error: NormaliseModuleError) -> Context
+    ensures { HasContext bytes.now error result }
+{
+    match error {
         NormaliseModuleError::Types(DecodeError::Malformed { offset, .. }) => {
             context_of(bytes, offset)
         }
@@ -68,8 +104,16 @@ pub fn refusal(bytes: &[u8], error: NormaliseModuleError) -> Failure
             context_of(bytes, offset)
         }
         _ => Context::Nothing,
-    };
-    Failure::Refused { error, context }
+    }
+}
+
+/// The options that may help where a module was refused with these.
+fn advice_for(options: NormaliseOptions, error: NormaliseModuleError) -> Advice {
+    match (error, options.widths) {
+        (NormaliseModuleError::Outdated { .. }, Widths::Shortest) => Advice::KeepWidthsOrStrip,
+        (NormaliseModuleError::Outdated { .. }, Widths::Kept) => Advice::Strip,
+        _ => Advice::Nothing,
+    }
 }
 
 /// What a failed read ends the run with. Its status is 3 if memory was refused, and 4 otherwise.

@@ -11,14 +11,17 @@ mod failure;
 mod texts;
 
 use command_line::{
-    Request, open, parse_arguments, random_keys, read_bytes, report_usage, write_version,
+    Request, has_option, open, parse_arguments, random_keys, read_bytes, report_usage,
+    write_version,
 };
 use failure::{Failure, failed_input, refusal, report};
 use std::alloc::Global;
 use std::io::{self, BufWriter, Read, Write};
 use std::process::ExitCode;
-use texts::{HELP, USAGE};
-use walrus_normalise::{HashKeys, NormaliseModuleError, Widths, normalise_module};
+use texts::{HELP, KEEP_WIDTHS, STRIP, USAGE};
+use walrus_normalise::{
+    Descriptions, HashKeys, NormaliseModuleError, NormaliseOptions, Widths, normalise_module,
+};
 
 /// Reads a module from `reader`, and writes the same module to `out`, with its type section in
 /// normal form and every other index of a type written again.
@@ -26,7 +29,7 @@ use walrus_normalise::{HashKeys, NormaliseModuleError, Widths, normalise_module}
 /// Equal types outside recursion groups are merged, and such types are sorted as far as references
 /// allow. Recursion groups keep their order and are never merged. Custom sections other than `name`
 /// are copied as they are. Where one of them describes bytes that would change, such as debug data,
-/// the module is refused.
+/// the module is refused, unless the options say that such sections are left out.
 ///
 /// It returns the exit status. One line on `err` explains each of 1 to 4.
 ///
@@ -47,22 +50,22 @@ use walrus_normalise::{HashKeys, NormaliseModuleError, Widths, normalise_module}
 pub fn run<R: Read, W: Write, E: Write>(
     alloc: Global,
     keys: HashKeys,
-    widths: Widths,
+    options: NormaliseOptions,
     reader: &mut R,
     out: &mut W,
     err: &mut E,
 ) -> u8
     ensures done { result ≡ 0 → IfSome (R.remaining reader.old)
-        (λ bytes. IsWritten widths bytes (W.contents out.old) (W.contents out.new)) }
+        (λ bytes. IsWritten options bytes (W.contents out.old) (W.contents out.new)) }
     ensures silent { result ≡ 0 → Keeps (E.contents err.old) (E.contents err.new) }
     ensures refused { result ≡ 1 → IfSome (R.remaining reader.old)
-        (λ bytes. IsRefused widths bytes) }
+        (λ bytes. IsRefused options bytes) }
     ensures ill_named { result ≡ 2 → IfSome (R.remaining reader.old)
-        (λ bytes. IsIllNamed widths bytes) }
+        (λ bytes. IsIllNamed options bytes) }
     ensures range { result ≤ 4 }
     ensures unwritten { 0 < result → result < 4 → Keeps (W.contents out.old) (W.contents out.new) }
 {
-    match normalise_input(alloc, keys, widths, reader, out) {
+    match normalise_input(alloc, keys, options, reader, out) {
         Ok(()) => 0,
         Err(failure) => report(&failure, err),
     }
@@ -71,14 +74,14 @@ pub fn run<R: Read, W: Write, E: Write>(
 fn normalise_input<R: Read, W: Write>(
     alloc: Global,
     keys: HashKeys,
-    widths: Widths,
+    options: NormaliseOptions,
     reader: &mut R,
     out: &mut W,
 ) -> Result<(), Failure>
     ensures done { OnOk result (IfSome (R.remaining reader.old)
-        (λ bytes. IsWritten widths bytes (W.contents out.old) (W.contents out.new))) }
+        (λ bytes. IsWritten options bytes (W.contents out.old) (W.contents out.new))) }
     ensures failed { IfErr result (λ failure.
-        IfSome (R.remaining reader.old) (λ bytes. Explains widths bytes failure)) }
+        IfSome (R.remaining reader.old) (λ bytes. Explains options bytes failure)) }
     ensures unwritten { IfErr result (λ failure. status_of failure < 4 →
         Keeps (W.contents out.old) (W.contents out.new)) }
 {
@@ -86,9 +89,9 @@ fn normalise_input<R: Read, W: Write>(
         Ok(bytes) => bytes,
         Err(error) => return Err(failed_input(error)),
     };
-    let module = match normal_module(alloc, keys, widths, bytes.as_slice()) {
+    let module = match normal_module(alloc, keys, options, bytes.as_slice()) {
         Ok(module) => module,
-        Err(error) => return Err(refusal(bytes.as_slice(), error)),
+        Err(error) => return Err(refusal(bytes.as_slice(), options, error)),
     };
     match write_and_flush(out, module.as_slice()) {
         Ok(()) => Ok(()),
@@ -100,13 +103,13 @@ fn normalise_input<R: Read, W: Write>(
 fn normal_module(
     alloc: Global,
     keys: HashKeys,
-    widths: Widths,
+    options: NormaliseOptions,
     bytes: &[u8],
 ) -> Result<Vec<u8>, NormaliseModuleError>
-    ensures normal { IfOk result (λ new. IsNormalised widths bytes.now new.items) }
-    ensures refused { IfErr result (λ e. ExplainsError widths bytes.now e) }
+    ensures normal { IfOk result (λ new. IsNormalised options bytes.now new.items) }
+    ensures refused { IfErr result (λ e. ExplainsError options bytes.now e) }
 {
-    normalise_module(alloc, keys, bytes, widths)
+    normalise_module(alloc, keys, bytes, options)
 }
 
 /// Writes the whole module, and flushes the writer.
@@ -128,31 +131,52 @@ fn main(rt: HostRuntime) -> ExitCode {
 
 /// Does what the arguments ask for, and returns the exit status.
 fn start<E: Write>(rt: &HostRuntime, err: &mut E) -> Result<u8, Failure> {
-    match parse_arguments(rt, Some("--keep-widths"))? {
+    match parse_arguments(rt, &[KEEP_WIDTHS, STRIP])? {
         Request::Help => printed(rt.stdout().write_all(HELP.as_bytes())),
         Request::Version => printed(write_version("wasmnorm", &mut rt.stdout())),
-        Request::Work { names, has_option } => match names.as_slice() {
-            [] => normalise_file(rt, "-", widths(has_option), err),
-            [name] => normalise_file(rt, name.as_str(), widths(has_option), err),
-            _ => Ok(report_usage(USAGE, err)),
-        },
+        Request::Work { names, options } => {
+            let options = normalise_options(options.as_slice());
+            normalise_named(rt, names.as_slice(), options, err)
+        }
         Request::Usage => Ok(report_usage(USAGE, err)),
     }
 }
 
-/// The widths of indices, with the option `--keep-widths` or without it.
-fn widths(has_option: bool) -> Widths {
-    if has_option {
+/// How the module is normalised, by the options that are there.
+fn normalise_options(options: &[String]) -> NormaliseOptions {
+    let widths = if has_option(options, KEEP_WIDTHS) {
         Widths::Kept
     } else {
         Widths::Shortest
+    };
+    let descriptions = if has_option(options, STRIP) {
+        Descriptions::Stripped
+    } else {
+        Descriptions::Kept
+    };
+    NormaliseOptions {
+        widths,
+        descriptions,
+    }
+}
+
+fn normalise_named<E: Write>(
+    rt: &HostRuntime,
+    names: &[String],
+    options: NormaliseOptions,
+    err: &mut E,
+) -> Result<u8, Failure> {
+    match names {
+        [] => normalise_file(rt, "-", options, err),
+        [name] => normalise_file(rt, name.as_str(), options, err),
+        _ => Ok(report_usage(USAGE, err)),
     }
 }
 
 fn normalise_file<E: Write>(
     rt: &HostRuntime,
     name: &str,
-    widths: Widths,
+    options: NormaliseOptions,
     err: &mut E,
 ) -> Result<u8, Failure> {
     let mut input = match open(rt, name, err) {
@@ -165,7 +189,7 @@ fn normalise_file<E: Write>(
     let Ok(mut out) = BufWriter::new(rt.alloc(), rt.stdout()) else {
         return Err(Failure::Memory);
     };
-    Ok(run(rt.alloc(), keys, widths, &mut input, &mut out, err))
+    Ok(run(rt.alloc(), keys, options, &mut input, &mut out, err))
 }
 
 fn printed(written: io::Result<()>) -> Result<u8, Failure> {

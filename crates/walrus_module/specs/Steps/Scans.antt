@@ -5,7 +5,8 @@ use Rattle.walrus_module.specs.declared.scan.ScanError.{ScanError}
 use Rattle.walrus_module.specs.declared.scan.ScanError.TheVariants as scan
 use Rattle.walrus_module.specs.declared.kind.Space.TheVariants as space
 use Rattle.walrus_module.specs.declared.scan.TypeIndex.{TypeIndex}
-use Rattle.walrus_module.specs.Immediates.{Piece, unsigned, signed, Runs, AreTexts, type_names}
+use Rattle.walrus_module.specs.Opcodes.{kinds_in, opcodes}
+use Rattle.walrus_module.specs.Immediates.{Piece, unsigned, signed, behind_byte, Runs, AreTexts, type_names}
 
 -- the bytes begin with a text of these kinds, and these are the types that it names
 pub record IsScanned (kinds : List Kind) (bytes rest names : List ℕ) : Type 0 where
@@ -27,6 +28,23 @@ pub record Reads (kinds left : List Kind) (pieces : List Piece) (bytes rest : Li
   pub text : List ℕ
   pub parts : bytes ≡ text ++ rest
   pub runs : Runs kinds text pieces left
+
+-- pieces that name no type were passed over, and these kinds are left
+pub record PassesPieces (kinds left : List Kind) (bytes rest : List ℕ) : Type 0 where
+  pub passed : List Piece
+  pub reads : Reads kinds left passed bytes rest
+  pub none : type_names passed ≡ []
+
+-- a text of this kind can begin with any instruction, and goes on with its own kind
+abbrev pub HasInstructions : Kind → Type 0
+HasInstructions here =
+    (opcode : ℕ) (kinds : List Kind) → kinds_in opcodes opcode ≡ Some kinds →
+    behind_byte here opcode ≡ Some (kinds ++ here ∷ [])
+
+-- whole instructions were passed over, which name no type and open no block
+abbrev pub PassesInstructions : List ℕ → List ℕ → Type 0
+PassesInstructions bytes rest =
+    (here : Kind) → HasInstructions here → PassesPieces (here ∷ []) (here ∷ []) bytes rest
 
 -- the piece that an index of a type is
 abbrev pub piece_of : TypeIndex → List ℕ → Piece

@@ -16,24 +16,24 @@ use Rattle.walrus_passes.specs.AllIndices.{HasAllIndices}
 use Rattle.walrus_passes.proofs.UnusedTypes.Elements.{contains_from_get}
 use Rattle.walrus_passes.proofs.UnusedTypes.Keeping.{needed_kept}
 
-ids_at :
+pub ids_at :
     (gs : List RecGroup) (g : ℕ) → (group_at (type_groups gs) g).ids ≡ (rec_group_at gs g).types
 ids_at [] g = refl
 ids_at (x ∷ gs) zero = refl
 ids_at (x ∷ gs) (suc g) = ids_at gs g
 
-in_table :
+pub in_table :
     (t : Table) (g u i : ℕ) → IsMember (type_groups t.groups) g u i → IsIdAt t.groups g u i
 in_table t g u i m = ap (λ (ids : List ℕ). slice_get ids u) (sym (ids_at t.groups g))
     ∙ at_member (type_groups t.groups) g u i m
 
-from_table :
+pub from_table :
     (t : Table) (g u i : ℕ) → IsIdAt t.groups g u i → IsMember (type_groups t.groups) g u i
 from_table t g u i m = to_member (type_groups t.groups) g u i
     (ap (λ (ids : List ℕ). slice_get ids u) (ids_at t.groups g) ∙ m)
 
 -- a name of a live type
-names_at :
+pub names_at :
     (slots : TypeSlots) (i k : ℕ) → IsLive slots i → Names (definition_at slots i) k →
     IsSomeAnd (live_type slots i) (λ ty. Names (type_definition ty) k)
 names_at slots i k live n = by_type (live_type slots i) live n

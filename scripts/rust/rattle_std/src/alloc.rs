@@ -47,12 +47,12 @@ impl<T> From<AllocFailed<T>> for AllocError {
     }
 }
 
-/// The value of a call to which memory was not refused.
+/// The value of a call whose error is refused memory.
 ///
 /// # Panics
 ///
 /// Where memory was refused.
-pub fn or_panic<T>(result: Result<T, AllocError>) -> T {
+pub fn or_panic<T, E: fmt::Display>(result: Result<T, E>) -> T {
     match result {
         Ok(value) => value,
         Err(error) => panic!("{error}"),

@@ -1,5 +1,5 @@
 //! Copies that may be refused memory.
-use crate::alloc::AllocError;
+use crate::alloc::{AllocError, or_panic};
 use crate::vec::VecExt;
 use std::marker::PhantomData;
 use std::rc::Rc;
@@ -8,6 +8,15 @@ use std::rc::Rc;
 pub trait TryClone: Sized {
     /// A copy of the value, equal to it.
     fn try_clone(&self) -> Result<Self, AllocError>;
+
+    /// Puts copies of the values at the end of a list. After an error it has some of them.
+    fn try_clone_all(values: &[Self], list: &mut Vec<Self>) -> Result<(), AllocError> {
+        list.try_reserve(values.len())?;
+        for value in values {
+            list.push(value.try_clone()?);
+        }
+        Ok(())
+    }
 }
 
 /// A copy, for a type whose `Clone` is to be as its `TryClone`.
@@ -16,7 +25,7 @@ pub trait TryClone: Sized {
 ///
 /// Where memory is refused.
 pub fn cloned<T: TryClone>(value: &T) -> T {
-    value.try_clone().expect("out of memory")
+    or_panic(value.try_clone())
 }
 
 macro_rules! copied {
@@ -24,6 +33,12 @@ macro_rules! copied {
         $(impl TryClone for $name {
             fn try_clone(&self) -> Result<Self, AllocError> {
                 Ok(*self)
+            }
+
+            fn try_clone_all(values: &[Self], list: &mut Vec<Self>) -> Result<(), AllocError> {
+                list.try_reserve(values.len())?;
+                list.extend_from_slice(values);
+                Ok(())
             }
         })*
     };

@@ -2,6 +2,7 @@
 //! growing hashes no key again, and dropping goes through the memory in order.
 use crate::alloc::AllocError;
 use crate::hash::FoldHasher;
+use std::fmt;
 use std::hash::{BuildHasher, BuildHasherDefault, Hash};
 
 /// The least number of slots of a table that has some.
@@ -14,6 +15,13 @@ pub struct HashMap<K, V, S = BuildHasherDefault<FoldHasher>> {
     // the entry's place. Each lies at its home, or behind it with no 0 between. At least one is 0.
     slots: Vec<u64>,
     hasher: S,
+}
+
+impl<K: fmt::Debug, V: fmt::Debug, S> fmt::Debug for HashMap<K, V, S> {
+    fn fmt(&self, f: &mut fmt::Formatter<'_>) -> fmt::Result {
+        let entries = self.entries.iter().map(|entry| (&entry.0, &entry.1));
+        f.debug_map().entries(entries).finish()
+    }
 }
 
 impl<K, V, S: Default> Default for HashMap<K, V, S> {

@@ -82,18 +82,12 @@ impl<T> VecExt<T> for Vec<T> {
     where
         T: TryClone,
     {
-        self.try_reserve(items.len())?;
         let before = self.len();
-        for item in items {
-            match item.try_clone() {
-                Ok(copy) => self.push(copy),
-                Err(refused) => {
-                    self.truncate(before);
-                    return Err(refused);
-                }
-            }
+        let copied = T::try_clone_all(items, self);
+        if copied.is_err() {
+            self.truncate(before);
         }
-        Ok(())
+        copied
     }
 
     fn try_sort(&mut self) -> Result<(), AllocError>

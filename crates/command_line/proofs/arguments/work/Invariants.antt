@@ -1,4 +1,5 @@
-use Rattle.std.specs.Prelude.{◌≡◌, true, All, IsSome}
+use Rattle.std.specs.Prelude.{◌≡◌, All}
+use Rattle.std.specs.List.{Any}
 use Rattle.std.specs.String.{string_bytes}
 use Rattle.command_line.specs.Arguments.{IsName}
 use Rattle.command_line.proofs.arguments.work.Given as goal
@@ -6,5 +7,5 @@ use Rattle.command_line.proofs.arguments.work.Given as goal
 abbrev pub invariant-loop-argument : goal.invariant-loop-argument
 invariant-loop-argument l = record {
   names : All (λ name. IsName (string_bytes name)) l.names.items;
-  option : l.has_option ≡ true → IsSome l.option;
+  options : All (λ o. Any (λ k. k.now ≡ string_bytes o) l.own) l.options.items;
 }

@@ -1,11 +1,12 @@
-use Rattle.std.proofs.Common.{rules, ◌∙◌, ◌-◌, Err, length, slice_index_or, sym, ap, arith}
+use Rattle.std.proofs.Common.{rules, ◌∙◌, Err, length, slice_index_or, sym, ap, arith}
 use Rattle.std.proofs.lemmas.Result.{err_from_is_err_and}
 use Rattle.walrus_module.specs.declared.renaming.RenameError.TheVariants as rename
 use Rattle.walrus_module.specs.Changes.{BecomesTooLong}
 use Rattle.walrus_module.specs.NameSections.{RenamesNames, SubsectionNamesUnknown}
 use Rattle.walrus_module.proofs.Rewriting.{same_failure}
 use Rattle.walrus_module.proofs.TypeMaps.{least_short}
-use Rattle.walrus_module.proofs.Subsections.{some_holds, none_holds, first_apart, unsized_subsection, malformed_subsection, begins_in, subsection_stays, subsection_written, subsection_too_long, size_short}
+use Rattle.walrus_module.proofs.Taking.{first_apart}
+use Rattle.walrus_module.proofs.Subsections.{some_holds, none_holds, unsized_subsection, malformed_subsection, begins_in, subsection_stays, subsection_written, subsection_too_long, size_short}
 use Rattle.walrus_module.proofs.name_section.rename_subsection.Goals as goal
 
 pub returns-in_default-take_sized-clause-malformed : goal.returns-in_default-take_sized-clause-malformed

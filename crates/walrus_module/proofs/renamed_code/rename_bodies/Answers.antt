@@ -1,17 +1,18 @@
-use Rattle.std.proofs.Common.{◌∙◌, ◌+◌, ◌++◌, List, ℕ, Err, length, sym, ap}
+use Rattle.std.proofs.Common.{◌≡◌, ◌∙◌, ◌+◌, ◌++◌, List, ℕ, Err, length, sym, ap, subst, arith}
 use Rattle.std.proofs.lemmas.Result.{err_from_is_err_and}
 use Rattle.walrus_module.specs.declared.renaming.RenameError.TheVariants as rename
 use Rattle.walrus_module.specs.declared.scan.ScanError.TheVariants as scan
 use Rattle.walrus_module.specs.Bodies.{body}
-use Rattle.walrus_module.specs.Changes.{BecomesTooLong, InSized}
+use Rattle.walrus_module.specs.Changes.{ChangeAll, BecomesTooLong, InSized}
 use Rattle.walrus_module.specs.RenamedSections.{RenamesTexts, RenamesBody}
 use Rattle.walrus_module.specs.Renaming.{NamesUnknown}
-use Rattle.walrus_module.proofs.Changing.{if_none, if_some, written_none, written_is, written_passed, written_on, written_first}
+use Rattle.walrus_module.proofs.Changing.{if_none, if_some, written_none, written_is, written_passed, written_on, written_first, written_changes}
 use Rattle.walrus_module.proofs.ChangedCode.{changed_some, written_bodies}
 use Rattle.walrus_module.proofs.CodeSections.{bodies_malformed}
 use Rattle.walrus_module.proofs.Rewriting.{same_failure}
+use Rattle.walrus_module.proofs.WholeTexts.{not_empty}
 use Rattle.walrus_module.specs.Steps.Changes.{ChangesInFront}
-use Rattle.walrus_module.proofs.renamed_code.rename_bodies.Goals.{in-Some+in_ok-extend_from_slice+in_ok-extend_from_slice-2, in_default}
+use Rattle.walrus_module.proofs.renamed_code.rename_bodies.Goals.{in-Some+in_ok-push_front+in_ok-extend_from_slice, in_default}
 use Rattle.walrus_module.proofs.renamed_code.rename_bodies.Goals as goal
 
 pub loop-init : goal.loop-init
@@ -63,22 +64,34 @@ loop-preserved c =
     let after = c.rename_sized_body.new.input.now in
     let merged = c.match-branch-2 in
     elim c.match-branch-2.branch [
-      | in-Some+in_ok-extend_from_slice+in_ok-extend_from_slice-2 b ↦
+      | in-Some+in_ok-push_front+in_ok-extend_from_slice b ↦
           let new = b.in-Some.new.items in
           let changes = if_some c.in_ok-new.field-0 b.in-Some.new (λ x. ChangesInFront R rest after x.items)
           b.in-Some.is c.in_ok-new.ensures.changes in
           written_is R (l.counter + 1) bytes after merged.unwritten.now after merged.out.items
-          b.extend_from_slice-in-Some.new.self.items (ap (λ x. x.now) b.unwritten-is)
+          b.extend_from_slice.new.self.items (ap (λ x. x.now) b.unwritten-is)
           (ap (λ v. v.items) b.out-is)
           (written_on R l.counter bytes rest after l.unwritten.now l.out.items
-          b.extend_from_slice.new.self.items new b.extend_from_slice-in-Some.new.self.items l.invariant
+          b.push_front.new.out.items new b.extend_from_slice.new.self.items l.invariant
           changes (changed_some w (RenamesTexts new_indices w body) rest after new changes)
-          b.in_ok-extend_from_slice.ensures.items
-          (b.in_ok-extend_from_slice-2.ensures.items
-          ∙ ap (λ (u : List ℕ). b.extend_from_slice.new.self.items ++ u) b.deref.ensures.value))
+          b.in_ok-push_front.ensures
+          (b.in_ok-extend_from_slice.ensures.items
+          ∙ ap (λ (u : List ℕ). b.push_front.new.out.items ++ u) b.deref.ensures.value))
       | in_default b ↦
           written_is R (l.counter + 1) bytes after merged.unwritten.now l.unwritten.now merged.out.items
           l.out.items (ap (λ x. x.now) b.unwritten-is) (ap (λ v. v.items) b.out-is)
           (written_passed R l.counter bytes rest after l.unwritten.now l.out.items l.invariant
           (if_none c.in_ok-new.field-0 _ b.in_default.not-Some c.in_ok-new.ensures.stays))
     ]
+
+pub returns-clause-changes : goal.returns-clause-changes
+returns-clause-changes c =
+    let l = c.loop in
+    let R = RenamesBody c.args.new_indices.now c.args.widths in
+    let bytes = c.args.input.now.now in
+    let last = c.extend_from_slice-2.new.self.items in
+    let all : l.counter ≡ c.args.count = omega (arith, c.loop-test.false, l.auto.counter-end) in
+    subst (λ (n : ℕ). ChangesInFront (ChangeAll R n) bytes l.input.now last) all
+    (written_changes R l.counter bytes l.input.now l.unwritten.now l.out.items last l.invariant
+    (λ e. not_empty c.as_slice.result.now c.if-is_empty.ensures (c.as_slice.ensures.value ∙ e))
+    c.in_ok-extend_from_slice-2.ensures.items)

@@ -1,4 +1,4 @@
-use Rattle.std.proofs.Common.{◌∙◌, ◌++◌, List, ℕ, Err, length, sym, ap}
+use Rattle.std.proofs.Common.{◌∙◌, Err, length, sym, ap}
 use Rattle.std.proofs.lemmas.Result.{err_from_is_err_and}
 use Rattle.walrus_module.specs.declared.renaming.RenameError.TheVariants as rename
 use Rattle.walrus_module.specs.declared.scan.ScanError.TheVariants as scan
@@ -78,12 +78,9 @@ returns-clause-changes c =
     (λ x. ChangesInFront Bodies after rest x.items) c.in-Some-new_bodies.is
     c.in_ok-new_bodies.ensures.changes in
     code_changes c.args.new_indices.now c.args.widths c.args.content.now c.in-Some.count after rest
-    c.in-Some-new_bodies.new_bodies.items c.new-new.result.items c.extend_from_slice.new.self.items
-    c.extend_from_slice-2.new.self.items c.in-Some.ensures (empty rest c.if-not-is_empty.ensures) changes
-    c.new-new.ensures.items c.in_ok-extend_from_slice.ensures.items
-    (c.in_ok-extend_from_slice-2.ensures.items
-    ∙ ap (λ (u : List ℕ). c.extend_from_slice.new.self.items ++ u) c.deref.ensures.value)
+    c.in-Some-new_bodies.new_bodies.items c.in_ok-new.new.items c.in-Some.ensures
+    (empty rest c.if-not-is_empty.ensures) changes c.in_ok-new.ensures
 
-pub slice_bounds-extend_from_slice-count : goal.slice_bounds-extend_from_slice-count
-slice_bounds-extend_from_slice-count c =
+pub slice_bounds-put_in_front-count : goal.slice_bounds-put_in_front-count
+slice_bounds-put_in_front-count c =
     count_fits c.args.content.now c.in-Some.count c.read_u32.new.input.now c.in-Some.ensures

@@ -1,10 +1,8 @@
-use Rattle.std.proofs.Common.{◌∙◌, ◌≤◌, ◌^◌, Err, length, sym, ap, subst, arith}
+use Rattle.std.proofs.Common.{◌∙◌, Err, sym, ap, arith}
 use Rattle.std.proofs.lemmas.Result.{IfOk-weaker, err_from_is_err_and}
 use Rattle.walrus_module.specs.declared.renaming.RenameError.TheVariants as rename
 use Rattle.walrus_module.specs.Changes.{Changes}
 use Rattle.walrus_module.specs.RenamedModules.{RenamesAny}
-use Rattle.walrus_module.specs.Steps.RenamedModules.{IsSectionOf}
-use Rattle.walrus_module.specs.Steps.Renaming.{Appends}
 use Rattle.walrus_module.proofs.Changing.{if_some}
 use Rattle.walrus_module.proofs.Rewriting.{same_failure}
 use Rattle.walrus_module.proofs.RenamedSections.{none_is, least_short, types_written, changed_written, kept_written, types_too_long, part_too_long, whole_too_long}
@@ -32,8 +30,8 @@ returns-in_err-new-clause-too_long c =
     c.args.section.content.now c.requires (λ k. omega (arith, k, c.if-section-eq-TYPES.false))
     (c.in_err-new.ensures.too_long (ap (λ x. Err x) is))
 
-pub push_section-requires-in-Some : goal.push_section-requires-in-Some
-push_section-requires-in-Some c =
+pub push_new_section-requires : goal.push_new_section-requires
+push_new_section-requires c =
     least_short c.args.text.now c.args.section.id c.args.section.content.now c.args.widths
     c.least_width-least.result c.requires c.least_width-least.ensures
 
@@ -43,13 +41,11 @@ returns-in-Some-clause-written c =
     let content = c.args.section.content.now in
     let changed : Changes (RenamesAny id c.args.new_indices.now c.args.widths) content c.in-Some.new.items =
     if_some c.in_ok-new.field-0 c.in-Some.new _ c.in-Some.is c.in_ok-new.ensures.changes in
-    IfOk-weaker c.push_section-in-Some.result _ _
+    IfOk-weaker c.push_new_section.result _ _
     (λ u a. changed_written c.args.types.now c.args.new_indices.now c.args.widths c.args.text.now id content
-    c.in-Some.new.items c.args.out.now.items c.push_section-in-Some.new.out.items c.least_width-least.result
-    c.requires (λ k. omega (arith, k, c.if-section-eq-TYPES.false)) changed c.least_width-least.ensures
-    (subst (λ x. Appends (λ t. IsSectionOf c.least_width-least.result t id x) c.args.out.now.items
-    c.push_section-in-Some.new.out.items) c.deref.ensures.value a))
-    c.push_section-in-Some.ensures.written
+    c.in-Some.new.items c.args.out.now.items c.push_new_section.new.out.items c.least_width-least.result
+    c.requires (λ k. omega (arith, k, c.if-section-eq-TYPES.false)) changed c.least_width-least.ensures a)
+    c.push_new_section.ensures.written
 
 pub returns-in-Some-clause-too_long : goal.returns-in-Some-clause-too_long
 returns-in-Some-clause-too_long c =
@@ -59,7 +55,7 @@ returns-in-Some-clause-too_long c =
     if_some c.in_ok-new.field-0 c.in-Some.new _ c.in-Some.is c.in_ok-new.ensures.changes in
     λ e. whole_too_long c.args.types.now c.args.new_indices.now c.args.widths c.args.text.now id content
     c.in-Some.new.items c.requires (λ k. omega (arith, k, c.if-section-eq-TYPES.false)) changed
-    (subst (λ x. 2 ^ 32 ≤ length x) c.deref.ensures.value (c.push_section-in-Some.ensures.too_long e))
+    (c.push_new_section.ensures.too_long e)
 
 pub returns-in_ok-extend_from_slice-in-None-clause-written :
     goal.returns-in_ok-extend_from_slice-in-None-clause-written

@@ -77,8 +77,8 @@ loop-stack-preserved c =
     let h = found_type c.in_ok-found.field-0 c.in-Some.found l.stack n.stack l.input.now n.input.now
     c.in-Some.is c.in_ok-found.ensures.passed in
     written_on c.args.new_indices.now (least_width c.args.widths) c.args.kinds c.args.input.now.now
-    l.input.now n.input.now l.unwritten.now l.stack n.stack l.out.items c.extend_from_slice.new.self.items
-    c.write_index.new.out.items c.in-Some.found l.invariant h c.in_ok-extend_from_slice.ensures.items
+    l.input.now n.input.now l.unwritten.now l.stack n.stack l.out.items c.push_front.new.out.items
+    c.write_index.new.out.items c.in-Some.found l.invariant h c.in_ok-push_front.ensures
     c.in_ok-write_index.ensures.written
 
 pub slice_bounds-extend_from_slice-count : goal.slice_bounds-extend_from_slice-count
@@ -125,7 +125,7 @@ returns-clause-changes c =
     let h = found_none c.in_ok-found.field-0 l.stack n.stack l.input.now n.input.now c.in_default.not-Some
     c.in_ok-found.ensures.passed in
     written_ended c.args.new_indices.now c.args.widths c.args.kinds c.args.input.now.now
-    l.input.now n.input.now l.unwritten.now l.stack n.stack l.out.items c.extend_from_slice-2.new.self.items
+    l.input.now n.input.now l.unwritten.now l.stack n.stack l.out.items c.extend_from_slice.new.self.items
     l.invariant
     (λ e. not_empty c.as_slice.result.now c.if-is_empty.ensures (c.as_slice.ensures.value ∙ e))
-    h c.in_ok-extend_from_slice-2.ensures.items
+    h c.in_ok-extend_from_slice.ensures.items

@@ -1,0 +1,14 @@
+use Rattle.std.proofs.Common.{◌≡◌, refl}
+use Rattle.std.specs.List.{Any}
+use Rattle.std.specs.String.{string_bytes}
+use Rattle.command_line.proofs.Options.{one_more}
+use Rattle.command_line.proofs.arguments.work.Goals as goal
+
+pub loop-argument-preserved-in-Continue-1 : goal.loop-argument-preserved-in-Continue-1
+loop-argument-preserved-in-Continue-1 c = record {
+  names = c.loop-argument.invariant.names;
+  options = one_more (λ text. Any (λ k. k.now ≡ text) c.args.own.now) string_bytes
+      c.loop-argument.options.items c.push.new.self.items c.in-Some.argument c.as_str.result.now
+      c.loop-argument.invariant.options c.in_ok-push.ensures.items c.as_str.ensures.value
+      (c.if-is_option.ensures.0 refl);
+}

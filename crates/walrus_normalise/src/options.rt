@@ -1,0 +1,21 @@
+//! How a module is normalised.
+use walrus_module::Widths;
+
+/// What becomes of custom sections that describe other bytes of their module, such as debug data.
+#[derive(Clone, Copy, PartialEq, Eq, Debug)]
+pub enum Descriptions {
+    /// They stay as they are. A module with one that would no longer fit is refused.
+    Kept,
+    /// They are left out. [`strip_descriptions`](walrus_module::strip_descriptions) lists their
+    /// names.
+    Stripped,
+}
+
+/// How a module is normalised.
+#[derive(Clone, Copy, PartialEq, Eq, Debug)]
+pub struct NormaliseOptions {
+    /// How many bytes an index has that is written again.
+    pub widths: Widths,
+    /// What becomes of custom sections that describe other bytes.
+    pub descriptions: Descriptions,
+}

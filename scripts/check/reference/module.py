@@ -1,0 +1,423 @@
+"""Modules: each place that names a type, and what `wasmnorm` must do with a module (`outcome`).
+
+It is slow and plain, and shares no text with the crates. The grammar is that of the WebAssembly core specification 3.0,
+"Binary Format", with a few proposals: the older exceptions, wide arithmetic, memories of 64 bits and their page sizes,
+threads, exact heap types. Sections that describe other bytes of the module, such as debug data, are taken for any other
+custom section.
+"""
+import functools
+
+from reference import type_section
+from reference.reader import Malformed, NoSuchType, Reader, signed, unsigned
+
+HEADER = b'\0asm\1\0\0\0'
+CUSTOM, TYPE, IMPORT, FUNCTION, TABLE, MEMORY, GLOBAL, EXPORT, START, ELEMENT, CODE, DATA, DATA_COUNT, TAG = range(14)
+ORDER = [TYPE, IMPORT, FUNCTION, TABLE, MEMORY, TAG, GLOBAL, EXPORT, START, ELEMENT, DATA_COUNT, CODE, DATA]
+TYPE_NAMES, FIELD_NAMES = 4, 10
+DONE, REFUSED, UNKNOWN = 0, 1, 2
+
+
+class Renamer(Reader):
+    """A reader that also writes: what it has taken, with other indices of types."""
+
+    def __init__(self, data, at, end, images, keeps_widths):
+        super().__init__(data, at, end)
+        self.images, self.keeps_widths = images, keeps_widths
+        # What is written so far, and where the bytes begin that were taken and not written yet.
+        self.written, self.copied = bytearray(), at
+        self.has_names = False
+
+    def write_number(self, begin, number, text=unsigned):
+        """Writes a number in the place of what was taken from begin on."""
+        self.written += self.data[self.copied:begin]
+        self.written += text(number, self.at - begin if self.keeps_widths else 0)
+        self.copied = self.at
+
+    def text(self):
+        """All that was taken, as it is written."""
+        return bytes(self.written + self.data[self.copied:self.at])
+
+    def image(self, index):
+        self.has_names = True
+        if index >= len(self.images):
+            raise NoSuchType
+        return self.images[index]
+
+    def type_index(self):
+        begin = self.at
+        self.write_number(begin, self.image(self.u(32)))
+
+    def signed_type_index(self):
+        begin = self.at
+        number = self.s(33)
+        if number < 0:
+            raise Malformed
+        self.write_number(begin, self.image(number), signed)
+
+    def inside(self, end):
+        """A renamer of the bytes from here to end."""
+        if end > self.end:
+            raise Malformed
+        return Renamer(self.data, self.at, end, self.images, self.keeps_widths)
+
+    def sized(self, take):
+        """A size and as many bytes, which take has to take whole."""
+        begin = self.at
+        size = self.u(32)
+        content = self.inside(self.at + size)
+        take(content)
+        content.finish()
+        if content.has_names:
+            text = content.text()
+            self.write_number(begin, len(text))
+            self.written += text
+            self.copied = content.end
+            self.has_names = True
+        self.at = content.end
+
+    def vec(self, take):
+        for _ in range(self.u(32)):
+            take(self)
+
+
+def heap_type(it):
+    code = it.peek()
+    if code in type_section.HEAPS:
+        it.byte()
+    elif code == type_section.EXACT_CODE:
+        it.byte()
+        it.type_index()
+    else:
+        it.signed_type_index()
+
+
+def value_type(it):
+    if it.peek() in type_section.NUMBERS:
+        it.byte()
+    else:
+        reference_type(it)
+
+
+def reference_type(it):
+    code = it.byte()
+    if code in (type_section.NULLABLE_CODE, type_section.PLAIN_CODE):
+        heap_type(it)
+    elif code not in type_section.HEAPS:
+        raise Malformed
+
+
+def block_type(it):
+    code = it.peek()
+    if code == 0x40:
+        it.byte()
+    elif 0x41 <= code < 0x80:
+        value_type(it)
+    else:
+        it.signed_type_index()
+
+
+def one_of(*codes):
+    def take(it):
+        if it.byte() not in codes:
+            raise Malformed
+    return take
+
+
+def any_bytes(count):
+    return lambda it: it.skip(count)
+
+
+def index(it):
+    it.u(32)
+
+
+def type_index(it):
+    it.type_index()
+
+
+def memory_argument(it):
+    flags = it.u(32)
+    if flags >= 128:
+        raise Malformed
+    if flags & 64:
+        index(it)
+    it.u(64)
+
+
+def catch_clause(it):
+    code = it.byte()
+    if code > 3:
+        raise Malformed
+    for _ in range(2 if code < 2 else 1):
+        index(it)
+
+
+def vec_of(take):
+    return lambda it: it.vec(take)
+
+
+def by_opcode(*rows):
+    """What is behind each opcode. A row is opcodes, and what is behind each of them."""
+    return {code: takes for codes, *takes in rows for code in codes}
+
+
+def to(first, last):
+    """Both and what is between them."""
+    return range(first, last + 1)
+
+
+END, DELEGATE = 0x0B, 0x18
+OPENING, CLOSING = [0x02, 0x03, 0x04, 0x06, 0x1F], [END, DELEGATE]
+INSTRUCTIONS = by_opcode(
+    ([0x00, 0x01, 0x05, 0x0A, 0x0B, 0x0F, 0x19, 0x1A, 0x1B, 0xD1, 0xD3, 0xD4],),
+    ([0x02, 0x03, 0x04, 0x06], block_type),
+    ([0x07, 0x08, 0x09, 0x18, 0x0C, 0x0D, 0xD5, 0xD6, 0x10, 0x12, 0xD2], index),
+    ([0x0E], vec_of(index), index),
+    ([0x11, 0x13], type_index, index),
+    ([0x14, 0x15], type_index),
+    ([0x1C], vec_of(value_type)),
+    ([0x1F], block_type, vec_of(catch_clause)),
+    (to(0x20, 0x26), index),
+    (to(0x28, 0x3E), memory_argument),
+    (to(0x3F, 0x40), index),
+    ([0x41], lambda it: it.s(32)),
+    ([0x42], lambda it: it.s(64)),
+    ([0x43], any_bytes(4)),
+    ([0x44], any_bytes(8)),
+    (to(0x45, 0xC4),),
+    ([0xD0], heap_type),
+)
+# Numbers in the range of vector instructions that are none.
+NO_VECTOR_INSTRUCTIONS = {
+    154, 162, 165, 166, 175, 176, 178, 179, 180, 187, 194, 197, 198, 207, 208, 210, 211, 212, 226, 238}
+# The same by the number behind one of these bytes.
+PREFIXED = {
+    0xFB: by_opcode(
+        ([0, 1, 6, 7, 11, 12, 13, 14, 16], type_index),
+        ([2, 3, 4, 5, 8, 9, 10, 18, 19], type_index, index),
+        ([17], type_index, type_index),
+        ([15, *to(26, 30)],),
+        (to(20, 23), heap_type),
+        (to(24, 25), one_of(0, 1, 2, 3), index, heap_type, heap_type),
+    ),
+    0xFC: by_opcode(
+        ([*to(0, 7), *to(19, 22)],),
+        ([9, 11, 13, 15, 16, 17], index),
+        ([8, 10, 12, 14], index, index),
+    ),
+    0xFD: by_opcode(
+        ([*to(0, 11), 92, 93], memory_argument),
+        (to(84, 91), memory_argument, any_bytes(1)),
+        ([12, 13], any_bytes(16)),
+        (to(21, 34), any_bytes(1)),
+        ([*to(14, 20), *to(35, 83), *(set(to(94, 275)) - NO_VECTOR_INSTRUCTIONS)],),
+    ),
+    0xFE: by_opcode(
+        ([0, 1, 2, *to(16, 78)], memory_argument),
+        ([3], one_of(0)),
+    ),
+}
+
+
+def expression(it):
+    depth = 1
+    while depth:
+        code = it.byte()
+        takes = PREFIXED[code].get(it.u(32)) if code in PREFIXED else INSTRUCTIONS.get(code)
+        if takes is None:
+            raise Malformed
+        for take in takes:
+            take(it)
+        depth += (code in OPENING) - (code in CLOSING)
+        if code == DELEGATE and depth == 0:
+            raise Malformed
+
+
+def limits(flags):
+    def take(it):
+        code = it.byte()
+        if code not in flags:
+            raise Malformed
+        for bit in (0, 1, 8):
+            if bit == 0 or code & bit:
+                it.u(64)
+    return take
+
+
+def mutability(it):
+    one_of(0, 1)(it)
+
+
+def table_type(it):
+    reference_type(it)
+    limits((0, 1, 4, 5))(it)
+
+
+def global_type(it):
+    value_type(it)
+    mutability(it)
+
+
+def tag_type(it):
+    one_of(0)(it)
+    it.type_index()
+
+
+def imported(it):
+    it.name()
+    it.name()
+    kind = it.byte()
+    if kind > 4:
+        raise Malformed
+    [type_index, table_type, limits(range(16)), global_type, tag_type][kind](it)
+
+
+def table(it):
+    if it.peek() == 0x40:
+        it.byte()
+        one_of(0)(it)
+        table_type(it)
+        expression(it)
+    else:
+        table_type(it)
+
+
+def global_(it):
+    global_type(it)
+    expression(it)
+
+
+def element(it):
+    form = it.u(32)
+    if form > 7:
+        raise Malformed
+    if form in (2, 6):
+        index(it)
+    if form in (0, 2, 4, 6):
+        expression(it)
+    if form in (1, 2, 3):
+        one_of(0)(it)
+    if form in (5, 6, 7):
+        reference_type(it)
+    it.vec(index if form < 4 else expression)
+
+
+def data(it):
+    form = it.u(32)
+    if form > 2:
+        raise Malformed
+    if form == 2:
+        index(it)
+    if form in (0, 2):
+        expression(it)
+    it.name()
+
+
+def local(it):
+    index(it)
+    value_type(it)
+
+
+def body(it):
+    it.vec(local)
+    expression(it)
+
+
+CONTENTS = {
+    IMPORT: vec_of(imported), FUNCTION: vec_of(type_index), TABLE: vec_of(table), TAG: vec_of(tag_type),
+    GLOBAL: vec_of(global_), ELEMENT: vec_of(element), DATA: vec_of(data), CODE: vec_of(lambda it: it.sized(body)),
+}
+
+
+def whole(it):
+    it.skip(it.end - it.at)
+
+
+def name_map(it, take):
+    """A map from types, by ascending new index. Of entries with one new index that of the least old one stays."""
+    begin = it.at
+    count = it.u(32)
+    behind, entries = it.at, []
+    for _ in range(count):
+        entry = it.inside(it.end)
+        old = Reader(it.data, it.at, it.end).u(32)
+        entry.type_index()
+        take(entry)
+        it.at = entry.at
+        entries.append((entry.image(old), old, entry.text()))
+    if entries:
+        kept = {}
+        for new, old, text in sorted(entries, key=lambda entry: entry[1]):
+            kept.setdefault(new, text)
+        at, it.at = it.at, behind
+        it.write_number(begin, len(kept))
+        it.at = it.copied = at
+        it.written += b''.join(kept[new] for new in sorted(kept))
+        it.has_names = True
+
+
+def naming(it):
+    it.u(32)
+    it.name()
+
+
+def name_subsection(it):
+    code = it.byte()
+    if code == TYPE_NAMES:
+        it.sized(lambda inner: name_map(inner, Reader.name))
+    elif code == FIELD_NAMES:
+        it.sized(lambda inner: name_map(inner, vec_of(naming)))
+    else:
+        it.name()
+
+
+def custom(it):
+    if it.name() == b'name':
+        while it.at < it.end:
+            name_subsection(it)
+    whole(it)
+
+
+def sections_of(module):
+    """The id of each section, and its size with its content."""
+    if module[:len(HEADER)] != HEADER:
+        raise Malformed
+    reader, place = Reader(module, len(HEADER), len(module)), 0
+    while reader.at < reader.end:
+        code = reader.byte()
+        if code != CUSTOM:
+            if code not in ORDER[place:]:
+                raise Malformed
+            place = ORDER.index(code) + 1
+        begin = reader.at
+        reader.name()
+        yield code, module[begin:reader.at]
+
+
+@functools.cache
+def normalised(section):
+    """The type section in normal form, and the new index of each type."""
+    reader = Reader(section, 0, len(section))
+    text, images = type_section.normalised(reader.name())
+    return unsigned(len(text)) + text, images
+
+
+@functools.cache
+def renamed(code, section, images, keeps_widths):
+    """Another section, with these indices of types."""
+    it = Renamer(section, 0, len(section), images, keeps_widths)
+    it.sized(custom if code == CUSTOM else CONTENTS.get(code, whole))
+    return it.text()
+
+
+def outcome(module, keeps_widths=False):
+    """The status of `wasmnorm`, and the module that it writes, or None."""
+    try:
+        sections = list(sections_of(module))
+        types, images = next((normalised(section) for code, section in sections if code == TYPE), (b'', ()))
+        new = [types if code == TYPE else renamed(code, section, images, keeps_widths) for code, section in sections]
+    except Malformed:
+        return REFUSED, None
+    except NoSuchType:
+        return UNKNOWN, None
+    return DONE, HEADER + b''.join(bytes([code]) + section for (code, _), section in zip(sections, new))
