@@ -111,7 +111,8 @@ fn read_index(space: Space, input: &mut &[u8]) -> Option<Head>
     }
 }
 
-/// Takes this many bytes, but not none. Returns `None` where there are fewer, and then takes them all.
+/// Takes this many bytes, but not none. Returns `None` where there are fewer, and then takes them
+/// all.
 #[tactic(auto, unfolding(crate::specs::Steps::Heads::raw_at))]
 pub fn skip_bytes(length: u8, input: &mut &[u8]) -> Option<()>
     ensures { Finds (λ u. tt) result input.new.now (raw_at length input.old.now) }

@@ -1,5 +1,5 @@
-//! Laws of code and of modules with other indices of types. Each function does nothing; its clause is a theorem,
-//! which a caller gets by calling it.
+//! Laws of code and of modules with other indices of types. Each function does nothing; its clause
+//! is a theorem, which a caller gets by calling it.
 ghost use Rattle.std.specs.Prelude.{◌≡◌, ℕ, List, Some, slice_get};
 ghost use Rattle.walrus_module.specs.declared.kind.Kind.{Kind};
 ghost use Rattle.walrus_module.specs.declared.renaming.Widths.{Widths};

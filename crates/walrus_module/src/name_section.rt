@@ -35,8 +35,8 @@ const SIZE_LIMIT: usize = 1 << 32;
 ///
 /// The first fault from left to right decides.
 ///
-/// - [`RenameError::Malformed`] comes where the content does not begin with a name, and where a name
-///   section is no sequence of subsections or has malformed entries for types.
+/// - [`RenameError::Malformed`] comes where the content does not begin with a name, and where a
+///   name section is no sequence of subsections or has malformed entries for types.
 /// - [`RenameError::UnknownType`] comes at the first type that has no new index, even if what is
 ///   behind it is malformed.
 /// - [`RenameError::TooLong`] comes where a subsection would have 2^32 bytes or more.

@@ -15,8 +15,9 @@ use std::alloc::Global;
 /// The id of the code section.
 const CODE: u8 = 10;
 
-/// Returns the types that a module names outside its type section: their indices from left to right,
-/// each as often as it is named. These are the types that have to stay when unused types are deleted.
+/// Returns the types that a module names outside its type section: their indices from left to
+/// right, each as often as it is named. These are the types that have to stay when unused types are
+/// deleted.
 ///
 /// They are named by imports, functions, tables, tags, globals, element segments, the code and data
 /// segments. Custom sections are not looked at, so that the names which a `name` section gives to
@@ -59,8 +60,8 @@ pub fn named_types(alloc: Global, bytes: &[u8]) -> Result<Vec<u32>, ScanError>
 /// "Sections").
 ///
 /// These sections name types: import (2), function (3), table (4), global (6), element (9), code
-/// (10), data (11) and tag (13). For all other ids the list is empty, whatever the content is. So it
-/// is for the type section (1), whose types are named by each other only.
+/// (10), data (11) and tag (13). For all other ids the list is empty, whatever the content is. So
+/// it is for the type section (1), whose types are named by each other only.
 ///
 /// # Errors
 ///

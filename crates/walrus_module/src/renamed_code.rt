@@ -17,8 +17,8 @@ use crate::renaming::{RenameError, Widths, least_width, rename_whole_body};
 use crate::sized::push_sized;
 use std::alloc::Global;
 
-/// The content of a code section with other indices of types. Returns `None` where its bodies name no
-/// type.
+/// The content of a code section with other indices of types. Returns `None` where its bodies name
+/// no type.
 pub fn rename_code(
     alloc: Global,
     content: &[u8],

@@ -70,8 +70,8 @@ pub fn rename_section(
     Ok(new_or_copy(alloc, new, content)?)
 }
 
-/// The content of a section with this id, with other indices of types. Returns `None` where it names
-/// no type.
+/// The content of a section with this id, with other indices of types. Returns `None` where it
+/// names no type.
 pub fn rename_content(
     alloc: Global,
     id: u8,

@@ -163,8 +163,8 @@ pub fn rename_whole_body(
     rename_whole(alloc, kinds, content, new_indices, widths)
 }
 
-/// All of the bytes as a text of the kinds on the stack, with other indices of types. Returns `None`
-/// where it names no type.
+/// All of the bytes as a text of the kinds on the stack, with other indices of types. Returns
+/// `None` where it names no type.
 pub fn rename_whole(
     alloc: Global,
     kinds: Stack,
@@ -189,8 +189,8 @@ pub fn rename_whole(
     Ok(new)
 }
 
-/// Takes a text of the kinds on the stack from the front. Returns it with other indices of types, or
-/// `None` where it names no type.
+/// Takes a text of the kinds on the stack from the front. Returns it with other indices of types,
+/// or `None` where it names no type.
 fn rename(
     alloc: Global,
     kinds: Stack,

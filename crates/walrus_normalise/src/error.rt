@@ -10,7 +10,8 @@ use walrus_types::ReadError;
 /// Why a module was not normalised.
 #[derive(Clone, Copy, PartialEq, Eq, Debug, Error)]
 pub enum NormaliseModuleError {
-    /// The bytes are no module, or its types could not be read. It is never [`DecodeError::Memory`].
+    /// The bytes are no module, or its types could not be read. It is never
+    /// [`DecodeError::Memory`].
     #[error("{0}")]
     Types(DecodeError),
     /// An entry of the type section names an index at or past the end of its group.

@@ -24,8 +24,8 @@ use walrus_types::normalise;
 /// The normal form is that of [`normalise`]: equal lone types are merged, lone types are sorted as
 /// far as references allow, and recursion groups keep their order. Its text is the shortest one. An
 /// index elsewhere is written as [`NormaliseOptions::widths`] says: in the shortest form, or in as
-/// many bytes as were there. The size of a function body, a section or a subsection is written again
-/// where an index is in it. A module without type section that names no type stays as it is.
+/// many bytes as were there. The size of a function body, a section or a subsection is written
+/// again where an index is in it. A module without type section that names no type stays as it is.
 ///
 /// The names of types and of their fields in the custom section `name` follow the types. Other
 /// custom sections are copied as they are. **A section that describes other bytes of the module

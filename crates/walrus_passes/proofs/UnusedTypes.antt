@@ -1,4 +1,4 @@
--- Which types are marked, and what a table keeps whose other types die.
+-- Which types are marked, and what a table keeps whose other types are deleted.
 pub mod Elements
 pub mod Growing
 pub mod Groups

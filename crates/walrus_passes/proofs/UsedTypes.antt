@@ -46,7 +46,7 @@ seqs_more locals f ids k id s old now new below is there before after =
     ∙ flat_map_more g old (take k ids) id
     ∙ ap (λ (ns : List ℕ). old ++ flat_map g ns) (sym more)
 
--- what stands in the lists of some elements
+-- what is in the lists of some elements
 
 module _ {A B : Type 0} (f : A → List B) where
   in_flat : (xs : List A) (y : B) → Contains (flat_map f xs) y → (x : A) × Contains xs x × Contains (f x) y

@@ -1,7 +1,8 @@
 -- Which types of a table are needed, where some of them, the roots, are wanted for themselves; and
 -- what stays of a table that keeps just some types.
 -- WebAssembly core specification, "Types": a recursive type is defined as a whole, and its types
--- name others. The specification has no table whose types die; that is of this crate's own.
+-- name others. The specification has no table whose types are deleted: that is of this
+-- crate's own.
 use Rattle.std.specs.Prelude.{◌≡◌, ℕ, ◌↔◌, [], List, length, Some, Contains, IsSomeAnd}
 use Rattle.std.specs.List.Sorted.{IsStrictlyIncreasing}
 use Rattle.walrus_ty.specs.Definition.{Names}
@@ -14,13 +15,13 @@ abbrev pub IsNamedBy : Table → ℕ → ℕ → Type 0
 IsNamedBy t user id =
     IsSomeAnd (live_type t.types.slots user) (λ ty. Names (type_definition ty) id)
 
--- both stand in one group
+-- both are in one group
 abbrev pub AreInOneGroup : Table → ℕ → ℕ → Type 0
 AreInOneGroup t a b =
     (k : ℕ) × (u : ℕ) × (v : ℕ) × IsIdAt t.groups k u a × IsIdAt t.groups k v b
 
--- a root is needed, so is a live type that a needed one names, and so is what stands in one group
--- with a needed one
+-- a root is needed, so is a live type that a needed one names, and so is what is in one group with
+-- a needed one
 pub data IsNeeded (t : Table) (roots : List ℕ) : ℕ → Type 0 where
   root : (id : ℕ) → Contains roots id → IsNeeded t roots id
   named :

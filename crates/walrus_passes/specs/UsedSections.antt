@@ -49,7 +49,7 @@ pub record IsUsedNormalForm (section : Section) (roots : List ℕ) (out : List G
   pub table : Table
   pub ids : List ℕ
   pub read : IsReadInto section table ids
-  -- then the types die that the types of the roots do not need
+  -- then the types are deleted that the roots do not need
   pub unused : List ℕ
   pub are_unused : AreUnused table (map (image ids) roots) unused
   pub left : Table

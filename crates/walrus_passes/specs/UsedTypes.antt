@@ -1,5 +1,5 @@
 -- Which types a function uses.
--- WebAssembly core specification, "Functions", and "Instructions", where a type stands behind an
+-- WebAssembly core specification, "Functions", and "Instructions", where a type is behind an
 -- instruction: by its index, as a heap type, or in a value type.
 use Rattle.std.specs.Prelude.{◌≡◌, ℕ, List, [], ◌∷◌, ◌++◌, Option, Some, None, Contains, slice_get, option_map}
 use Rattle.walrus_ty.specs.declared.ty.value.Val.{Val}

@@ -1,5 +1,6 @@
 //! Passes that change which functions a function calls.
-//! WebAssembly core specification, "Control Instructions", and "Reference Instructions", `ref.func`.
+//! WebAssembly core specification, "Control Instructions", and "Reference Instructions",
+//! `ref.func`.
 ghost use Rattle.std.specs.Prelude.{◌≡◌};
 ghost use Rattle.walrus_passes.specs.ChangedCalls.{named_function, snipped, redirected, redirected_id, SnipsCalls, RedirectsCalls};
 
@@ -12,9 +13,10 @@ use walrus_types::FunctionId;
 ///
 /// This is what wasm-snip does with calls of the functions that it snips. Afterwards no instruction
 /// of `func` names one of them
-/// ([`snipped_functions_are_not_named`](crate::laws::snipped_functions_are_not_named)), and a second
-/// run changes nothing ([`changed_calls_stay`](crate::laws::changed_calls_stay)). Nothing else of
-/// `func` changes, and a valid body stays valid: what follows an `unreachable` may take any values.
+/// ([`snipped_functions_are_not_named`](crate::laws::snipped_functions_are_not_named)), and a
+/// second run changes nothing ([`changed_calls_stay`](crate::laws::changed_calls_stay)). Nothing
+/// else of `func` changes, and a valid body stays valid: what follows an `unreachable` may take any
+/// values.
 ///
 /// A `ref.func` traps where the reference is made, even if it is never called. To have such a
 /// reference trap only where it is called, redirect the function to an

@@ -12,8 +12,8 @@ use walrus_ir::{Id, Instr, InstrLocId, InstrSeq};
 /// that are not reached from its entry. Nothing else of the function changes: each instruction
 /// stays at its place with its location, and sequences keep their types and their ends.
 ///
-/// It takes no memory, and a time linear in the size of the function, if a call of the closure takes
-/// constant time. The body need not be nested.
+/// It takes no memory, and a time linear in the size of the function, if a call of the closure
+/// takes constant time. The body need not be nested.
 ///
 /// # Another memory for all loads
 ///

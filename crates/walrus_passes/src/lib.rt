@@ -13,7 +13,7 @@
 //!   The rest of the module still names the old ones.
 //! - [`normalise_used`] returns the normal form of a section without the types that no root uses,
 //!   and that map.
-//! - [`laws`] has the theorems, such as that no type dies which a function uses.
+//! - [`laws`] has the theorems, such as that no type which a function uses is deleted.
 //!
 //! One of two types is used, and the written section has that one alone:
 //!

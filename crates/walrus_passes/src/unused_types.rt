@@ -29,8 +29,8 @@ use walrus_types::{ModuleTypes, TypeId};
 /// deleted and however large they are.
 ///
 /// This is the part of passes such as walrus's `gc` and Binaryen's `remove-unused-types` that
-/// deletes types. Finding the roots is left to the caller, and functions, tables and all other items
-/// stay. The roots that a function brings are what [`used_types`](crate::used_types) lists.
+/// deletes types. Finding the roots is left to the caller, and functions, tables and all other
+/// items stay. The roots that a function brings are what [`used_types`](crate::used_types) lists.
 ///
 /// # Errors
 ///

@@ -118,8 +118,8 @@ explains_each options bytes (Err error.Memory) a b c d e f g = tt
 -- what was read is explained, where the bytes that were read are known
 pub input_explained :
     (options : NormaliseOptions) (known : Option (List ℕ)) (read lent again : List ℕ)
-    (e : NormaliseModuleError) (f : Failure) → IfSome known (λ bytes. read ≡ bytes) → lent ≡ read → again ≡ read
-    → ExplainsError options lent e → (ExplainsError options again e → Explains options again f)
+    (e : NormaliseModuleError) (f : Failure) → IfSome known (λ bytes. read ≡ bytes) → lent ≡ read
+    → again ≡ read → ExplainsError options lent e → (ExplainsError options again e → Explains options again f)
     → IfSome known (λ bytes. Explains options bytes f)
 input_explained options None read lent again e f is first second why says = tt
 input_explained options (Some bytes) read lent again e f is first second why says =

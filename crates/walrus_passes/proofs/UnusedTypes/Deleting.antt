@@ -97,7 +97,7 @@ group_stays (id ∷ ids) g none =
     none id (contains_first id ids) c)) in
     ap (group_without id) (group_stays ids g (λ x c m. none x (contains_rest id ids x c) m)) ∙ one
 
--- what stays of a group stood in it, and isn't one of the ids
+-- what stays of a group was in it, and isn't one of the ids
 less_keeps :
     (ids : List ℕ) (g : RecGroup) (x : ℕ) → Contains (group_less ids g).types x →
     Contains g.types x × (Contains ids x → ⊥)

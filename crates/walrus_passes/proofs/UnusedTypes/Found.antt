@@ -132,7 +132,7 @@ module _ (old new : TypesById) (id : ℕ) (loses : Loses old new id) where
       still true e was = absurd (differ (some_inj (sym was ∙ known_at old id q (sym e))))
       still false e was = was
 
--- what is found after deletions is what was found, and did not die
+-- what is found after deletions is what was found, and was not deleted
 pub found_left :
     (old new : Table) (ids : List ℕ) → DeletesAll old ids new → (q : ModuleType) (x : ℕ) →
     found_id new.types q ≡ Some x → (found_id old.types q ≡ Some x) × (Contains ids x → ⊥)

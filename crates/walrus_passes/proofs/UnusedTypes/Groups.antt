@@ -1,4 +1,4 @@
--- Which ids stand in one group.
+-- Which ids are in one group.
 use Rattle.std.proofs.Common.{◌≡◌, ℕ, suc, Bool, true, false, cond, nat_eq, List, [], ◌∷◌, refl, sym, subst, arith, Some, None, Option, Contains}
 use Rattle.std.specs.List.{slice_get, list_any}
 use Rattle.walrus_types.specs.declared.table.rec_group.RecGroup.{RecGroup}
@@ -10,7 +10,7 @@ use Rattle.walrus_passes.proofs.UnusedTypes.Elements.{contains_from_get, get_fro
 use Rattle.walrus_passes.specs.NeededTypes.{AreInOneGroup}
 use Rattle.walrus_passes.specs.Steps.Marking.{members_of}
 
--- where the group with an id stands
+-- where the group with an id is
 pub group_stands :
     (gs : List RecGroup) (id : ℕ) (g : RecGroup) → group_with gs id ≡ Some g →
     (k : ℕ) × (u : ℕ) × (rec_group_at gs k ≡ g) × IsIdAt gs k u id
@@ -27,7 +27,7 @@ group_stands (first ∷ gs) id g h = by_test (list_any (nat_eq id) first.types) 
 abbrev pub members : Table → ℕ → List ℕ
 members t id = members_of (group_with t.groups id)
 
--- the members of an id's group stand in one group with it
+-- the members of an id's group are in one group with it
 pub mates_from : (t : Table) (id x : ℕ) → Contains (members t id) x → AreInOneGroup t id x
 mates_from t id x c = by_group (group_with t.groups id) refl c
   where

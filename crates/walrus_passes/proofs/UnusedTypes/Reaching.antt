@@ -16,7 +16,7 @@ use Rattle.walrus_passes.proofs.UnusedTypes.Groups.{members, mates_from, mates_t
 abbrev pub IsWhole : Table → State → Type 0
 IsWhole t s = (a b : ℕ) → AreInOneGroup t a b → IsMarked s a → IsMarked s b
 
--- some of these ids stands in one group with it
+-- some of these ids is in one group with it
 abbrev pub IsMateOf : Table → List ℕ → ℕ → Type 0
 IsMateOf t ids x = (id : ℕ) × Contains ids id × AreInOneGroup t id x
 

@@ -1,4 +1,4 @@
--- What is left of a table that a section was read into, once the types have died that roots do not
+-- What is left of a table that a section was read into, once the types are deleted that roots do not
 -- need: its groups, and that it can be written.
 use Rattle.std.proofs.Common.{◌≡◌, ◌↔◌, ℕ, zero, suc, ◌<◌, ◌≤◌, ◌^◌, ◌⊎◌, inl, inr, refl, sym, ap, subst, ◌∙◌, arith, Some, None, Bool, false, true, cond, not, List, [], ◌∷◌, Option, IsSome, is_some, length}
 use Rattle.std.proofs.Math.Path.{fun_ext}
@@ -93,7 +93,7 @@ module _ (s : Section) (t left : Table) (ids roots : List ℕ) (has : IsReadInto
       differ : false ≡ true → ⊥
       differ h = cc
 
-  -- what stands in a group that is left stood there, and is needed
+  -- what is in a group that is left was there, and is needed
   pub left_needed : (k u id : ℕ) → IsIdAt left.groups k u id → IsNeeded t roots id × IsIdAt t.groups k u id
   left_needed k u id m = elim (group_left k) [
     | inl (same, all) ↦ (let there = subst (λ (g : RecGroup). slice_get g.types u ≡ Some id) same m in

@@ -144,7 +144,7 @@ module _ (s : Section) (t : Table) (ids : List ℕ) (has : IsReadInto s t ids) w
   pub inner : (g u v i j : ℕ) → IsIdAt t.groups g u i → IsIdAt t.groups g v j → i + v ≡ j + u
   inner g u v i j m n = lies.inner g u i v j (to_read g u i m) (to_read g v j n)
 
-  -- an id stands in one group
+  -- an id is in one group
   pub one_home : (g u h v i : ℕ) → IsIdAt t.groups g u i → IsIdAt t.groups h v i → g ≡ h
   one_home g u h v i m n = elim (cases_lt g h) [
     | inl less ↦ absurd (let z = lies.rise g u i h v i less (to_read g u i m) (to_read h v i n) in
@@ -156,7 +156,7 @@ module _ (s : Section) (t : Table) (ids : List ℕ) (has : IsReadInto s t ids) w
     ])
   ]
 
-  -- ids of one group are the same, or stand in one `Rec`
+  -- ids of one group are the same, or in one `Rec`
   pub mates : (g u v a b : ℕ) → IsIdAt t.groups g u a → IsIdAt t.groups g v b →
       (a ≡ b) ⊎ AreInOneRec S a b
   mates g u v a b m n = elim (kind_of g u a m).2 [
@@ -209,7 +209,7 @@ module _ (s : Section) (t : Table) (ids : List ℕ) (has : IsReadInto s t ids) w
     ])
   ]
 
-  -- what stands in one `Rec` stands in one group
+  -- what is in one `Rec` is in one group
   pub one_group : (i j k u v : ℕ) → S.rec_position i ≡ Some (k, u) → S.rec_position j ≡ Some (k, v) →
       (g : ℕ) × IsIdAt t.groups g u i × IsIdAt t.groups g v j
   one_group i j k u v at_i at_j =

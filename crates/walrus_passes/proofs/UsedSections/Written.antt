@@ -1,4 +1,4 @@
--- What is written of a table that a section was read into, once the types have died that the roots
+-- What is written of a table that a section was read into, once the types are deleted that the roots
 -- do not need.
 use Rattle.std.proofs.Common.{◌≡◌, ◌↔◌, ℕ, ◌<◌, inl, inr, refl, sym, ap, subst, ◌∙◌, arith, Some, None, List, [], ◌∷◌, Option, IsSome, map, length, All, get_or}
 use Rattle.std.specs.Option.{option_and_then}
@@ -355,7 +355,7 @@ module _ (s : Section) (t left : Table) (ids roots : List ℕ) (has : IsReadInto
       subst (IsNeeded t needed_ids) (live_own s t ids has id l)
       (needed s t ids roots has known id ((used id h).0 (all id h)))
 
-  -- where no type died, the normal form of the section is written
+  -- where no type is deleted, the normal form of the section is written
   pub whole :
       (unused : List ℕ) → AreUnused t needed_ids unused → DeletesAll t unused left → KeepsAll s new →
       IsNormalForm s (section_of out) (map (λ n. unwrap_or n 0) new)

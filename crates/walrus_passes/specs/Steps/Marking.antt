@@ -26,7 +26,7 @@ IsMarked s id = is_marked s id ≡ true
 abbrev pub IsUnmarked : State → Type 0
 IsUnmarked s = (s.work ≡ []) × ((id : ℕ) → is_marked s id ≡ false)
 
--- the state in which this work stands before the rest
+-- the state with this work before the rest
 abbrev pub with_work : ℕ → State → State
 with_work id s = record s { work = id ∷ s.work }
 
