@@ -152,6 +152,44 @@ fn a_closure_does_not_replace_its_builder() {
 }
 
 #[test]
+#[should_panic(expected = "required: the closure does not replace its builder")]
+fn a_conversion_does_not_replace_its_builder() {
+    let other = Box::leak(Box::new(builder()));
+    let mut other = Some(other.func_body());
+    let (mut types, _) = table();
+    let ty = types.add(&[ValType::I32], &[]);
+    let _ = adapter_between(
+        &mut types,
+        &mut ModuleLocals::new(),
+        Id::from_index(0),
+        ty,
+        ty,
+        |body, _, _| {
+            *body = other.take().ok_or(BuildError::Memory)?;
+            Ok(())
+        },
+        |_, _, _| Ok(()),
+    );
+}
+
+#[test]
+#[should_panic(expected = "required: `func_ty` is a live function type")]
+fn an_adapter_calls_a_function() {
+    let (mut types, ty) = table();
+    let fields = Vec::new();
+    let func_ty = types.add_struct(fields);
+    let _ = adapter_between(
+        &mut types,
+        &mut ModuleLocals::new(),
+        Id::from_index(0),
+        func_ty,
+        ty,
+        |_, _, _| Ok(()),
+        |_, _, _| Ok(()),
+    );
+}
+
+#[test]
 #[should_panic(expected = "required: the body is nested from `start`")]
 fn an_endless_body_is_not_walked() {
     let (func, start) = endless();

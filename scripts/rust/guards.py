@@ -37,16 +37,23 @@ GUARDS = [
     (r'All \(IsLive types\.[.\w]*\) roots\.now', Guard('each of `roots` is live', 'types.contains_all(roots)')),
     (r'IsDistinct nat_eq ids\.now', Guard('no id comes twice in `ids`', DISTINCT)),
     (r'ClonesAreEqual .*', Guard('a clone of the value is equal to it')),
-    (r'(F\.pre make|F\.IsAlwaysCallable|FnOnceTakesAt|TakesNew) .*|AfterFilling .*TakesNew .*',
+    (r'(F\.pre make|F\.IsAlwaysCallable|FnOnceTakesAt|TakesNew|TakesEach) .*|AfterFilling .*TakesNew .*',
      Guard('the closure takes what it is given', reason=CLOSURE)),
     (r'IsSome \(signature_at self\.now id\)',
      Guard('`id` is a live function type', 'self.contains(id) && self.get(id).kind().is_function()')),
     (r'IsSome \(signature_at types\.old ty\)',
      Guard('`ty` is a live function type', 'types.contains(ty) && types.get(ty).kind().is_function()')),
+    (r'IsSome \(signature_at types\.old func_ty\)',
+     Guard('`func_ty` is a live function type',
+           'types.contains(func_ty) && types.get(func_ty).kind().is_function()')),
     (r'\(index_space \(section_of groups\.now\)\)\.count < 2 \^ 32',
      Guard('there are fewer than 2^32 entries',
            'groups.iter().map(|group| entry_count(group) as u64).sum::<u64>() < 1 << 32')),
     (r'place ≤ length groups\.now', Guard('`place` is not past the end', 'place <= groups.len()')),
+    # Modules.
+    (r'IsWrittenAgain bytes\.now new\.now',
+     Guard('`new` is what `rename_module` made of `bytes`',
+           reason='nothing to test: only the caller knows with which types and indices it was made')),
     # Types and indices.
     (r'IsSome \(signature_of self\.now\.kind\)', Guard('it is a function type', 'self.kind().is_function()')),
     (r'IsSome \(signature_of self\.now\)', Guard('it is a function type', 'self.is_function()')),
@@ -76,7 +83,7 @@ GUARDS = [
     (r'IsKnown self\.(old|now)', Guard('the sequence is known', 'self.builder.contains_seq(self.id)')),
     (r'position ≤ length \(instrs_of .*\)',
      Guard('`position` is not past the end', 'position <= self.instrs().len()')),
-    (r'KeepsFunction .*|AfterFilling .*KeepsFunction .*', Guard('the closure does not replace its builder')),
+    (r'(KeepsFunction|KeepsBuilder) .*|AfterFilling .*KeepsFunction .*', Guard('the closure does not replace its builder')),
     (r'IsNested func\.old\.body start', Guard(NESTED, statements=CHECK)),
     (r'IsNested func\.now\.body start', Guard(NESTED, statements=CHECK)),
 ]
@@ -89,6 +96,7 @@ BROKEN = {
     'a clone of the value is equal to it': 'a clone of the value is not equal to it',
     '`id` is a live function type': '`id` is not a live function type',
     '`ty` is a live function type': '`ty` is not a live function type',
+    '`func_ty` is a live function type': '`func_ty` is not a live function type',
     'there are fewer than 2^32 entries': 'there are 2^32 entries or more',
     '`place` is not past the end': '`place` is past the end',
     'it is a function type': 'it is no function type',
@@ -125,6 +133,15 @@ INSERTIONS = [
      r'\1        let function: *const _ = &*self.builder;\n'),
     ('src/function_builder/nested.rt', r'( +make\(&mut inner\)\?;\n)', r'''\1        assert!(
             std::ptr::eq(function, &*inner.builder),
+            "required: the closure does not replace its builder"
+        );
+'''),
+    ('src/converting_adapters.rt', r'( +convert\(body, i, \*local\)\?;\n)',
+     r'''        let (function, id): (*const _, _) = (body.builder(), body.id());
+\1        assert!(
+            std::ptr::eq(function, body.builder())
+                && body.id() == id
+                && body.builder().contains_seq(id),
             "required: the closure does not replace its builder"
         );
 '''),

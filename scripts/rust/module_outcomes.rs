@@ -1,22 +1,38 @@
 //! Prints what becomes of modules. Each line of the standard input is a module in hexadecimal, behind
-//! `keep ` if widths are kept. Each line of the output is the exit status that `wasmnorm` has for it,
-//! and the new module, or `panic`.
+//! `keep ` if widths are kept, and behind `prune ` if unused types are deleted. Each line of the output
+//! is the exit status that `wasmnorm` has for it, and the new module, or `panic`. Behind it is the first
+//! fault of the module, if it has one.
 use ruffdresser::{
-    Descriptions, HashKeys, NormaliseModuleError, NormaliseOptions, Widths, normalise_module,
+    Descriptions, Fault, FaultKind, HashKeys, NormaliseModuleError, NormaliseOptions, UnusedTypes,
+    Widths, find_module_fault, normalise_module,
 };
 use std::error::Error;
 use std::io::{self, BufWriter, Write};
 use std::panic::catch_unwind;
 
+/// How many types the modules have when their first fault is asked for. It is the same for all, and
+/// some of them name types from it on.
+const TYPES: u32 = 2;
+
 fn main() -> Result<(), Box<dyn Error>> {
     let mut out = BufWriter::new(io::stdout().lock());
     for line in io::stdin().lines() {
         let line = line?;
-        let (module, widths) = match line.strip_prefix("keep ") {
-            Some(module) => (module, Widths::Kept),
+        let (line, widths) = match line.strip_prefix("keep ") {
+            Some(rest) => (rest, Widths::Kept),
             None => (line.as_str(), Widths::Shortest),
         };
-        writeln!(out, "{}", outcome(&bytes(module)?, widths))?;
+        let (module, unused) = match line.strip_prefix("prune ") {
+            Some(module) => (module, UnusedTypes::Deleted),
+            None => (line, UnusedTypes::Kept),
+        };
+        let options = NormaliseOptions {
+            widths,
+            descriptions: Descriptions::Kept,
+            unused,
+        };
+        let module = bytes(module)?;
+        writeln!(out, "{}{}", outcome(&module, options), first_fault(&module))?;
     }
     Ok(out.flush()?)
 }
@@ -28,9 +44,7 @@ fn bytes(text: &str) -> Result<Vec<u8>, Box<dyn Error>> {
         .collect()
 }
 
-fn outcome(module: &[u8], widths: Widths) -> String {
-    let descriptions = Descriptions::Kept;
-    let options = NormaliseOptions { widths, descriptions };
+fn outcome(module: &[u8], options: NormaliseOptions) -> String {
     match catch_unwind(|| normalise_module(HashKeys::fixed(), module, options)) {
         Ok(Ok(new)) => format!("0 {}", hexadecimal(&new)),
         Ok(Err(error)) => status(error).to_string(),
@@ -49,5 +63,20 @@ fn status(error: NormaliseModuleError) -> u8 {
         | NormaliseModuleError::UnknownType { .. } => 2,
         NormaliseModuleError::Memory => 3,
         _ => 1,
+    }
+}
+
+fn first_fault(module: &[u8]) -> String {
+    match catch_unwind(|| find_module_fault(module, TYPES)) {
+        Ok(Some(fault)) => format!(", {}", message(fault)),
+        Ok(None) => String::new(),
+        Err(_) => String::from(", panic"),
+    }
+}
+
+fn message(fault: Fault) -> String {
+    match fault.kind {
+        FaultKind::Malformed => format!("malformed at {}", fault.offset),
+        FaultKind::UnknownType { index, .. } => format!("no type {index} at {}", fault.offset),
     }
 }

@@ -116,17 +116,19 @@ pub use Rattle.walrus_nesting.specs.declared.nesting.Nesting as NestingType
 pub use Rattle.walrus_nesting.specs.declared.walk_error.WalkError
 pub use Rattle.walrus_traversals.specs.declared.id_visitor.AnyId
 -- Passes.
-pub use Rattle.walrus_passes.specs.NeededTypes
-pub use Rattle.walrus_passes.specs.AllIndices
+pub use Rattle.walrus_unused.specs.NeededTypes
+pub use Rattle.walrus_unused.specs.AllIndices
 pub use Rattle.walrus_passes.specs.UsedTypes
-pub use Rattle.walrus_passes.specs.IndexMaps
-pub use Rattle.walrus_passes.specs.UsedSections
+pub use Rattle.walrus_unused.specs.IndexMaps
+pub use Rattle.walrus_unused.specs.UsedSections
 pub use Rattle.walrus_passes.specs.SnippedFunctions
 pub use Rattle.walrus_passes.specs.UnreachableFunctions
 pub use Rattle.walrus_passes.specs.MappedInstrs
 pub use Rattle.walrus_passes.specs.ChangedCalls
 pub use Rattle.walrus_passes.specs.Adapters
-pub use Rattle.walrus_passes.specs.declared.error.NormaliseUsedError
+pub use Rattle.walrus_passes.specs.Conversions
+pub use Rattle.walrus_passes.specs.ConvertingAdapters
+pub use Rattle.walrus_unused.specs.declared.error.NormaliseUsedError
 -- Binary.
 pub use Rattle.walrus_binary.specs.Leb128
 pub use Rattle.walrus_binary.specs.Grammar
@@ -148,7 +150,16 @@ pub use Rattle.walrus_module.specs.RenamedSections
 pub use Rattle.walrus_module.specs.NameSections
 pub use Rattle.walrus_module.specs.RenamedModules
 pub use Rattle.walrus_module.specs.Customs
+pub use Rattle.walrus_module.specs.Composition as IndicesInTurn
+pub use Rattle.walrus_module.specs.Imports
+pub use Rattle.walrus_snipping.specs.Functions as ModuleFunctions
+pub use Rattle.walrus_snipping.specs.SnippedModules
+pub use Rattle.walrus_module.specs.RenamedNames
+pub use Rattle.walrus_module.specs.Lengths
+pub use Rattle.walrus_module.specs.Outdated
+pub use Rattle.walrus_snipping.specs.Exports as ModuleExports
 pub use Rattle.walrus_normalise.specs.NormalModules
+pub use Rattle.walrus_normalise.specs.Moved as MovedModules
 pub use Rattle.walrus_binary.specs.declared.error.Expected
 pub use Rattle.walrus_binary.specs.declared.error.NotHeld
 pub use Rattle.walrus_binary.specs.declared.error.DecodeError
@@ -157,6 +168,8 @@ pub use Rattle.walrus_binary.specs.declared.error.ReplaceError
 pub use Rattle.walrus_module.specs.declared.scan.ScanError
 pub use Rattle.walrus_module.specs.declared.renaming.RenameError
 pub use Rattle.walrus_module.specs.declared.renaming.Widths
+pub use Rattle.walrus_snipping.specs.declared.error.SnipError
+pub use Rattle.walrus_module.specs.declared.description_kinds.DescriptionKind
 pub use Rattle.walrus_normalise.specs.declared.error.NormaliseModuleError
 -- Text.
 pub use Rattle.walrus_text.specs.Words

@@ -8,7 +8,7 @@
 //! - Walks: [`dfs_in_order`], [`dfs_pre_order_mut`], [`check_nesting`].
 //! - Passes: [`delete_unused_types`], [`normalise_used`], [`snip`], [`snip_calls`], [`adapter`].
 //! - Binary: [`decode_types`], [`encode_types`], [`sections`], [`rename_module`],
-//!   [`normalise_module`].
+//!   [`normalise_module`], [`snip_functions`].
 //! - Text: [`read_section`], [`write_section`].
 //!
 //! The module `laws` of each library has its theorems. It is here under a name of its own, such as
@@ -57,8 +57,8 @@ pub use walrus_ty::{
     NoIndex, RefAt, StorageAt, ToRecordError, UnknownIndex, ValAt, record_laws,
 };
 pub use walrus_types::{
-    EmitError, SectionReader, entries_before, first_difference, normalise, parse_types,
-    same_up_to_moves,
+    EmitError, SectionReader, entries_before, first_difference, normalise, normalise_owned,
+    parse_types, same_up_to_moves,
 };
 
 // Instructions, with their operators, locals and sequences; constant expressions.
@@ -202,11 +202,13 @@ pub use walrus_traversals_mut::{
     RenameTypes, VisitorMut, dfs_pre_order_mut, laws as traversals_mut_laws,
 };
 
-// Passes over types and functions.
+// Types that nothing uses, and passes over functions.
 pub use walrus_passes::{
-    NormaliseUsedError, adapter, delete_unused_types, laws as passes_laws, map_instrs, new_indices,
-    normalise_used, redirect_calls, replace_with, snip, snip_calls, unreachable_function,
-    used_types,
+    adapter, adapter_between, laws as passes_laws, map_instrs, redirect_calls, replace_with, snip,
+    snip_calls, unreachable_function, used_types,
+};
+pub use walrus_unused::{
+    NormaliseUsedError, delete_unused_types, laws as unused_laws, new_indices, normalise_used,
 };
 
 // Binary: the sections of a module, its type section, and modules in normal form.
@@ -216,13 +218,17 @@ pub use walrus_binary::{
     section_around, type_section,
 };
 pub use walrus_module::{
-    RenameError, ScanError, Section, SectionIter, Widths, body_types, expression_types,
-    find_description, laws as module_laws, named_types, rename_body, rename_custom_section,
-    rename_expression, rename_module, rename_section, section_types, sections, strip_descriptions,
+    DescriptionKind, Fault, FaultKind, RenameError, ScanError, Section, SectionIter, Widths,
+    body_types, description_kind, expression_types, find_content_fault, find_description,
+    find_module_fault, find_outdated, laws as module_laws, named_types, rename_body,
+    rename_custom_section, rename_expression, rename_module, rename_section, section_types,
+    sections, skip_import, strip_descriptions,
 };
 pub use walrus_normalise::{
-    Descriptions, NormaliseModuleError, NormaliseOptions, normalise_module,
+    Descriptions, NormaliseModuleError, NormaliseOptions, UnusedTypes, laws as normal_module_laws,
+    normalise_module,
 };
+pub use walrus_snipping::{SnipError, exported_functions, laws as snipping_laws, snip_functions};
 
 // Text: type sections as text.
 pub use walrus_text::{

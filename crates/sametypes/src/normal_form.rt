@@ -11,7 +11,7 @@ use std::alloc::Global;
 use std::io::Read;
 use walrus_binary::module_types;
 use walrus_text::read_section;
-use walrus_types::{GroupAt, HashKeys, entries_before, first_difference, normalise};
+use walrus_types::{GroupAt, HashKeys, entries_before, first_difference, normalise_owned};
 
 /// The four bytes with which each module begins, and no text of a section.
 const MAGIC: [u8; 4] = [0x00, 0x61, 0x73, 0x6D];
@@ -26,10 +26,18 @@ pub fn read_normal_form<R: Read>(
         (λ bytes. HasNormalForm bytes form.items)) }
     ensures well_named { IfOk result (λ form. IsWellNamed (section_of form.items)) }
 {
-    let bytes = read_bytes(alloc, reader)?;
-    let section = section_in(alloc, bytes.as_slice())?;
-    let (form, _) = normalise(alloc, keys, section.as_slice())?;
+    let section = read_groups(alloc, reader)?;
+    let (form, _) = normalise_owned(alloc, keys, section)?;
     Ok(form)
+}
+
+/// The section that a reader gives up to its end. Its bytes are not kept.
+fn read_groups<R: Read>(alloc: Global, reader: &mut R) -> Result<Vec<GroupAt>, InputError>
+    ensures { IfOk result (λ groups. IfSome (R.remaining reader.old)
+        (λ bytes. HasSection bytes groups.items)) }
+{
+    let bytes = read_bytes(alloc, reader)?;
+    section_in(alloc, bytes.as_slice())
 }
 
 /// The section of the bytes, as a module or as a text.

@@ -20,7 +20,7 @@ use std::io::{self, BufWriter, Read, Write};
 use std::process::ExitCode;
 use texts::{HELP, USAGE};
 use walrus_text::{read_section, write_output, write_section};
-use walrus_types::{GroupAt, HashKeys, ReadError, normalise};
+use walrus_types::{GroupAt, HashKeys, ReadError, normalise_owned};
 
 /// Reads a section from `reader`, and writes its normal form to `out`. With `has_map` a last line
 /// has the new index of each entry. Without it the output is the text of a section, which this
@@ -81,7 +81,7 @@ fn normalise_text<R: Read, W: Write>(
         Keeps (W.contents out.old) (W.contents out.new)) }
 {
     let section = read_section(alloc, reader)?;
-    let (groups, map) = normalise(alloc, keys, section.as_slice())?;
+    let (groups, map) = normalise_owned(alloc, keys, section)?;
     match write_and_flush(out, groups.as_slice(), map.as_slice(), has_map) {
         Ok(()) => Ok(()),
         Err(error) => Err(Failure::Output(error)),

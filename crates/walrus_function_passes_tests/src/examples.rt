@@ -5,12 +5,12 @@ use crate::assertions::assert_equal;
 use crate::bodies::{SNIPPED, function, text_of};
 use std::alloc::Global;
 use walrus_functions::{BuildError, FunctionBuilder, LocalFunctions};
-use walrus_ir::{Id, Instr, InstrSeqType, LoadKind, MemArg, ModuleLocals};
+use walrus_ir::{Id, Instr, InstrSeqType, LoadKind, MemArg, ModuleLocals, TableGet};
 use walrus_passes::{
-    adapter, delete_unused_types, map_instrs, redirect_calls, replace_with, snip, snip_calls,
-    unreachable_function, used_types,
+    adapter, adapter_between, delete_unused_types, map_instrs, redirect_calls, replace_with, snip,
+    snip_calls, unreachable_function, used_types,
 };
-use walrus_types::{ModuleTypes, ValType};
+use walrus_types::{ModuleTypes, RefType, ValType};
 
 #[test]
 fn a_function_that_must_not_be_run_is_snipped(rt: HostRuntime) {
@@ -77,6 +77,46 @@ fn a_wrapper_of_an_import_calls_it(rt: HostRuntime) {
             .expect(&rt, "memory")
             .as_str(),
         "Call(Call { func: Id(9) });",
+    );
+}
+
+#[test]
+fn an_import_of_references_is_called_with_handles(rt: HostRuntime) {
+    let alloc = rt.alloc();
+    let mut types = ModuleTypes::new(alloc);
+    let mut locals = ModuleLocals::new(alloc);
+    let import = Id::from_index(9);
+    let add_handle = Id::from_index(3);
+    let table = Id::from_index(5);
+    let references = [ValType::Ref(RefType::EXTERNREF)];
+    let import_ty = types.add(&references, &references).expect(&rt, "memory");
+    let ty = types
+        .add(&[ValType::I32], &[ValType::I32])
+        .expect(&rt, "memory");
+    assert!(rt; types.contains(import_ty) && types.get(import_ty).is_function());
+    let func = adapter_between(
+        alloc,
+        &mut types,
+        &mut locals,
+        import,
+        import_ty,
+        ty,
+        |body, _, handle| {
+            body.local_get(handle)?;
+            body.instr(TableGet { table })
+        },
+        |body, _, reference| {
+            body.local_get(reference)?;
+            body.call(add_handle)
+        },
+    )
+    .expect(&rt, "memory");
+    assert_equal(
+        &rt,
+        text_of(alloc, &func, 0).expect(&rt, "memory").as_str(),
+        "LocalGet(LocalGet { local: Id(0) });TableGet(TableGet { table: Id(5) });\
+        Call(Call { func: Id(9) });LocalSet(LocalSet { local: Id(1) });\
+        LocalGet(LocalGet { local: Id(1) });Call(Call { func: Id(3) });",
     );
 }
 

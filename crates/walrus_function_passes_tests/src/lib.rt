@@ -11,9 +11,12 @@ mod bodies;
 #[cfg(test)]
 mod calls;
 #[cfg(test)]
+mod conversions;
+#[cfg(test)]
 mod examples;
 #[cfg(test)]
 mod refusals;
+#[cfg(test)]
 #[cfg(test)]
 mod unreachable;
 #[cfg(test)]

@@ -3,6 +3,7 @@
 use crate::adapters::adapt;
 use crate::assertions::assert_equal;
 use crate::bodies::{BUILT, SNIPPED, are as are_locals, function, is, snip_first, text_of};
+use crate::conversions::{adapt_handles, handle_types};
 use crate::unreachable::unreachable;
 use crate::used_types::{hold_just, locals, nested_function};
 use std::alloc::{AllocError, Global};
@@ -159,6 +160,71 @@ fn a_refused_adapter_is_made_again(rt: HostRuntime) {
         text.as_str(),
         if has_first { WITH_FIRST } else { WITH_NEXT },
     );
+}
+
+// A table with the types of a function that takes and returns a reference, and of one that does so
+// with a handle. It is made again after a refusal.
+fn handle_types_again(alloc: Global) -> Result<ModuleTypes, AllocError> {
+    match handle_types(alloc) {
+        Ok(types) => Ok(types),
+        Err(_) => handle_types(alloc),
+    }
+}
+
+// The adapter that converts handles. After a refusal the table has both types and up to one more,
+// there are no new locals, the parameter, or also the result, and the call is made again.
+fn adapt_handles_again(
+    rt: &impl Abort,
+    alloc: Global,
+    types: &mut ModuleTypes,
+    locals: &mut ModuleLocals,
+) -> Result<LocalFunction, BuildError> {
+    let refused = match adapt_handles(rt, alloc, types, locals) {
+        Ok(func) => return Ok(func),
+        Err(refused) => refused,
+    };
+    assert_equal(rt, refused, BuildError::Memory);
+    assert!(rt; types.contains(Id::from_index(1)));
+    assert!(rt; !types.contains(Id::from_index(3)));
+    assert!(rt; !locals.contains(Id::from_index(2)));
+    adapt_handles(rt, alloc, types, locals)
+}
+
+// What the adapter does with its locals, of which this is the first.
+fn text_with_handles(first: usize) -> &'static str {
+    match first {
+        0 => HANDLES_WITH_0,
+        1 => HANDLES_WITH_1,
+        _ => HANDLES_WITH_2,
+    }
+}
+
+const HANDLES_WITH_0: &str = "LocalGet(LocalGet { local: Id(0) });\
+    TableGet(TableGet { table: Id(5) });Call(Call { func: Id(9) });\
+    LocalSet(LocalSet { local: Id(1) });LocalGet(LocalGet { local: Id(1) });\
+    Call(Call { func: Id(3) });";
+
+const HANDLES_WITH_1: &str = "LocalGet(LocalGet { local: Id(1) });\
+    TableGet(TableGet { table: Id(5) });Call(Call { func: Id(9) });\
+    LocalSet(LocalSet { local: Id(2) });LocalGet(LocalGet { local: Id(2) });\
+    Call(Call { func: Id(3) });";
+
+const HANDLES_WITH_2: &str = "LocalGet(LocalGet { local: Id(2) });\
+    TableGet(TableGet { table: Id(5) });Call(Call { func: Id(9) });\
+    LocalSet(LocalSet { local: Id(3) });LocalGet(LocalGet { local: Id(3) });\
+    Call(Call { func: Id(3) });";
+
+#[test]
+fn a_refused_adapter_between_is_made_again(rt: HostRuntime) {
+    let mut types = handle_types_again(rt.alloc()).expect(&rt, "memory");
+    let mut locals = ModuleLocals::new(rt.alloc());
+    let func = adapt_handles_again(&rt, rt.alloc(), &mut types, &mut locals).expect(&rt, "memory");
+    assert_equal(&rt, func.ty().index(), 1);
+    let text = text_again(rt.alloc(), &func).expect(&rt, "memory");
+    let Some(first) = func.args.as_slice().first() else {
+        panic!(rt; "no parameter");
+    };
+    assert_equal(&rt, text.as_str(), text_with_handles(first.index()));
 }
 
 // The function of nested blocks. It is made again after a refusal.

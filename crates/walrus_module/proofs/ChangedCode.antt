@@ -14,7 +14,7 @@ use Rattle.walrus_module.specs.NamedTypes.{IsSizedBody, sized, IsCode}
 use Rattle.walrus_module.specs.RenamedSections.{RenamesBody, RenamesCode, FirstBodyIn}
 use Rattle.walrus_module.specs.RenamedSections.RenamesCode.{counted}
 use Rattle.walrus_module.specs.RenamedSections.FirstBodyIn.{counted as counted_first}
-use Rattle.walrus_module.specs.Renaming.{least_width, IsTextOf}
+use Rattle.walrus_module.specs.Renaming.{NewIndices, least_width, IsTextOf}
 use Rattle.walrus_module.specs.Steps.Changes.{StaysInFront, ChangesInFront, IsSized}
 use Rattle.walrus_module.specs.Steps.Contents.{BeginsWithBodies}
 use Rattle.walrus_module.specs.Steps.Renaming.{Appends}
@@ -118,7 +118,7 @@ changed_some w R bytes rest new c =
 
 -- ---- several bodies
 
-is_sized_body : (new_indices : List ℕ) (w : Widths) (text new names : List ℕ) →
+is_sized_body : (new_indices : NewIndices) (w : Widths) (text new names : List ℕ) →
     RenamesBody new_indices w text new names → IsSizedBody text names
 is_sized_body new_indices w _ _ _ (stays size content h r) = sized size content [] h r.naming
 is_sized_body new_indices w _ _ _ (resized size content new_size new names h r some t) =
@@ -130,7 +130,7 @@ record AreBodies (count : ℕ) (text names : List ℕ) : Type 0 where
   many : length bodies ≡ count
   named : names ≡ concat bodies
 
-are_bodies : (new_indices : List ℕ) (w : Widths) (count : ℕ) (text new names : List ℕ) →
+are_bodies : (new_indices : NewIndices) (w : Widths) (count : ℕ) (text new names : List ℕ) →
     ChangeAll (RenamesBody new_indices w) count text new names → AreBodies count text names
 are_bodies new_indices w _ _ _ _ none =
     record { bodies = []; are = no_items; many = refl; named = refl }
@@ -143,14 +143,14 @@ are_bodies new_indices w _ _ _ _ (next count text others new new_others names mo
       named = ap (λ (u : List ℕ). names ++ u) a.named;
     }
 
-pub begins_with : (new_indices : List ℕ) (w : Widths) (count : ℕ) (bytes text rest new names : List ℕ) →
+pub begins_with : (new_indices : NewIndices) (w : Widths) (count : ℕ) (bytes text rest new names : List ℕ) →
     bytes ≡ text ++ rest → ChangeAll (RenamesBody new_indices w) count text new names →
     BeginsWithBodies count bytes rest names
 begins_with new_indices w count bytes text rest new names parts h =
     let a = are_bodies new_indices w count text new names h in
     record { text = text; bodies = a.bodies; parts = parts; are = a.are; many = a.many; named = a.named }
 
-pub written_bodies : (new_indices : List ℕ) (w : Widths) (count : ℕ) (bytes rest unwritten out : List ℕ)
+pub written_bodies : (new_indices : NewIndices) (w : Widths) (count : ℕ) (bytes rest unwritten out : List ℕ)
     (s : Written (RenamesBody new_indices w) count bytes rest unwritten out) →
     BeginsWithBodies count bytes rest s.names
 written_bodies new_indices w count bytes rest unwritten out s =
@@ -159,7 +159,8 @@ written_bodies new_indices w count bytes rest unwritten out s =
 
 -- ---- the whole section
 
-pub code_stays : (new_indices : List ℕ) (w : Widths) (content : List ℕ) (count : ℕ) (after rest : List ℕ) →
+pub code_stays : (new_indices : NewIndices) (w : Widths) (content : List ℕ) (count : ℕ)
+    (after rest : List ℕ) →
     u32_at content ≡ Ok (count, after) → rest ≡ [] →
     StaysInFront (ChangeAll (RenamesBody new_indices w) count) after rest →
     RenamesCode new_indices w content content []
@@ -169,7 +170,7 @@ code_stays new_indices w content count after rest e nothing s =
     (counted count t.text after after [] t.is_text
     (whole_stays (ChangeAll (RenamesBody new_indices w) count) after rest nothing s))
 
-pub code_changes : (new_indices : List ℕ) (w : Widths) (content : List ℕ) (count : ℕ)
+pub code_changes : (new_indices : NewIndices) (w : Widths) (content : List ℕ) (count : ℕ)
     (after rest new out : List ℕ) → u32_at content ≡ Ok (count, after) → rest ≡ [] →
     ChangesInFront (ChangeAll (RenamesBody new_indices w) count) after rest new
     → out ≡ take (length content - length after) content ++ new →
@@ -188,7 +189,7 @@ code_changes new_indices w content count after rest new out e nothing s out-is =
       is_naming = c.is_naming;
     }
 
-pub code_first : (new_indices : List ℕ) (w : Widths) (F : List ℕ → Type 0) (content : List ℕ) (count : ℕ)
+pub code_first : (new_indices : NewIndices) (w : Widths) (F : List ℕ → Type 0) (content : List ℕ) (count : ℕ)
     (after : List ℕ) → u32_at content ≡ Ok (count, after) →
     FirstIn (RenamesBody new_indices w) (InSized F) count after → FirstBodyIn new_indices w F content
 code_first new_indices w F content count after e f =
@@ -205,7 +206,7 @@ count_fits content count after e =
     omega (arith, many)
 
 -- such a content is one, by which types it names
-pub is_code : (new_indices : List ℕ) (w : Widths) (content new names : List ℕ) →
+pub is_code : (new_indices : NewIndices) (w : Widths) (content new names : List ℕ) →
     RenamesCode new_indices w content new names → IsCode content names
 is_code new_indices w _ _ names (counted bodies count texts new _ h hs) =
     let a = are_bodies new_indices w bodies texts new names hs in

@@ -10,6 +10,7 @@ use Rattle.walrus_module.specs.NamedTypes.IsContent.{texts as is_texts, nameless
 use Rattle.walrus_module.specs.RenamedSections.{RenamesContent}
 use Rattle.walrus_module.specs.RenamedSections.RenamesContent.{texts, code, nameless}
 use Rattle.walrus_module.specs.Steps.Heads.{kinds_or_none}
+use Rattle.walrus_module.specs.Renaming.{NewIndices}
 use Rattle.walrus_module.proofs.ChangedCode.{is_code}
 use Rattle.walrus_module.proofs.NamedTypes.{some_kinds, content_code}
 
@@ -19,7 +20,7 @@ pub kinds_of : (id : ℕ) (o : Option (List Kind)) → o ≡ section_kinds id �
 kinds_of id o e some = sym e ∙ some_kinds o some
 
 -- what has a change is a content, which names these types
-is_content : (id : ℕ) (new_indices : List ℕ) (w : Widths) (content new names : List ℕ) →
+is_content : (id : ℕ) (new_indices : NewIndices) (w : Widths) (content new names : List ℕ) →
     RenamesContent id new_indices w content new names → IsContent id content names
 is_content id new_indices w _ _ _ (texts kinds content new names e r) =
     is_texts id kinds content names e r.naming

@@ -21,7 +21,7 @@ pub record Opened (bytes rest names : List ℕ) : Type 0 where
   pub is_body : IsBody body names
   pub reads : u32_at bytes ≡ Ok (length body, body ++ rest)
 
-opened_text : (text names rest : List ℕ) → IsSizedBody text names → Opened (text ++ rest) rest names
+pub opened_text : (text names rest : List ℕ) → IsSizedBody text names → Opened (text ++ rest) rest names
 opened_text _ _ rest (sized size body names h b) =
     record {
       body = body;
@@ -30,7 +30,7 @@ opened_text _ _ rest (sized size body names h b) =
           ap u32_at (append_assoc size body rest) ∙ u32_complete size (length body) (body ++ rest) h;
     }
 
-opened : (bytes rest names : List ℕ) → BeginsWithBody bytes rest names → Opened bytes rest names
+pub opened : (bytes rest names : List ℕ) → BeginsWithBody bytes rest names → Opened bytes rest names
 opened bytes rest names b =
     subst (λ (u : List ℕ). Opened u rest names) (sym b.parts) (opened_text b.text names rest b.is_body)
 
@@ -77,7 +77,7 @@ body_malformed bytes n behind front scan.Malformed reads is h = λ rest names b.
 -- ---- several bodies
 
 -- what is behind a body does not depend on how it is read
-same_rest : (text names rest whole others after : List ℕ) → IsSizedBody text names →
+pub same_rest : (text names rest whole others after : List ℕ) → IsSizedBody text names →
     IsSizedBody whole others → text ++ rest ≡ whole ++ after → rest ≡ after
 same_rest text names rest whole others after h k e =
     let a = opened_text text names rest h in
@@ -103,7 +103,7 @@ next_body _ _ _ _ rest after (next a b names bodies h hs) (next c d others all k
     (omega (arith, more))
 
 -- as many bodies leave the same bytes
-same_bodies : (text : List ℕ) (bodies : List (List ℕ)) (whole : List ℕ) (all : List (List ℕ))
+pub same_bodies : (text : List ℕ) (bodies : List (List ℕ)) (whole : List ℕ) (all : List (List ℕ))
     (rest after : List ℕ) → AreItems IsSizedBody text bodies → AreItems IsSizedBody whole all
     → text ++ rest ≡ whole ++ after → length bodies ≡ length all → rest ≡ after
 same_bodies _ _ _ _ rest after none none e many = e
@@ -181,7 +181,7 @@ opened_vec _ _ names (counted count texts bodies h are) e =
       named = e;
     }
 
-opened_code : (content names : List ℕ) → IsCode content names → OpenedCode content names
+pub opened_code : (content names : List ℕ) → IsCode content names → OpenedCode content names
 opened_code content names c = opened_vec content c.bodies names c.are c.named
 
 pub code_is : (content : List ℕ) (count : ℕ) (behind rest names : List ℕ) →

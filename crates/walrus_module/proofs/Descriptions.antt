@@ -68,7 +68,7 @@ is_description id content name rest custom t is =
       is_description = is;
     }
 
-name_taken : (name content : List ℕ) (h : HasName name content) → TakesSized name content h.follows
+pub name_taken : (name content : List ℕ) (h : HasName name content) → TakesSized name content h.follows
 name_taken name content h = record { size = h.size; is_size = h.is_size; parts = h.parts }
 
 pub other_name : (id : ℕ) (content name rest : List ℕ) → TakesSized name content rest →

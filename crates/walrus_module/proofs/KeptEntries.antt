@@ -11,10 +11,11 @@ use Rattle.std.proofs.lemmas.List.Elements.{All-nil, All-cons, All-append, All-p
 use Rattle.std.proofs.lemmas.Map.Keys.{IsStrictlyIncreasing-from_sorted, sorted_from_strictly_increasing}
 use Rattle.std.proofs.lemmas.Map.Lookups.{exact_unsigned}
 use Rattle.std.proofs.lemmas.Map.Views.{btree_map_get_iff, btree_map_contains_key_iff}
-use Rattle.walrus_module.specs.NameSections.{TypeEntry, new_index, IsLeast, AreKept}
+use Rattle.walrus_module.specs.NameSections.{TypeEntry, IsLeast, AreKept}
+use Rattle.walrus_module.specs.Renaming.{NewIndices, new_index}
 use Rattle.walrus_module.specs.Steps.NameSections.{Keeps}
 
-some_is : {A : Type 0} (x y : A) (o : Option A) → o ≡ Some x → o ≡ Some y → x ≡ y
+pub some_is : {A : Type 0} (x y : A) (o : Option A) → o ≡ Some x → o ≡ Some y → x ≡ y
 some_is x y None e h = absurd cc
 some_is x y (Some z) e h = cc
 
@@ -27,6 +28,9 @@ ranks_itself : (n : ℕ) (o : Ordering) → MatchOrdering o (n < n) (n ≡ n) (n
 ranks_itself n order.Less h = absurd (omega (arith, h))
 ranks_itself n order.Equal h = refl
 ranks_itself n order.Greater h = absurd (omega (arith, h))
+
+no_new : (n : ℕ) → Some n ≡ None → ⊥
+no_new n e = absurd cc
 
 at_itself : (n : ℕ) → is_at (nat_cmp n) n ≡ true
 at_itself n = ranks_itself n (nat_cmp n n) (ranked n n (nat_cmp n n) refl)
@@ -44,15 +48,23 @@ abbrev pub IsBelow : TypeEntry → Option TypeEntry → Type 0
 IsBelow e None = Unit {0}
 IsBelow e (Some first) = e.index < first.index
 
-module _ (new_indices : List ℕ) where
+module _ (new_indices : NewIndices) where
+  -- the type is known
+  abbrev IsKnown : TypeEntry → Type 0
+  IsKnown e = e.index < length new_indices
+
+  -- there is an entry for the new index of the type
+  abbrev HasSome : (ℕ → Option TypeEntry) → TypeEntry → Type 0
+  HasSome found e = (n : ℕ) → new_index new_indices e.index ≡ Some n → IsSome (found n)
+
   -- by what a map has at each new index
   record KeptBy (entries : List TypeEntry) (found : ℕ → Option TypeEntry) : Type 0 where
     least : (n : ℕ) (e : TypeEntry) → found n ≡ Some e
-        → (new_index new_indices e ≡ Some n) × IsLeast new_indices entries e
-    missing : All (λ e. (n : ℕ) × (new_index new_indices e ≡ Some n) × IsSome (found n)) entries
+        → (new_index new_indices e.index ≡ Some n) × IsLeast new_indices entries e
+    missing : All (λ e. HasSome found e) entries
 
   abbrev SameNew : TypeEntry → TypeEntry → Type 0
-  SameNew e f = new_index new_indices f ≡ new_index new_indices e
+  SameNew e f = new_index new_indices f.index ≡ new_index new_indices e.index
 
   least_of_all : (entries : List TypeEntry) (e : TypeEntry) → IsLeast new_indices entries e →
       All (λ f. SameNew e f → e.index ≤ f.index) entries
@@ -77,31 +89,29 @@ module _ (new_indices : List ℕ) where
 
   -- another entry has the new index already, and no greater old one
   stays_by : (entries : List TypeEntry) (found : ℕ → Option TypeEntry) (n : ℕ) (first e : TypeEntry) →
-      KeptBy entries found → found n ≡ Some first → first.index ≤ e.index → new_index new_indices e ≡ Some n →
+      KeptBy entries found → found n ≡ Some first → first.index ≤ e.index →
+      new_index new_indices e.index ≡ Some n →
       KeptBy (entries ++ e ∷ []) found
   stays_by entries found n first e k there le mapped =
       record {
         least = λ m f h. let old = k.least m f h in (
           old.0,
           least_on entries f e old.1 (λ same.
-              let m-is : n ≡ m = some_is n m (new_index new_indices e) mapped (same ∙ old.0) in
+              let m-is : n ≡ m = some_is n m (new_index new_indices e.index) mapped (same ∙ old.0) in
               let f-is : first ≡ f = some_is first f (found m) (ap found (sym m-is) ∙ there) h in
               subst (λ (u : TypeEntry). u.index ≤ e.index) f-is le),
         );
-        missing =
-            All-push (λ e. (n : ℕ) × (new_index new_indices e ≡ Some n) × IsSome (found n)) entries e
-            k.missing
-            (n, mapped, ap is_some there);
+        missing = All-push (HasSome found) entries e k.missing
+            (λ m has. subst (λ j. IsSome (found j)) (some_is n m (new_index new_indices e.index) mapped has)
+            (ap is_some there));
       }
 
   below_all : (entries : List TypeEntry) (found : ℕ → Option TypeEntry) (n : ℕ) (e f : TypeEntry)
       (o : Option TypeEntry) → KeptBy entries found → found n ≡ o → IsBelow e o →
-      new_index new_indices e ≡ Some n → Contains entries f → SameNew e f → e.index < f.index
+      new_index new_indices e.index ≡ Some n → Contains entries f → SameNew e f → e.index < f.index
   below_all entries found n e f None k is below mapped there same =
-      let g = All-contains (λ e. (n : ℕ) × (new_index new_indices e ≡ Some n) × IsSome (found n)) entries f
-      k.missing there in
-      let n-is : g.0 ≡ n = some_is g.0 n (new_index new_indices f) g.1 (same ∙ mapped) in
-      let some : is_some (found n) ≡ true = subst (λ m. is_some (found m) ≡ true) n-is g.2 in
+      let some : is_some (found n) ≡ true = All-contains (HasSome found) entries f k.missing there n
+      (same ∙ mapped) in
       let none : is_some (found n) ≡ false = ap is_some is in
       absurd cc
   below_all entries found n e f (Some first) k is below mapped there same =
@@ -118,18 +128,18 @@ module _ (new_indices : List ℕ) where
 
   -- the entry takes its place
   put_by : (entries : List TypeEntry) (found after : ℕ → Option TypeEntry) (n : ℕ) (e : TypeEntry) →
-      KeptBy entries found → IsBelow e (found n) → new_index new_indices e ≡ Some n →
+      KeptBy entries found → IsBelow e (found n) → new_index new_indices e.index ≡ Some n →
       ((m : ℕ) → after m ≡ cond (is_at (nat_cmp n) m) (Some e) (found m)) →
       KeptBy (entries ++ e ∷ []) after
   put_by entries found after n e k below mapped h =
       record {
         least = λ m f there. at_each m f (is_at (nat_cmp n) m) refl (sym (h m) ∙ there);
         missing =
-            All-push (λ e. (n : ℕ) × (new_index new_indices e ≡ Some n) × IsSome (after n)) entries e
-            (All-weaker (λ e. (n : ℕ) × (new_index new_indices e ≡ Some n) × IsSome (found n))
-            (λ e. (n : ℕ) × (new_index new_indices e ≡ Some n) × IsSome (after n))
-            (λ f g. (g.0, g.1, ap is_some (h g.0) ∙ still g.0 (is_at (nat_cmp n) g.0) g.2)) entries k.missing)
-            (n, mapped, ap is_some (h n) ∙ here n);
+            All-push (HasSome after) entries e
+            (All-weaker (HasSome found) (HasSome after)
+            (λ f g m has. ap is_some (h m) ∙ still m (is_at (nat_cmp n) m) (g m has)) entries k.missing)
+            (λ m has. subst (λ j. IsSome (after j)) (some_is n m (new_index new_indices e.index) mapped has)
+            (ap is_some (h n) ∙ here n));
       }
     where
       new_least : IsLeast new_indices (entries ++ e ∷ []) e
@@ -144,18 +154,18 @@ module _ (new_indices : List ℕ) where
 
       at_each : (m : ℕ) (f : TypeEntry) (b : Bool) → is_at (nat_cmp n) m ≡ b
           → cond (is_at (nat_cmp n) m) (Some e) (found m) ≡ Some f
-          → (new_index new_indices f ≡ Some m) × IsLeast new_indices (entries ++ e ∷ []) f
+          → (new_index new_indices f.index ≡ Some m) × IsLeast new_indices (entries ++ e ∷ []) f
       at_each m f true is there =
           let m-is : n ≡ m = at_is n m is in
           let f-is : e ≡ f = some_is e f (Some e) refl (ap (λ b. cond b (Some e) (found m)) (sym is) ∙ there)
           in
-          subst (λ (u : TypeEntry). (new_index new_indices u ≡ Some m)
+          subst (λ (u : TypeEntry). (new_index new_indices u.index ≡ Some m)
           × IsLeast new_indices (entries ++ e ∷ []) u) f-is (mapped ∙ ap (λ k. Some k) m-is, new_least)
       at_each m f false is there =
           let old = k.least m f (ap (λ b. cond b (Some e) (found m)) (sym is) ∙ there) in (
             old.0,
             least_on entries f e old.1 (λ same.
-                absurd (not_at n m is (some_is n m (new_index new_indices e) mapped (same ∙ old.0)))),
+                absurd (not_at n m is (some_is n m (new_index new_indices e.index) mapped (same ∙ old.0)))),
           )
 
       still : (m : ℕ) (b : Bool) → is_some (found m) ≡ true → is_some (cond b (Some e) (found m)) ≡ true
@@ -167,61 +177,80 @@ module _ (new_indices : List ℕ) where
 
   -- ---- of the map's entries
 
+  -- there is an entry for the new index of the type
+  abbrev HasKey : List (ℕ × TypeEntry) → TypeEntry → Type 0
+  HasKey kept e =
+      (n : ℕ) → new_index new_indices e.index ≡ Some n → Contains (map (λ (p : ℕ × TypeEntry). p.0) kept) n
+
   by_get : (entries : List TypeEntry) (m : BTreeMap ℕ TypeEntry) → IsOrdered nat_cmp m →
       AreKept new_indices entries m.entries → KeptBy entries (get nat_cmp m)
   by_get entries m ordered k =
       record {
         least = λ n e h. k.are_least n e ((btree_map_get_iff nat_cmp_total exact_unsigned m ordered n e).0 h);
         missing =
-            All-weaker (λ e. (n : ℕ) × (new_index new_indices e ≡ Some n)
-            × Contains (map (λ (p : ℕ × TypeEntry). p.0) m.entries) n)
-            (λ e. (n : ℕ) × (new_index new_indices e ≡ Some n) × IsSome (get nat_cmp m n))
-            (λ e h. (h.0, h.1, (btree_map_contains_key_iff nat_cmp_total exact_unsigned m h.0).1 h.2)) entries
+            All-weaker (HasKey m.entries) (HasSome (get nat_cmp m))
+            (λ e h n has. (btree_map_contains_key_iff nat_cmp_total exact_unsigned m n).1 (h n has)) entries
             k.none_missing;
       }
 
   from_get : (entries : List TypeEntry) (m : BTreeMap ℕ TypeEntry) → IsOrdered nat_cmp m →
-      KeptBy entries (get nat_cmp m) → AreKept new_indices entries m.entries
-  from_get entries m ordered k =
+      All IsKnown entries → KeptBy entries (get nat_cmp m) → AreKept new_indices entries m.entries
+  from_get entries m ordered known k =
       record {
+        known = known;
         ascending = IsStrictlyIncreasing-from_sorted (map (λ (p : ℕ × TypeEntry). p.0) m.entries) ordered;
         are_least = λ n e h. k.least n e ((btree_map_get_iff nat_cmp_total exact_unsigned m ordered n e).1 h);
         none_missing =
-            All-weaker (λ e. (n : ℕ) × (new_index new_indices e ≡ Some n) × IsSome (get nat_cmp m n))
-            (λ e. (n : ℕ) × (new_index new_indices e ≡ Some n)
-            × Contains (map (λ (p : ℕ × TypeEntry). p.0) m.entries) n)
-            (λ e h. (h.0, h.1, (btree_map_contains_key_iff nat_cmp_total exact_unsigned m h.0).0 h.2)) entries
+            All-weaker (HasSome (get nat_cmp m)) (HasKey m.entries)
+            (λ e h n has. (btree_map_contains_key_iff nat_cmp_total exact_unsigned m n).0 (h n has)) entries
             k.missing;
       }
 
   pub none_kept : AreKept new_indices [] []
   none_kept =
       record {
+        known = All-nil IsKnown;
         ascending = λ k lt. absurd (omega (arith, lt));
         are_least = λ n e h. absurd (let k = h.1 in omega (arith, k));
-        none_missing = All-nil (λ e. (n : ℕ) × (new_index new_indices e ≡ Some n)
-            × Contains (map (λ (p : ℕ × TypeEntry). p.0) []) n);
+        none_missing = All-nil (HasKey []);
       }
 
   pub kept_stay : (entries : List TypeEntry) (m : BTreeMap ℕ TypeEntry) (n : ℕ) (first e : TypeEntry) →
       AreKept new_indices entries m.entries → get nat_cmp m n ≡ Some first → first.index ≤ e.index →
-      new_index new_indices e ≡ Some n → AreKept new_indices (entries ++ e ∷ []) m.entries
-  kept_stay entries m n first e k there le mapped =
+      IsKnown e → new_index new_indices e.index ≡ Some n
+      → AreKept new_indices (entries ++ e ∷ []) m.entries
+  kept_stay entries m n first e k there le known mapped =
       let ordered = sorted_from_strictly_increasing (map (λ (p : ℕ × TypeEntry). p.0) m.entries) k.ascending
       in
-      from_get (entries ++ e ∷ []) m ordered
+      from_get (entries ++ e ∷ []) m ordered (All-push IsKnown entries e k.known known)
       (stays_by entries (get nat_cmp m) n first e (by_get entries m ordered k) there le mapped)
 
   pub kept_put : (entries : List TypeEntry) (m after : BTreeMap ℕ TypeEntry) (n : ℕ) (e : TypeEntry)
       (o : Option TypeEntry) → IsOrdered nat_cmp m → IsOrdered nat_cmp after →
-      AreKept new_indices entries m.entries → get nat_cmp m n ≡ o → IsBelow e o → new_index new_indices e ≡
-      Some n →
+      AreKept new_indices entries m.entries → get nat_cmp m n ≡ o → IsBelow e o → IsKnown e →
+      new_index new_indices e.index ≡ Some n →
       ((q : ℕ) → get nat_cmp after q ≡ cond (is_at (nat_cmp n) q) (Some e) (get nat_cmp m q)) →
       AreKept new_indices (entries ++ e ∷ []) after.entries
-  kept_put entries m after n e o ordered was k is below mapped h =
-      from_get (entries ++ e ∷ []) after was
+  kept_put entries m after n e o ordered was k is below known mapped h =
+      from_get (entries ++ e ∷ []) after was (All-push IsKnown entries e k.known known)
       (put_by entries (get nat_cmp m) (get nat_cmp after) n e (by_get entries m ordered k)
       (subst (λ (o : Option TypeEntry). IsBelow e o) (sym is) below) mapped h)
+
+  -- no entry of a deleted type stays
+  pub deleted_goes : (entries : List TypeEntry) (kept : List (ℕ × TypeEntry)) (e : TypeEntry) →
+      AreKept new_indices entries kept → IsKnown e → new_index new_indices e.index ≡ None →
+      AreKept new_indices (entries ++ e ∷ []) kept
+  deleted_goes entries kept e k known gone =
+      record {
+        known = All-push IsKnown entries e k.known known;
+        ascending = k.ascending;
+        are_least = λ n f h. let old = k.are_least n f h in (
+          old.0,
+          least_on entries f e old.1 (λ same. absurd (no_new n (sym old.0 ∙ sym same ∙ gone))),
+        );
+        none_missing = All-push (HasKey kept) entries e k.none_missing
+            (λ n has. absurd (no_new n (sym has ∙ gone)));
+      }
 
 pub few_more : (n m : ℕ) (b : Bool) → n ≡ m + (if b then 0 else 1) → n ≤ m + 1
 few_more n m true e = omega (arith, e)
@@ -232,7 +261,8 @@ module _ (n : ℕ) (e : TypeEntry) (m after : BTreeMap ℕ TypeEntry) where
       Keeps n e m.entries m.entries
   keep_first first there le =
       record {
-        keeps = λ new_indices entries k mapped. kept_stay new_indices entries m n first e k there le mapped;
+        keeps = λ new_indices entries k known mapped.
+            kept_stay new_indices entries m n first e k there le known mapped;
         few = omega arith;
       }
 
@@ -242,7 +272,7 @@ module _ (n : ℕ) (e : TypeEntry) (m after : BTreeMap ℕ TypeEntry) where
       length after.entries ≡ length m.entries + (if b then 0 else 1) → Keeps n e m.entries after.entries
   keep_new o b is below ordered was h more =
       record {
-        keeps = λ new_indices entries k mapped.
-            kept_put new_indices entries m after n e o ordered was k is below mapped h;
+        keeps = λ new_indices entries k known mapped.
+            kept_put new_indices entries m after n e o ordered was k is below known mapped h;
         few = few_more (length after.entries) (length m.entries) b more;
       }

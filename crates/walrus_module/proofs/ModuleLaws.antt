@@ -9,19 +9,20 @@ use Rattle.walrus_module.specs.Changes.{ChangesSized, stays, resized, ChangeAll}
 use Rattle.walrus_module.specs.Changes.ChangeAll.{none as no_change, next as next_change}
 use Rattle.walrus_module.specs.RenamedModules.{RenamesAny, RenamesSection, RenamesModule, HaveSameIds}
 use Rattle.walrus_module.specs.RenamedModules.RenamesSection.{type_section, other}
+use Rattle.walrus_module.specs.Renaming.{NewIndices}
 use Rattle.walrus_module.proofs.RenamedModules.{AsSection, sections_same}
 use Rattle.walrus_module.proofs.RenamedSections.{whole}
 
 -- ---- the sections before and after
 
-record ArePair (text new : List ℕ) : Type 0 where
-  id : ℕ
-  content : List ℕ
-  new_content : List ℕ
-  before : IsSection text (section id content)
-  after : IsSection new (section id new_content)
+pub record ArePair (text new : List ℕ) : Type 0 where
+  pub id : ℕ
+  pub content : List ℕ
+  pub new_content : List ℕ
+  pub before : IsSection text (section id content)
+  pub after : IsSection new (section id new_content)
 
-sized_pair : (id : ℕ) (new_indices : List ℕ) (w : Widths) (text new names : List ℕ) →
+sized_pair : (id : ℕ) (new_indices : NewIndices) (w : Widths) (text new names : List ℕ) →
     ChangesSized w (RenamesAny id new_indices w) text new names → ArePair (id ∷ text) (id ∷ new)
 sized_pair id new_indices w _ _ _ (stays size content h r) =
     record {
@@ -40,7 +41,7 @@ sized_pair id new_indices w _ _ _ (resized size content new_size new names h r s
       after = sized id new_size new is.is_text;
     }
 
-pair : (types new_indices : List ℕ) (w : Widths) (text new names : List ℕ) →
+pub pair : (types : List ℕ) (new_indices : NewIndices) (w : Widths) (text new names : List ℕ) →
     RenamesSection types new_indices w text new names → ArePair text new
 pair types new_indices w _ _ _ (type_section size content new_size h is) =
     record {
@@ -53,14 +54,14 @@ pair types new_indices w _ _ _ (type_section size content new_size h is) =
 pair types new_indices w _ _ _ (other id text new names some c) =
     sized_pair id new_indices w text new names c
 
-record ArePairs (texts new : List ℕ) : Type 0 where
-  sections : List Section
-  new_sections : List Section
-  before : AreItems IsSection texts sections
-  after : AreItems IsSection new new_sections
-  same : ids new_sections ≡ ids sections
+pub record ArePairs (texts new : List ℕ) : Type 0 where
+  pub sections : List Section
+  pub new_sections : List Section
+  pub before : AreItems IsSection texts sections
+  pub after : AreItems IsSection new new_sections
+  pub same : ids new_sections ≡ ids sections
 
-pairs : (types new_indices : List ℕ) (w : Widths) (count : ℕ) (texts new names : List ℕ) →
+pub pairs : (types : List ℕ) (new_indices : NewIndices) (w : Widths) (count : ℕ) (texts new names : List ℕ) →
     ChangeAll (RenamesSection types new_indices w) count texts new names → ArePairs texts new
 pairs types new_indices w _ _ _ _ no_change =
     record { sections = []; new_sections = []; before = none; after = none; same = refl }
@@ -77,12 +78,12 @@ pairs types new_indices w _ _ _ _ (next_change count text others new new_others 
 
 -- ---- the same bytes have one list of ids
 
-abbrev as_section : (text : List ℕ) (s : Section) → IsSection text s → AsSection text
+abbrev pub as_section : (text : List ℕ) (s : Section) → IsSection text s → AsSection text
 as_section text s h =
     let k = whole text s h in
     record { id = s.id; size = k.size; content = s.content; is_size = k.is_size; parts = k.parts }
 
-not_empty : (text others : List ℕ) (s : Section) → IsSection text s → [] ≡ text ++ others → ⊥
+pub not_empty : (text others : List ℕ) (s : Section) → IsSection text s → [] ≡ text ++ others → ⊥
 not_empty _ others _ (sized id size content h) e = absurd cc
 
 pub same_ids : (x y : List ℕ) (a b : List Section) → AreItems IsSection x a → AreItems IsSection y b → x ≡ y →
@@ -95,7 +96,7 @@ same_ids _ _ _ _ (next text others s sections h hs) (next whole after t more k k
     ap (λ n. n ∷ ids sections) same.id
     ∙ ap (λ (u : List ℕ). t.id ∷ u) (same_ids others after sections more hs ks same.behind)
 
-pub have_same_ids : (types new_indices : List ℕ) (widths : Widths) (bytes new : List ℕ) →
+pub have_same_ids : (types : List ℕ) (new_indices : NewIndices) (widths : Widths) (bytes new : List ℕ) →
     RenamesModule types new_indices widths bytes new → HaveSameIds bytes new
 have_same_ids types new_indices widths bytes new r =
     let p = pairs types new_indices widths _ r.texts r.new_texts r.names r.renames in

@@ -1,5 +1,5 @@
 -- Names, and maps from indices to names, from the front of bytes.
-use Rattle.std.proofs.Common.{◌≡◌, ℕ, ◌+◌, ◌-◌, ◌<◌, ◌≤◌, List, [], ◌∷◌, ◌++◌, length, take, take_at, Option, Some, None, Result, Ok, Err, refl, sym, ap, subst, ◌∙◌, arith, append_assoc, length-append, slice_get}
+use Rattle.std.proofs.Common.{◌≡◌, ℕ, ◌+◌, ◌-◌, ◌<◌, ◌≤◌, List, [], ◌∷◌, ◌++◌, length, take, take_at, Option, Some, None, Result, Ok, Err, refl, sym, ap, subst, ◌∙◌, arith, append_assoc, length-append}
 use Rattle.std.specs.Prelude.{IfSome, IfNone}
 use Rattle.walrus_binary.specs.Steps.Reading.{u32_at}
 use Rattle.walrus_binary.proofs.Integers.{u32_sound}
@@ -8,6 +8,7 @@ use Rattle.walrus_module.specs.declared.renaming.RenameError.TheVariants as rena
 use Rattle.walrus_module.specs.declared.name_maps.Follows.{Follows}
 use Rattle.walrus_module.specs.declared.name_maps.Follows.TheVariants as follows
 use Rattle.walrus_module.specs.NameSections.{IsName, name, IsIndexedName, indexed, IsNameMap, TypeEntry, type_entry, IsEntry, entry, BeginsUnknown, unknown}
+use Rattle.walrus_module.specs.Renaming.{NewIndices, new_index}
 use Rattle.walrus_module.specs.Steps.Heads.{fault}
 use Rattle.walrus_module.specs.Steps.NameSections.{Takes, BeginsNone, TakesSized, BeginsUnsized, IsFollowing, IsAny, TakesItems, TakesEntry}
 use Rattle.walrus_module.proofs.SizedContents.{no_number, same_number, number_read, same_content}
@@ -241,11 +242,12 @@ module _ (Follows : List ℕ → Type 0) where
       let same = same_number (u32_at bytes) k t.is_text.item.index behind o.behind e o.reads in
       h rest (subst (λ (u : List ℕ). Takes Follows u rest) (sym same.1) o.takes)
 
-  pub entry_taken : (bytes : List ℕ) (k width : ℕ) (behind text rest new_indices : List ℕ) (n : ℕ) →
+  pub entry_taken : (bytes : List ℕ) (k width : ℕ) (behind text rest : List ℕ)
+      (new_indices : NewIndices) (n : Option ℕ) →
       u32_at bytes ≡ Ok (k, behind) → width ≡ length bytes - length behind → Follows text →
-      behind ≡ text ++ rest → slice_get new_indices k ≡ Some n →
+      behind ≡ text ++ rest → k < length new_indices → new_index new_indices k ≡ n →
       TakesEntry Follows new_indices n (type_entry k width text) bytes rest
-  entry_taken bytes k width behind text rest new_indices n e wide f parts mapped =
+  entry_taken bytes k width behind text rest new_indices n e wide f parts known mapped =
       let t = u32_sound bytes k behind e in
       let long : length bytes ≡ length t.text + length behind = ap (λ (u : List ℕ). length u) t.parts
       ∙ length-append t.text behind in
@@ -255,5 +257,6 @@ module _ (Follows : List ℕ → Type 0) where
         is_entry = subst (λ (w : ℕ). IsEntry Follows (t.text ++ text) (type_entry k w text)) width-is
             (entry t.text text k t.is_text f);
         parts = t.parts ∙ ap (λ (u : List ℕ). t.text ++ u) parts ∙ sym (append_assoc t.text text rest);
+        known = known;
         mapped = mapped;
       }

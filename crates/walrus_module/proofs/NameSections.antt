@@ -8,6 +8,7 @@ use Rattle.walrus_module.specs.declared.renaming.Widths.{Widths}
 use Rattle.walrus_module.specs.Changes.{Changes, ChangeAll, none, IsMalformed}
 use Rattle.walrus_module.specs.NameSections.{RenamesSubsection, name_bytes, RenamesCustom, name_section, other, FirstSubsectionIn, in_subsection}
 use Rattle.walrus_module.specs.Steps.NameSections.{BeginsNone, TakesSized, BeginsUnsized, IsRenamedUpTo, IsSomeSubsection, BeginsSubsectionIn, begins}
+use Rattle.walrus_module.specs.Renaming.{NewIndices}
 use Rattle.walrus_module.proofs.SizedContents.{same_content}
 use Rattle.walrus_module.proofs.Subsections.{next_subsection}
 
@@ -30,13 +31,13 @@ other_bytes a b e = other_by (bytes_eq a b) (bytes_eq-Decides a b) e
 -- ---- their subsections
 
 -- the content is a name section whose subsections become others up to `rest`
-pub record IsSectionUpTo (new_indices : List ℕ) (widths : Widths) (content unwritten rest out : List ℕ) :
+pub record IsSectionUpTo (new_indices : NewIndices) (widths : Widths) (content unwritten rest out : List ℕ) :
     Type 0 where
   pub size : List ℕ
   pub is_size : IsU32 size (length name_bytes)
   pub so_far : IsRenamedUpTo new_indices widths (size ++ name_bytes) content unwritten rest out
 
-pub section_begun : (new_indices : List ℕ) (widths : Widths) (content name rest out : List ℕ) →
+pub section_begun : (new_indices : NewIndices) (widths : Widths) (content name rest out : List ℕ) →
     TakesSized name content rest → name ≡ name_bytes → out ≡ [] →
     IsSectionUpTo new_indices widths content content rest out
 section_begun new_indices widths content name rest out t e o =
@@ -70,7 +71,7 @@ whole_again size content rest texts e p =
     p ∙ ap (λ (u : List ℕ). (size ++ name_bytes) ++ (texts ++ u)) e
     ∙ ap (λ (u : List ℕ). (size ++ name_bytes) ++ u) (append-nil texts) ∙ append_assoc size name_bytes texts
 
-section_is : (new_indices : List ℕ) (widths : Widths) (content unwritten rest out : List ℕ) →
+section_is : (new_indices : NewIndices) (widths : Widths) (content unwritten rest out : List ℕ) →
     (s : IsSectionUpTo new_indices widths content unwritten rest out) → rest ≡ [] →
     RenamesCustom new_indices widths content (s.size ++ (name_bytes ++ s.so_far.new)) s.so_far.names
 section_is new_indices widths content unwritten rest out s e =
@@ -79,7 +80,7 @@ section_is new_indices widths content unwritten rest out s e =
     (sym (whole_again s.size content rest u.texts e u.parts))
     (name_section u.count s.size u.texts u.new u.names s.is_size u.so_far)
 
-pub section_stays : (new_indices : List ℕ) (widths : Widths) (content unwritten rest out : List ℕ) →
+pub section_stays : (new_indices : NewIndices) (widths : Widths) (content unwritten rest out : List ℕ) →
     IsSectionUpTo new_indices widths content unwritten rest out → rest ≡ [] → out ≡ [] →
     RenamesCustom new_indices widths content content []
 section_stays new_indices widths content unwritten rest out s e o =
@@ -92,7 +93,8 @@ section_stays new_indices widths content unwritten rest out s e o =
     (subst (λ (x : List ℕ). RenamesCustom new_indices widths content (s.size ++ (name_bytes ++ u.new)) x)
     (u.nameless o) (section_is new_indices widths content unwritten rest out s e))
 
-pub section_changes : (new_indices : List ℕ) (widths : Widths) (content unwritten rest out final : List ℕ) →
+pub section_changes : (new_indices : NewIndices) (widths : Widths)
+    (content unwritten rest out final : List ℕ) →
     IsSectionUpTo new_indices widths content unwritten rest out → rest ≡ [] → (out ≡ [] → ⊥) →
     final ≡ out ++ unwritten → Changes (RenamesCustom new_indices widths) content final
 section_changes new_indices widths content unwritten rest out final s e some f =
@@ -108,7 +110,7 @@ section_changes new_indices widths content unwritten rest out final s e some f =
       is_naming = λ h. some (u.naming h);
     }
 
-pub section_first : (new_indices : List ℕ) (widths : Widths) (F : ℕ → List ℕ → Type 0)
+pub section_first : (new_indices : NewIndices) (widths : Widths) (F : ℕ → List ℕ → Type 0)
     (content unwritten rest out : List ℕ) → IsSectionUpTo new_indices widths content unwritten rest out →
     BeginsSubsectionIn F rest → FirstSubsectionIn new_indices widths F content
 section_first new_indices widths F content unwritten rest out s b =
@@ -123,14 +125,14 @@ section_first new_indices widths F content unwritten rest out s b =
         s.so_far.so_far i
 
 -- a name, and what follows it
-record Named (new_indices : List ℕ) (widths : Widths) (content new names : List ℕ) : Type 0 where
+record Named (new_indices : NewIndices) (widths : Widths) (content new names : List ℕ) : Type 0 where
   name : List ℕ
   follows : List ℕ
   takes : TakesSized name content follows
   are : name ≡ name_bytes → (count : ℕ) × (others : List ℕ)
       × ChangeAll (RenamesSubsection new_indices widths) count follows others names
 
-named : (new_indices : List ℕ) (widths : Widths) (content new names : List ℕ) →
+named : (new_indices : NewIndices) (widths : Widths) (content new names : List ℕ) →
     RenamesCustom new_indices widths content new names → Named new_indices widths content new names
 named new_indices widths _ _ _ (name_section count size texts new names h c) =
     record {
@@ -151,14 +153,15 @@ pub custom_nameless : (content : List ℕ) → BeginsUnsized content → IsMalfo
 custom_nameless content h new_indices widths new names r =
     let n = named new_indices widths content new names r in h n.name n.follows n.takes
 
-pub custom_other : (new_indices : List ℕ) (widths : Widths) (content name rest : List ℕ) →
+pub custom_other : (new_indices : NewIndices) (widths : Widths) (content name rest : List ℕ) →
     TakesSized name content rest → (name ≡ name_bytes → ⊥) →
     RenamesCustom new_indices widths content content []
 custom_other new_indices widths content name rest t e =
     subst (λ (u : List ℕ). RenamesCustom new_indices widths u u []) (sym t.parts)
     (other t.size name rest t.is_size e)
 
-pub section_malformed : (old_indices : List ℕ) (old_widths : Widths) (content unwritten rest out : List ℕ) →
+pub section_malformed : (old_indices : NewIndices) (old_widths : Widths)
+    (content unwritten rest out : List ℕ) →
     IsSectionUpTo old_indices old_widths content unwritten rest out → (rest ≡ [] → ⊥) →
     BeginsNone IsSomeSubsection rest → IsMalformed RenamesCustom content
 section_malformed old_indices old_widths content unwritten rest out s some h new_indices widths new names r =

@@ -21,7 +21,7 @@ pub some_kinds : (o : Option (List Kind)) → (o ≡ None → ⊥) → o ≡ Som
 some_kinds None h = absurd (h refl)
 some_kinds (Some kinds) h = refl
 
-no_kinds : (o : Option (List Kind)) (kinds : List Kind) → o ≡ Some kinds → o ≡ None → ⊥
+pub no_kinds : (o : Option (List Kind)) (kinds : List Kind) → o ≡ Some kinds → o ≡ None → ⊥
 no_kinds o kinds e h = absurd cc
 
 kinds_are : (o : Option (List Kind)) (kinds : List Kind) → o ≡ Some kinds → kinds ≡ kinds_or_none o

@@ -1,5 +1,5 @@
 -- A map from types becomes one other map.
-use Rattle.std.proofs.Common.{◌≡◌, ℕ, zero, suc, ◌<◌, ◌≤◌, List, [], ◌∷◌, ◌++◌, length, map, Option, Some, ◌⊎◌, inl, inr, refl, sym, ap, subst, ◌∙◌, arith, append_assoc, append-nil}
+use Rattle.std.proofs.Common.{◌≡◌, ℕ, zero, suc, ◌<◌, ◌≤◌, List, [], ◌∷◌, ◌++◌, length, map, Some, ◌⊎◌, inl, inr, refl, sym, ap, subst, ◌∙◌, arith, append_assoc, append-nil}
 use Rattle.std.specs.List.{AllPairs, Contains}
 use Rattle.std.proofs.lemmas.List.{append_cancel_right}
 use Rattle.std.proofs.lemmas.List.Elements.{All-contains, Contains-append_right, Contains-append_cases}
@@ -7,8 +7,8 @@ use Rattle.std.proofs.lemmas.List.Kept.{AllPairs-from_increasing}
 use Rattle.walrus_binary.specs.Grammar.{AreItems, none, next}
 use Rattle.walrus_binary.specs.Steps.Reading.{u32_at}
 use Rattle.walrus_module.specs.declared.renaming.Widths.{Widths}
-use Rattle.walrus_module.specs.NameSections.{TypeEntry, type_entry, IsEntry, entry, new_index, IsLeast, AreKept, IsNewEntry, renumbered, RenamesMap, empty, entries}
-use Rattle.walrus_module.specs.Renaming.{least_width, IsTextOf}
+use Rattle.walrus_module.specs.NameSections.{TypeEntry, type_entry, IsEntry, entry, IsLeast, AreKept, IsNewEntry, renumbered, RenamesMap, empty, entries}
+use Rattle.walrus_module.specs.Renaming.{NewIndices, new_index, least_width, IsTextOf}
 use Rattle.walrus_module.proofs.OneResult.{Once}
 use Rattle.walrus_module.proofs.RenamingLaws.{text_once}
 use Rattle.walrus_module.proofs.SizedContents.{number_read, same_number}
@@ -16,30 +16,30 @@ use Rattle.walrus_module.proofs.TextItems.{IsPrefixFree}
 
 -- ---- ascending numbers
 
-abbrev Ascend : List ℕ → Type 0
+abbrev pub Ascend : List ℕ → Type 0
 Ascend = AllPairs (λ x y. x < y)
 
-single : {A : Type 0} (x n : A) → Contains (x ∷ []) n → x ≡ n
+pub single : {A : Type 0} (x n : A) → Contains (x ∷ []) n → x ≡ n
 single x n (zero, lt, e) = e
 single x n (suc k, lt, e) = absurd (omega (arith, lt))
 
-first_or_later : {A : Type 0} (x n : A) (xs : List A) → Contains (x ∷ xs) n → (x ≡ n) ⊎ Contains xs n
+pub first_or_later : {A : Type 0} (x n : A) (xs : List A) → Contains (x ∷ xs) n → (x ≡ n) ⊎ Contains xs n
 first_or_later x n xs h =
     elim (Contains-append_cases (x ∷ []) xs n h) [ inl one ↦ inl (single x n one) | inr later ↦ inr later ]
 
-later_in : {A : Type 0} (x n : A) (xs : List A) → Contains xs n → Contains (x ∷ xs) n
+pub later_in : {A : Type 0} (x n : A) (xs : List A) → Contains xs n → Contains (x ∷ xs) n
 later_in x n xs h = Contains-append_right (x ∷ []) xs n h
 
-first_in : {A : Type 0} (x : A) (xs : List A) → Contains (x ∷ xs) x
+pub first_in : {A : Type 0} (x : A) (xs : List A) → Contains (x ∷ xs) x
 first_in x xs = (0, omega arith, refl)
 
-none_in : {A : Type 0} (n : A) → Contains [] n → ⊥
+pub none_in : {A : Type 0} (n : A) → Contains [] n → ⊥
 none_in n h = omega (arith, h.1)
 
-later_above : (x n : ℕ) (xs : List ℕ) → Ascend (x ∷ xs) → Contains xs n → x < n
+pub later_above : (x n : ℕ) (xs : List ℕ) → Ascend (x ∷ xs) → Contains xs n → x < n
 later_above x n xs up h = subst (λ k. x < k) h.2 (up 0 (suc h.0) n (omega arith) (omega (arith, h.1)))
 
-tail_ascends : (x : ℕ) (xs : List ℕ) → Ascend (x ∷ xs) → Ascend xs
+pub tail_ascends : (x : ℕ) (xs : List ℕ) → Ascend (x ∷ xs) → Ascend xs
 tail_ascends x xs up = λ i j d lt fits. up (suc i) (suc j) d (omega (arith, lt)) (omega (arith, fits))
 
 same_heads : (x y : ℕ) (xs ys : List ℕ) → Ascend (x ∷ xs) → Ascend (y ∷ ys) → Contains (y ∷ ys) x →
@@ -76,10 +76,10 @@ same_members (x ∷ xs) (y ∷ ys) up its to from =
 
 -- ---- the entries that are kept
 
-abbrev Kept : Type 0
+abbrev pub Kept : Type 0
 Kept = List (ℕ × TypeEntry)
 
-abbrev keys : Kept → List ℕ
+abbrev pub keys : Kept → List ℕ
 keys kept = map (λ (p : ℕ × TypeEntry). p.0) kept
 
 -- where the two entries are among the same ones
@@ -111,26 +111,30 @@ splits (x ∷ b) e a (y ∷ c) f d h =
       | inr (inr k) ↦ inr (inr (later_in x f b k.0, k.1))
     ]
 
-least_once : (new_indices : List ℕ) (all : List TypeEntry) (e f : TypeEntry) → IsLeast new_indices all e →
-    IsLeast new_indices all f → new_index new_indices e ≡ new_index new_indices f → e ≡ f
+least_once : (new_indices : NewIndices) (all : List TypeEntry) (e f : TypeEntry) → IsLeast new_indices all e →
+    IsLeast new_indices all f → new_index new_indices e.index ≡ new_index new_indices f.index → e ≡ f
 least_once new_indices all e f l m same =
     elim (splits l.before e l.after m.before f m.after (sym l.parts ∙ m.parts)) [
       | inl is ↦ is
       | inr (inl k) ↦ absurd (
-          let a = All-contains (λ g. new_index new_indices g ≡ new_index new_indices f → f.index < g.index)
+          let a = All-contains
+          (λ g. new_index new_indices g.index ≡ new_index new_indices f.index → f.index < g.index)
           m.before e m.less k.0 same in
-          let b = All-contains (λ g. new_index new_indices g ≡ new_index new_indices e → e.index ≤ g.index)
+          let b = All-contains
+          (λ g. new_index new_indices g.index ≡ new_index new_indices e.index → e.index ≤ g.index)
           l.after f l.least k.1 (sym same) in
           omega (arith, a, b))
       | inr (inr k) ↦ absurd (
-          let a = All-contains (λ g. new_index new_indices g ≡ new_index new_indices e → e.index < g.index)
+          let a = All-contains
+          (λ g. new_index new_indices g.index ≡ new_index new_indices e.index → e.index < g.index)
           l.before f l.less k.0 (sym same) in
-          let b = All-contains (λ g. new_index new_indices g ≡ new_index new_indices f → f.index ≤ g.index)
+          let b = All-contains
+          (λ g. new_index new_indices g.index ≡ new_index new_indices f.index → f.index ≤ g.index)
           m.after e m.least k.1 same in
           omega (arith, a, b))
     ]
 
-has_entry : (kept : Kept) (n : ℕ) → Contains (keys kept) n → (e : TypeEntry) × Contains kept (n, e)
+pub has_entry : (kept : Kept) (n : ℕ) → Contains (keys kept) n → (e : TypeEntry) × Contains kept (n, e)
 has_entry [] n h = absurd (none_in n h)
 has_entry (p ∷ kept) n h =
     elim (first_or_later p.0 n (keys kept) h) [
@@ -138,19 +142,15 @@ has_entry (p ∷ kept) n h =
       | inr later ↦ let g = has_entry kept n later in (g.0, later_in p (n, g.0) kept g.1)
     ]
 
-some_is : (a b : ℕ) (o : Option ℕ) → o ≡ Some a → o ≡ Some b → a ≡ b
-some_is a b o e h = let k : Some a ≡ Some b = sym e ∙ h in cc
-
-keys_in : (new_indices : List ℕ) (all : List TypeEntry) (a b : Kept) → AreKept new_indices all a →
+keys_in : (new_indices : NewIndices) (all : List TypeEntry) (a b : Kept) → AreKept new_indices all a →
     AreKept new_indices all b → (n : ℕ) → Contains (keys a) n → Contains (keys b) n
 keys_in new_indices all a b h g n has =
     let e = has_entry a n has in
     let l = h.are_least n e.0 e.1 in
     let there : Contains all e.0 = subst (λ (u : List TypeEntry). Contains u e.0) (sym l.1.parts)
     (Contains-append_right l.1.before (e.0 ∷ l.1.after) e.0 (first_in e.0 l.1.after)) in
-    let m = All-contains (λ k. (j : ℕ) × (new_index new_indices k ≡ Some j) × Contains (keys b) j) all e.0
-    g.none_missing there in
-    subst (λ k. Contains (keys b) k) (some_is m.0 n (new_index new_indices e.0) m.1 l.0) m.2
+    All-contains (λ k. (j : ℕ) → new_index new_indices k.index ≡ Some j → Contains (keys b) j) all e.0
+    g.none_missing there n l.0
 
 same_pairs : (a b : Kept) → keys a ≡ keys b →
     ((n : ℕ) (e f : TypeEntry) → Contains a (n, e) → Contains b (n, f) → e ≡ f) → a ≡ b
@@ -167,7 +167,7 @@ same_pairs (p ∷ a) (q ∷ b) h same =
     (λ n e f k l. same n e f (later_in p (n, e) a k) (later_in q (n, f) b l)) in
     ap (λ k. k ∷ a) pairs ∙ ap (λ (u : Kept). q ∷ u) others
 
-kept_once : (new_indices : List ℕ) (all : List TypeEntry) (a b : Kept) → AreKept new_indices all a →
+kept_once : (new_indices : NewIndices) (all : List TypeEntry) (a b : Kept) → AreKept new_indices all a →
     AreKept new_indices all b → a ≡ b
 kept_once new_indices all a b h g =
     same_pairs a b
@@ -199,8 +199,8 @@ entry_once Follows free _ _ _ _ r s (entry text follows index h g) (entry text' 
       behind,
     )
 
-entries_once : (Follows : List ℕ → Type 0) → IsPrefixFree Follows → (a b : List ℕ) (es fs : List TypeEntry)
-    (r s : List ℕ) → AreItems (IsEntry Follows) a es → AreItems (IsEntry Follows) b fs → a ++ r ≡ b ++ s →
+pub entries_once : (Follows : List ℕ → Type 0) → IsPrefixFree Follows →
+    (a b : List ℕ) (es fs : List TypeEntry) (r s : List ℕ) → AreItems (IsEntry Follows) a es → AreItems (IsEntry Follows) b fs → a ++ r ≡ b ++ s →
     length es ≡ length fs → es ≡ fs
 entries_once Follows free _ _ _ _ r s none none e many = refl
 entries_once Follows free _ _ _ _ r s none (next text others f fs g gs) e many = absurd (omega (arith, many))
@@ -223,11 +223,11 @@ new_entries_once w _ _ _ (next a b p ps h hs) (next c d _ _ k ks) =
     ap (λ (u : List ℕ). u ++ b) (new_entry_once w a c p h k)
     ∙ ap (λ (u : List ℕ). c ++ u) (new_entries_once w b d ps hs ks)
 
-nothing : (es : List TypeEntry) → length es ≡ 0 → es ≡ []
+pub nothing : (es : List TypeEntry) → length es ≡ 0 → es ≡ []
 nothing [] h = refl
 nothing (x ∷ xs) h = absurd (omega (arith, h))
 
-map_same : (Follows : List ℕ → Type 0) → IsPrefixFree Follows → (new_indices : List ℕ) (w : Widths)
+map_same : (Follows : List ℕ → Type 0) → IsPrefixFree Follows → (new_indices : NewIndices) (w : Widths)
     (text other a b x y : List ℕ) → RenamesMap Follows new_indices w text a x →
     RenamesMap Follows new_indices w other b y → text ≡ other → (a ≡ b) × (x ≡ y)
 map_same Follows free new_indices w _ _ _ _ _ _ (empty count h) (empty count' h') e = (e, refl)
@@ -265,7 +265,7 @@ map_same Follows free new_indices w _ _ _ _ _ _
       ap (λ (u : List TypeEntry). map (λ (k : TypeEntry). k.index) u) all,
     )
 
-pub map_once : (Follows : List ℕ → Type 0) → IsPrefixFree Follows → (new_indices : List ℕ) (w : Widths) →
+pub map_once : (Follows : List ℕ → Type 0) → IsPrefixFree Follows → (new_indices : NewIndices) (w : Widths) →
     Once (RenamesMap Follows new_indices w)
 map_once Follows free new_indices w text a b x y h g =
     map_same Follows free new_indices w text text a b x y h g refl

@@ -12,21 +12,22 @@ use Rattle.walrus_module.specs.RenamedModules.{RenamesAny, RenamesSection, Renam
 use Rattle.walrus_module.specs.RenamedModules.RenamesAny.{custom, other as other_content}
 use Rattle.walrus_module.specs.RenamedModules.RenamesSection.{type_section, other as other_section}
 use Rattle.walrus_module.specs.Steps.NameSections.{TakesSized}
+use Rattle.walrus_module.specs.Renaming.{NewIndices}
 use Rattle.walrus_module.proofs.NameMaps.{name_free, name_map_free}
 use Rattle.walrus_module.proofs.OneMap.{map_once}
 use Rattle.walrus_module.proofs.OneResult.{Once, OnceInFront, sized_once, all_once, content_once}
 use Rattle.walrus_module.proofs.RenamingLaws.{text_once}
 use Rattle.walrus_module.proofs.SizedContents.{same_content}
 
-same_first : (a b : ℕ) (x y : List ℕ) → a ∷ x ≡ b ∷ y → a ≡ b
+pub same_first : (a b : ℕ) (x y : List ℕ) → a ∷ x ≡ b ∷ y → a ≡ b
 same_first a b x y e = cc
 
-same_later : (a b : ℕ) (x y : List ℕ) → a ∷ x ≡ b ∷ y → x ≡ y
+pub same_later : (a b : ℕ) (x y : List ℕ) → a ∷ x ≡ b ∷ y → x ≡ y
 same_later a b x y e = cc
 
 -- ---- subsections
 
-names_once : (id : ℕ) (new_indices : List ℕ) (w : Widths) → Once (RenamesNames id new_indices w)
+names_once : (id : ℕ) (new_indices : NewIndices) (w : Widths) → Once (RenamesNames id new_indices w)
 names_once id new_indices w text a b x y (type_names _ _ _ is h) (type_names _ _ _ is' g) =
     map_once IsName name_free new_indices w text a b x y h g
 names_once id new_indices w text a b x y (type_names _ _ _ is h) (field_names _ _ _ is' g) =
@@ -41,7 +42,7 @@ names_once id new_indices w text _ b _ y (others _ fails lacks) (type_names _ _ 
 names_once id new_indices w text _ b _ y (others _ fails lacks) (field_names _ _ _ is g) = absurd (lacks is)
 names_once id new_indices w text _ _ _ _ (others _ fails lacks) (others _ fails' lacks') = (refl, refl)
 
-subsection_once : (new_indices : List ℕ) (w : Widths) → OnceInFront (RenamesSubsection new_indices w)
+subsection_once : (new_indices : NewIndices) (w : Widths) → OnceInFront (RenamesSubsection new_indices w)
 subsection_once new_indices w _ _ _ _ _ _ r s (subsection id text new names h)
     (subsection id' text' new' names' g) e =
     let first : id ≡ id' = same_first id id' (text ++ r) (text' ++ s) e in
@@ -50,12 +51,12 @@ subsection_once new_indices w _ _ _ _ _ _ r s (subsection id text new names h)
     (same_later id id' (text ++ r) (text' ++ s) e) in
     (ap (λ k. k ∷ new) first ∙ ap (λ (u : List ℕ). id' ∷ u) o.0, o.1, o.2)
 
-some_subsection : (new_indices : List ℕ) (w : Widths) (text rest a x : List ℕ) →
+pub some_subsection : (new_indices : NewIndices) (w : Widths) (text rest a x : List ℕ) →
     RenamesSubsection new_indices w text a x → [] ≡ text ++ rest → ⊥
 some_subsection new_indices w _ rest _ _ (subsection id text new names h) e = absurd cc
 
 -- however many subsections a whole text is divided into
-subsections_once : (new_indices : List ℕ) (w : Widths) (count many : ℕ) (texts whole a b x y : List ℕ) →
+subsections_once : (new_indices : NewIndices) (w : Widths) (count many : ℕ) (texts whole a b x y : List ℕ) →
     ChangeAll (RenamesSubsection new_indices w) count texts a x
     → ChangeAll (RenamesSubsection new_indices w) many whole b y → texts ≡ whole → (a ≡ b) × (x ≡ y)
 subsections_once new_indices w _ _ _ _ _ _ _ _ none none e = (refl, refl)
@@ -73,11 +74,11 @@ subsections_once new_indices w _ _ _ _ _ _ _ _ (next count text rest new new_res
 
 -- ---- custom sections
 
-named : (size name follows bytes : List ℕ) → IsU32 size (length name) → bytes ≡ size ++ (name ++ follows) →
-    TakesSized name bytes follows
+pub named : (size name follows bytes : List ℕ) → IsU32 size (length name) →
+    bytes ≡ size ++ (name ++ follows) → TakesSized name bytes follows
 named size name follows bytes h e = record { size = size; is_size = h; parts = e }
 
-custom_same : (new_indices : List ℕ) (w : Widths) (text whole a b x y : List ℕ) →
+custom_same : (new_indices : NewIndices) (w : Widths) (text whole a b x y : List ℕ) →
     RenamesCustom new_indices w text a x → RenamesCustom new_indices w whole b y → text ≡ whole →
     (a ≡ b) × (x ≡ y)
 custom_same new_indices w _ _ _ _ _ _ (name_section count size texts new names h hs)
@@ -106,7 +107,7 @@ custom_same new_indices w _ _ _ _ _ _ (other_name size bytes follows h different
 
 -- ---- sections
 
-any_once : (id : ℕ) (new_indices : List ℕ) (w : Widths) → Once (RenamesAny id new_indices w)
+any_once : (id : ℕ) (new_indices : NewIndices) (w : Widths) → Once (RenamesAny id new_indices w)
 any_once id new_indices w text a b x y (custom _ _ _ is h) (custom _ _ _ is' g) =
     custom_same new_indices w text text a b x y h g refl
 any_once id new_indices w text a b x y (custom _ _ _ is h) (other_content _ _ _ fails g) = absurd (fails is)
@@ -114,7 +115,8 @@ any_once id new_indices w text a b x y (other_content _ _ _ fails h) (custom _ _
 any_once id new_indices w text a b x y (other_content _ _ _ fails h) (other_content _ _ _ fails' g) =
     content_once id new_indices w text a b x y h g
 
-section_once : (types new_indices : List ℕ) (w : Widths) → OnceInFront (RenamesSection types new_indices w)
+section_once : (types : List ℕ) (new_indices : NewIndices) (w : Widths) →
+    OnceInFront (RenamesSection types new_indices w)
 section_once types new_indices w _ _ _ _ _ _ r s (type_section size content new_size h t)
     (type_section size' content' new_size' g t') e =
     let c = same_content ((size ++ content) ++ r) content r content' s
@@ -139,7 +141,7 @@ section_once types new_indices w _ _ _ _ _ _ r s (other_section id text new name
 
 -- ---- modules
 
-pub renamed_once : (types new_indices : List ℕ) (w : Widths) (bytes a b : List ℕ) →
+pub renamed_once : (types : List ℕ) (new_indices : NewIndices) (w : Widths) (bytes a b : List ℕ) →
     RenamesModule types new_indices w bytes a → RenamesModule types new_indices w bytes b → a ≡ b
 renamed_once types new_indices w bytes a b h g =
     let R : Change = RenamesSection types new_indices w in

@@ -12,7 +12,7 @@ use Rattle.walrus_module.specs.RenamedSections.{RenamesTexts, RenamesBody, Renam
 use Rattle.walrus_module.specs.RenamedSections.RenamesCode.{counted}
 use Rattle.walrus_module.specs.RenamedSections.RenamesContent.{texts, code, nameless}
 use Rattle.walrus_module.specs.Bodies.{body}
-use Rattle.walrus_module.specs.Renaming.{least_width, IsTextOf}
+use Rattle.walrus_module.specs.Renaming.{NewIndices, least_width, IsTextOf}
 use Rattle.walrus_module.specs.Steps.Heads.{beginning, begin_at}
 use Rattle.walrus_module.specs.Steps.NameSections.{TakesSized}
 use Rattle.walrus_binary.specs.Leb128.{IsU32}
@@ -24,7 +24,7 @@ use Rattle.walrus_module.proofs.SizedContents.{number_read, same_number, same_co
 
 -- ---- the types that texts name
 
-same_names : (kinds : List Kind) (t : List ℕ) (ps : List Piece) (t' : List ℕ) (qs : List Piece)
+pub same_names : (kinds : List Kind) (t : List ℕ) (ps : List Piece) (t' : List ℕ) (qs : List Piece)
     (r r' : List ℕ) → AreTexts kinds t ps → AreTexts kinds t' qs → t ++ r ≡ t' ++ r' →
     type_names ps ≡ type_names qs
 same_names _ _ _ _ _ r r' (stop _) (stop _) e = refl
@@ -57,7 +57,8 @@ abbrev pub OnceInFront : Change → Type 0
 OnceInFront R = (text other a b x y r s : List ℕ) → R text a x → R other b y → text ++ r ≡ other ++ s →
     (a ≡ b) × (x ≡ y) × (r ≡ s)
 
-texts_once : (new_indices : List ℕ) (w : Widths) (kinds : List Kind) → Once (RenamesTexts new_indices w kinds)
+texts_once : (new_indices : NewIndices) (w : Widths) (kinds : List Kind) →
+    Once (RenamesTexts new_indices w kinds)
 texts_once new_indices w kinds text a b x y h g = (
   one_result new_indices (least_width w) kinds text a b h.renames g.renames,
   h.naming.named ∙ same_names kinds text h.naming.pieces text g.naming.pieces [] [] h.naming.are
@@ -66,12 +67,12 @@ texts_once new_indices w kinds text a b x y h g = (
 
 -- ---- sized texts
 
-taken : (size content r bytes : List ℕ) → IsU32 size (length content) → bytes ≡ (size ++ content) ++ r →
+pub taken : (size content r bytes : List ℕ) → IsU32 size (length content) → bytes ≡ (size ++ content) ++ r →
     TakesSized content bytes r
 taken size content r bytes is e =
     record { size = size; is_size = is; parts = e ∙ append_assoc size content r }
 
-same_sizes : (size content r size' content' s : List ℕ) → content ≡ content' → r ≡ s →
+pub same_sizes : (size content r size' content' s : List ℕ) → content ≡ content' → r ≡ s →
     (size ++ content) ++ r ≡ (size' ++ content') ++ s → size ≡ size'
 same_sizes size content r size' content' s c rest e =
     let t : (size ++ content) ++ r ≡ (size' ++ content') ++ r =
@@ -124,7 +125,7 @@ all_once R once _ _ _ _ _ _ _ r s (next count text others new new_others names m
 
 -- ---- contents
 
-code_once : (new_indices : List ℕ) (w : Widths) (content other a b x y : List ℕ) →
+code_once : (new_indices : NewIndices) (w : Widths) (content other a b x y : List ℕ) →
     RenamesCode new_indices w content a x → RenamesCode new_indices w other b y → content ≡ other →
     (a ≡ b) × (x ≡ y)
 code_once new_indices w _ _ _ _ _ _ (counted bodies count front new names h hs)
@@ -140,13 +141,13 @@ code_once new_indices w _ _ _ _ _ _ (counted bodies count front new names h hs)
     (ap (λ (u : List ℕ). u ++ []) n.1) in
     (ap (λ (u : List ℕ). u ++ new) counts ∙ ap (λ (u : List ℕ). count' ++ u) o.0, o.1)
 
-same_kinds : (o : Option (List Kind)) (a b : List Kind) → o ≡ Some a → o ≡ Some b → a ≡ b
+pub same_kinds : (o : Option (List Kind)) (a b : List Kind) → o ≡ Some a → o ≡ Some b → a ≡ b
 same_kinds o a b e h = let k : Some a ≡ Some b = sym e ∙ h in cc
 
-no_texts_of_code : (id : ℕ) (kinds : List Kind) → section_kinds id ≡ Some kinds → id ≡ code_id → ⊥
+pub no_texts_of_code : (id : ℕ) (kinds : List Kind) → section_kinds id ≡ Some kinds → id ≡ code_id → ⊥
 no_texts_of_code id kinds e is = let k : Some kinds ≡ None = sym e ∙ ap section_kinds is in cc
 
-pub content_once : (id : ℕ) (new_indices : List ℕ) (w : Widths) → Once (RenamesContent id new_indices w)
+pub content_once : (id : ℕ) (new_indices : NewIndices) (w : Widths) → Once (RenamesContent id new_indices w)
 content_once id new_indices w _ _ _ _ _ (texts kinds content a x e h) (texts kinds' _ b y e' g) =
     texts_once new_indices w kinds content a b x y h
     (subst (λ (u : List Kind). RenamesTexts new_indices w u content b y)

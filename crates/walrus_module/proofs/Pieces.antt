@@ -5,7 +5,7 @@ use Rattle.walrus_module.specs.declared.kind.Space.{Space}
 use Rattle.walrus_module.specs.declared.kind.Space.TheVariants as space
 use Rattle.walrus_module.specs.declared.kind.Kind.{Kind}
 use Rattle.walrus_module.specs.Immediates.{Piece, unsigned, signed, plain, type_name, Begins, index, signed_index, number, byte, offset, i32, i64, raw, byte_vec, import, Runs, stop, step}
-use Rattle.walrus_module.specs.Renaming.{type_maps, text_of, map_for}
+use Rattle.walrus_module.specs.Renaming.{NewIndices, type_maps, text_of, map_for}
 
 -- ---- their bytes
 
@@ -39,7 +39,8 @@ pub data View : Piece → Type 0 where
   u32_type : (text : List ℕ) (k : ℕ) → View (unsigned space.Type text k)
   s33_type : (text : List ℕ) (k : ℕ) → View (signed space.Type text k)
   other :
-      (p : Piece) → type_name p ≡ None → ((new_indices : List ℕ) → map_for (type_maps new_indices) p ≡ None)
+      (p : Piece) → type_name p ≡ None →
+      ((new_indices : NewIndices) → map_for (type_maps new_indices) p ≡ None)
       → View p
 
 unsigned_view : (s : Space) (text : List ℕ) (k : ℕ) → View (unsigned s text k)

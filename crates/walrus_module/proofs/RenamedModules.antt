@@ -16,6 +16,7 @@ use Rattle.walrus_module.specs.Sections.{PlacedSection, placed, framing, ArePlac
 use Rattle.walrus_module.specs.Sections.ArePlaced.{none as nothing, next as placed_next}
 use Rattle.walrus_module.specs.Steps.RenamedModules.{IsMalformedSection, SectionNamesUnknown}
 use Rattle.walrus_module.specs.Steps.Renaming.{Appends}
+use Rattle.walrus_module.specs.Renaming.{NewIndices}
 use Rattle.walrus_module.proofs.SizedContents.{same_number, number_read}
 use Rattle.walrus_module.proofs.Changing.{change_on, first_behind}
 use Rattle.walrus_module.proofs.ChangedTexts.{EndsAlike, Changed, changed_behind}
@@ -30,14 +31,14 @@ pub record AsSection (text : List ℕ) : Type 0 where
   pub is_size : IsU32 size (length content)
   pub parts : text ≡ id ∷ (size ++ content)
 
-as_sized : (types new_indices : List ℕ) (widths : Widths) (id : ℕ) (text new names : List ℕ) →
+as_sized : (types : List ℕ) (new_indices : NewIndices) (widths : Widths) (id : ℕ) (text new names : List ℕ) →
     ChangesSized widths (RenamesAny id new_indices widths) text new names → AsSection (id ∷ text)
 as_sized types new_indices widths id _ _ _ (stays size content h r) =
     record { id = id; size = size; content = content; is_size = h; parts = refl }
 as_sized types new_indices widths id _ _ _ (resized size content new_size new names h r some is) =
     record { id = id; size = size; content = content; is_size = h; parts = refl }
 
-as_section : (types new_indices : List ℕ) (widths : Widths) (text new names : List ℕ) →
+as_section : (types : List ℕ) (new_indices : NewIndices) (widths : Widths) (text new names : List ℕ) →
     RenamesSection types new_indices widths text new names → AsSection text
 as_section types new_indices widths _ _ _ (type_section size content new_size h is) =
     record { id = 1; size = size; content = content; is_size = h; parts = refl }
@@ -96,7 +97,8 @@ same_content a x b y rest after h k e =
     (e ∙ sym (append_assoc b y after)) in
     let is = sections_same (0 ∷ (a ++ x)) rest (0 ∷ (b ++ y)) after s t same in is.content
 
-ends_alike : (types new_indices : List ℕ) (widths : Widths) (others indices : List ℕ) (w : Widths) →
+ends_alike : (types : List ℕ) (new_indices : NewIndices) (widths : Widths) (others : List ℕ)
+    (indices : NewIndices) (w : Widths) →
     EndsAlike (RenamesSection types new_indices widths) (RenamesSection others indices w)
 ends_alike types new_indices widths others indices w x rest y after new_x names_x new_y names_y r q e =
     let same = sections_same x rest y after (as_section types new_indices widths x new_x names_x r)
@@ -106,7 +108,7 @@ ends_alike types new_indices widths others indices w x rest y after new_x names_
 -- ---- the loop over the sections
 
 -- what was written of a module, and the sections that are left
-pub record IsBegun (types new_indices : List ℕ) (widths : Widths) (bytes : List ℕ)
+pub record IsBegun (types : List ℕ) (new_indices : NewIndices) (widths : Widths) (bytes : List ℕ)
     (all left : List PlacedSection) (out : List ℕ) : Type 0 where
   pub count : ℕ
   pub texts : List ℕ
@@ -212,14 +214,14 @@ is_placed bytes texts rest s left e n =
       cut = next_whole s n.size n.others bytes s.offset behind refl n.content_begins;
     }
 
-abbrev pub next_text : (types new_indices : List ℕ) (widths : Widths) (bytes : List ℕ)
+abbrev pub next_text : (types : List ℕ) (new_indices : NewIndices) (widths : Widths) (bytes : List ℕ)
     (all old left : List PlacedSection) (out : List ℕ) (s : PlacedSection)
     → IsBegun types new_indices widths bytes all old out → old ≡ s ∷ left → List ℕ
 next_text types new_indices widths bytes all old left out s w e =
     let n = placed_first bytes w.texts w.rest (length header + length w.texts) old left s refl w.places e in
     s.framed.id ∷ (n.size ++ s.framed.content)
 
-pub section_placed : (types new_indices : List ℕ) (widths : Widths) (bytes : List ℕ)
+pub section_placed : (types : List ℕ) (new_indices : NewIndices) (widths : Widths) (bytes : List ℕ)
     (all old left : List PlacedSection) (out : List ℕ) (s : PlacedSection)
     (w : IsBegun types new_indices widths bytes all old out) (e : old ≡ s ∷ left) →
     IsPlaced bytes s (next_text types new_indices widths bytes all old left out s w e)
@@ -227,7 +229,7 @@ section_placed types new_indices widths bytes all old left out s w e =
     is_placed bytes w.texts w.rest s left w.parts
     (placed_first bytes w.texts w.rest (length header + length w.texts) old left s refl w.places e)
 
-pub section_whole : (types new_indices : List ℕ) (widths : Widths) (bytes : List ℕ)
+pub section_whole : (types : List ℕ) (new_indices : NewIndices) (widths : Widths) (bytes : List ℕ)
     (all old left : List PlacedSection) (out : List ℕ) (s : PlacedSection) (text : List ℕ)
     → IsBegun types new_indices widths bytes all old out → old ≡ s ∷ left
     → text ≡ slice_range bytes s.offset (s.content_offset + length s.framed.content)
@@ -238,7 +240,8 @@ section_whole types new_indices widths bytes all old left out s text w e cut =
 
 -- ---- from section to section
 
-pub module_begun : (types new_indices : List ℕ) (widths : Widths) (bytes : List ℕ) (all : List PlacedSection)
+pub module_begun : (types : List ℕ) (new_indices : NewIndices) (widths : Widths) (bytes : List ℕ)
+    (all : List PlacedSection)
     (out : List ℕ) → IsModule bytes (framing all) → ArePlaced (length header) (drop (length header) bytes) all
     → out ≡ take (length header) bytes → IsBegun types new_indices widths bytes all all out
 module_begun types new_indices widths bytes all out m places e =
@@ -258,7 +261,7 @@ module_begun types new_indices widths bytes all out m places e =
       written = e ∙ ap (take (length header)) p.1 ∙ take_at header p.0 (length header) refl;
     }
 
-pub module_on : (types new_indices : List ℕ) (widths : Widths) (bytes : List ℕ)
+pub module_on : (types : List ℕ) (new_indices : NewIndices) (widths : Widths) (bytes : List ℕ)
     (all old left : List PlacedSection) (out new_out : List ℕ) (s : PlacedSection) (text : List ℕ)
     → IsBegun types new_indices widths bytes all old out → old ≡ s ∷ left
     → text ≡ slice_range bytes s.offset (s.content_offset + length s.framed.content)
@@ -295,7 +298,7 @@ many_sections : (all : List PlacedSection) → length (framing all) ≡ length a
 many_sections [] = refl
 many_sections (s ∷ all) = ap suc (many_sections all)
 
-pub module_renamed : (types new_indices : List ℕ) (widths : Widths) (bytes : List ℕ)
+pub module_renamed : (types : List ℕ) (new_indices : NewIndices) (widths : Widths) (bytes : List ℕ)
     (all left : List PlacedSection) (out : List ℕ) → IsModule bytes (framing all)
     → IsBegun types new_indices widths bytes all left out → left ≡ []
     → RenamesModule types new_indices widths bytes out
@@ -327,7 +330,7 @@ module_renamed types new_indices widths bytes all left out m w e =
 -- ---- what is refused
 
 -- a section of the same bytes is not renamed either
-malformed_sized : (id : ℕ) (indices : List ℕ) (w : Widths) (text new names content : List ℕ)
+malformed_sized : (id : ℕ) (indices : NewIndices) (w : Widths) (text new names content : List ℕ)
     (size : List ℕ) → IsU32 size (length content) → ChangesSized w (RenamesAny id indices w) text new names
     → (rest others : List ℕ) → text ++ rest ≡ size ++ (content ++ others)
     → IsMalformed (RenamesAny id) content → ⊥
@@ -340,7 +343,7 @@ malformed_sized id indices w _ _ _ content size h (resized old old_content new_s
     let same = same_content old old_content size content rest others k h e in
     bad indices w new names (subst (λ (u : List ℕ). RenamesAny id indices w u new names) same r)
 
-malformed_section : (others indices : List ℕ) (w : Widths) (text new names : List ℕ) (id : ℕ)
+malformed_section : (others : List ℕ) (indices : NewIndices) (w : Widths) (text new names : List ℕ) (id : ℕ)
     (size content rest after : List ℕ) → IsU32 size (length content)
     → RenamesSection others indices w text new names
     → text ++ rest ≡ (id ∷ (size ++ content)) ++ after → IsMalformedSection id content → ⊥
@@ -356,7 +359,8 @@ malformed_section others indices w _ _ _ id size content rest after h (other old
     bad.malformed
 
 -- where the next section is malformed the module can't be renamed
-malformed_next : (others indices : List ℕ) (w : Widths) (count : ℕ) (id : ℕ) (size content rest : List ℕ) →
+malformed_next : (others : List ℕ) (indices : NewIndices) (w : Widths) (count : ℕ) (id : ℕ)
+    (size content rest : List ℕ) →
     IsU32 size (length content) → IsMalformedSection id content
     → (c : Changed (RenamesSection others indices w) (suc count) ((id ∷ (size ++ content)) ++ rest)) → ⊥
 malformed_next others indices w count id size content rest h bad c =
@@ -369,7 +373,7 @@ malformed_next others indices w count id size content rest h bad c =
     first_is _ _ _ _ (next m text after new new_after names more r rs) e is =
         malformed_section others indices w text new names id size content after rest h r is bad
 
-pub module_malformed : (types new_indices : List ℕ) (widths : Widths) (bytes : List ℕ)
+pub module_malformed : (types : List ℕ) (new_indices : NewIndices) (widths : Widths) (bytes : List ℕ)
     (all old left : List PlacedSection) (out : List ℕ) (s : PlacedSection) → IsModule bytes (framing all)
     → IsBegun types new_indices widths bytes all old out → old ≡ s ∷ left
     → IsMalformedSection s.framed.id s.framed.content → CanNotBeRenamed bytes
@@ -393,7 +397,8 @@ module_malformed types new_indices widths bytes all old left out s m w e bad oth
     malformed_next others indices v (length left) s.framed.id n.size s.framed.content n.others n.is_size bad
     (subst (λ (u : List ℕ). Changed (RenamesSection others indices v) (suc (length left)) u) n.parts c)
 
-pub first_section : (types new_indices : List ℕ) (widths : Widths) (F : List ℕ → Type 0) (bytes : List ℕ)
+pub first_section : (types : List ℕ) (new_indices : NewIndices) (widths : Widths) (F : List ℕ → Type 0)
+    (bytes : List ℕ)
     (all old left : List PlacedSection) (out : List ℕ) (s : PlacedSection) → IsModule bytes (framing all) →
     (w : IsBegun types new_indices widths bytes all old out) → old ≡ s ∷ left → F w.rest
     → FirstSectionIn types new_indices widths F bytes
@@ -415,7 +420,7 @@ first_section types new_indices widths F bytes all old left out s m w e found =
           (length (framing all)) w.rest (omega (arith, total)) found;
     }
 
-pub module_unknown : (types new_indices : List ℕ) (widths : Widths) (k : ℕ) (bytes : List ℕ)
+pub module_unknown : (types : List ℕ) (new_indices : NewIndices) (widths : Widths) (k : ℕ) (bytes : List ℕ)
     (all old left : List PlacedSection) (out : List ℕ) (s : PlacedSection) → IsModule bytes (framing all)
     → IsBegun types new_indices widths bytes all old out → old ≡ s ∷ left
     → SectionNamesUnknown new_indices widths k s.framed.id s.framed.content
@@ -428,7 +433,7 @@ module_unknown types new_indices widths k bytes all old left out s m w e u =
     n.is_size u.unknown) in
     first_section types new_indices widths F bytes all old left out s m w e found
 
-pub module_too_long : (types new_indices : List ℕ) (widths : Widths) (bytes : List ℕ)
+pub module_too_long : (types : List ℕ) (new_indices : NewIndices) (widths : Widths) (bytes : List ℕ)
     (all old left : List PlacedSection) (out : List ℕ) (s : PlacedSection) (text : List ℕ)
     → IsModule bytes (framing all) → IsBegun types new_indices widths bytes all old out → old ≡ s ∷ left
     → text ≡ slice_range bytes s.offset (s.content_offset + length s.framed.content)

@@ -8,7 +8,7 @@ use Rattle.walrus_module.specs.Changes.{TurnsInto, Changes, stays, resized, Beco
 use Rattle.walrus_module.specs.RenamedModules.{RenamesAny, RenamesSection, InContent, in_section, PartBecomesTooLong, SectionBecomesTooLong}
 use Rattle.walrus_module.specs.RenamedModules.RenamesSection.{type_section, other}
 use Rattle.walrus_module.specs.RenamedModules.SectionBecomesTooLong.{type_section as long_types, whole as long_whole, part as long_part}
-use Rattle.walrus_module.specs.Renaming.{least_width, IsTextOf}
+use Rattle.walrus_module.specs.Renaming.{NewIndices, least_width, IsTextOf}
 use Rattle.walrus_module.specs.Steps.RenamedModules.{IsWhole, IsSectionOf}
 use Rattle.walrus_module.specs.Steps.Renaming.{Appends}
 use Rattle.walrus_module.specs.Steps.Changes.{IsSized}
@@ -67,7 +67,7 @@ section_pushed least id content old mid new e a =
       parts = a.parts ∙ ap (λ (u : List ℕ). u ++ a.text) e ∙ append_assoc old (id ∷ []) a.text;
     }
 
-pub types_written : (types new_indices : List ℕ) (w : Widths) (text : List ℕ) (id : ℕ)
+pub types_written : (types : List ℕ) (new_indices : NewIndices) (w : Widths) (text : List ℕ) (id : ℕ)
     (content old new : List ℕ) → IsWhole text id content → id ≡ 1
     → Appends (λ t. IsSectionOf 0 t 1 types) old new
     → Appends (λ t. TurnsInto (RenamesSection types new_indices w) text t) old new
@@ -89,7 +89,7 @@ types_written types new_indices w text id content old new h e a =
       parts = a.parts;
     }
 
-pub changed_written : (types new_indices : List ℕ) (w : Widths) (text : List ℕ) (id : ℕ)
+pub changed_written : (types : List ℕ) (new_indices : NewIndices) (w : Widths) (text : List ℕ) (id : ℕ)
     (content changed old new : List ℕ) (least : ℕ) → IsWhole text id content → (id ≡ 1 → ⊥)
     → Changes (RenamesAny id new_indices w) content changed
     → least ≡ least_width w (size_width text content)
@@ -117,7 +117,7 @@ changed_written types new_indices w text id content changed old new least h some
       parts = a.parts;
     }
 
-pub kept_written : (types new_indices : List ℕ) (w : Widths) (text : List ℕ) (id : ℕ)
+pub kept_written : (types : List ℕ) (new_indices : NewIndices) (w : Widths) (text : List ℕ) (id : ℕ)
     (content old new : List ℕ) → IsWhole text id content → (id ≡ 1 → ⊥)
     → RenamesAny id new_indices w content content [] → new ≡ old ++ text
     → Appends (λ t. TurnsInto (RenamesSection types new_indices w) text t) old new
@@ -152,7 +152,8 @@ in_text F text id content h some f =
     ∙ sym k.parts in
     subst (λ (u : List ℕ). InContent F u) same (in_content_of F id k.size content [] some k.is_size f)
 
-pub types_too_long : (types new_indices : List ℕ) (w : Widths) (text : List ℕ) (id : ℕ) (content : List ℕ) →
+pub types_too_long : (types : List ℕ) (new_indices : NewIndices) (w : Widths) (text : List ℕ) (id : ℕ)
+    (content : List ℕ) →
     IsWhole text id content → id ≡ 1 → 2 ^ 32 ≤ length types → SectionBecomesTooLong types new_indices w text
 types_too_long types new_indices w text id content h e long =
     let k = whole text (section id content) h in
@@ -160,13 +161,14 @@ types_too_long types new_indices w text id content h e long =
     subst (λ (u : List ℕ). SectionBecomesTooLong types new_indices w u) (sym parts)
     (long_types (k.size ++ content) long)
 
-pub part_too_long : (types new_indices : List ℕ) (w : Widths) (text : List ℕ) (id : ℕ) (content : List ℕ) →
+pub part_too_long : (types : List ℕ) (new_indices : NewIndices) (w : Widths) (text : List ℕ) (id : ℕ)
+    (content : List ℕ) →
     IsWhole text id content → (id ≡ 1 → ⊥) → PartBecomesTooLong new_indices w id content →
     SectionBecomesTooLong types new_indices w text
 part_too_long types new_indices w text id content h some p =
     long_part text (in_text (PartBecomesTooLong new_indices w) text id content h some p)
 
-pub whole_too_long : (types new_indices : List ℕ) (w : Widths) (text : List ℕ) (id : ℕ)
+pub whole_too_long : (types : List ℕ) (new_indices : NewIndices) (w : Widths) (text : List ℕ) (id : ℕ)
     (content changed : List ℕ) → IsWhole text id content → (id ≡ 1 → ⊥)
     → Changes (RenamesAny id new_indices w) content changed → 2 ^ 32 ≤ length changed
     → SectionBecomesTooLong types new_indices w text
@@ -185,7 +187,7 @@ in_longer : (F : ℕ → List ℕ → Type 0) (text others : List ℕ) → InCon
 in_longer F _ others (in_section id bytes some h) =
     in_section id (bytes ++ others) some (sized_longer (F id) bytes others h)
 
-pub too_long_longer : (types new_indices : List ℕ) (w : Widths) (text others : List ℕ) →
+pub too_long_longer : (types : List ℕ) (new_indices : NewIndices) (w : Widths) (text others : List ℕ) →
     SectionBecomesTooLong types new_indices w text
     → SectionBecomesTooLong types new_indices w (text ++ others)
 too_long_longer types new_indices w _ others (long_types bytes long) = long_types (bytes ++ others) long

@@ -1,5 +1,5 @@
 -- There is one result of renaming, the identity keeps all bytes, and what is written is a text again.
-use Rattle.std.proofs.Common.{◌≡◌, ℕ, ◌+◌, ◌/◌, ◌^◌, List, [], ◌∷◌, ◌++◌, length, take, map, Option, Some, None, slice_get, refl, sym, ap, subst, ◌∙◌, append_assoc, length-append, take_at, arith, le_refl}
+use Rattle.std.proofs.Common.{◌≡◌, ℕ, ◌+◌, ◌/◌, ◌^◌, List, [], ◌∷◌, ◌++◌, length, take, map, Option, Some, None, refl, sym, ap, subst, ◌∙◌, append_assoc, length-append, take_at, arith, le_refl}
 use Rattle.walrus_binary.specs.Grammar.{none, next}
 use Rattle.walrus_binary.specs.Leb128.{IsInteger}
 use Rattle.walrus_binary.specs.Leb128.IsInteger.{last as byte_last, more as longer}
@@ -7,7 +7,7 @@ use Rattle.walrus_binary.proofs.Basics.{done, value_is}
 use Rattle.walrus_module.specs.declared.kind.Kind.{Kind}
 use Rattle.walrus_module.specs.declared.renaming.Widths.TheVariants as widths
 use Rattle.walrus_module.specs.Immediates.{Piece, unsigned, signed, type_name, Begins, index, signed_index, Runs, stop, step, AreTexts, names_of, type_names}
-use Rattle.walrus_module.specs.Renaming.{type_maps, least_width, IsTextOf, text_of, Becomes, stays, u32, s33, IsRenamed, Renames, AreRenamed}
+use Rattle.walrus_module.specs.Renaming.{NewIndices, new_index, type_maps, least_width, IsTextOf, text_of, Becomes, stays, u32, s33, IsRenamed, Renames, AreRenamed}
 use Rattle.walrus_module.specs.Steps.Heads.{beginning}
 use Rattle.walrus_module.proofs.Heads.{begin_again}
 use Rattle.walrus_module.proofs.Scanning.{same_step}
@@ -44,7 +44,7 @@ text_once end least a b n m h g e =
     same_text end (2 ^ 32) a n h.is_text (2 ^ 32) m b g.is_text e (omega (arith, ab, ba))
 
 -- a text has its own width
-own_width : (end : ℕ) (text : List ℕ) (n : ℕ) → IsInteger end (2 ^ 32) text n →
+pub own_width : (end : ℕ) (text : List ℕ) (n : ℕ) → IsInteger end (2 ^ 32) text n →
     IsTextOf end (length text) text n
 own_width end text n h =
     record { is_text = h; wide = le_refl (length text); shortest = λ others t le. le }
@@ -59,7 +59,7 @@ mapped_once : (o : Option (ℕ → Option ℕ)) (f g : ℕ → Option ℕ) (k a 
 mapped_once o f g k a b e h x y =
     same_number a b (sym x ∙ ap (λ m. m k) (same_map f g (sym e ∙ h)) ∙ y)
 
-becomes_once : (new_indices : List ℕ) (least : ℕ → ℕ) (p : Piece) (a b : List ℕ) →
+becomes_once : (new_indices : NewIndices) (least : ℕ → ℕ) (p : Piece) (a b : List ℕ) →
     Becomes (type_maps new_indices) least a p → Becomes (type_maps new_indices) least b p → a ≡ b
 becomes_once new_indices least _ _ _ (stays _ e) (stays _ h) = refl
 becomes_once new_indices least _ _ _ (stays _ e) (u32 s m text new k n ms mk t) = absurd cc
@@ -73,7 +73,7 @@ becomes_once new_indices least _ _ _ (s33 s m text a k n ms mk t) (s33 _ m' _ b 
     text_once 0x40 (least (length text)) a b n n' t t'
     (mapped_once (type_maps new_indices s) m m' k n n' ms ms' mk mk')
 
-unnamed_same : (new_indices : List ℕ) (least : ℕ → ℕ) (p : Piece) (new : List ℕ) → View p →
+pub unnamed_same : (new_indices : NewIndices) (least : ℕ → ℕ) (p : Piece) (new : List ℕ) → View p →
     type_name p ≡ None →
     Becomes (type_maps new_indices) least new p → new ≡ text_of p
 unnamed_same new_indices least _ new (u32_type text k) e b = absurd cc
@@ -84,7 +84,7 @@ unnamed_same new_indices least _ _ (other _ unnamed maps) e (u32 s m text new k 
 unnamed_same new_indices least _ _ (other _ unnamed maps) e (s33 s m text new k n ms mk t) =
     let kept = maps new_indices in absurd cc
 
-same_becomes : (new_indices : List ℕ) (least : ℕ → ℕ) (k : Kind) (text : List ℕ) (p q : Piece)
+same_becomes : (new_indices : NewIndices) (least : ℕ → ℕ) (k : Kind) (text : List ℕ) (p q : Piece)
     (more inner : List Kind) (a b : List ℕ) (o : Option ℕ) → Begins k text p more → Begins k text q inner
     → type_name p ≡ o → type_name q ≡ o → Becomes (type_maps new_indices) least a p
     → Becomes (type_maps new_indices) least b q → a ≡ b
@@ -96,7 +96,7 @@ same_becomes new_indices least k text p q more inner a b None h g e f x y =
     unnamed_same new_indices least p a (view p) e x ∙ sym (piece_text k text p more h)
     ∙ piece_text k text q inner g ∙ sym (unnamed_same new_indices least q b (view q) f y)
 
-cancel : (a b x y : List ℕ) → a ++ x ≡ b ++ y → x ≡ y → a ≡ b
+pub cancel : (a b x y : List ℕ) → a ++ x ≡ b ++ y → x ≡ y → a ≡ b
 cancel a b x y e same =
     let long : length a + length x ≡ length b + length y = sym (length-append a x)
     ∙ ap (λ (u : List ℕ). length u) e ∙ length-append b y in
@@ -104,7 +104,7 @@ cancel a b x y e same =
     sym (take_at a x (length a) refl) ∙ ap (take (length a)) e
     ∙ take_at b y (length a) (omega (arith, long, tails))
 
-same_new : (new_indices : List ℕ) (least : ℕ → ℕ) (kinds : List Kind) (t : List ℕ) (ps : List Piece)
+same_new : (new_indices : NewIndices) (least : ℕ → ℕ) (kinds : List Kind) (t : List ℕ) (ps : List Piece)
     (t' : List ℕ) (qs : List Piece) (r r' a b : List ℕ) → AreTexts kinds t ps → AreTexts kinds t' qs
     → t ++ r ≡ t' ++ r' → IsRenamed (type_maps new_indices) least ps a
     → IsRenamed (type_maps new_indices) least qs b → a ≡ b
@@ -126,7 +126,7 @@ same_new new_indices least _ _ _ _ _ r r' _ _ (step k more kinds _ text others p
     (subst (λ (u : List Kind). AreTexts (u ++ kinds) others' qs) (sym s.0) runs') s.1 bxs bys in
     ap (λ (u : List ℕ). u ++ xs) first ∙ ap (λ (u : List ℕ). y ++ u) later
 
-pub one_result : (new_indices : List ℕ) (least : ℕ → ℕ) (kinds : List Kind) (bytes a b : List ℕ) →
+pub one_result : (new_indices : NewIndices) (least : ℕ → ℕ) (kinds : List Kind) (bytes a b : List ℕ) →
     Renames (type_maps new_indices) least kinds bytes a → Renames (type_maps new_indices) least kinds bytes b
     → a ≡ b
 one_result new_indices least kinds bytes a b h g =
@@ -135,15 +135,15 @@ one_result new_indices least kinds bytes a b h g =
 
 -- ---- the identity
 
-own_number : (new_indices : List ℕ) (m : ℕ → Option ℕ) (k n : ℕ) →
-    ((j i : ℕ) → slice_get new_indices j ≡ Some i → i ≡ j) →
-    some_map (λ j. slice_get new_indices j) ≡ some_map m → m k ≡ Some n → n ≡ k
+own_number : (new_indices : NewIndices) (m : ℕ → Option ℕ) (k n : ℕ) →
+    ((j i : ℕ) → new_index new_indices j ≡ Some i → i ≡ j) →
+    some_map (λ j. new_index new_indices j) ≡ some_map m → m k ≡ Some n → n ≡ k
 own_number new_indices m k n same e h =
-    same k n (ap (λ f. f k) (same_map (λ j. slice_get new_indices j) m e) ∙ h)
+    same k n (ap (λ f. f k) (same_map (λ j. new_index new_indices j) m e) ∙ h)
 
-becomes_same : (new_indices : List ℕ) (k : Kind) (text : List ℕ) (p : Piece) (more : List Kind)
+becomes_same : (new_indices : NewIndices) (k : Kind) (text : List ℕ) (p : Piece) (more : List Kind)
     (new : List ℕ) →
-    ((j i : ℕ) → slice_get new_indices j ≡ Some i → i ≡ j) → View p → Begins k text p more →
+    ((j i : ℕ) → new_index new_indices j ≡ Some i → i ≡ j) → View p → Begins k text p more →
     Becomes (type_maps new_indices) (least_width widths.Kept) new p → new ≡ text
 becomes_same new_indices k text p more _ same v h (stays _ e) = sym (piece_text k text p more h)
 becomes_same new_indices _ _ _ _ _ same (u32_type _ _) (index s text k h) (u32 _ m _ new _ n ms mk t) =
@@ -158,16 +158,17 @@ becomes_same new_indices k text _ more _ same (other _ unnamed maps) h (u32 s m 
 becomes_same new_indices k text _ more _ same (other _ unnamed maps) h (s33 s m _ new j n ms mk t) =
     let kept = maps new_indices in absurd cc
 
-all_same : (new_indices : List ℕ) (kinds : List Kind) (text : List ℕ) (pieces : List Piece) (left : List Kind)
-    (new : List ℕ) → ((j i : ℕ) → slice_get new_indices j ≡ Some i → i ≡ j) → Runs kinds text pieces left →
+all_same : (new_indices : NewIndices) (kinds : List Kind) (text : List ℕ) (pieces : List Piece)
+    (left : List Kind)
+    (new : List ℕ) → ((j i : ℕ) → new_index new_indices j ≡ Some i → i ≡ j) → Runs kinds text pieces left →
     IsRenamed (type_maps new_indices) (least_width widths.Kept) pieces new → new ≡ text
 all_same new_indices _ _ _ _ _ same (stop _) none = refl
 all_same new_indices _ _ _ left _ same (step k more kinds _ text others p ps h runs) (next x xs _ _ b bs) =
     ap (λ (u : List ℕ). u ++ xs) (becomes_same new_indices k text p more x same (view p) h b)
     ∙ ap (λ (u : List ℕ). text ++ u) (all_same new_indices (more ++ kinds) others ps left xs same runs bs)
 
-pub identity_keeps : (new_indices : List ℕ) (kinds : List Kind) (bytes new : List ℕ) →
-    ((k n : ℕ) → slice_get new_indices k ≡ Some n → n ≡ k) →
+pub identity_keeps : (new_indices : NewIndices) (kinds : List Kind) (bytes new : List ℕ) →
+    ((k n : ℕ) → new_index new_indices k ≡ Some n → n ≡ k) →
     Renames (type_maps new_indices) (least_width widths.Kept) kinds bytes new → new ≡ bytes
 identity_keeps new_indices kinds bytes new same h =
     all_same new_indices kinds bytes h.pieces [] new same h.are h.renamed
@@ -177,17 +178,17 @@ identity_keeps new_indices kinds bytes new same h =
 abbrev maybe : ℕ → Option ℕ
 maybe n = Some n
 
-abbrev looked_up : List ℕ → ℕ → Option ℕ
-looked_up new_indices k = slice_get new_indices k
+abbrev looked_up : NewIndices → ℕ → Option ℕ
+looked_up new_indices k = new_index new_indices k
 
 -- the beginning of a text with a new index
-record NewBeginning (new_indices : List ℕ) (k : Kind) (p : Piece) (more : List Kind) (new : List ℕ) :
+record NewBeginning (new_indices : NewIndices) (k : Kind) (p : Piece) (more : List Kind) (new : List ℕ) :
     Type 0 where
   piece : Piece
   begins : Begins k new piece more
   mapped : map (looked_up new_indices) (names_of (type_name p)) ≡ map maybe (names_of (type_name piece))
 
-begins_again : (new_indices : List ℕ) (least : ℕ → ℕ) (k : Kind) (text : List ℕ) (p : Piece)
+begins_again : (new_indices : NewIndices) (least : ℕ → ℕ) (k : Kind) (text : List ℕ) (p : Piece)
     (more : List Kind) (new : List ℕ) → View p → Begins k text p more →
     Becomes (type_maps new_indices) least new p →
     NewBeginning new_indices k p more new
@@ -218,7 +219,7 @@ begins_again new_indices least k text _ more _ (other _ unnamed maps) h (u32 s m
 begins_again new_indices least k text _ more _ (other _ unnamed maps) h (s33 s m _ new j n ms mk t) =
     let kept = maps new_indices in absurd cc
 
-record NewRun (new_indices : List ℕ) (kinds : List Kind) (pieces : List Piece) (left : List Kind)
+record NewRun (new_indices : NewIndices) (kinds : List Kind) (pieces : List Piece) (left : List Kind)
     (new : List ℕ) : Type 0 where
   again : List Piece
   runs : Runs kinds new again left
@@ -228,7 +229,8 @@ map_join : {A B : Type 0} (f : A → B) (xs ys : List A) → map f (xs ++ ys) �
 map_join f [] ys = refl
 map_join f (x ∷ xs) ys = ap (λ u. f x ∷ u) (map_join f xs ys)
 
-runs_again : (new_indices : List ℕ) (least : ℕ → ℕ) (kinds : List Kind) (text : List ℕ) (pieces : List Piece)
+runs_again : (new_indices : NewIndices) (least : ℕ → ℕ) (kinds : List Kind) (text : List ℕ)
+    (pieces : List Piece)
     (left : List Kind) (new : List ℕ) → Runs kinds text pieces left →
     IsRenamed (type_maps new_indices) least pieces new → NewRun new_indices kinds pieces left new
 runs_again new_indices least _ _ _ _ _ (stop kinds) none =
@@ -245,7 +247,7 @@ runs_again new_indices least _ _ _ left _ (step k more kinds _ text others p ps 
           ∙ sym (map_join maybe (names_of (type_name f.piece)) (type_names r.again));
     }
 
-pub names_follow : (new_indices : List ℕ) (least : ℕ → ℕ) (kinds : List Kind) (bytes new : List ℕ) →
+pub names_follow : (new_indices : NewIndices) (least : ℕ → ℕ) (kinds : List Kind) (bytes new : List ℕ) →
     Renames (type_maps new_indices) least kinds bytes new → AreRenamed new_indices kinds bytes new
 names_follow new_indices least kinds bytes new h =
     let r = runs_again new_indices least kinds bytes h.pieces [] new h.are h.renamed in

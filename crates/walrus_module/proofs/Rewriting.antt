@@ -1,5 +1,6 @@
 -- What is written in place of code that names types.
-use Rattle.std.proofs.Common.{◌≡◌, ℕ, zero, suc, ◌+◌, ◌-◌, ◌^◌, ◌<◌, ◌≤◌, Bool, true, false, List, [], ◌∷◌, ◌++◌, length, take, Option, Some, None, IfSome, IfNone, Result, Ok, Err, cond, slice_get, refl, sym, ap, subst, ◌∙◌, append_assoc, append-nil, length-append, take_at, arith}
+use Rattle.std.proofs.Common.{◌≡◌, ℕ, ◌+◌, ◌-◌, ◌^◌, ◌≤◌, Bool, true, false, List, [], ◌∷◌, ◌++◌, length, take, Option, Some, None, IfSome, IfNone, Result, Ok, Err, cond, is_some, refl, sym, ap, subst, ◌∙◌, append_assoc, append-nil, length-append, take_at, arith}
+use Rattle.std.specs.Prelude.{IsSome}
 use Rattle.std.specs.List.{All}
 use Rattle.std.proofs.lemmas.Grind.{flat_map-append}
 use Rattle.std.proofs.lemmas.List.Elements.{All-nil, All-cons}
@@ -15,7 +16,7 @@ use Rattle.walrus_module.specs.declared.scan.TypeIndex.{TypeIndex}
 use Rattle.walrus_module.specs.Immediates.{Piece, unsigned, signed, type_name, stop, AreTexts, names_of, type_names}
 use Rattle.walrus_module.specs.Bodies.{Names}
 use Rattle.walrus_module.specs.RenamedSections.{RenamesTexts}
-use Rattle.walrus_module.specs.Renaming.{type_maps, least_width, IsTextOf, text_of, Becomes, stays, u32, s33, IsRenamed, Renames, RenamesFront, BeginsNoText, IsNoText, NamesUnknown}
+use Rattle.walrus_module.specs.Renaming.{NewIndices, new_index, type_maps, least_width, IsTextOf, text_of, Becomes, stays, u32, s33, IsRenamed, Renames, RenamesFront, BeginsNoText, IsNoText, NamesUnknown}
 use Rattle.walrus_module.specs.Steps.Changes.{StaysInFront, ChangesInFront}
 use Rattle.walrus_module.specs.Steps.Renaming.{Appends, index_end, IsNewIndex, same_error}
 use Rattle.walrus_module.specs.Steps.Scans.{IsRefused, Reads, piece_of, PassesType, PassesNone}
@@ -39,28 +40,29 @@ one_item : {A : Type 0} (IsText : List ℕ → A → Type 0) (text : List ℕ) (
 one_item IsText text x h =
     subst (λ (u : List ℕ). AreItems IsText u (x ∷ [])) (append-nil text) (next text [] x [] h none)
 
-becomes_index : (new_indices : List ℕ) (least : ℕ → ℕ) (is_signed : Bool) (text new : List ℕ) (k n long : ℕ) →
-    slice_get new_indices k ≡ Some n → IsTextOf (index_end is_signed) (least long) new n → length text ≡ long
+becomes_index : (new_indices : NewIndices) (least : ℕ → ℕ) (is_signed : Bool) (text new : List ℕ)
+    (k n long : ℕ) →
+    new_index new_indices k ≡ Some n → IsTextOf (index_end is_signed) (least long) new n → length text ≡ long
     → Becomes (type_maps new_indices) least new (cond is_signed (signed space.Type text k)
     (unsigned space.Type text k))
 becomes_index new_indices least true text new k n long e h is =
-    s33 space.Type (λ j. slice_get new_indices j) text new k n refl e
+    s33 space.Type (λ j. new_index new_indices j) text new k n refl e
     (subst (λ w. IsTextOf 0x40 (least w) new n) (sym is) h)
 becomes_index new_indices least false text new k n long e h is =
-    u32 space.Type (λ j. slice_get new_indices j) text new k n refl e
+    u32 space.Type (λ j. new_index new_indices j) text new k n refl e
     (subst (λ w. IsTextOf 0x80 (least w) new n) (sym is) h)
 
 no_name : (o : Option ℕ) (others : List ℕ) → names_of o ++ others ≡ [] → (o ≡ None) × (others ≡ [])
 no_name (Some k) others e = absurd cc
 no_name None others e = (refl, e)
 
-stays_so : (new_indices : List ℕ) (least : ℕ → ℕ) (p : Piece) → View p → type_name p ≡ None →
+stays_so : (new_indices : NewIndices) (least : ℕ → ℕ) (p : Piece) → View p → type_name p ≡ None →
     Becomes (type_maps new_indices) least (text_of p) p
 stays_so new_indices least _ (u32_type text k) e = absurd cc
 stays_so new_indices least _ (s33_type text k) e = absurd cc
 stays_so new_indices least _ (other p unnamed maps) e = stays p (maps new_indices)
 
-all_stay : (new_indices : List ℕ) (least : ℕ → ℕ) (pieces : List Piece) → type_names pieces ≡ [] →
+all_stay : (new_indices : NewIndices) (least : ℕ → ℕ) (pieces : List Piece) → type_names pieces ≡ [] →
     IsRenamed (type_maps new_indices) least pieces (texts_of pieces)
 all_stay new_indices least [] e = none
 all_stay new_indices least (p ∷ pieces) e =
@@ -71,7 +73,7 @@ all_stay new_indices least (p ∷ pieces) e =
 -- ---- the loop
 
 -- what was read has become what was written
-pub record Renaming (new_indices : List ℕ) (least : ℕ → ℕ) (start : List Kind) (bytes rest : List ℕ)
+pub record Renaming (new_indices : NewIndices) (least : ℕ → ℕ) (start : List Kind) (bytes rest : List ℕ)
     (stack : List Kind) (out : List ℕ) : Type 0 where
   pub pieces : List Piece
   pub reads : Reads start stack pieces bytes rest
@@ -107,7 +109,7 @@ one_some : (k : ℕ) → k ∷ [] ≡ [] → ⊥
 one_some k e = absurd cc
 
 -- the text of a new index is not empty
-index_some : (new_indices : List ℕ) (least : ℕ → ℕ) (t : TypeIndex) (text : List ℕ) →
+index_some : (new_indices : NewIndices) (least : ℕ → ℕ) (t : TypeIndex) (text : List ℕ) →
     IsNewIndex new_indices least t text → text ≡ [] → ⊥
 index_some new_indices least t text i e =
     let long = integer_some (index_end t.is_signed) (2 ^ 32) text i.n i.is_text.is_text in
@@ -124,7 +126,7 @@ named_some t stack left rest after pieces h e =
     (sym (type_names_append pieces (h.passed ++ piece_of t h.text ∷ [])) ∙ e) in
     one_some t.index (sym (passed_names t stack left rest after h) ∙ last)
 
-rename_on : (new_indices : List ℕ) (least : ℕ → ℕ) (start : List Kind) (bytes rest after : List ℕ)
+rename_on : (new_indices : NewIndices) (least : ℕ → ℕ) (start : List Kind) (bytes rest after : List ℕ)
     (stack left : List Kind) (out mid new text : List ℕ) (n : ℕ) (t : TypeIndex)
     → Renaming new_indices least start bytes rest stack out → PassesType t stack left rest after
     → n ≡ length rest - length after - t.length → mid ≡ out ++ take n rest
@@ -151,7 +153,7 @@ rename_on new_indices least start bytes rest after stack left out mid new text n
       named_some t stack left rest after s.pieces h,
     )
 
-texts_stay : (new_indices : List ℕ) (widths : Widths) (kinds : List Kind) (text : List ℕ)
+texts_stay : (new_indices : NewIndices) (widths : Widths) (kinds : List Kind) (text : List ℕ)
     (pieces : List Piece) → AreTexts kinds text pieces → type_names pieces ≡ [] →
     RenamesTexts new_indices widths kinds text text []
 texts_stay new_indices widths kinds text pieces are unnamed =
@@ -167,7 +169,7 @@ texts_stay new_indices widths kinds text pieces are unnamed =
       };
     }
 
-rename_ended : (new_indices : List ℕ) (widths : Widths) (start : List Kind) (bytes rest after : List ℕ)
+rename_ended : (new_indices : NewIndices) (widths : Widths) (start : List Kind) (bytes rest after : List ℕ)
     (stack left : List Kind) (out new : List ℕ) (n : ℕ)
     (s : Renaming new_indices (least_width widths) start bytes rest stack out)
     → (type_names s.pieces ≡ [] → ⊥) → PassesNone stack left rest after
@@ -204,17 +206,12 @@ rename_ended new_indices widths start bytes rest after stack left out new n s so
 
 -- ---- what is refused
 
-pub rename_malformed : (new_indices : List ℕ) (least : ℕ → ℕ) (start : List Kind) (bytes rest : List ℕ)
+pub rename_malformed : (new_indices : NewIndices) (least : ℕ → ℕ) (start : List Kind) (bytes rest : List ℕ)
     (stack : List Kind) (out : List ℕ) → Renaming new_indices least start bytes rest stack out →
     IsRefused stack rest scan.Malformed → BeginsNoText start bytes
 rename_malformed new_indices least start bytes rest stack out s h =
     let k = refused_behind start stack s.pieces bytes rest scan.Malformed s.reads h in
     λ text after parts pieces are. k text after pieces parts are
-
-below : (xs : List ℕ) (k n : ℕ) → slice_get xs k ≡ Some n → k < length xs
-below [] k n e = absurd cc
-below (x ∷ xs) zero n e = omega arith
-below (x ∷ xs) (suc k) n e = let lt = below xs k n e in omega (arith, lt)
 
 abbrev pub some_map : (ℕ → Option ℕ) → Option (ℕ → Option ℕ)
 some_map m = Some m
@@ -222,10 +219,14 @@ some_map m = Some m
 pub same_map : (f m : ℕ → Option ℕ) → some_map f ≡ some_map m → f ≡ m
 same_map f m e = cc
 
-is_known : (new_indices : List ℕ) (m : ℕ → Option ℕ) (k n : ℕ) →
-    some_map (λ j. slice_get new_indices j) ≡ some_map m → m k ≡ Some n → k < length new_indices
+-- the type has a new index
+abbrev HasNew : NewIndices → ℕ → Type 0
+HasNew new_indices k = IsSome (new_index new_indices k)
+
+is_known : (new_indices : NewIndices) (m : ℕ → Option ℕ) (k n : ℕ) →
+    some_map (λ j. new_index new_indices j) ≡ some_map m → m k ≡ Some n → HasNew new_indices k
 is_known new_indices m k n e h =
-    below new_indices k n (ap (λ f. f k) (same_map (λ j. slice_get new_indices j) m e) ∙ h)
+    ap is_some (ap (λ f. f k) (same_map (λ j. new_index new_indices j) m e) ∙ h)
 
 abbrev pub some_number : ℕ → Option ℕ
 some_number n = Some n
@@ -233,33 +234,33 @@ some_number n = Some n
 pub same_number : (j k : ℕ) → some_number j ≡ some_number k → j ≡ k
 same_number j k e = cc
 
-known_next : (count : ℕ) (o : Option ℕ) (others : List ℕ) → ((k : ℕ) → o ≡ Some k → k < count) →
-    All (λ k. k < count) others → All (λ k. k < count) (names_of o ++ others)
-known_next count (Some k) others f g = All-cons (λ j. j < count) k others (f k refl) g
-known_next count None others f g = g
+known_next : (P : ℕ → Type 0) (o : Option ℕ) (others : List ℕ) → ((k : ℕ) → o ≡ Some k → P k) →
+    All P others → All P (names_of o ++ others)
+known_next P (Some k) others f g = All-cons P k others (f k refl) g
+known_next P None others f g = g
 
-becomes_known : (new_indices : List ℕ) (least : ℕ → ℕ) (p : Piece) (new : List ℕ) → View p →
-    Becomes (type_maps new_indices) least new p → (k : ℕ) → type_name p ≡ Some k → k < length new_indices
+becomes_known : (new_indices : NewIndices) (least : ℕ → ℕ) (p : Piece) (new : List ℕ) → View p →
+    Becomes (type_maps new_indices) least new p → (k : ℕ) → type_name p ≡ Some k → HasNew new_indices k
 becomes_known new_indices least _ _ (u32_type text j) (stays _ e) k h = absurd cc
 becomes_known new_indices least _ _ (u32_type text j) (u32 s m _ new _ n e g t) k h =
-    subst (λ i. i < length new_indices) (same_number j k h) (is_known new_indices m j n e g)
+    subst (λ i. HasNew new_indices i) (same_number j k h) (is_known new_indices m j n e g)
 becomes_known new_indices least _ _ (s33_type text j) (stays _ e) k h = absurd cc
 becomes_known new_indices least _ _ (s33_type text j) (s33 s m _ new _ n e g t) k h =
-    subst (λ i. i < length new_indices) (same_number j k h) (is_known new_indices m j n e g)
+    subst (λ i. HasNew new_indices i) (same_number j k h) (is_known new_indices m j n e g)
 becomes_known new_indices least _ new (other p unnamed maps) b k h = absurd cc
 
-all_known : (new_indices : List ℕ) (least : ℕ → ℕ) (pieces : List Piece) (new : List ℕ) →
+all_known : (new_indices : NewIndices) (least : ℕ → ℕ) (pieces : List Piece) (new : List ℕ) →
     IsRenamed (type_maps new_indices) least pieces new →
-    All (λ k. k < length new_indices) (type_names pieces)
-all_known new_indices least _ _ none = All-nil (λ k. k < length new_indices)
+    All (HasNew new_indices) (type_names pieces)
+all_known new_indices least _ _ none = All-nil (HasNew new_indices)
 all_known new_indices least _ _ (next text others p pieces h hs) =
-    known_next (length new_indices) (type_name p) (type_names pieces)
+    known_next (HasNew new_indices) (type_name p) (type_names pieces)
     (becomes_known new_indices least p text (view p) h) (all_known new_indices least pieces others hs)
 
-pub names_unknown : (new_indices : List ℕ) (least : ℕ → ℕ) (start : List Kind) (bytes rest after : List ℕ)
+pub names_unknown : (new_indices : NewIndices) (least : ℕ → ℕ) (start : List Kind) (bytes rest after : List ℕ)
     (stack left : List Kind) (out : List ℕ) (t : TypeIndex) (k : ℕ)
     → Renaming new_indices least start bytes rest stack out → PassesType t stack left rest after
-    → (k ≡ t.index) × (length new_indices ≤ k) → NamesUnknown (length new_indices) start bytes k
+    → (k ≡ t.index) × (new_index new_indices k ≡ None) → NamesUnknown new_indices start bytes k
 names_unknown new_indices least start bytes rest after stack left out t k s h u =
     let last = piece_of t h.text ∷ [] in
     let r = reads_join start stack left s.pieces (h.passed ++ last) bytes rest after s.reads h.reads in
@@ -282,14 +283,14 @@ names_unknown new_indices least start bytes rest after stack left out t k s h u 
 
 -- What is unwritten when the loop looks for the next index is what was not read. Where nothing is
 -- written no type was named.
-pub record IsWritten (new_indices : List ℕ) (least : ℕ → ℕ) (start : List Kind)
+pub record IsWritten (new_indices : NewIndices) (least : ℕ → ℕ) (start : List Kind)
     (bytes rest unwritten : List ℕ) (stack : List Kind) (out : List ℕ) : Type 0 where
   pub so_far : Renaming new_indices least start bytes rest stack out
   pub here : unwritten ≡ rest
   pub bare : out ≡ [] → type_names so_far.pieces ≡ []
   pub named : (out ≡ [] → ⊥) → type_names so_far.pieces ≡ [] → ⊥
 
-pub written_begun : (new_indices : List ℕ) (least : ℕ → ℕ) (start : List Kind) (bytes out : List ℕ) →
+pub written_begun : (new_indices : NewIndices) (least : ℕ → ℕ) (start : List Kind) (bytes out : List ℕ) →
     out ≡ [] → IsWritten new_indices least start bytes bytes bytes start out
 written_begun new_indices least start bytes out e =
     record {
@@ -303,7 +304,7 @@ written_begun new_indices least start bytes out e =
       named = λ some h. some e;
     }
 
-pub written_on : (new_indices : List ℕ) (least : ℕ → ℕ) (start : List Kind)
+pub written_on : (new_indices : NewIndices) (least : ℕ → ℕ) (start : List Kind)
     (bytes rest after unwritten : List ℕ) (stack left : List Kind) (out mid new : List ℕ) (t : TypeIndex)
     → IsWritten new_indices least start bytes rest unwritten stack out → PassesType t stack left rest after
     → mid ≡ out ++ take (length unwritten - length after - t.length) unwritten
@@ -322,7 +323,7 @@ written_on new_indices least start bytes rest after unwritten stack left out mid
       named = λ some. r.1;
     }
 
-pub written_stays : (new_indices : List ℕ) (widths : Widths) (start : List Kind)
+pub written_stays : (new_indices : NewIndices) (widths : Widths) (start : List Kind)
     (bytes rest after unwritten : List ℕ) (stack left : List Kind) (out : List ℕ)
     → IsWritten new_indices (least_width widths) start bytes rest unwritten stack out
     → PassesNone stack left rest after → out ≡ []
@@ -338,7 +339,7 @@ written_stays new_indices widths start bytes rest after unwritten stack left out
       stays = texts_stay new_indices widths start r.text (s.pieces ++ h.passed) r.runs unnamed;
     }
 
-pub written_ended : (new_indices : List ℕ) (widths : Widths) (start : List Kind)
+pub written_ended : (new_indices : NewIndices) (widths : Widths) (start : List Kind)
     (bytes rest after unwritten : List ℕ) (stack left : List Kind) (out new : List ℕ)
     → IsWritten new_indices (least_width widths) start bytes rest unwritten stack out → (out ≡ [] → ⊥)
     → PassesNone stack left rest after → new ≡ out ++ take (length unwritten - length after) unwritten
@@ -350,7 +351,7 @@ written_ended new_indices widths start bytes rest after unwritten stack left out
     (e ∙ ap (λ (u : List ℕ). out ++ take n u) w.here)
 
 -- what is left is no longer than the bytes
-pub written_shorter : (new_indices : List ℕ) (least : ℕ → ℕ) (start : List Kind)
+pub written_shorter : (new_indices : NewIndices) (least : ℕ → ℕ) (start : List Kind)
     (bytes rest after unwritten : List ℕ) (stack left : List Kind) (out : List ℕ)
     → IsWritten new_indices least start bytes rest unwritten stack out → PassesNone stack left rest after
     → length after ≤ length bytes
@@ -384,12 +385,12 @@ text_trailed kinds bytes text rest names parts n some pieces are =
     (record { text = text; pieces = n.pieces; parts = parts; are = n.are; named = n.named }) some
     (type_names pieces) (record { pieces = pieces; are = are; named = refl })
 
-pub stays_trailed : (new_indices : List ℕ) (widths : Widths) (kinds : List Kind) (bytes rest : List ℕ) →
+pub stays_trailed : (new_indices : NewIndices) (widths : Widths) (kinds : List Kind) (bytes rest : List ℕ) →
     (rest ≡ [] → ⊥) → StaysInFront (RenamesTexts new_indices widths kinds) bytes rest → IsNoText kinds bytes
 stays_trailed new_indices widths kinds bytes rest some s =
     text_trailed kinds bytes s.text rest [] s.parts s.stays.naming some
 
-pub changes_trailed : (new_indices : List ℕ) (widths : Widths) (kinds : List Kind)
+pub changes_trailed : (new_indices : NewIndices) (widths : Widths) (kinds : List Kind)
     (bytes rest new : List ℕ) →
     (rest ≡ [] → ⊥) → ChangesInFront (RenamesTexts new_indices widths kinds) bytes rest new →
     IsNoText kinds bytes
@@ -398,13 +399,13 @@ changes_trailed new_indices widths kinds bytes rest new some c =
 
 -- ---- what is returned, or a copy
 
-front_renamed : (new_indices : List ℕ) (widths : Widths) (kinds : List Kind) (bytes rest new : List ℕ) →
+front_renamed : (new_indices : NewIndices) (widths : Widths) (kinds : List Kind) (bytes rest new : List ℕ) →
     ChangesInFront (RenamesTexts new_indices widths kinds) bytes rest new →
     RenamesFront (type_maps new_indices) (least_width widths) kinds bytes rest new
 front_renamed new_indices widths kinds bytes rest new c =
     record { text = c.text; parts = c.parts; renames = c.changes.becomes.renames }
 
-front_copied : (new_indices : List ℕ) (widths : Widths) (kinds : List Kind) (bytes rest new : List ℕ) →
+front_copied : (new_indices : NewIndices) (widths : Widths) (kinds : List Kind) (bytes rest new : List ℕ) →
     StaysInFront (RenamesTexts new_indices widths kinds) bytes rest →
     new ≡ take (length bytes - length rest) bytes →
     RenamesFront (type_maps new_indices) (least_width widths) kinds bytes rest new
@@ -418,7 +419,7 @@ front_copied new_indices widths kinds bytes rest new s e =
     }
 
 -- what is new was returned, or a copy of the text
-pub front_returned : {A : Type 0} (o : Option A) (items : A → List ℕ) (new_indices : List ℕ)
+pub front_returned : {A : Type 0} (o : Option A) (items : A → List ℕ) (new_indices : NewIndices)
     (widths : Widths) (kinds : List Kind) (bytes rest out : List ℕ)
     → IfNone o (StaysInFront (RenamesTexts new_indices widths kinds) bytes rest)
     → IfSome o (λ x. ChangesInFront (RenamesTexts new_indices widths kinds) bytes rest (items x))

@@ -77,7 +77,7 @@ same_step k a b p q behind inner rest others h g e =
       rest_is (beginning (type_name p) behind) (beginning (type_name q) inner) rest others same,
     )
 
-first_of : (k : Kind) (kinds : List Kind) (text : List ℕ) (pieces : List Piece) →
+pub first_of : (k : Kind) (kinds : List Kind) (text : List ℕ) (pieces : List Piece) →
     AreTexts (k ∷ kinds) text pieces
     → (a others : List ℕ) × (p : Piece) × (ps : List Piece) × (inner : List Kind) × Begins k a p inner
     × AreTexts (inner ++ kinds) others ps × (text ≡ a ++ others)

@@ -3,7 +3,7 @@ use Rattle.std.proofs.Common.{◌≡◌, ℕ, zero, suc, ◌+◌, ◌-◌, ◌<�
 use Rattle.std.specs.Prelude.{IfSome, IfNone, IfOk}
 use Rattle.walrus_module.specs.declared.renaming.Widths.{Widths}
 use Rattle.walrus_module.specs.Changes.{Change, Changes, ChangesSized, stays, resized, ChangeAll, none, next, IsMalformed, BecomesTooLong, InSized, in_content}
-use Rattle.walrus_module.specs.Renaming.{least_width, IsTextOf}
+use Rattle.walrus_module.specs.Renaming.{NewIndices, least_width, IsTextOf}
 use Rattle.walrus_module.specs.NameSections.{IsName, IsNameMap, RenamesMap, RenamesNames, RenamesSubsection, subsection}
 use Rattle.walrus_module.specs.NameSections.RenamesNames.{type_names, field_names, others as any_names}
 use Rattle.walrus_module.specs.Steps.Renaming.{Appends}
@@ -56,7 +56,8 @@ field_names_malformed id content e h new_indices widths new names (field_names _
 field_names_malformed id content e h new_indices widths new names (any_names _ not_types not_fields) =
     not_fields e
 
-pub type_names_change : (id : ℕ) (new_indices : List ℕ) (widths : Widths) (content new : List ℕ) → id ≡ 4 →
+pub type_names_change : (id : ℕ) (new_indices : NewIndices) (widths : Widths) (content new : List ℕ) →
+    id ≡ 4 →
     Changes (RenamesMap IsName new_indices widths) content new →
     Changes (RenamesNames id new_indices widths) content new
 type_names_change id new_indices widths content new e c =
@@ -66,7 +67,8 @@ type_names_change id new_indices widths content new e c =
       is_naming = c.is_naming;
     }
 
-pub field_names_change : (id : ℕ) (new_indices : List ℕ) (widths : Widths) (content new : List ℕ) → id ≡ 10
+pub field_names_change : (id : ℕ) (new_indices : NewIndices) (widths : Widths) (content new : List ℕ) →
+    id ≡ 10
     → Changes (RenamesMap IsNameMap new_indices widths) content new →
     Changes (RenamesNames id new_indices widths) content new
 field_names_change id new_indices widths content new e c =
@@ -79,7 +81,7 @@ field_names_change id new_indices widths content new e c =
 -- ---- one subsection
 
 record Opened (id : ℕ) (behind rest : List ℕ) : Type 0 where
-  new_indices : List ℕ
+  new_indices : NewIndices
   widths : Widths
   content : List ℕ
   new : List ℕ
@@ -87,7 +89,7 @@ record Opened (id : ℕ) (behind rest : List ℕ) : Type 0 where
   takes : TakesSized content behind rest
   renames : RenamesNames id new_indices widths content new names
 
-opened_sized : (id : ℕ) (new_indices : List ℕ) (widths : Widths) (text new names rest : List ℕ) →
+opened_sized : (id : ℕ) (new_indices : NewIndices) (widths : Widths) (text new names rest : List ℕ) →
     ChangesSized widths (RenamesNames id new_indices widths) text new names → Opened id (text ++ rest) rest
 opened_sized id new_indices widths _ _ _ rest (stays size content h r) =
     record {
@@ -110,7 +112,8 @@ opened_sized id new_indices widths _ _ _ rest (resized size content new_size new
       renames = r;
     }
 
-opened : (new_indices : List ℕ) (widths : Widths) (text new names : List ℕ) (id : ℕ) (behind rest : List ℕ) →
+opened : (new_indices : NewIndices) (widths : Widths) (text new names : List ℕ) (id : ℕ)
+    (behind rest : List ℕ) →
     RenamesSubsection new_indices widths text new names → id ∷ behind ≡ text ++ rest → Opened id behind rest
 opened new_indices widths _ _ _ id behind rest (subsection its_id text new names c) e =
     let id-is : id ≡ its_id = ap (λ (u : List ℕ). get_or u 0 0) e in
@@ -125,7 +128,7 @@ taken_subsection id behind rest t =
     let s = t.is_text in
     opened s.new_indices s.widths t.text s.new s.names id behind rest s.renames t.parts
 
-empty_subsection : (new_indices : List ℕ) (widths : Widths) (text new names : List ℕ) →
+empty_subsection : (new_indices : NewIndices) (widths : Widths) (text new names : List ℕ) →
     RenamesSubsection new_indices widths text new names → 0 < length text
 empty_subsection new_indices widths _ _ _ (subsection id text new names c) = omega arith
 
@@ -191,13 +194,13 @@ change_on R _ _ _ _ text its_new its_names (next count a texts n new m names r r
     (next (suc count) a (texts ++ text) n (new ++ its_new) m (names ++ its_names) r
     (change_on R count texts new names text its_new its_names rs h))))
 
-some_subsection : (new_indices : List ℕ) (widths : Widths) (text new names : List ℕ) →
+some_subsection : (new_indices : NewIndices) (widths : Widths) (text new names : List ℕ) →
     RenamesSubsection new_indices widths text new names → IsSomeSubsection text
 some_subsection new_indices widths text new names r =
     record { new_indices = new_indices; widths = widths; new = new; names = names; renames = r }
 
 -- a subsection behind subsections, where all of the bytes are subsections and some are left
-pub next_subsection : (a b : List ℕ) (v w : Widths) (count all : ℕ)
+pub next_subsection : (a b : NewIndices) (v w : Widths) (count all : ℕ)
     (texts new names whole its its_names rest : List ℕ)
     → ChangeAll (RenamesSubsection a v) count texts new names
     → ChangeAll (RenamesSubsection b w) all whole its its_names → texts ++ rest ≡ whole → (rest ≡ [] → ⊥) →
@@ -219,7 +222,8 @@ next_subsection a b v w _ _ _ _ _ _ _ _ rest (next count text texts new news nam
 -- ---- what becomes of one
 
 -- the subsection stays
-pub subsection_stays : (new_indices : List ℕ) (widths : Widths) (header whole unwritten bytes out : List ℕ)
+pub subsection_stays : (new_indices : NewIndices) (widths : Widths)
+    (header whole unwritten bytes out : List ℕ)
     (id : ℕ) (behind content after : List ℕ) → bytes ≡ id ∷ behind → TakesSized content behind after →
     RenamesNames id new_indices widths content content [] →
     IsRenamedUpTo new_indices widths header whole unwritten bytes out →
@@ -257,7 +261,8 @@ end_none [] b e = e
 end_none (y ∷ a) b e = absurd cc
 
 -- the subsection becomes another
-pub subsection_changes : (new_indices : List ℕ) (widths : Widths) (header whole unwritten bytes out : List ℕ)
+pub subsection_changes : (new_indices : NewIndices) (widths : Widths)
+    (header whole unwritten bytes out : List ℕ)
     (id : ℕ) (behind content after new new_size front final : List ℕ) (width : ℕ) → bytes ≡ id ∷ behind →
     TakesSized content behind after → Changes (RenamesNames id new_indices widths) content new →
     width ≡ length behind - length after - length content →
@@ -319,14 +324,15 @@ size_short behind content after s =
     let short = integer_short 0x80 s.size (length content) s.is_size in
     omega (arith, long, short)
 
-pub subsection_too_long : (id : ℕ) (new_indices : List ℕ) (widths : Widths) (content new : List ℕ) →
+pub subsection_too_long : (id : ℕ) (new_indices : NewIndices) (widths : Widths) (content new : List ℕ) →
     Changes (RenamesNames id new_indices widths) content new → 2 ^ 32 ≤ length new →
     BecomesTooLong (RenamesNames id new_indices widths) content
 subsection_too_long id new_indices widths content new c long =
     record { new = new; names = c.names; becomes = c.becomes; long = long }
 
 -- the subsection is written
-pub subsection_written : (new_indices : List ℕ) (widths : Widths) (header whole unwritten bytes out : List ℕ)
+pub subsection_written : (new_indices : NewIndices) (widths : Widths)
+    (header whole unwritten bytes out : List ℕ)
     (id : ℕ) (behind content after new mid sized final : List ℕ) (least n : ℕ) → bytes ≡ id ∷ behind →
     TakesSized content behind after → Changes (RenamesNames id new_indices widths) content new →
     least ≡ least_width widths (length behind - length after - length content) → n ≡ length new →

@@ -1,8 +1,7 @@
 -- Maps from types to names, from the front of bytes and written again.
-use Rattle.std.proofs.Common.{◌≡◌, ℕ, zero, suc, ◌+◌, ◌-◌, ◌<◌, ◌≤◌, List, [], ◌∷◌, ◌++◌, length, map, Some, Ok, refl, sym, ap, subst, ◌∙◌, arith, append_assoc, append-nil, length-append, slice_get}
-use Rattle.std.specs.List.{All, Contains}
-use Rattle.std.proofs.lemmas.List.Elements.{All-nil, All-cons, All-head, All-tail, All-weaker, All-contains, Contains-get_or, Contains-append_right}
-use Rattle.std.proofs.lemmas.Option.{slice_get_within}
+use Rattle.std.proofs.Common.{◌≡◌, ℕ, zero, suc, ◌+◌, ◌-◌, ◌<◌, ◌≤◌, List, [], ◌∷◌, ◌++◌, length, map, Option, Some, None, Ok, refl, sym, ap, subst, ◌∙◌, arith, append_assoc, append-nil, length-append}
+use Rattle.std.specs.List.{All}
+use Rattle.std.proofs.lemmas.List.Elements.{All-nil, All-cons, All-head, All-tail, All-contains, Contains-get_or, Contains-append_right}
 use Rattle.walrus_binary.specs.Leb128.{IsU32}
 use Rattle.walrus_binary.specs.Grammar.{AreItems, none, next, IsVec, counted}
 use Rattle.walrus_binary.specs.Steps.Reading.{u32_at}
@@ -10,17 +9,17 @@ use Rattle.walrus_binary.proofs.Integers.{u32_sound}
 use Rattle.walrus_module.specs.declared.renaming.Widths.{Widths}
 use Rattle.walrus_module.specs.declared.renaming.Widths.TheVariants as width
 use Rattle.walrus_module.specs.Changes.{Changes, IsMalformed, FirstIn, here, behind as further}
-use Rattle.walrus_module.specs.Renaming.{least_width, IsTextOf}
+use Rattle.walrus_module.specs.Renaming.{NewIndices, least_width, IsTextOf}
 use Rattle.walrus_module.specs.NameSections.{TypeEntry, type_entry, IsEntry, entry, AreKept, IsKnownEntry, known, BeginsUnknown, MapNamesUnknown, in_entry, IsNewEntry, renumbered, RenamesMap, empty, entries}
 use Rattle.walrus_module.specs.Steps.Heads.{fault}
 use Rattle.walrus_module.specs.Steps.Renaming.{Appends}
 use Rattle.walrus_module.specs.Steps.NameSections.{BeginsNone, IsAny, TakesEntry, TakesEntries, BeginsNotEntries, Keeps, IsNewMap}
 use Rattle.walrus_module.proofs.NameMaps.{entry_free}
-use Rattle.walrus_module.proofs.KeptEntries.{none_kept}
+use Rattle.walrus_module.proofs.KeptEntries.{none_kept, deleted_goes}
 use Rattle.walrus_module.proofs.Searching.{integer_short}
 use Rattle.walrus_module.proofs.TextItems.{IsPrefixFree, same_items, item_on, no_items, items_on, items_cut_off, vec_countless, vec_items}
 
-module _ (Follows : List ℕ → Type 0) (new_indices : List ℕ) where
+module _ (Follows : List ℕ → Type 0) (new_indices : NewIndices) where
   abbrev IsKnown : TypeEntry → Type 0
   IsKnown e = e.index < length new_indices
 
@@ -37,16 +36,30 @@ module _ (Follows : List ℕ → Type 0) (new_indices : List ℕ) where
       }
 
   pub entries_on : (count : ℕ) (old new : List (ℕ × TypeEntry)) (bytes rest after : List ℕ) (n : ℕ)
-      (e : TypeEntry) → TakesEntries Follows new_indices count old bytes rest →
-      TakesEntry Follows new_indices n e rest after → Keeps n e old new →
+      (o : Option ℕ) (e : TypeEntry) → TakesEntries Follows new_indices count old bytes rest →
+      TakesEntry Follows new_indices o e rest after → o ≡ Some n → Keeps n e old new →
       TakesEntries Follows new_indices (count + 1) new bytes after
-  entries_on count old new bytes rest after n e t h k =
+  entries_on count old new bytes rest after n o e t h is k =
       record {
         entries = t.entries ++ e ∷ [];
         taken = items_on (IsEntry Follows) t.entries bytes rest after h.text e t.taken h.is_entry h.parts;
         many = length-append t.entries (e ∷ []) ∙ omega (arith, t.many);
-        are_kept = k.keeps new_indices t.entries t.are_kept h.mapped;
+        are_kept = k.keeps new_indices t.entries t.are_kept h.known (h.mapped ∙ is);
         few = omega (arith, t.few, k.few);
+      }
+
+  -- the entry of a deleted type goes
+  pub entries_passed : (count : ℕ) (kept : List (ℕ × TypeEntry)) (bytes rest after : List ℕ)
+      (o : Option ℕ) (e : TypeEntry) → TakesEntries Follows new_indices count kept bytes rest →
+      TakesEntry Follows new_indices o e rest after → o ≡ None →
+      TakesEntries Follows new_indices (count + 1) kept bytes after
+  entries_passed count kept bytes rest after o e t h gone =
+      record {
+        entries = t.entries ++ e ∷ [];
+        taken = items_on (IsEntry Follows) t.entries bytes rest after h.text e t.taken h.is_entry h.parts;
+        many = length-append t.entries (e ∷ []) ∙ omega (arith, t.many);
+        are_kept = deleted_goes new_indices t.entries kept e t.are_kept h.known (h.mapped ∙ gone);
+        few = omega (arith, t.few);
       }
 
   pub entries_malformed : IsPrefixFree Follows → (count taken : ℕ) (kept : List (ℕ × TypeEntry))
@@ -55,13 +68,6 @@ module _ (Follows : List ℕ → Type 0) (new_indices : List ℕ) where
   entries_malformed free count taken kept bytes rest t less h others after many s =
       items_cut_off (IsEntry Follows) (entry_free Follows free) t.entries bytes rest count t.taken
       (omega (arith, t.many, less)) h others after many s
-
-  all_known : (es : List TypeEntry) (kept : List (ℕ × TypeEntry)) → AreKept new_indices es kept →
-      All IsKnown es
-  all_known es kept k =
-      All-weaker (λ e. (n : ℕ) × (slice_get new_indices e.index ≡ Some n)
-      × Contains (map (λ (p : ℕ × TypeEntry). p.0) kept) n) IsKnown
-      (λ e h. slice_get_within new_indices e.index h.0 h.1) es k.none_missing
 
   known_first : (text : List ℕ) (es : List TypeEntry) (rest : List ℕ) (count k : ℕ) →
       AreItems (IsEntry Follows) text es → All IsKnown es → length es < count →
@@ -84,7 +90,7 @@ module _ (Follows : List ℕ → Type 0) (new_indices : List ℕ) where
   entries_unknown count taken k kept bytes rest t less u =
       subst (λ (v : List ℕ). FirstIn (IsKnownEntry Follows (length new_indices))
       (BeginsUnknown (length new_indices) k) count v) (sym t.taken.parts)
-      (known_first t.taken.text t.entries rest count k t.taken.are (all_known t.entries kept t.are_kept)
+      (known_first t.taken.text t.entries rest count k t.taken.are t.are_kept.known
       (omega (arith, t.many, less)) u)
 
   abbrev IsNarrow : TypeEntry → Type 0
@@ -212,7 +218,7 @@ module _ (Follows : List ℕ → Type 0) where
       in
       h v.0 [] i.0 i.1
 
-  pub map_left_over : IsPrefixFree Follows → (old_indices content : List ℕ) (count : ℕ)
+  pub map_left_over : IsPrefixFree Follows → (old_indices : NewIndices) (content : List ℕ) (count : ℕ)
       (behind rest : List ℕ) (kept : List (ℕ × TypeEntry)) → u32_at content ≡ Ok (count, behind) →
       TakesEntries Follows old_indices count kept behind rest → (rest ≡ [] → ⊥) →
       IsMalformed (RenamesMap Follows) content

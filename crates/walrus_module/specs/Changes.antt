@@ -4,7 +4,7 @@
 use Rattle.std.specs.Prelude.{◌≡◌, ℕ, zero, suc, ◌^◌, ◌≤◌, List, [], ◌++◌, length}
 use Rattle.walrus_binary.specs.Leb128.{IsU32}
 use Rattle.walrus_module.specs.declared.renaming.Widths.{Widths}
-use Rattle.walrus_module.specs.Renaming.{least_width, IsTextOf}
+use Rattle.walrus_module.specs.Renaming.{NewIndices, least_width, IsTextOf}
 
 -- how texts become others
 abbrev pub Change : Type 1
@@ -44,9 +44,9 @@ pub data ChangeAll (R : Change) : ℕ → List ℕ → List ℕ → List ℕ →
 -- ---- what stops a change
 
 -- The bytes are such a text for no new indices: `R new_indices widths` is the change by these.
-abbrev pub IsMalformed : (List ℕ → Widths → Change) → List ℕ → Type 0
+abbrev pub IsMalformed : (NewIndices → Widths → Change) → List ℕ → Type 0
 IsMalformed R bytes =
-    (new_indices : List ℕ) (widths : Widths) (new names : List ℕ)
+    (new_indices : NewIndices) (widths : Widths) (new names : List ℕ)
     → R new_indices widths bytes new names → ⊥
 
 -- the new text is so long that no size counts its bytes

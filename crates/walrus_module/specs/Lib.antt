@@ -11,3 +11,10 @@ pub mod RenamedSections
 pub mod NameSections
 pub mod RenamedModules
 pub mod Customs
+pub mod Lengths
+pub mod Outdated
+pub mod Composition
+pub mod ContentFaults
+pub mod ModuleFaults
+pub mod Imports
+pub mod RenamedNames

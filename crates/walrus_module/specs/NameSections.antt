@@ -1,14 +1,14 @@
 -- Custom sections with other indices of types: the names of types and of their fields follow them.
 -- WebAssembly core specification, "Custom Sections" and "Name Section". Subsection 10, the names of
 -- fields, is of the extended name section (proposal).
-use Rattle.std.specs.Prelude.{◌≡◌, ℕ, ◌<◌, ◌≤◌, List, [], ◌∷◌, ◌++◌, length, map, Option, Some, slice_get}
+use Rattle.std.specs.Prelude.{◌≡◌, ℕ, ◌<◌, ◌≤◌, List, [], ◌∷◌, ◌++◌, length, map, Some}
 use Rattle.std.specs.List.{All, Contains}
 use Rattle.std.specs.List.Sorted.{IsStrictlyIncreasing}
 use Rattle.walrus_binary.specs.Leb128.{IsU32}
 use Rattle.walrus_binary.specs.Grammar.{AreItems, IsVec}
 use Rattle.walrus_module.specs.declared.renaming.Widths.{Widths}
 use Rattle.walrus_module.specs.Changes.{ChangesSized, ChangeAll, BecomesTooLong, InSized, FirstIn}
-use Rattle.walrus_module.specs.Renaming.{least_width, IsTextOf}
+use Rattle.walrus_module.specs.Renaming.{NewIndices, new_index, least_width, IsTextOf}
 
 -- ---- names, and maps of them
 
@@ -43,31 +43,32 @@ pub data IsEntry (Follows : List ℕ → Type 0) : List ℕ → TypeEntry → Ty
       (text follows : List ℕ) (index : ℕ) → IsU32 text index → Follows follows
       → IsEntry Follows (text ++ follows) (type_entry index (length text) follows)
 
-abbrev pub new_index : List ℕ → TypeEntry → Option ℕ
-new_index new_indices e = slice_get new_indices e.index
-
 -- Of all entries that get the same new index, `e` has the least old one. Where several have that,
 -- `e` is the first of them.
-pub record IsLeast (new_indices : List ℕ) (entries : List TypeEntry) (e : TypeEntry) : Type 0 where
+pub record IsLeast (new_indices : NewIndices) (entries : List TypeEntry) (e : TypeEntry) :
+    Type 0 where
   pub before : List TypeEntry
   pub after : List TypeEntry
   pub parts : entries ≡ before ++ e ∷ after
   pub less :
-      All (λ f. new_index new_indices f ≡ new_index new_indices e → e.index < f.index) before
+      All (λ f. new_index new_indices f.index ≡ new_index new_indices e.index
+      → e.index < f.index) before
   pub least :
-      All (λ f. new_index new_indices f ≡ new_index new_indices e → e.index ≤ f.index) after
+      All (λ f. new_index new_indices f.index ≡ new_index new_indices e.index
+      → e.index ≤ f.index) after
 
--- Of these entries the kept ones stay, each behind its new index, and these ascend. Each entry has
--- a new index, and one entry stays for it.
-pub record AreKept (new_indices : List ℕ) (entries : List TypeEntry) (kept : List (ℕ × TypeEntry)) :
-    Type 0 where
+-- Of these entries the kept ones stay, each behind its new index, and these ascend. One entry stays
+-- for each new index, and none of a deleted type.
+pub record AreKept (new_indices : NewIndices) (entries : List TypeEntry)
+    (kept : List (ℕ × TypeEntry)) : Type 0 where
+  pub known : All (λ e. e.index < length new_indices) entries
   pub ascending : IsStrictlyIncreasing (map (λ (p : ℕ × TypeEntry). p.0) kept)
   pub are_least :
       (n : ℕ) (e : TypeEntry) → Contains kept (n, e)
-      → (new_index new_indices e ≡ Some n) × IsLeast new_indices entries e
+      → (new_index new_indices e.index ≡ Some n) × IsLeast new_indices entries e
   pub none_missing :
-      All (λ e. (n : ℕ) × (new_index new_indices e ≡ Some n)
-      × Contains (map (λ (p : ℕ × TypeEntry). p.0) kept) n) entries
+      All (λ e. (n : ℕ) → new_index new_indices e.index ≡ Some n
+      → Contains (map (λ (p : ℕ × TypeEntry). p.0) kept) n) entries
 
 -- an entry with its new index
 pub data IsNewEntry (widths : Widths) : List ℕ → ℕ × TypeEntry → Type 0 where
@@ -76,8 +77,8 @@ pub data IsNewEntry (widths : Widths) : List ℕ → ℕ × TypeEntry → Type 0
       → IsNewEntry widths (new ++ e.follows) (n, e)
 
 -- A map from types. Its count stays byte for byte where it has no entries. Otherwise count and
--- entries are written again.
-pub data RenamesMap (Follows : List ℕ → Type 0) (new_indices : List ℕ) (widths : Widths) :
+-- entries are written again, also where no entry stays.
+pub data RenamesMap (Follows : List ℕ → Type 0) (new_indices : NewIndices) (widths : Widths) :
     List ℕ → List ℕ → List ℕ → Type 0 where
   empty : (count : List ℕ) → IsU32 count 0 → RenamesMap Follows new_indices widths count count []
   entries :
@@ -93,7 +94,7 @@ pub data RenamesMap (Follows : List ℕ → Type 0) (new_indices : List ℕ) (wi
 -- ---- subsections
 
 -- what a subsection of this id has after its size
-pub data RenamesNames (id : ℕ) (new_indices : List ℕ) (widths : Widths) :
+pub data RenamesNames (id : ℕ) (new_indices : NewIndices) (widths : Widths) :
     List ℕ → List ℕ → List ℕ → Type 0 where
   type_names :
       (text new names : List ℕ) → id ≡ 4 → RenamesMap IsName new_indices widths text new names
@@ -105,7 +106,7 @@ pub data RenamesNames (id : ℕ) (new_indices : List ℕ) (widths : Widths) :
       (text : List ℕ) → (id ≡ 4 → ⊥) → (id ≡ 10 → ⊥)
       → RenamesNames id new_indices widths text text []
 
-pub data RenamesSubsection (new_indices : List ℕ) (widths : Widths) :
+pub data RenamesSubsection (new_indices : NewIndices) (widths : Widths) :
     List ℕ → List ℕ → List ℕ → Type 0 where
   subsection :
       (id : ℕ) (text new names : List ℕ)
@@ -120,7 +121,7 @@ name_bytes = 0x6E ∷ 0x61 ∷ 0x6D ∷ 0x65 ∷ []
 
 -- The content of a custom section: a name, and what follows. Where the name is another than `name`,
 -- all stays.
-pub data RenamesCustom (new_indices : List ℕ) (widths : Widths) :
+pub data RenamesCustom (new_indices : NewIndices) (widths : Widths) :
     List ℕ → List ℕ → List ℕ → Type 0 where
   name_section :
       (subsections : ℕ) (size texts new names : List ℕ) → IsU32 size (length name_bytes)
@@ -135,7 +136,7 @@ pub data RenamesCustom (new_indices : List ℕ) (widths : Widths) :
 -- ---- what is refused
 
 -- subsections begin what follows the name `name`, up to one that `F` is so of, by its id
-pub data FirstSubsectionIn (new_indices : List ℕ) (widths : Widths)
+pub data FirstSubsectionIn (new_indices : NewIndices) (widths : Widths)
     (F : ℕ → List ℕ → Type 0) : List ℕ → Type 0 where
   in_subsection :
       (before : ℕ) (size texts rest new names : List ℕ) (id : ℕ) → IsU32 size (length name_bytes)
@@ -143,7 +144,7 @@ pub data FirstSubsectionIn (new_indices : List ℕ) (widths : Widths)
       → InSized (F id) rest
       → FirstSubsectionIn new_indices widths F (size ++ (name_bytes ++ (texts ++ id ∷ rest)))
 
--- an entry of a type that has a new index, below this count
+-- an entry of a type below this count, deleted or not
 pub data IsKnownEntry (Follows : List ℕ → Type 0) (count : ℕ) :
     List ℕ → List ℕ → List ℕ → Type 0 where
   known :
@@ -155,7 +156,7 @@ pub data BeginsUnknown (count k : ℕ) : List ℕ → Type 0 where
   unknown :
       (text rest : List ℕ) → IsU32 text k → count ≤ k → BeginsUnknown count k (text ++ rest)
 
--- the map names type k, which has no new index, behind types that have one
+-- the map names type k, which is not below this count, behind types that are
 pub data MapNamesUnknown (Follows : List ℕ → Type 0) (count k : ℕ) : List ℕ → Type 0 where
   in_entry :
       (entries : ℕ) (text rest : List ℕ) → IsU32 text entries
@@ -171,13 +172,14 @@ pub data SubsectionNamesUnknown (count k id : ℕ) : List ℕ → Type 0 where
       (text : List ℕ) → id ≡ 10 → MapNamesUnknown IsNameMap count k text
       → SubsectionNamesUnknown count k id text
 
--- the content names type k, which has no new index, behind types that have one
-abbrev pub CustomNamesUnknown : List ℕ → Widths → ℕ → List ℕ → Type 0
+-- The content names type k, which is at or past the end of the new indices, behind types that are
+-- not. Names of deleted types are known.
+abbrev pub CustomNamesUnknown : NewIndices → Widths → ℕ → List ℕ → Type 0
 CustomNamesUnknown new_indices widths k =
     FirstSubsectionIn new_indices widths (SubsectionNamesUnknown (length new_indices) k)
 
 -- the new text of a subsection is so long that no size counts its bytes
-abbrev pub CustomBecomesTooLong : List ℕ → Widths → List ℕ → Type 0
+abbrev pub CustomBecomesTooLong : NewIndices → Widths → List ℕ → Type 0
 CustomBecomesTooLong new_indices widths =
     FirstSubsectionIn new_indices widths
     (λ id. BecomesTooLong (RenamesNames id new_indices widths))

@@ -7,10 +7,10 @@ use Rattle.walrus_module.specs.declared.renaming.Widths.{Widths}
 use Rattle.walrus_module.specs.Changes.{ChangesSized, ChangeAll, BecomesTooLong, InSized, FirstIn}
 use Rattle.walrus_module.specs.NameSections.{RenamesCustom, CustomNamesUnknown, CustomBecomesTooLong}
 use Rattle.walrus_module.specs.RenamedSections.{RenamesContent, NamesUnknownIn, BodyBecomesTooLong}
-use Rattle.walrus_module.specs.Renaming.{IsTextOf}
+use Rattle.walrus_module.specs.Renaming.{NewIndices, IsTextOf}
 
 -- the content of a section of this id, which is not the type section
-pub data RenamesAny (id : ℕ) (new_indices : List ℕ) (widths : Widths) :
+pub data RenamesAny (id : ℕ) (new_indices : NewIndices) (widths : Widths) :
     List ℕ → List ℕ → List ℕ → Type 0 where
   custom :
       (content new names : List ℕ) → id ≡ 0 → RenamesCustom new_indices widths content new names
@@ -21,7 +21,7 @@ pub data RenamesAny (id : ℕ) (new_indices : List ℕ) (widths : Widths) :
       → RenamesAny id new_indices widths content new names
 
 -- A section. The type section gets the content `types`, with the shortest size.
-pub data RenamesSection (types new_indices : List ℕ) (widths : Widths) :
+pub data RenamesSection (types : List ℕ) (new_indices : NewIndices) (widths : Widths) :
     List ℕ → List ℕ → List ℕ → Type 0 where
   type_section :
       (size content new_size : List ℕ) → IsU32 size (length content)
@@ -33,8 +33,8 @@ pub data RenamesSection (types new_indices : List ℕ) (widths : Widths) :
       → RenamesSection types new_indices widths (id ∷ text) (id ∷ new) names
 
 -- The bytes are a module, and `new` is the same module with these types and indices.
-pub record RenamesModule (types new_indices : List ℕ) (widths : Widths) (bytes new : List ℕ) :
-    Type 0 where
+pub record RenamesModule (types : List ℕ) (new_indices : NewIndices) (widths : Widths)
+    (bytes new : List ℕ) : Type 0 where
   pub sections : List Section
   pub is_module : IsModule bytes sections
   pub texts : List ℕ
@@ -58,13 +58,13 @@ pub record HaveSameIds (bytes new : List ℕ) : Type 0 where
 -- no types, new indices and widths make another module of the bytes
 abbrev pub CanNotBeRenamed : List ℕ → Type 0
 CanNotBeRenamed bytes =
-    (types new_indices : List ℕ) (widths : Widths) (new : List ℕ)
+    (types : List ℕ) (new_indices : NewIndices) (widths : Widths) (new : List ℕ)
     → RenamesModule types new_indices widths bytes new → ⊥
 
 -- The bytes are a module, and one of its sections begins as `F` says. The ones before it become
 -- others.
-pub record FirstSectionIn (types new_indices : List ℕ) (widths : Widths) (F : List ℕ → Type 0)
-    (bytes : List ℕ) : Type 0 where
+pub record FirstSectionIn (types : List ℕ) (new_indices : NewIndices) (widths : Widths)
+    (F : List ℕ → Type 0) (bytes : List ℕ) : Type 0 where
   pub sections : List Section
   pub is_module : IsModule bytes sections
   pub texts : List ℕ
@@ -77,7 +77,7 @@ pub data InContent (F : ℕ → List ℕ → Type 0) : List ℕ → Type 0 where
       (id : ℕ) (bytes : List ℕ) → (id ≡ 1 → ⊥) → InSized (F id) bytes → InContent F (id ∷ bytes)
 
 -- the content names type k, which has no new index, behind types that have one
-pub data AnyNamesUnknown (new_indices : List ℕ) (widths : Widths) (k id : ℕ) :
+pub data AnyNamesUnknown (new_indices : NewIndices) (widths : Widths) (k id : ℕ) :
     List ℕ → Type 0 where
   custom :
       (content : List ℕ) → id ≡ 0 → CustomNamesUnknown new_indices widths k content
@@ -87,12 +87,12 @@ pub data AnyNamesUnknown (new_indices : List ℕ) (widths : Widths) (k id : ℕ)
       → AnyNamesUnknown new_indices widths k id content
 
 -- the module names type k, which has no new index, behind types that have one
-abbrev pub ModuleNamesUnknown : List ℕ → List ℕ → Widths → ℕ → List ℕ → Type 0
+abbrev pub ModuleNamesUnknown : List ℕ → NewIndices → Widths → ℕ → List ℕ → Type 0
 ModuleNamesUnknown types new_indices widths k =
     FirstSectionIn types new_indices widths (InContent (AnyNamesUnknown new_indices widths k))
 
 -- a part of the content that has a size of its own becomes too long
-pub data PartBecomesTooLong (new_indices : List ℕ) (widths : Widths) (id : ℕ) :
+pub data PartBecomesTooLong (new_indices : NewIndices) (widths : Widths) (id : ℕ) :
     List ℕ → Type 0 where
   custom :
       (content : List ℕ) → id ≡ 0 → CustomBecomesTooLong new_indices widths content
@@ -102,7 +102,7 @@ pub data PartBecomesTooLong (new_indices : List ℕ) (widths : Widths) (id : ℕ
       → PartBecomesTooLong new_indices widths id content
 
 -- the section with which the bytes begin, or a part of it, becomes too long
-pub data SectionBecomesTooLong (types new_indices : List ℕ) (widths : Widths) :
+pub data SectionBecomesTooLong (types : List ℕ) (new_indices : NewIndices) (widths : Widths) :
     List ℕ → Type 0 where
   type_section :
       (bytes : List ℕ) → 2 ^ 32 ≤ length types
@@ -116,6 +116,6 @@ pub data SectionBecomesTooLong (types new_indices : List ℕ) (widths : Widths) 
       → SectionBecomesTooLong types new_indices widths bytes
 
 -- a section of the module, or a part of one, becomes too long
-abbrev pub ModuleBecomesTooLong : List ℕ → List ℕ → Widths → List ℕ → Type 0
+abbrev pub ModuleBecomesTooLong : List ℕ → NewIndices → Widths → List ℕ → Type 0
 ModuleBecomesTooLong types new_indices widths =
     FirstSectionIn types new_indices widths (SectionBecomesTooLong types new_indices widths)

@@ -1,6 +1,6 @@
 -- Texts with other indices: each piece that is an index gets the text of its new number, and all
 -- else stays byte for byte.
-use Rattle.std.specs.Prelude.{◌≡◌, ℕ, ◌^◌, ◌<◌, ◌≤◌, List, [], ◌∷◌, ◌++◌, length, map, Option, Some, None, slice_get}
+use Rattle.std.specs.Prelude.{◌≡◌, ℕ, ◌^◌, ◌≤◌, List, [], ◌∷◌, ◌++◌, length, map, Option, Some, None, slice_index_or, IsSome}
 use Rattle.std.specs.List.{All}
 use Rattle.walrus_binary.specs.Grammar.{AreItems}
 use Rattle.walrus_binary.specs.Leb128.{IsInteger}
@@ -17,9 +17,17 @@ use Rattle.walrus_module.specs.Immediates.{Piece, unsigned, signed, plain, Runs,
 abbrev pub Maps : Type 0
 Maps = Space → Option (ℕ → Option ℕ)
 
--- type k becomes the k-th of these, and all other indices stay
-abbrev pub type_maps : List ℕ → Maps
-type_maps new_indices space.Type = Some (λ k. slice_get new_indices k)
+-- The new index of each type, in the order of the old ones. A deleted type has none.
+abbrev pub NewIndices : Type 0
+NewIndices = List (Option ℕ)
+
+-- The new index of type k. It has none where it is deleted, or where there is no k-th item.
+abbrev pub new_index : NewIndices → ℕ → Option ℕ
+new_index new_indices k = slice_index_or new_indices k None
+
+-- types get their new indices, and all other indices stay
+abbrev pub type_maps : NewIndices → Maps
+type_maps new_indices space.Type = Some (new_index new_indices)
 type_maps new_indices _ = None
 
 -- how many bytes a new index has at least, by how many were there
@@ -79,12 +87,13 @@ pub record RenamesFront (maps : Maps) (least : ℕ → ℕ) (kinds : List Kind)
   pub renames : Renames maps least kinds text new
 
 -- both are texts of these kinds, and the types that the second one names are the new ones
-pub record AreRenamed (new_indices : List ℕ) (kinds : List Kind) (bytes new : List ℕ) : Type 0 where
+pub record AreRenamed (new_indices : NewIndices) (kinds : List Kind) (bytes new : List ℕ) :
+    Type 0 where
   pub names : List ℕ
   pub new_names : List ℕ
   pub before : Names kinds bytes names
   pub after : Names kinds new new_names
-  pub mapped : map (λ k. slice_get new_indices k) names ≡ map (λ k. Some k) new_names
+  pub mapped : map (new_index new_indices) names ≡ map (λ k. Some k) new_names
 
 -- ---- what is refused
 
@@ -96,9 +105,10 @@ IsNoText kinds bytes = (pieces : List Piece) → AreTexts kinds bytes pieces →
 abbrev pub BeginsNoText : List Kind → List ℕ → Type 0
 BeginsNoText kinds bytes = (text rest : List ℕ) → bytes ≡ text ++ rest → IsNoText kinds text
 
--- Texts of these kinds can begin as the bytes do up to the first index of a type that is not below
--- `count`, which is `k`.
-pub record NamesUnknown (count : ℕ) (kinds : List Kind) (bytes : List ℕ) (k : ℕ) : Type 0 where
+-- Texts of these kinds can begin as the bytes do up to the first index of a type that has no new
+-- one, which is `k`.
+pub record NamesUnknown (new_indices : NewIndices) (kinds : List Kind) (bytes : List ℕ)
+    (k : ℕ) : Type 0 where
   pub text : List ℕ
   pub rest : List ℕ
   pub parts : bytes ≡ text ++ rest
@@ -107,5 +117,5 @@ pub record NamesUnknown (count : ℕ) (kinds : List Kind) (bytes : List ℕ) (k 
   pub runs : Runs kinds text pieces left
   pub known : List ℕ
   pub names : type_names pieces ≡ known ++ k ∷ []
-  pub are_known : All (λ j. j < count) known
-  pub unknown : count ≤ k
+  pub are_known : All (λ j. IsSome (new_index new_indices j)) known
+  pub unknown : new_index new_indices k ≡ None

@@ -11,3 +11,7 @@ pub mod Changes
 pub mod RenamedModules
 pub mod NameSections
 pub mod Customs
+pub mod Lengths
+pub mod Outdated
+pub mod ContentFaults
+pub mod ModuleFaults

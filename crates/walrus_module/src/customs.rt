@@ -147,7 +147,7 @@ fn is_description_name(name: &[u8]) -> bool
 }
 
 /// Whether bytes are this name.
-fn is_name(bytes: &[u8], name: &[u8]) -> bool
+pub fn is_name(bytes: &[u8], name: &[u8]) -> bool
     ensures yes { IsTrue result → bytes.now ≡ name.now }
     ensures no { result ≡ false → ¬ (bytes.now ≡ name.now) }
 {
@@ -156,7 +156,7 @@ fn is_name(bytes: &[u8], name: &[u8]) -> bool
 
 /// Whether bytes begin with these.
 #[tactic(auto, using(crate::proofs::Descriptions::does_not_begin))]
-fn begins_with(bytes: &[u8], front: &[u8]) -> bool
+pub fn begins_with(bytes: &[u8], front: &[u8]) -> bool
     ensures yes { IsTrue result → BeginsWith front.now bytes.now }
     ensures no { result ≡ false → ¬ BeginsWith front.now bytes.now }
 {

@@ -8,24 +8,38 @@
 //!   [`rename_section`] and [`rename_custom_section`] the content of a section.
 //! - [`rename_module`] returns a module with another type section, and with other indices of types
 //!   everywhere else.
+//! - [`find_module_fault`] returns the first fault in the contents of a module's sections, with its
+//!   place, and [`find_content_fault`] that of one section.
 //! - [`strip_descriptions`] returns a module without the custom sections that describe its other
 //!   bytes, such as debug data, and [`find_description`] the place of the first one.
+//! - [`find_outdated`] returns the place of the first of these sections that no longer fits where
+//!   the module is written again. [`description_kind`] says what a section describes.
+//! - [`skip_import`] passes over an import, and [`parts`] has the readers and writers of integers
+//!   and sizes.
 #![tactic(auto)]
 
 mod bodies;
 mod code;
+mod code_faults;
 mod contents;
 mod customs;
+mod description_kinds;
+mod faults;
 mod framing;
 mod head;
+mod imports;
 mod joining;
 mod kind;
 pub mod laws;
 mod leb128;
+mod lengths;
+mod module_faults;
 mod name_maps;
 mod name_section;
 mod named;
 mod opcodes;
+mod outdated;
+pub mod parts;
 mod plain;
 mod renamed_code;
 mod renamed_content;
@@ -35,13 +49,19 @@ mod scan;
 mod short;
 mod sized;
 mod stack;
+mod text_faults;
 mod texts;
 
 pub use bodies::{body_types, expression_types};
 pub use customs::{find_description, strip_descriptions};
+pub use description_kinds::{DescriptionKind, description_kind};
+pub use faults::{Fault, FaultKind, find_content_fault};
 pub use framing::{Section, SectionIter, sections};
+pub use imports::skip_import;
+pub use module_faults::find_module_fault;
 pub use name_section::rename_custom_section;
 pub use named::{named_types, section_types};
+pub use outdated::find_outdated;
 pub use renamed_content::rename_section;
 pub use renamed_module::rename_module;
 pub use renaming::{RenameError, Widths, rename_body, rename_expression};

@@ -47,7 +47,7 @@ pub fn rename_map(
     alloc: Global,
     follows: Follows,
     content: &[u8],
-    new_indices: &[u32],
+    new_indices: &[Option<u32>],
     widths: Widths,
 ) -> Result<Option<Vec<u8>>, RenameError>
     ensures stays { IfOk result (λ new. IfNone new (RenamesMap (IsFollowing follows)
@@ -83,7 +83,7 @@ fn take_entries<'a>(
     follows: Follows,
     count: u32,
     input: &mut &'a [u8],
-    new_indices: &[u32],
+    new_indices: &[Option<u32>],
 ) -> Result<BTreeMap<u32, TypeEntry<'a>>, RenameError>
     ensures taken { IfOk result (λ kept. TakesEntries (IsFollowing follows) new_indices.now count
         kept.entries input.old.now input.new.now) }
@@ -97,17 +97,20 @@ fn take_entries<'a>(
     let mut kept = BTreeMap::new(alloc);
     for _ in 0..count {
         let (new_index, entry) = take_entry(follows, input, new_indices)?;
-        keep(&mut kept, new_index, entry)?;
+        if let Some(new_index) = new_index {
+            keep(&mut kept, new_index, entry)?;
+        }
     }
     Ok(kept)
 }
 
-/// Takes an entry from the front. Returns it with the new index of its type.
+/// Takes an entry from the front. Returns it with the new index of its type, or with `None` where
+/// the type is deleted.
 fn take_entry<'a>(
     follows: Follows,
     input: &mut &'a [u8],
-    new_indices: &[u32],
-) -> Result<(u32, TypeEntry<'a>), RenameError>
+    new_indices: &[Option<u32>],
+) -> Result<(Option<u32>, TypeEntry<'a>), RenameError>
     ensures taken { IfOk result (λ r. TakesEntry (IsFollowing follows) new_indices.now r.0
         r.1 input.old.now input.new.now) }
     ensures malformed { IsErrOf result Malformed →

@@ -22,14 +22,16 @@ const FIELD_NAMES: u8 = 10;
 const SIZE_LIMIT: usize = 1 << 32;
 
 /// Returns the content of a custom section with other indices of types. In a name section the names
-/// of types and of their fields get the new indices: index k becomes `new_indices[k]`. All other
-/// subsections and custom sections stay byte for byte (WebAssembly core specification, "Custom
-/// Sections" and "Name Section"; the names of fields are of the extended name section proposal).
+/// of types and of their fields get the new indices: where `new_indices[k]` is `Some(n)`, index k
+/// becomes n. `None` is a deleted type, whose names go. All other subsections and custom sections
+/// stay byte for byte (WebAssembly core specification, "Custom Sections" and "Name Section"; the
+/// names of fields are of the extended name section proposal).
 ///
 /// Entries for types are sorted by their new indices, as the specification wants. Where several
 /// types become one, the names of the one with the least index stay. The count of such entries and
 /// the size of their subsection are written again: with as few bytes as they need, or, with
-/// [`Widths::Kept`], with as many as they had at least.
+/// [`Widths::Kept`], with as many as they had at least. A subsection that loses all its entries
+/// stays, with the count 0.
 ///
 /// # Errors
 ///
@@ -37,8 +39,8 @@ const SIZE_LIMIT: usize = 1 << 32;
 ///
 /// - [`RenameError::Malformed`] comes where the content does not begin with a name, and where a
 ///   name section is no sequence of subsections or has malformed entries for types.
-/// - [`RenameError::UnknownType`] comes at the first type that has no new index, even if what is
-///   behind it is malformed.
+/// - [`RenameError::UnknownType`] comes at the first index of a type that is at or past the end of
+///   `new_indices`, even if what is behind it is malformed.
 /// - [`RenameError::TooLong`] comes where a subsection would have 2^32 bytes or more.
 /// - [`RenameError::Memory`] comes where memory was refused.
 ///
@@ -47,14 +49,14 @@ const SIZE_LIMIT: usize = 1 << 32;
 /// ```
 /// // name, subsection 4, 5 bytes: type 0 is named ab
 /// let names = [4, 0x6E, 0x61, 0x6D, 0x65, 4, 5, 1, 0, 2, 0x61, 0x62].as_slice();
-/// let new = rename_custom_section(alloc, names, &[3], Widths::Shortest)?;
+/// let new = rename_custom_section(alloc, names, &[Some(3)], Widths::Shortest)?;
 /// let expected = [4, 0x6E, 0x61, 0x6D, 0x65, 4, 5, 1, 3, 2, 0x61, 0x62];
 /// assert_eq!(rt; new.as_slice(), expected.as_slice());
 /// ```
 pub fn rename_custom_section(
     alloc: Global,
     content: &[u8],
-    new_indices: &[u32],
+    new_indices: &[Option<u32>],
     widths: Widths,
 ) -> Result<Vec<u8>, RenameError>
     // The result is the content of a custom section with other indices.
@@ -62,7 +64,7 @@ pub fn rename_custom_section(
         TurnsInto (RenamesCustom new_indices.now widths) content.now new.items) }
     // What is refused as malformed is no content of a custom section.
     ensures malformed { IsErrOf result Malformed → IsMalformed RenamesCustom content.now }
-    // What is refused for a type names it, and behind types that have new indices.
+    // What is refused for a type names one past the new indices, behind others that are not.
     ensures unknown { (k : ℕ) → IsErrOf result (UnknownType k) →
         CustomNamesUnknown new_indices.now widths k content.now }
     // What is refused for its length has a subsection that no size can count.
@@ -78,7 +80,7 @@ pub fn rename_custom_section(
 pub fn rename_custom(
     alloc: Global,
     content: &[u8],
-    new_indices: &[u32],
+    new_indices: &[Option<u32>],
     widths: Widths,
 ) -> Result<Option<Vec<u8>>, RenameError>
     // Where nothing comes back the content names no type, and stays.
@@ -89,7 +91,7 @@ pub fn rename_custom(
         Changes (RenamesCustom new_indices.now widths) content.now bytes.items)) }
     // What is refused as malformed is malformed for all new indices.
     ensures malformed { IsErrOf result Malformed → IsMalformed RenamesCustom content.now }
-    // What is refused for a type names it, and behind types that have new indices.
+    // What is refused for a type names one past the new indices, behind others that are not.
     ensures unknown { (k : ℕ) → IsErrOf result (UnknownType k) →
         CustomNamesUnknown new_indices.now widths k content.now }
     // A subsection that is refused as too long would have 2^32 bytes or more.
@@ -128,7 +130,7 @@ fn rename_subsection<'a>(
     alloc: Global,
     unwritten: &mut &'a [u8],
     rest: &mut &'a [u8],
-    new_indices: &[u32],
+    new_indices: &[Option<u32>],
     widths: Widths,
     out: &mut Vec<u8>,
 ) -> Result<(), RenameError>
@@ -172,7 +174,7 @@ fn rename_names(
     alloc: Global,
     id: u8,
     content: &[u8],
-    new_indices: &[u32],
+    new_indices: &[Option<u32>],
     widths: Widths,
 ) -> Result<Option<Vec<u8>>, RenameError>
     ensures stays { IfOk result (λ new. IfNone new

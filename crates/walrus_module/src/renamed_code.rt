@@ -1,7 +1,7 @@
 //! Code sections with other indices of types.
 //!
 //! WebAssembly core specification, "Binary Format", code section.
-ghost use Rattle.std.specs.Prelude.{◌≡◌, ℕ, [], length, IfOk, IfSome, IfNone, IsErrOf};
+ghost use Rattle.std.specs.Prelude.{◌≡◌, ℕ, [], IfOk, IfSome, IfNone, IsErrOf};
 ghost use Rattle.walrus_module.specs.Bodies.{body};
 ghost use Rattle.walrus_module.specs.Changes.{Changes, ChangeAll, BecomesTooLong, InSized, FirstIn};
 ghost use Rattle.walrus_module.specs.RenamedSections.{RenamesTexts, RenamesBody, RenamesCode, FirstBodyIn};
@@ -22,7 +22,7 @@ use std::alloc::Global;
 pub fn rename_code(
     alloc: Global,
     content: &[u8],
-    new_indices: &[u32],
+    new_indices: &[Option<u32>],
     widths: Widths,
 ) -> Result<Option<Vec<u8>>, RenameError>
     ensures stays { IfOk result (λ new. IfNone new
@@ -32,7 +32,7 @@ pub fn rename_code(
     ensures malformed { IsErrOf result Malformed → IsNoCode content.now scan.Malformed }
     ensures unknown { (k : ℕ) → IsErrOf result (UnknownType k) →
         FirstBodyIn new_indices.now widths
-        (λ b. NamesUnknown (length new_indices.now) body b k) content.now }
+        (λ b. NamesUnknown new_indices.now body b k) content.now }
     ensures too_long { IsErrOf result TooLong → FirstBodyIn new_indices.now widths
         (BecomesTooLong (RenamesTexts new_indices.now widths body)) content.now }
 {
@@ -58,7 +58,7 @@ fn rename_bodies(
     alloc: Global,
     count: u32,
     input: &mut &[u8],
-    new_indices: &[u32],
+    new_indices: &[Option<u32>],
     widths: Widths,
 ) -> Result<Option<Vec<u8>>, RenameError>
     ensures stays { IfOk result (λ new. IfNone new (StaysInFront
@@ -70,7 +70,7 @@ fn rename_bodies(
         BeginsWithNoBodies count input.old.now scan.Malformed }
     ensures unknown { (k : ℕ) → IsErrOf result (UnknownType k) →
         FirstIn (RenamesBody new_indices.now widths)
-        (InSized (λ b. NamesUnknown (length new_indices.now) body b k)) count input.old.now }
+        (InSized (λ b. NamesUnknown new_indices.now body b k)) count input.old.now }
     ensures too_long { IsErrOf result TooLong → FirstIn (RenamesBody new_indices.now widths)
         (InSized (BecomesTooLong (RenamesTexts new_indices.now widths body))) count input.old.now }
 {
@@ -96,7 +96,7 @@ fn rename_bodies(
 fn rename_sized_body(
     alloc: Global,
     input: &mut &[u8],
-    new_indices: &[u32],
+    new_indices: &[Option<u32>],
     widths: Widths,
 ) -> Result<Option<Vec<u8>>, RenameError>
     ensures stays { IfOk result (λ new. IfNone new (StaysInFront
@@ -106,7 +106,7 @@ fn rename_sized_body(
     ensures malformed { IsErrOf result Malformed →
         BeginsWithNoBody input.old.now scan.Malformed }
     ensures unknown { (k : ℕ) → IsErrOf result (UnknownType k) →
-        InSized (λ b. NamesUnknown (length new_indices.now) body b k) input.old.now }
+        InSized (λ b. NamesUnknown new_indices.now body b k) input.old.now }
     ensures too_long { IsErrOf result TooLong →
         InSized (BecomesTooLong (RenamesTexts new_indices.now widths body)) input.old.now }
 {

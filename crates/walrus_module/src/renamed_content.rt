@@ -1,7 +1,7 @@
 //! Contents of sections with other indices of types.
 //!
 //! WebAssembly core specification, "Binary Format", modules.
-ghost use Rattle.std.specs.Prelude.{◌≡◌, ℕ, [], length, IfOk, IfSome, IfNone, IsErrOf};
+ghost use Rattle.std.specs.Prelude.{◌≡◌, ℕ, [], IfOk, IfSome, IfNone, IsErrOf};
 ghost use Rattle.walrus_module.specs.Changes.{Changes, TurnsInto, IsMalformed};
 ghost use Rattle.walrus_module.specs.RenamedSections.{RenamesTexts, RenamesContent, NamesUnknownIn, BodyBecomesTooLong};
 ghost use Rattle.walrus_module.specs.Renaming.{IsNoText, NamesUnknown};
@@ -19,9 +19,9 @@ use std::alloc::Global;
 /// The id of the code section.
 const CODE: u8 = 10;
 
-/// Returns the content of a section with other indices of types: index k becomes `new_indices[k]`,
-/// in the same form (`u32` or `s33`). The section has this id (WebAssembly core specification,
-/// "Binary Format", "Sections").
+/// Returns the content of a section with other indices of types: where `new_indices[k]` is
+/// `Some(n)`, index k becomes n, in the same form (`u32` or `s33`). `None` is a deleted type. The
+/// section has this id (WebAssembly core specification, "Binary Format", "Sections").
 ///
 /// The size of a function body is written again where the body names a type: with as few bytes as
 /// it needs, or, with [`Widths::Kept`], with as many as it had at least. All other bytes stay. A
@@ -35,8 +35,8 @@ const CODE: u8 = 10;
 ///
 /// - [`RenameError::Malformed`] comes where the content of a section that names types is not as the
 ///   grammar says.
-/// - [`RenameError::UnknownType`] comes at the first type that has no new index, even if what is
-///   behind it is malformed.
+/// - [`RenameError::UnknownType`] comes at the first type that has no new index: it is deleted, or
+///   its index is at or past the end of `new_indices`. What is behind it may be malformed.
 /// - [`RenameError::TooLong`] comes where a function body would have 2^32 bytes or more.
 /// - [`RenameError::Memory`] comes where memory was refused.
 ///
@@ -44,14 +44,14 @@ const CODE: u8 = 10;
 ///
 /// ```
 /// let functions = [2, 0, 1].as_slice();
-/// let new = rename_section(alloc, 3, functions, &[5, 4], Widths::Shortest)?;
+/// let new = rename_section(alloc, 3, functions, &[Some(5), Some(4)], Widths::Shortest)?;
 /// assert_eq!(rt; new.as_slice(), [2, 5, 4].as_slice());
 /// ```
 pub fn rename_section(
     alloc: Global,
     id: u8,
     content: &[u8],
-    new_indices: &[u32],
+    new_indices: &[Option<u32>],
     widths: Widths,
 ) -> Result<Vec<u8>, RenameError>
     // The result is the content of such a section with other indices.
@@ -76,7 +76,7 @@ pub fn rename_content(
     alloc: Global,
     id: u8,
     content: &[u8],
-    new_indices: &[u32],
+    new_indices: &[Option<u32>],
     widths: Widths,
 ) -> Result<Option<Vec<u8>>, RenameError>
     // Where nothing comes back the content names no type, and stays.
@@ -105,7 +105,7 @@ fn rename_texts(
     alloc: Global,
     row: Immediates,
     bytes: &[u8],
-    new_indices: &[u32],
+    new_indices: &[Option<u32>],
     widths: Widths,
 ) -> Result<Option<Vec<u8>>, RenameError>
     ensures stays { IfOk result (λ new. IfNone new (RenamesTexts new_indices.now widths
@@ -116,7 +116,7 @@ fn rename_texts(
     ensures malformed { IsErrOf result Malformed →
         IsNoText (kinds_or_none (row_kinds row)) bytes.now }
     ensures unknown { (k : ℕ) → IsErrOf result (UnknownType k) →
-        NamesUnknown (length new_indices.now) (kinds_or_none (row_kinds row)) bytes.now k }
+        NamesUnknown new_indices.now (kinds_or_none (row_kinds row)) bytes.now k }
     ensures sizeless { IsErrOf result TooLong → ⊥ }
 {
     let kinds = Stack::from_row(alloc, row)?;

@@ -22,12 +22,14 @@ const CUSTOM: u8 = 0;
 const TYPES: u8 = 1;
 
 /// Returns a module with the content `types` for its type section, and with other indices of types
-/// everywhere else: index k becomes `new_indices[k]`, in the same form (`u32` or `s33`). A module
-/// without a type section gets none (WebAssembly core specification, "Binary Format", "Modules").
+/// everywhere else: where `new_indices[k]` is `Some(n)`, index k becomes n, in the same form (`u32`
+/// or `s33`). A module without a type section gets none (WebAssembly core specification, "Binary
+/// Format", "Modules").
 ///
 /// `new_indices` has to be the map that belongs to `types`: for each type of the old section, the
-/// index that the same type has in `types`. Neither is checked against the other, and with another
-/// map the result names wrong types.
+/// index that the same type has in `types`, or `None` where it is deleted. Neither is checked
+/// against the other, and with another map the result names wrong types. A deleted type may only be
+/// named in the custom section `name`, where its names go.
 ///
 /// The type section gets the shortest size. Any other size is written again where it spans an index
 /// of a type. All other bytes stay: the order of the sections, custom sections but for the names of
@@ -38,23 +40,26 @@ const TYPES: u8 = 1;
 /// The first fault from left to right decides. [`RenameError::Malformed`] comes where the bytes are
 /// no module by the framing of sections, as [`sections`] checks it for the whole module first, or
 /// where the content of a section that names types is not as the grammar says.
-/// [`RenameError::UnknownType`] comes at the first type that has no new index.
+/// [`RenameError::UnknownType`] comes at the first type that has no new index: it is deleted, or
+/// its index is at or past the end of `new_indices`. In the custom section `name` it comes for the
+/// latter alone.
 /// [`RenameError::TooLong`] comes where a section, or a part of one that has a size, has 2^32 bytes
 /// or more in the result. [`RenameError::Memory`] comes where memory was refused.
 ///
-/// # A module with its types in normal form
+/// # A module with its used types in normal form
 ///
 /// ```
 /// let groups = module_types(alloc, bytes)?;
-/// let (normal, map) = normalise(alloc, HashKeys::fixed(), groups.as_slice())?;
+/// let roots = named_types(alloc, bytes)?;
+/// let (normal, new_indices) = normalise_used(alloc, HashKeys::fixed(), &groups, &roots)?;
 /// let types = encode_types(alloc, normal.as_slice())?;
-/// let new = rename_module(alloc, bytes, &types, map.as_slice(), Widths::Shortest)?;
+/// let new = rename_module(alloc, bytes, &types, &new_indices, Widths::Shortest)?;
 /// ```
 pub fn rename_module(
     alloc: Global,
     bytes: &[u8],
     types: &[u8],
-    new_indices: &[u32],
+    new_indices: &[Option<u32>],
     widths: Widths,
 ) -> Result<Vec<u8>, RenameError>
     // The bytes are a module, and the result is the same with these types and indices.
@@ -98,7 +103,7 @@ fn write_section(
     section: Section<'_>,
     text: &[u8],
     types: &[u8],
-    new_indices: &[u32],
+    new_indices: &[Option<u32>],
     widths: Widths,
     out: &mut Vec<u8>,
 ) -> Result<(), RenameError>
@@ -134,7 +139,7 @@ fn rename_any(
     alloc: Global,
     id: u8,
     content: &[u8],
-    new_indices: &[u32],
+    new_indices: &[Option<u32>],
     widths: Widths,
 ) -> Result<Option<Vec<u8>>, RenameError>
     ensures stays { IfOk result (λ new. IfNone new

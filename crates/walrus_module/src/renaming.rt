@@ -5,7 +5,7 @@ ghost use Rattle.std.specs.Prelude.{◌≡◌, ◌≤◌, ℕ, [], length, IfOk,
 ghost use Rattle.walrus_module.specs.Bodies.{expression, body};
 ghost use Rattle.walrus_module.specs.Changes.{Changes};
 ghost use Rattle.walrus_module.specs.RenamedSections.{RenamesTexts};
-ghost use Rattle.walrus_module.specs.Renaming.{type_maps, least_width, Renames, RenamesFront, BeginsNoText, IsNoText, NamesUnknown, IsTextOf};
+ghost use Rattle.walrus_module.specs.Renaming.{type_maps, new_index, least_width, Renames, RenamesFront, BeginsNoText, IsNoText, NamesUnknown, IsTextOf};
 ghost use Rattle.walrus_module.specs.Steps.Changes.{StaysInFront, ChangesInFront};
 ghost use Rattle.walrus_module.specs.Steps.Renaming.{Appends, IsNewIndex, IsUnknown, index_end};
 ghost use Rattle.walrus_module.specs.declared.renaming.RenameError.TheVariants.{Malformed, UnknownType, TooLong};
@@ -33,7 +33,7 @@ pub enum RenameError {
     /// The bytes are no such code, or no such content, by the grammar of WebAssembly.
     #[error("malformed code or section")]
     Malformed,
-    /// There is no new index for a type that is named.
+    /// A type that is named has no new index: it is deleted, or there is none of this index.
     #[error("type {index} has no new index")]
     UnknownType {
         /// The type's index.
@@ -70,28 +70,30 @@ impl From<ScanError> for RenameError {
     }
 }
 
-/// Takes an expression from the front of bytes. Returns it with other indices of types: index k
-/// becomes `new_indices[k]`, in the same form (`u32` or `s33`). All other bytes stay (WebAssembly
-/// core specification, "Binary Format", "Expressions").
+/// Takes an expression from the front of bytes. Returns it with other indices of types: where
+/// `new_indices[k]` is `Some(n)`, index k becomes n, in the same form (`u32` or `s33`). `None` is a
+/// deleted type. All other bytes stay (WebAssembly core specification, "Binary Format",
+/// "Expressions").
 ///
 /// # Errors
 ///
 /// [`RenameError::Malformed`] comes where no expression begins the bytes.
-/// [`RenameError::UnknownType`] comes at the first type that has no new index, even if what is
-/// behind it is no code. [`RenameError::Memory`] comes where memory was refused. After an error the
-/// input is as it was.
+/// [`RenameError::UnknownType`] comes at the first type that has no new index: it is deleted, or
+/// its index is at or past the end of `new_indices`. What is behind it need not be code.
+/// [`RenameError::Memory`] comes where memory was refused. After an error the input is as it was.
 ///
 /// # A constant that becomes one of another type
 ///
 /// ```
 /// let mut code = [0xD0, 1, 0x0B].as_slice();
-/// let new = rename_expression(alloc, &mut code, &[3, 2], Widths::Shortest)?;
+/// let new_indices = [Some(3), Some(2)];
+/// let new = rename_expression(alloc, &mut code, &new_indices, Widths::Shortest)?;
 /// assert_eq!(rt; new.as_slice(), [0xD0, 2, 0x0B].as_slice());
 /// ```
 pub fn rename_expression(
     alloc: Global,
     input: &mut &[u8],
-    new_indices: &[u32],
+    new_indices: &[Option<u32>],
     widths: Widths,
 ) -> Result<Vec<u8>, RenameError>
     // The input began with an expression, which was taken, and the result is the same with other
@@ -102,7 +104,7 @@ pub fn rename_expression(
     ensures malformed { IsErrOf result Malformed → BeginsNoText expression input.old.now }
     // What is refused for a type names it, and behind types that have new indices.
     ensures unknown { (k : ℕ) → IsErrOf result (UnknownType k) →
-        NamesUnknown (length new_indices.now) expression input.old.now k }
+        NamesUnknown new_indices.now expression input.old.now k }
     // After an error the input is as it was.
     ensures unchanged { OnErr result (input.new ≡ input.old) }
 {
@@ -114,19 +116,21 @@ pub fn rename_expression(
     Ok(new)
 }
 
-/// Returns a function body with other indices of types: index k becomes `new_indices[k]`, in the
-/// same form (`u32` or `s33`). All other bytes stay. `content` is what the body has after its size
-/// (WebAssembly core specification, "Binary Format", "Code Section").
+/// Returns a function body with other indices of types: where `new_indices[k]` is `Some(n)`, index
+/// k becomes n, in the same form (`u32` or `s33`). `None` is a deleted type. All other bytes stay.
+/// `content` is what the body has after its size (WebAssembly core specification, "Binary Format",
+/// "Code Section").
 ///
 /// # Errors
 ///
 /// [`RenameError::Malformed`] comes where the bytes are no function body.
-/// [`RenameError::UnknownType`] comes at the first type that has no new index, even if what is
-/// behind it is no code. [`RenameError::Memory`] comes where memory was refused.
+/// [`RenameError::UnknownType`] comes at the first type that has no new index: it is deleted, or
+/// its index is at or past the end of `new_indices`. What is behind it need not be code.
+/// [`RenameError::Memory`] comes where memory was refused.
 pub fn rename_body(
     alloc: Global,
     content: &[u8],
-    new_indices: &[u32],
+    new_indices: &[Option<u32>],
     widths: Widths,
 ) -> Result<Vec<u8>, RenameError>
     // The bytes are a function body, and the result is the same with other indices.
@@ -136,7 +140,7 @@ pub fn rename_body(
     ensures malformed { IsErrOf result Malformed → IsNoText body content.now }
     // What is refused for a type names it, and behind types that have new indices.
     ensures unknown { (k : ℕ) → IsErrOf result (UnknownType k) →
-        NamesUnknown (length new_indices.now) body content.now k }
+        NamesUnknown new_indices.now body content.now k }
 {
     let new = rename_whole_body(alloc, content, new_indices, widths)?;
     Ok(new_or_copy(alloc, new, content)?)
@@ -146,7 +150,7 @@ pub fn rename_body(
 pub fn rename_whole_body(
     alloc: Global,
     content: &[u8],
-    new_indices: &[u32],
+    new_indices: &[Option<u32>],
     widths: Widths,
 ) -> Result<Option<Vec<u8>>, RenameError>
     ensures stays { IfOk result (λ new. IfNone new
@@ -155,7 +159,7 @@ pub fn rename_whole_body(
         Changes (RenamesTexts new_indices.now widths body) content.now text.items)) }
     ensures malformed { IsErrOf result Malformed → IsNoText body content.now }
     ensures unknown { (k : ℕ) → IsErrOf result (UnknownType k) →
-        NamesUnknown (length new_indices.now) body content.now k }
+        NamesUnknown new_indices.now body content.now k }
     ensures sizeless { IsErrOf result TooLong → ⊥ }
 {
     let mut kinds = Stack::new(alloc, Kind::Expression);
@@ -169,7 +173,7 @@ pub fn rename_whole(
     alloc: Global,
     kinds: Stack,
     bytes: &[u8],
-    new_indices: &[u32],
+    new_indices: &[Option<u32>],
     widths: Widths,
 ) -> Result<Option<Vec<u8>>, RenameError>
     ensures stays { IfOk result (λ new. IfNone new
@@ -178,7 +182,7 @@ pub fn rename_whole(
         Changes (RenamesTexts new_indices.now widths kinds) bytes.now text.items)) }
     ensures malformed { IsErrOf result Malformed → IsNoText kinds bytes.now }
     ensures unknown { (k : ℕ) → IsErrOf result (UnknownType k) →
-        NamesUnknown (length new_indices.now) kinds bytes.now k }
+        NamesUnknown new_indices.now kinds bytes.now k }
     ensures sizeless { IsErrOf result TooLong → ⊥ }
 {
     let mut rest = bytes;
@@ -195,7 +199,7 @@ fn rename(
     alloc: Global,
     kinds: Stack,
     input: &mut &[u8],
-    new_indices: &[u32],
+    new_indices: &[Option<u32>],
     widths: Widths,
 ) -> Result<Option<Vec<u8>>, RenameError>
     ensures stays { IfOk result (λ new. IfNone new (StaysInFront
@@ -205,7 +209,7 @@ fn rename(
     ensures shorter { IfOk result (λ new. length input.new.now ≤ length input.old.now) }
     ensures malformed { IsErrOf result Malformed → BeginsNoText kinds input.old.now }
     ensures unknown { (k : ℕ) → IsErrOf result (UnknownType k) →
-        NamesUnknown (length new_indices.now) kinds input.old.now k }
+        NamesUnknown new_indices.now kinds input.old.now k }
     ensures sizeless { IsErrOf result TooLong → ⊥ }
 {
     let mut out = Vec::new(alloc);
@@ -227,7 +231,7 @@ fn rename(
 /// Puts the new index of a type at the end.
 fn write_index(
     found: TypeIndex,
-    new_indices: &[u32],
+    new_indices: &[Option<u32>],
     widths: Widths,
     out: &mut Vec<u8>,
 ) -> Result<(), RenameError>
@@ -236,16 +240,26 @@ fn write_index(
         IsNewIndex new_indices.now (least_width widths) found text) out.old.items out.new.items) }
     ensures known { IsErrOf result Malformed → ⊥ }
     ensures unknown { (k : ℕ) → IsErrOf result (UnknownType k) →
-        IsUnknown (length new_indices.now) found k }
+        IsUnknown new_indices.now found k }
     ensures sizeless { IsErrOf result TooLong → ⊥ }
 {
-    let index = found.index as usize;
-    if index >= new_indices.len() {
+    let Some(index) = new_index(new_indices, found.index) else {
         return Err(RenameError::UnknownType { index: found.index });
-    }
+    };
     let least = least_width(widths, found.length);
-    push_index(found.is_signed, new_indices[index], least, out)?;
+    push_index(found.is_signed, index, least, out)?;
     Ok(())
+}
+
+/// The new index of a type. It has none where it is deleted, or where there is none of this index.
+fn new_index(new_indices: &[Option<u32>], index: u32) -> Option<u32>
+    ensures { result ≡ new_index new_indices.now index }
+{
+    let index = index as usize;
+    if index >= new_indices.len() {
+        return None;
+    }
+    new_indices[index]
 }
 
 /// The least number of bytes of an integer that replaces one of this many bytes.

@@ -88,7 +88,7 @@ pub fn next_type(stack: &mut Stack, input: &mut &[u8]) -> Result<Option<TypeInde
 }
 
 /// Puts what is still to come in front. Returns the type that the beginning of a text names.
-fn take_in(head: Head, stack: &mut Stack) -> Result<Option<u32>, AllocError>
+pub fn take_in(head: Head, stack: &mut Stack) -> Result<Option<u32>, AllocError>
     ensures stack { OnOk result (stack.new ≡ (seen head).more ++ stack.old) }
     ensures named { IfOk result (λ named. named ≡ (seen head).named) }
 {

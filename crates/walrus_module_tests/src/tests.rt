@@ -1,11 +1,16 @@
 //! The sections of modules that are put together by hand from the specification's grammar.
 mod code;
+mod content_faults;
 mod contents;
 mod customs;
+mod laws;
+mod module_faults;
 mod named;
+mod outdated;
 mod refusals;
 mod renamed_modules;
 mod renaming;
+mod snipping;
 mod speed;
 
 use crate::assertions::assert_equal;

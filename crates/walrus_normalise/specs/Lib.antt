@@ -1,2 +1,3 @@
 pub mod NormalModules
 pub mod Steps
+pub mod Moved

@@ -1,28 +1,45 @@
 -- Modules with their type sections in normal form (`IsNormalised`), and what stops that.
 -- WebAssembly core specification, "Binary Format", "Type Section" and modules. The normal form is
 -- that of walrus_sections.
-use Rattle.std.specs.Prelude.{◌≡◌, ℕ, ◌≤◌, ◌⊎◌, List, length}
+use Rattle.std.specs.Prelude.{◌≡◌, ℕ, ◌≤◌, ◌⊎◌, List, length, map, Some}
 use Rattle.walrus_binary.specs.Faults.{HasNoText}
 use Rattle.walrus_binary.specs.Grammar.{IsTypes}
 use Rattle.walrus_binary.specs.ModuleSections.{HasTypes}
-use Rattle.walrus_module.specs.Customs.{IsStripped, HasNoDescription, HasDescriptionAt}
+use Rattle.walrus_module.specs.Customs.{IsStripped}
+use Rattle.walrus_module.specs.Outdated.{AllFit, HasOutdatedAt}
+use Rattle.walrus_module.specs.NamedTypes.{NamesOutside}
+use Rattle.walrus_module.specs.Renaming.{NewIndices}
 use Rattle.walrus_module.specs.RenamedModules.{RenamesModule, CanNotBeRenamed, ModuleNamesUnknown, ModuleBecomesTooLong}
+use Rattle.walrus_module.specs.declared.renaming.Widths.TheVariants as widths
 use Rattle.walrus_sections.specs.FirstError.{IsFirstError}
 use Rattle.walrus_sections.specs.NormalForm.{IsNormalForm}
-use Rattle.walrus_sections.specs.Section.{IsWellNamed}
+use Rattle.walrus_sections.specs.Section.{IsWellNamed, index_space}
 use Rattle.walrus_sections.specs.declared.error.ReadError.{ReadError}
 use Rattle.walrus_ty.specs.Records.{section_of}
 use Rattle.walrus_ty.specs.declared.records.GroupAt.{GroupAt}
+use Rattle.walrus_unused.specs.UsedSections.{first_unknown, IsUsedNormal, IsUsedNormalForm}
 use Rattle.walrus_normalise.specs.declared.options.Descriptions.{Descriptions}
 use Rattle.walrus_normalise.specs.declared.options.Descriptions.TheVariants as descriptions
 use Rattle.walrus_normalise.specs.declared.options.NormaliseOptions.{NormaliseOptions}
+use Rattle.walrus_normalise.specs.declared.options.UnusedTypes.{UnusedTypes}
+use Rattle.walrus_normalise.specs.declared.options.UnusedTypes.TheVariants as kinds
 
--- The bytes are a module whose types have this normal form, and the map has the new index of each.
-pub record HasNormalForm (bytes : List ℕ) (normal : List GroupAt) (map : List ℕ) : Type 0 where
-  pub groups : List GroupAt
-  pub read : HasTypes bytes groups
-  pub well_named : IsWellNamed (section_of groups)
-  pub is_normal_form : IsNormalForm (section_of groups) (section_of normal) map
+-- The bytes are a module whose types have this normal form, with the new index of each. Where
+-- unused types are deleted, it is the normal form of the used ones. The roots are the types that
+-- the module names outside its type section.
+pub data HasNormalForm (unused : UnusedTypes) (bytes : List ℕ) (normal : List GroupAt)
+    (new_indices : NewIndices) : Type 0 where
+  of_all :
+      (groups : List GroupAt) (indices : List ℕ) → unused ≡ kinds.Kept → HasTypes bytes groups
+      → IsWellNamed (section_of groups)
+      → IsNormalForm (section_of groups) (section_of normal) indices
+      → new_indices ≡ map (λ n. Some n) indices → HasNormalForm unused bytes normal new_indices
+  of_used :
+      (groups : List GroupAt) (roots : List ℕ) → unused ≡ kinds.Deleted → HasTypes bytes groups
+      → IsWellNamed (section_of groups) → NamesOutside bytes roots
+      → IsUsedNormalForm (section_of groups) roots normal new_indices
+      → IsUsedNormal (section_of groups) roots (section_of normal) new_indices
+      → HasNormalForm unused bytes normal new_indices
 
 -- the bytes are a text of these groups, and none is shorter
 pub record IsShortest (bytes : List ℕ) (groups : List GroupAt) : Type 0 where
@@ -30,9 +47,10 @@ pub record IsShortest (bytes : List ℕ) (groups : List GroupAt) : Type 0 where
   pub least : (others : List ℕ) → IsTypes others groups → length bytes ≤ length others
 
 -- The same, and `types` is the content of a type section with this normal form.
-pub record HasNormalTypes (bytes types map : List ℕ) : Type 0 where
+pub record HasNormalTypes (unused : UnusedTypes) (bytes types : List ℕ)
+    (new_indices : NewIndices) : Type 0 where
   pub normal : List GroupAt
-  pub has : HasNormalForm bytes normal map
+  pub has : HasNormalForm unused bytes normal new_indices
   pub written : IsShortest types normal
 
 -- The module that is written again: all of it, or what is left without the sections that describe
@@ -42,18 +60,18 @@ IsLeft descriptions.Kept bytes left = left ≡ bytes
 IsLeft descriptions.Stripped bytes left = IsStripped bytes left
 
 -- The bytes are a module, and `new` is what is left of it with its type section in normal form:
--- each index of a type is the one that the map has for it.
+-- each index of a type is the new one.
 pub record IsNormalised (options : NormaliseOptions) (bytes new : List ℕ) : Type 0 where
   pub types : List ℕ
-  pub map : List ℕ
-  pub has : HasNormalTypes bytes types map
+  pub new_indices : NewIndices
+  pub has : HasNormalTypes options.unused bytes types new_indices
   pub left : List ℕ
   pub is_left : IsLeft options.descriptions bytes left
-  pub renamed : RenamesModule types map options.widths left new
+  pub renamed : RenamesModule types new_indices options.widths left new
 
--- all bytes stay, or no section describes other bytes
+-- all bytes stay, or at least all that its custom sections describe
 abbrev pub DescriptionsFit : List ℕ → List ℕ → Type 0
-DescriptionsFit bytes new = (new ≡ bytes) ⊎ HasNoDescription bytes
+DescriptionsFit bytes new = (new ≡ bytes) ⊎ AllFit bytes new
 
 -- ---- what is refused
 
@@ -63,38 +81,74 @@ pub record HasFirstError (bytes : List ℕ) (e : ReadError) : Type 0 where
   pub read : HasTypes bytes groups
   pub first : IsFirstError (section_of groups) e
 
--- what is left of the module has a malformed section
-pub record LeavesMalformed (descriptions : Descriptions) (bytes : List ℕ) : Type 0 where
-  pub left : List ℕ
-  pub is_left : IsLeft descriptions bytes left
-  pub malformed : CanNotBeRenamed left
+-- no types are the ones that the module names, since a section is malformed
+abbrev pub NamesNoTypes : List ℕ → Type 0
+NamesNoTypes bytes = (names : List ℕ) → NamesOutside bytes names → ⊥
 
--- it names type k, which has no new index, outside its type section
-pub record NamesUnknownType (options : NormaliseOptions) (k : ℕ) (bytes : List ℕ) : Type 0 where
+-- A section is malformed. Where it is found, no types are the ones that the module names, or it
+-- becomes no other module.
+abbrev pub HasMalformedSection : List ℕ → Type 0
+HasMalformedSection bytes = NamesNoTypes bytes ⊎ CanNotBeRenamed bytes
+
+-- of the types that the module names outside its type section, k is the first that it does not have
+pub record HasUnknownRoot (k : ℕ) (bytes : List ℕ) : Type 0 where
+  pub groups : List GroupAt
+  pub roots : List ℕ
+  pub read : HasTypes bytes groups
+  pub named : NamesOutside bytes roots
+  pub unknown : first_unknown (index_space (section_of groups)).count roots ≡ Some k
+
+-- with all types in normal form, it names type k, which has no new index, outside its type section
+pub record HasUnknownName (k : ℕ) (bytes : List ℕ) : Type 0 where
   pub types : List ℕ
-  pub map : List ℕ
-  pub has : HasNormalTypes bytes types map
-  pub left : List ℕ
-  pub is_left : IsLeft options.descriptions bytes left
-  pub unknown : ModuleNamesUnknown types map options.widths k left
+  pub new_indices : NewIndices
+  pub has : HasNormalTypes kinds.Kept bytes types new_indices
+  pub unknown : ModuleNamesUnknown types new_indices widths.Shortest k bytes
+
+abbrev pub HasUnknownType : ℕ → List ℕ → Type 0
+HasUnknownType k bytes = HasUnknownRoot k bytes ⊎ HasUnknownName k bytes
+
+-- A section is malformed: it is found where unused types are deleted, or in what is left of the
+-- module.
+pub data LeavesMalformed (options : NormaliseOptions) (bytes : List ℕ) : Type 0 where
+  unread :
+      options.unused ≡ kinds.Deleted → HasMalformedSection bytes → LeavesMalformed options bytes
+  unwritten :
+      (left : List ℕ) → IsLeft options.descriptions bytes left → CanNotBeRenamed left
+      → LeavesMalformed options bytes
+
+-- It names type k, which has no new index, outside its type section: this is found where unused
+-- types are deleted, or in what is left of the module.
+pub data NamesUnknownType (options : NormaliseOptions) (k : ℕ) (bytes : List ℕ) : Type 0 where
+  unread :
+      options.unused ≡ kinds.Deleted → HasUnknownType k bytes
+      → NamesUnknownType options k bytes
+  unwritten :
+      (types left : List ℕ) (new_indices : NewIndices)
+      → HasNormalTypes options.unused bytes types new_indices
+      → IsLeft options.descriptions bytes left
+      → ModuleNamesUnknown types new_indices options.widths k left
+      → NamesUnknownType options k bytes
 
 -- Its normal form has no text, since a list in it is too long to be counted; or a section or a
 -- function body becomes too long.
 pub data BecomesTooLong (options : NormaliseOptions) (bytes : List ℕ) : Type 0 where
   no_text :
-      (normal : List GroupAt) (map : List ℕ) → HasNormalForm bytes normal map
+      (normal : List GroupAt) (new_indices : NewIndices)
+      → HasNormalForm options.unused bytes normal new_indices
       → HasNoText IsTypes normal → BecomesTooLong options bytes
   renamed :
-      (types map left : List ℕ) → HasNormalTypes bytes types map
+      (types left : List ℕ) (new_indices : NewIndices)
+      → HasNormalTypes options.unused bytes types new_indices
       → IsLeft options.descriptions bytes left
-      → ModuleBecomesTooLong types map options.widths left → BecomesTooLong options bytes
+      → ModuleBecomesTooLong types new_indices options.widths left → BecomesTooLong options bytes
 
--- Sections that describe other bytes are kept, in normal form the module would be another one, and
--- its first such section begins at this place.
+-- Sections that describe other bytes are kept, and the first one that no longer fits where the
+-- module is in normal form begins at this place.
 pub record BecomesOutdated (options : NormaliseOptions) (offset : ℕ) (bytes : List ℕ) :
     Type 0 where
   pub new : List ℕ
   pub is_normalised : IsNormalised options bytes new
   pub are_kept : options.descriptions ≡ descriptions.Kept
   pub differs : new ≡ bytes → ⊥
-  pub has : HasDescriptionAt bytes offset
+  pub has : HasOutdatedAt bytes new offset

@@ -1,11 +1,14 @@
 //! Why a module was not normalised.
 ghost use Rattle.std.specs.Prelude.{◌≡◌};
-ghost use Rattle.walrus_normalise.specs.Steps.Errors.{encode_failure, read_failure, rename_failure, types_failure};
+ghost use Rattle.walrus_normalise.specs.Steps.Errors.{encode_failure, read_failure, rename_failure, scan_failure, types_failure, used_failure};
+ghost use Rattle.walrus_normalise.specs.declared.error.NormaliseModuleError.TheVariants as failure;
 
+use std::alloc::AllocError;
 use thiserror::Error;
 use walrus_binary::{DecodeError, EncodeError};
-use walrus_module::RenameError;
+use walrus_module::{RenameError, ScanError};
 use walrus_types::ReadError;
+use walrus_unused::NormaliseUsedError;
 
 /// Why a module was not normalised.
 #[derive(Clone, Copy, PartialEq, Eq, Debug, Error)]
@@ -40,7 +43,7 @@ pub enum NormaliseModuleError {
     #[error("a function body or a section would be too long")]
     TooLong,
     /// The module has a custom section that describes other bytes of it, such as debug data, and
-    /// these would change.
+    /// these change, so that it no longer fits.
     #[error("the custom section at byte {offset} describes bytes that change")]
     Outdated {
         /// The place of the first such section, counted from 0.
@@ -84,6 +87,39 @@ impl From<EncodeError> for NormaliseModuleError {
             EncodeError::TooMany => NormaliseModuleError::TooLong,
             EncodeError::Memory => NormaliseModuleError::Memory,
         }
+    }
+}
+
+impl From<NormaliseUsedError> for NormaliseModuleError {
+    ghost from_gives = { λ e new. new ≡ used_failure e };
+
+    fn from(error: NormaliseUsedError) -> NormaliseModuleError {
+        match error {
+            NormaliseUsedError::Section(error) => NormaliseModuleError::from(error),
+            NormaliseUsedError::UnknownRoot { index } => NormaliseModuleError::UnknownType {
+                index,
+            },
+            NormaliseUsedError::Memory => NormaliseModuleError::Memory,
+        }
+    }
+}
+
+impl From<ScanError> for NormaliseModuleError {
+    ghost from_gives = { λ e new. new ≡ scan_failure e };
+
+    fn from(error: ScanError) -> NormaliseModuleError {
+        match error {
+            ScanError::Malformed => NormaliseModuleError::Malformed,
+            ScanError::Memory => NormaliseModuleError::Memory,
+        }
+    }
+}
+
+impl From<AllocError> for NormaliseModuleError {
+    ghost from_gives = { λ _ e. e ≡ failure.Memory };
+
+    fn from(_: AllocError) -> NormaliseModuleError {
+        NormaliseModuleError::Memory
     }
 }
 

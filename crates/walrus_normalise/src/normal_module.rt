@@ -4,34 +4,44 @@
 ghost use Rattle.std.specs.Prelude.{◌≡◌, ℕ, List, IfOk, IfNone, IfSome, IsErrOf};
 ghost use Rattle.walrus_binary.specs.ModuleSections.{HasBadTypesBy};
 ghost use Rattle.walrus_binary.specs.declared.error.DecodeError.{DecodeError};
-ghost use Rattle.walrus_binary.specs.Modules.{Section, IsModule};
-ghost use Rattle.walrus_module.specs.Customs.{HasDescriptionAt};
+ghost use Rattle.walrus_module.specs.Outdated.{IsWrittenAgain, HasOutdatedAt};
 ghost use Rattle.walrus_normalise.specs.NormalModules.{IsNormalised, HasFirstError, LeavesMalformed, NamesUnknownType, BecomesTooLong, DescriptionsFit, BecomesOutdated};
 ghost use Rattle.walrus_normalise.specs.declared.error.NormaliseModuleError.TheVariants.{Types, BadIndex, TooMany, Malformed, UnknownType, TooLong, Outdated};
 ghost use Rattle.walrus_normalise.specs.declared.options.Descriptions.TheVariants as descriptions;
 ghost use Rattle.walrus_sections.specs.declared.error.ReadError.TheVariants as read;
 
+use crate::normal_types::normal_types;
 use crate::{Descriptions, HashKeys, NormaliseModuleError, NormaliseOptions};
-use std::alloc::Global;
-use walrus_binary::{encode_types, module_types};
-use walrus_module::{find_description, rename_module, strip_descriptions};
-use walrus_types::normalise;
+use std::alloc::{AllocError, Global};
+use walrus_binary::encode_types;
+use walrus_module::{find_outdated, rename_module, strip_descriptions};
 
 /// Returns the module with its type section in normal form, and with every other index of a type
 /// written again, so that it names the same type as before. All else stays byte for byte
 /// (WebAssembly core specification, "Binary Format", "Modules").
 ///
-/// The normal form is that of [`normalise`]: equal lone types are merged, lone types are sorted as
-/// far as references allow, and recursion groups keep their order. Its text is the shortest one. An
-/// index elsewhere is written as [`NormaliseOptions::widths`] says: in the shortest form, or in as
-/// many bytes as were there. The size of a function body, a section or a subsection is written
-/// again where an index is in it. A module without type section that names no type stays as it is.
+/// The normal form is that of [`normalise`](walrus_types::normalise): equal lone types are merged,
+/// lone types are sorted as far as references allow, and recursion groups keep their order. Its
+/// text is the shortest one. An index elsewhere is written as [`NormaliseOptions::widths`] says: in
+/// the shortest form, or in as many bytes as were there. The size of a function body, a section or
+/// a subsection is written again where an index is in it. A module without type section that names
+/// no type stays as it is.
 ///
-/// The names of types and of their fields in the custom section `name` follow the types. Other
-/// custom sections are copied as they are. **A section that describes other bytes of the module
-/// stops this**, unless all bytes stay: debug data, source maps, branch hints, relocations and
-/// signatures would no longer fit. With [`Descriptions::Stripped`] such sections are left out.
-/// [`strip_descriptions`](walrus_module::strip_descriptions) lists their names.
+/// With [`UnusedTypes::Deleted`](crate::UnusedTypes::Deleted) the types that nothing uses are
+/// deleted first, and the rest is in normal form. A type is used in three cases: another section
+/// names it; a used type names it, also as supertype; or it is in one `Rec` with a used type. The
+/// names in the custom section `name` use no type. Where all types are deleted the type section
+/// stays, empty. [`normalise_used`](walrus_unused::normalise_used) does the same with a type
+/// section alone.
+///
+/// The names of types and of their fields in the custom section `name` follow the types, and go
+/// with deleted ones. Other custom sections are copied as they are. **A section stops this where
+/// what it describes changes**: debug data and branch hints no longer fit where a length in the
+/// code changes, and a source map where a length before the end of the code does. Relocations no
+/// longer fit where a byte of code or data changes, and a signature where any byte does.
+/// [`DescriptionKind`](walrus_module::DescriptionKind) lists the names of these sections. With
+/// [`Descriptions::Stripped`] they are left out. With [`Widths::Kept`](crate::Widths::Kept) few
+/// lengths change.
 ///
 /// The keys begin the hash by which equal types are found. They change how long the call takes, and
 /// no result. Fixed keys are safe where the module is trusted: see [`HashKeys`].
@@ -43,15 +53,15 @@ use walrus_types::normalise;
 /// - [`NormaliseModuleError::Types`] comes where the bytes are no module, or the type section is
 ///   malformed or has a type that no record holds. The error inside says at which byte.
 /// - [`NormaliseModuleError::BadIndex`] and [`NormaliseModuleError::TooMany`] come where
-///   [`normalise`] refuses the type section.
+///   [`normalise`](walrus_types::normalise) refuses the type section.
 /// - [`NormaliseModuleError::Malformed`] comes where another section that can name types is
 ///   malformed.
 /// - [`NormaliseModuleError::UnknownType`] comes where another section names a type that the type
 ///   section does not have.
 /// - [`NormaliseModuleError::TooLong`] comes where a function body or a section would get 2^32
 ///   bytes or more.
-/// - [`NormaliseModuleError::Outdated`] comes where some byte would change, and the module has a
-///   custom section that describes other bytes of it. The error says where the first one is. With
+/// - [`NormaliseModuleError::Outdated`] comes where the module has a custom section that describes
+///   other bytes of it, and these change. The error says where the first such section is. With
 ///   [`Descriptions::Stripped`] it never comes.
 /// - [`NormaliseModuleError::Memory`] comes where memory was refused.
 ///
@@ -65,6 +75,7 @@ use walrus_types::normalise;
 /// let options = NormaliseOptions {
 ///     widths: Widths::Shortest,
 ///     descriptions: Descriptions::Kept,
+///     unused: UnusedTypes::Kept,
 /// };
 /// let new = normalise_module(alloc, HashKeys::fixed(), &module, options)?;
 /// assert_eq!(rt; new[8..], [1, 6, 2, 0x60, 0, 0, 0x5F, 0, 3, 2, 1, 0]);
@@ -78,7 +89,7 @@ pub fn normalise_module(
     // The result is the same module, or the same without sections that describe other bytes, with
     // its type section in normal form.
     ensures normal { IfOk result (λ new. IsNormalised options bytes.now new.items) }
-    // Where such sections are kept, a module with one stays byte for byte.
+    // Where such sections are kept, all bytes stay that they describe.
     ensures fits { options.descriptions ≡ descriptions.Kept →
         IfOk result (λ new. DescriptionsFit bytes.now new.items) }
     // Bytes that are refused for their types are no module, or their types can't be read. The error
@@ -91,24 +102,22 @@ pub fn normalise_module(
     // or that there are too many entries.
     ensures too_many { IsErrOf result TooMany → HasFirstError bytes.now read.TooMany }
     // What is refused as malformed has a section that is so.
-    ensures malformed { IsErrOf result Malformed → LeavesMalformed options.descriptions bytes.now }
+    ensures malformed { IsErrOf result Malformed → LeavesMalformed options bytes.now }
     // What is refused for a type names one that its type section does not have.
     ensures unknown { (k : ℕ) → IsErrOf result (UnknownType k) →
         NamesUnknownType options k bytes.now }
     // What is refused as too long becomes so.
     ensures too_long { IsErrOf result TooLong → BecomesTooLong options bytes.now }
-    // What is refused for a section has it there, as the first that describes other bytes, and
-    // would change.
+    // What is refused for a section has it there, as the first that no longer fits.
     ensures outdated { (k : ℕ) → IsErrOf result (Outdated k) →
         BecomesOutdated options k bytes.now }
 {
-    let groups = module_types(alloc, bytes)?;
-    let (normal, map) = normalise(alloc, keys, groups.as_slice())?;
+    let (normal, new_indices) = normal_types(alloc, keys, bytes, options.unused)?;
     let types = encode_types(alloc, normal.as_slice())?;
     match options.descriptions {
         Descriptions::Kept => {
-            let new = rename_module(alloc, bytes, &types, &map, options.widths)?;
-            match outdated_section(bytes, new.as_slice()) {
+            let new = rename_module(alloc, bytes, &types, &new_indices, options.widths)?;
+            match outdated_section(alloc, bytes, new.as_slice())? {
                 Some(offset) => Err(NormaliseModuleError::Outdated { offset }),
                 None => Ok(new),
             }
@@ -118,25 +127,23 @@ pub fn normalise_module(
             let Ok(left) = strip_descriptions(alloc, bytes) else {
                 return Err(NormaliseModuleError::Memory);
             };
-            let stripped = rename_module(alloc, &left, &types, &map, options.widths)?;
+            let stripped = rename_module(alloc, &left, &types, &new_indices, options.widths)?;
             Ok(stripped)
         }
     }
 }
 
-/// The place of the first section of a module that describes its other bytes, where the module
-/// becomes another one.
-fn outdated_section(bytes: &[u8], new: &[u8]) -> Option<usize>
-    requires { (sections : List Section) × IsModule bytes.now sections }
-    ensures found { IfSome result (λ offset. HasDescriptionAt bytes.now offset) }
-    ensures differs { IfSome result (λ offset. new.now ≡ bytes.now → ⊥) }
-    ensures none { IfNone result (DescriptionsFit bytes.now new.now) }
+/// The place of the first section of a module that no longer fits where the module becomes another
+/// one.
+fn outdated_section(alloc: Global, bytes: &[u8], new: &[u8]) -> Result<Option<usize>, AllocError>
+    requires { IsWrittenAgain bytes.now new.now }
+    ensures found { IfOk result (λ found. IfSome found (λ offset.
+        HasOutdatedAt bytes.now new.now offset)) }
+    ensures differs { IfOk result (λ found. IfSome found (λ offset. new.now ≡ bytes.now → ⊥)) }
+    ensures none { IfOk result (λ found. IfNone found (DescriptionsFit bytes.now new.now)) }
 {
     if new == bytes {
-        return None;
+        return Ok(None);
     }
-    match find_description(bytes) {
-        Ok(found) => found,
-        Err(_) => None,
-    }
+    find_outdated(alloc, bytes, new)
 }

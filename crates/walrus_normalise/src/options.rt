@@ -11,6 +11,17 @@ pub enum Descriptions {
     Stripped,
 }
 
+/// What becomes of types that nothing uses.
+#[derive(Clone, Copy, PartialEq, Eq, Debug)]
+pub enum UnusedTypes {
+    /// They stay.
+    Kept,
+    /// They are deleted. The roots are the types that a module names outside its type section, and
+    /// not in the custom section `name`. [`normalise_used`](walrus_unused::normalise_used) says
+    /// which types they use.
+    Deleted,
+}
+
 /// How a module is normalised.
 #[derive(Clone, Copy, PartialEq, Eq, Debug)]
 pub struct NormaliseOptions {
@@ -18,4 +29,6 @@ pub struct NormaliseOptions {
     pub widths: Widths,
     /// What becomes of custom sections that describe other bytes.
     pub descriptions: Descriptions,
+    /// What becomes of types that nothing uses.
+    pub unused: UnusedTypes,
 }

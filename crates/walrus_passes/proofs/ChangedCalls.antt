@@ -9,7 +9,7 @@ use Rattle.instr.specs.Sequence.{Sequence}
 use Rattle.walrus_functions.specs.FunctionWithArgs.{FunctionWithArgs}
 use Rattle.walrus_passes.specs.MappedInstrs.{IsMapped, IsMappedSequence, IsMappedItem}
 use Rattle.walrus_passes.specs.ChangedCalls.{named_function, is_one_of, snipped, redirected, redirected_id}
-use Rattle.walrus_passes.proofs.UnusedTypes.Elements.{contains_none, contains_cases}
+use Rattle.walrus_unused.proofs.UnusedTypes.Elements.{contains_none, contains_cases}
 
 -- items that are changed once more, where the second change leaves what the first one left
 module _ {A : Type 0} (maps : A → A → Type 0)

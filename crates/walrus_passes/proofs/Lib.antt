@@ -1,7 +1,6 @@
-pub mod UnusedTypes
 pub mod Calling
+pub mod Conversions
+pub mod NewLocals
 pub mod UsedTypes
-pub mod IndexMaps
-pub mod UsedSections
 pub mod Mapping
 pub mod ChangedCalls

@@ -24,7 +24,7 @@ use Rattle.walrus_ir.specs.Fields.{clause_fields, legacy_fields}
 use Rattle.walrus_ir.proofs.Reported.{reported_put}
 use Rattle.walrus_passes.specs.UsedTypes.{IsInBody, UsesType, own, parameter, block, instruction, local_types, field_types, instr_types}
 use Rattle.walrus_passes.specs.Steps.UsedTypes.{seq_types, function_types}
-use Rattle.walrus_passes.proofs.UnusedTypes.Elements.{contains_none, contains_first, contains_rest, contains_cases}
+use Rattle.walrus_unused.proofs.UnusedTypes.Elements.{contains_none, contains_first, contains_rest, contains_cases}
 
 -- the types of one sequence more are listed
 pub seqs_more :

@@ -1,11 +1,9 @@
-pub mod NeededTypes
-pub mod AllIndices
 pub mod UsedTypes
-pub mod IndexMaps
-pub mod UsedSections
 pub mod SnippedFunctions
 pub mod UnreachableFunctions
 pub mod MappedInstrs
 pub mod ChangedCalls
 pub mod Adapters
+pub mod Conversions
+pub mod ConvertingAdapters
 pub mod Steps

@@ -20,9 +20,10 @@ use walrus_types::{FunctionId, ModuleTypes, TypeId};
 /// and calls `func`. It returns at its end all that `func` left. It has the very type `ty`, and its
 /// entry has the type that `ModuleTypes::add_entry_ty` returns for the results.
 ///
-/// wasm-bindgen puts adapters round imports and exports, which also convert parameters and results.
-/// This one passes them on as they are. It is not added to the functions, and no call, export or
-/// table is changed: [`redirect_calls`](crate::redirect_calls) has functions call it.
+/// wasm-bindgen puts adapters around imports and exports. Most of them convert parameters and
+/// results, as [`adapter_between`](crate::adapter_between) does. This one passes them on as they
+/// are. It is not added to the functions, and no call, export or table is changed:
+/// [`redirect_calls`](crate::redirect_calls) has functions call it.
 ///
 /// # Errors
 ///

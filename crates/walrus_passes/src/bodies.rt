@@ -19,6 +19,7 @@ use walrus_types::{FunctionId, TypeId};
 ///
 /// Of wasm-snip this leaves out finding functions by their names, exports and tables that name the
 /// function, and deleting what nothing names any more.
+/// `snip_functions` of `walrus_snipping` does the same to functions in the bytes of a module.
 ///
 /// # Errors
 ///
@@ -43,6 +44,10 @@ pub fn snip(alloc: Global, funcs: &mut LocalFunctions, id: FunctionId) -> Result
 }
 
 /// Replaces the body of a function by the one in the builder. `id` has to be one of `funcs`.
+///
+/// This is the step of walrus's `replace_exported_func` that gives a function another body. There a
+/// closure builds the body, it becomes a new function, and the export is changed to name that. Here
+/// the function keeps its id, and exports are left to the caller, which need no change for it.
 ///
 /// The function keeps its parameters, and its name if it has one. Otherwise it gets the name of the
 /// builder. Its sequences, its entry and its type come from the builder: to keep the type, begin

@@ -42,8 +42,9 @@ pub fn snip_calls(func: &mut LocalFunction, ids: &[FunctionId])
 
 /// Has each `call`, `return_call` and `ref.func` of the function `from` name `to` instead.
 ///
-/// It is the step by which wasm-bindgen has a module call an adapter in place of an import.
-/// Nothing else of `func` changes, and a second run changes nothing
+/// It is the step by which wasm-bindgen has a module call an adapter in place of an import, which
+/// [`adapter`](crate::adapter) and [`adapter_between`](crate::adapter_between) make. Nothing else
+/// of `func` changes, and a second run changes nothing
 /// ([`changed_calls_stay`](crate::laws::changed_calls_stay)). It is not checked whether there is
 /// such a `to`. If it has the type of `from`, a valid body stays valid.
 ///

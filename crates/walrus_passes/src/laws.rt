@@ -1,6 +1,6 @@
 //! Laws of the passes. Each function does nothing; its clauses are theorems, which a caller gets by
 //! calling it.
-ghost use Rattle.std.specs.Prelude.{◌≡◌, ℕ, List, Option, Some, Contains, map};
+ghost use Rattle.std.specs.Prelude.{◌≡◌, ℕ, List, [], ◌++◌, Option, Some, Contains, map, reverse};
 ghost use Rattle.walrus_types.specs.Table.{Table};
 ghost use Rattle.walrus_types.specs.TypesById.{live_type};
 ghost use Rattle.walrus_functions.specs.FunctionWithArgs.{FunctionWithArgs};
@@ -9,10 +9,11 @@ ghost use Rattle.instr.specs.Locals.{LocalVariable};
 ghost use Rattle.instr.specs.declared.instr.Instr.{Instr};
 ghost use Rattle.instr.specs.Sequence.{Sequence};
 ghost use Rattle.const_expr.specs.declared.const_expr.ConstExpr.{ConstExpr};
+ghost use Rattle.walrus_passes.specs.Adapters.{get_of, call_with};
+ghost use Rattle.walrus_passes.specs.ConvertingAdapters.{set_of, read_of, converted_call};
 ghost use Rattle.walrus_passes.specs.ChangedCalls.{named_function, SnipsCalls, RedirectsCalls};
-ghost use Rattle.walrus_passes.specs.IndexMaps.{new_index, index_through};
-ghost use Rattle.walrus_passes.specs.NeededTypes.{IsNeeded, Keeps};
 ghost use Rattle.walrus_passes.specs.UsedTypes.{UsesType};
+ghost use Rattle.walrus_unused.specs.NeededTypes.{IsNeeded, Keeps};
 
 /// What a function uses stays where it is among the roots. A table that keeps the types which the
 /// roots need, as [`delete_unused_types`](crate::delete_unused_types) leaves it, has each type that
@@ -35,13 +36,6 @@ pub fn referenced_types_are_kept()
         live_type new.types.slots id ≡ live_type old.types.slots id }
 {}
 
-/// The new index of an old one is what both maps give in turn: from the old index to its type, and
-/// from that to its index. So it has one exactly where both have something.
-pub fn new_indices_compose()
-    ensures { (ids : List ℕ) (index : ℕ → Option ℕ) (old : ℕ) →
-        new_index (map index ids) old ≡ index_through ids index old }
-{}
-
 /// Where calls of functions were snipped, as [`snip_calls`](crate::snip_calls) does it, no
 /// instruction names one of these functions any more.
 pub fn snipped_functions_are_not_named()
@@ -60,4 +54,15 @@ pub fn changed_calls_stay()
     ensures redirected { (from to : ℕ) (old between new : FunctionWithArgs) →
         RedirectsCalls from to old between → RedirectsCalls from to between new →
         new ≡ between }
+{}
+
+/// With conversions that read their locals, [`adapter_between`](crate::adapter_between) makes the
+/// body of [`adapter`](crate::adapter), behind which the results are stored and read again. Where
+/// there are no results it is the same body.
+pub fn plain_conversions_make_the_plain_adapter()
+    ensures results { (func : ℕ) (params results : List ℕ) →
+        converted_call read_of read_of func params results ≡
+        call_with params func ++ (map set_of (reverse results) ++ map get_of results) }
+    ensures no_results { (func : ℕ) (params : List ℕ) →
+        converted_call read_of read_of func params [] ≡ call_with params func }
 {}

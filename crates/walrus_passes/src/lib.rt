@@ -6,14 +6,18 @@
 //!   another one.
 //! - [`unreachable_function`] makes a function of a type that traps. [`snip_calls`] has a function
 //!   trap where it would call one of some functions.
-//! - [`adapter`] makes a function that calls another one of its type. [`redirect_calls`] has a
-//!   function call another one in place of one, such as an adapter in place of an import.
+//! - [`adapter`] makes a function that calls another one of its type, and [`adapter_between`] one
+//!   that converts parameters and results. [`redirect_calls`] has a function call another one in
+//!   place of one, such as an adapter in place of an import.
 //! - [`map_instrs`] changes each instruction of a function by a closure.
 //! - [`new_indices`] maps the type indices of a section to its indices once it is written again.
 //!   The rest of the module still names the old ones.
 //! - [`normalise_used`] returns the normal form of a section without the types that no root uses,
 //!   and that map.
 //! - [`laws`] has the theorems, such as that no type which a function uses is deleted.
+//!
+//! [`delete_unused_types`], [`new_indices`] and [`normalise_used`] are those of `walrus_unused`,
+//! which knows no function.
 //!
 //! One of two types is used, and the written section has that one alone:
 //!
@@ -31,22 +35,17 @@
 mod adapters;
 mod bodies;
 mod calls;
-mod error;
-mod index_maps;
+mod converting_adapters;
 mod instrs;
 pub mod laws;
 mod roots;
 mod unreachable;
-mod unused_types;
-mod used_section;
 
 pub use adapters::adapter;
 pub use bodies::{replace_with, snip};
 pub use calls::{redirect_calls, snip_calls};
-pub use error::NormaliseUsedError;
-pub use index_maps::new_indices;
+pub use converting_adapters::adapter_between;
 pub use instrs::map_instrs;
 pub use roots::used_types;
 pub use unreachable::unreachable_function;
-pub use unused_types::delete_unused_types;
-pub use used_section::normalise_used;
+pub use walrus_unused::{NormaliseUsedError, delete_unused_types, new_indices, normalise_used};

@@ -25,6 +25,10 @@ use walrus_types::{TypeId, ValType};
 /// that it names are not in the list: each of these brings roots of its own. It is not checked
 /// whether the types are live, which `delete_unused_types` requires of its roots.
 ///
+/// This is the part of a garbage collector, such as walrus's `gc`, that looks at one function for
+/// types. It leaves out which functions are used, the other items that a function names, and the
+/// types that imports, exports, tables, globals and tags bring.
+///
 /// It takes time linear in the size of the function, also where a sequence is in several others.
 /// Constant expressions have [`referenced_types`](walrus_ir::ConstExpr::referenced_types).
 ///

@@ -16,8 +16,8 @@ use walrus_types::{ModuleTypes, TypeId};
 /// specification, "Control Instructions"). `ty` has to be a live function type.
 ///
 /// This is the function that wasm-snip puts into tables in place of one that it snips. It is also
-/// what [`redirect_calls`](crate::redirect_calls) can redirect references to. wasm-snip makes one
-/// for each type, and writes it into the tables; here that is the caller's.
+/// what [`redirect_calls`](crate::redirect_calls) can redirect references to. Of wasm-snip this
+/// leaves out making one such function for each type, writing it into the tables, and exports.
 ///
 /// Its parameters are new locals, one for each parameter of the type; there are no further locals.
 /// It has the very type `ty`, and its entry has the type that `ModuleTypes::add_entry_ty` returns

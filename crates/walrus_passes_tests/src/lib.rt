@@ -1,5 +1,5 @@
-//! Tests of the passes of `walrus_passes` over types through its public calls; tests of the passes
-//! over functions are in `walrus_function_passes_tests`.
+//! Tests of `walrus_unused` through its public calls, which `walrus_passes` exports; tests of the
+//! passes over functions are in `walrus_function_passes_tests`.
 //!
 //! They are in crates of their own, since tests inside a crate have the gate prove that crate a
 //! second time, and in two, which it proves side by side.

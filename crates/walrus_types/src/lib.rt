@@ -40,7 +40,7 @@ mod table;
 pub use difference::{entries_before, first_difference};
 pub use error::EmitError;
 pub use moves::same_up_to_moves;
-pub use normal_form::normalise;
+pub use normal_form::{normalise, normalise_owned};
 pub use section_reader::{SectionReader, parse_types};
 pub use table::{AddRecGroupError, ModuleTypes, RecGroup, RecGroupId, TypesIter};
 pub use walrus_arena::{HashKeys, Id};

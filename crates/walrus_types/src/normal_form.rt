@@ -10,9 +10,13 @@ ghost use Rattle.walrus_sections.specs.NormalForm.{IsNormalForm, identity};
 ghost use Rattle.walrus_ty.specs.Records.{section_of};
 ghost use Rattle.walrus_ty.specs.Groups.{Section};
 ghost use Rattle.walrus_sections.specs.Section.{IsWellNamed};
+ghost use Rattle.walrus_types.specs.ReaderState.{IsReadInto};
 
 use crate::laws::{contents_tell_records, one_normal_form, second_round, swap_keeps_output};
-use crate::{EmitError, GroupAt, HashKeys, IdsToIndices, ReadError, TypeId, parse_types};
+use crate::section_reader::parse_owned_types;
+use crate::{
+    EmitError, GroupAt, HashKeys, IdsToIndices, ModuleTypes, ReadError, TypeId, parse_types,
+};
 use std::alloc::{AllocError, Global};
 
 /// Returns the normal form of a type section, and the new index of each old index (WebAssembly core
@@ -93,6 +97,30 @@ pub fn normalise(
     read_and_written(alloc, keys, groups)
 }
 
+/// Returns the same as [`normalise`], of a section that is no longer needed. Each group is dropped
+/// once it was read, so it takes less memory.
+///
+/// # Errors
+///
+/// They are the errors of [`normalise`].
+pub fn normalise_owned(
+    alloc: Global,
+    keys: HashKeys,
+    groups: Vec<GroupAt>,
+) -> Result<(Vec<GroupAt>, Vec<u32>), ReadError>
+    ensures well_named { OnOk result (IsWellNamed (section_of groups.items)) }
+    ensures normal { IfOk result
+        (λ r. IsNormalForm (section_of groups.items) (section_of r.0.items) r.1.items) }
+    ensures again_well_named { IfOk result (λ r. IsWellNamed (section_of r.0.items)) }
+    ensures refused { IfErr result
+        (λ e. (e ≡ read.Memory) ⊎ IsFirstError (section_of groups.items) e) }
+{
+    second_round();
+    let (types, ids) = parse_owned_types(alloc, keys, groups)?;
+    let (normal, map) = written(alloc, types, ids.as_slice())?;
+    Ok((normal, map))
+}
+
 fn read_and_written(
     alloc: Global,
     keys: HashKeys,
@@ -105,12 +133,25 @@ fn read_and_written(
         (λ e. (e ≡ read.Memory) ⊎ IsFirstError (section_of groups.now) e) }
 {
     let (types, ids) = parse_types(alloc, keys, groups)?;
+    Ok(written(alloc, types, ids.as_slice())?)
+}
+
+// Writes a table that a section was read into, and the new index of each of its indices.
+fn written(
+    alloc: Global,
+    types: ModuleTypes,
+    ids: &[TypeId],
+) -> Result<(Vec<GroupAt>, Vec<u32>), AllocError>
+    requires { (section : Section) × IsReadInto section types ids.now }
+    ensures { IfOk result (λ r. (section : Section) → IsReadInto section types ids.now →
+        IsNormalForm section (section_of r.0.items) r.1.items) }
+{
     match types.emit() {
         Ok((section, indices)) => {
-            let map = indices_of(alloc, ids.as_slice(), &indices)?;
+            let map = indices_of(alloc, ids, &indices)?;
             Ok((section, map))
         }
-        Err(EmitError::Memory) => Err(ReadError::Memory),
+        Err(EmitError::Memory) => Err(AllocError),
         // A read section has no name without an index, and not too many entries.
         Err(EmitError::NoIndex { .. }) => unreachable!(),
         Err(EmitError::TooMany) => unreachable!(),

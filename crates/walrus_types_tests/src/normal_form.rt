@@ -7,7 +7,7 @@ use Piece::{Many, One};
 use Shape::{Bytes, Func, Open, Struct};
 use std::alloc::Global;
 use std::process::Abort;
-use walrus_types::{HashKeys, ReadError, ValAt, is_normal_form, normalise};
+use walrus_types::{HashKeys, ReadError, ValAt, is_normal_form, normalise, normalise_owned};
 
 // The normal form of the section is the one that is wanted, and the slow program agrees.
 fn gives<'x>(
@@ -26,6 +26,10 @@ fn gives<'x>(
     assert!(rt;
         is_normal_form(alloc, groups.as_slice(), wanted.as_slice(), map).expect(rt, "memory")
     );
+    let owned = normalise_owned(alloc, HashKeys::fixed(), groups);
+    let (output, places) = owned.expect(rt, "memory");
+    assert!(rt; output == wanted);
+    assert_equal(rt, places.as_slice(), map);
 }
 
 // The section is its own normal form.
@@ -36,6 +40,8 @@ fn stays(rt: &impl Abort, alloc: Global, pieces: &[Piece<'_>], map: &[u32]) {
 fn is_refused(rt: &impl Abort, alloc: Global, pieces: &[Piece<'_>], wanted: ReadError) {
     let groups = section(alloc, pieces).expect(rt, "memory");
     let refused = normalise(alloc, HashKeys::fixed(), groups.as_slice()).err();
+    assert_equal(rt, refused, Some(wanted));
+    let refused = normalise_owned(alloc, HashKeys::fixed(), groups).err();
     assert_equal(rt, refused, Some(wanted));
 }
 

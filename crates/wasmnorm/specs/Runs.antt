@@ -4,6 +4,8 @@ use Rattle.std.specs.Prelude.{ℕ, List, Option}
 use Rattle.std.specs.Io.KnownBytes.{Appends}
 use Rattle.walrus_binary.specs.ModuleSections.{HasBadTypesBy}
 use Rattle.walrus_binary.specs.declared.error.DecodeError.{DecodeError}
+use Rattle.walrus_module.specs.declared.faults.FaultKind.TheVariants.{UnknownType}
+use Rattle.walrus_module.specs.ModuleFaults.{IsModuleFault}
 use Rattle.walrus_normalise.specs.declared.options.NormaliseOptions.{NormaliseOptions}
 use Rattle.walrus_normalise.specs.NormalModules.{IsNormalised, HasFirstError, LeavesMalformed, NamesUnknownType, BecomesTooLong, BecomesOutdated}
 use Rattle.walrus_sections.specs.declared.error.ReadError.{ReadError}
@@ -19,12 +21,15 @@ pub record IsWritten (options : NormaliseOptions) (bytes : List ℕ) (old new : 
 -- section or a function body would be too long; or a section describes bytes that would change.
 pub data IsRefused (options : NormaliseOptions) (bytes : List ℕ) : Type 0 where
   bad_types : (e : DecodeError) → HasBadTypesBy bytes e → IsRefused options bytes
-  malformed : LeavesMalformed options.descriptions bytes → IsRefused options bytes
+  malformed : LeavesMalformed options bytes → IsRefused options bytes
   too_long : BecomesTooLong options bytes → IsRefused options bytes
   outdated : (offset : ℕ) → BecomesOutdated options offset bytes → IsRefused options bytes
 
 -- The type section names what it may not name, or has too many entries; or another section names a
--- type that the type section does not have.
+-- type that the type section does not have, perhaps before the bytes stop being a module.
 pub data IsIllNamed (options : NormaliseOptions) (bytes : List ℕ) : Type 0 where
   in_types : (e : ReadError) → HasFirstError bytes e → IsIllNamed options bytes
   elsewhere : (k : ℕ) → NamesUnknownType options k bytes → IsIllNamed options bytes
+  before_the_end :
+      (count types k place : ℕ) → IsModuleFault count bytes (UnknownType k types) place
+      → IsIllNamed options bytes

@@ -1,13 +1,15 @@
 //! What ends a run without a module: its line on standard error and its exit status.
 ghost use Rattle.std.specs.Prelude.{◌≡◌, ◌≤◌, ◌⊎◌};
-ghost use Rattle.wasmnorm.specs.Steps.Failures.{Explains, ExplainsError, HasContext, IsOfStreams, error_status, status_of};
+ghost use Rattle.wasmnorm.specs.Steps.Failures.{Explains, ExplainsError, HasContext, IsOfStreams, refused_status, fault_status, kind_status, status_of};
 
+use crate::fault::fault_of;
 use command_line::{Context, context_of};
-use std::alloc::AllocError;
+use std::alloc::{AllocError, Global};
 use std::fmt;
 use std::fmt::Formatter;
 use std::io::{self, ErrorKind, Write};
 use walrus_binary::DecodeError;
+use walrus_module::{Fault, FaultKind};
 use walrus_normalise::{NormaliseModuleError, NormaliseOptions, Widths};
 
 /// What ends a run without a module.
@@ -17,6 +19,8 @@ pub enum Failure {
     Refused {
         /// Why.
         error: NormaliseModuleError,
+        /// Where, if another section than that of types is wrong.
+        fault: Option<Fault>,
         /// What else is known of the input.
         context: Context,
         /// What may help.
@@ -58,13 +62,36 @@ impl fmt::Display for Failure {
         match self {
             Failure::Refused {
                 error,
+                fault,
                 context,
                 advice,
-            } => write!(f, "{error}{context}{advice}"),
+            } => {
+                match fault {
+                    Some(fault) => write_fault(f, *fault)?,
+                    None => write!(f, "{error}")?,
+                }
+                write!(f, "{context}{advice}")
+            }
             Failure::Memory => write!(f, "out of memory"),
             Failure::Keys => write!(f, "no random keys"),
             Failure::Input(error) => write!(f, "input failed: {error}"),
             Failure::Output(error) => write!(f, "output failed: {error}"),
+        }
+    }
+}
+
+fn write_fault<W: fmt::Write>(f: &mut Formatter<W>, fault: Fault) -> fmt::Result {
+    let offset = fault.offset;
+    match fault.kind {
+        FaultKind::Malformed => write!(f, "byte {offset}: malformed"),
+        FaultKind::UnknownType { index, count: 1 } => {
+            write!(f, "byte {offset}: no type {index}: the module has 1 type")
+        }
+        FaultKind::UnknownType { index, count } => {
+            write!(
+                f,
+                "byte {offset}: no type {index}: the module has {count} types"
+            )
         }
     }
 }
@@ -81,28 +108,40 @@ impl From<AllocError> for Failure {
 }
 
 /// The failure of a module that was not normalised with these options.
-pub fn refusal(bytes: &[u8], options: NormaliseOptions, error: NormaliseModuleError) -> Failure
+pub fn refusal(
+    alloc: Global,
+    bytes: &[u8],
+    options: NormaliseOptions,
+    error: NormaliseModuleError,
+) -> Failure
     ensures explains { ExplainsError options bytes.now error → Explains options bytes.now result }
-    ensures status { status_of result ≡ error_status error }
 {
+    let fault = fault_of(alloc, bytes, error);
     Failure::Refused {
         error,
-        context: context_beside(bytes, error),
+        fault,
+        context: context_beside(bytes, error, fault),
         advice: advice_for(options, error),
     }
 }
 
 /// What is known of the input beside an error.
-fn context_beside(bytes: &[u8], error: NormaliseModuleError) -> Context
-    ensures { HasContext bytes.now error result }
+fn context_beside(bytes: &[u8], error: NormaliseModuleError, fault: Option<Fault>) -> Context
+    ensures { HasContext bytes.now error fault result }
 {
     match error {
-        NormaliseModuleError::Types(DecodeError::Malformed { offset, .. }) => {
-            context_of(bytes, offset)
-        }
+        NormaliseModuleError::Types(DecodeError::Malformed { offset, .. }) => match fault {
+            Some(fault) => context_of(bytes, fault.offset.saturating_sub(1)),
+            None => context_of(bytes, offset),
+        },
         NormaliseModuleError::Types(DecodeError::NotHeld { offset, .. }) => {
             context_of(bytes, offset)
         }
+        NormaliseModuleError::Malformed | NormaliseModuleError::UnknownType { .. } => match fault {
+            // A fault can be at the end of its section. The byte before it is in the section.
+            Some(fault) => context_of(bytes, fault.offset.saturating_sub(1)),
+            None => Context::Nothing,
+        },
         _ => Context::Nothing,
     }
 }
@@ -143,23 +182,42 @@ fn status(failure: &Failure) -> u8
     ensures { result ≡ status_of failure.now }
 {
     match failure {
-        Failure::Refused { error, .. } => refusal_status(*error),
+        Failure::Refused { error, fault, .. } => refusal_status(*error, *fault),
         Failure::Memory => 3,
         Failure::Keys | Failure::Input(_) | Failure::Output(_) => 4,
     }
 }
 
-fn refusal_status(error: NormaliseModuleError) -> u8
-    ensures { result ≡ error_status error }
+/// Where a fault comes before what the types' error says, the fault decides.
+fn refusal_status(error: NormaliseModuleError, fault: Option<Fault>) -> u8
+    ensures { result ≡ refused_status error fault }
 {
     match error {
-        NormaliseModuleError::Types(_)
-        | NormaliseModuleError::Malformed
+        NormaliseModuleError::Types(_) => fault_status(fault),
+        NormaliseModuleError::Malformed
         | NormaliseModuleError::TooLong
         | NormaliseModuleError::Outdated { .. } => 1,
         NormaliseModuleError::BadIndex { .. }
         | NormaliseModuleError::TooMany
         | NormaliseModuleError::UnknownType { .. } => 2,
         NormaliseModuleError::Memory => 3,
+    }
+}
+
+fn fault_status(fault: Option<Fault>) -> u8
+    ensures { result ≡ fault_status fault }
+{
+    match fault {
+        Some(fault) => kind_status(fault.kind),
+        None => 1,
+    }
+}
+
+fn kind_status(kind: FaultKind) -> u8
+    ensures { result ≡ kind_status kind }
+{
+    match kind {
+        FaultKind::Malformed => 1,
+        FaultKind::UnknownType { .. } => 2,
     }
 }

@@ -8,6 +8,7 @@ ghost use Rattle.wasmnorm.specs.Runs.{IsWritten, IsRefused, IsIllNamed};
 ghost use Rattle.wasmnorm.specs.Steps.Failures.{Explains, ExplainsError, status_of};
 
 mod failure;
+mod fault;
 mod texts;
 
 use command_line::{
@@ -18,18 +19,20 @@ use failure::{Failure, failed_input, refusal, report};
 use std::alloc::Global;
 use std::io::{self, BufWriter, Read, Write};
 use std::process::ExitCode;
-use texts::{HELP, KEEP_WIDTHS, STRIP, USAGE};
+use texts::{HELP, KEEP_WIDTHS, PRUNE, STRIP, USAGE};
 use walrus_normalise::{
-    Descriptions, HashKeys, NormaliseModuleError, NormaliseOptions, Widths, normalise_module,
+    Descriptions, HashKeys, NormaliseModuleError, NormaliseOptions, UnusedTypes, Widths,
+    normalise_module,
 };
 
 /// Reads a module from `reader`, and writes the same module to `out`, with its type section in
 /// normal form and every other index of a type written again.
 ///
 /// Equal types outside recursion groups are merged, and such types are sorted as far as references
-/// allow. Recursion groups keep their order and are never merged. Custom sections other than `name`
-/// are copied as they are. Where one of them describes bytes that would change, such as debug data,
-/// the module is refused, unless the options say that such sections are left out.
+/// allow. Recursion groups keep their order and are never merged. Types that nothing uses stay,
+/// unless the options say that they are deleted. Custom sections other than `name` are copied as
+/// they are. Where one of them describes bytes that would change, such as debug data, the module is
+/// refused, unless the options say that such sections are left out.
 ///
 /// It returns the exit status. One line on `err` explains each of 1 to 4.
 ///
@@ -91,7 +94,7 @@ fn normalise_input<R: Read, W: Write>(
     };
     let module = match normal_module(alloc, keys, options, bytes.as_slice()) {
         Ok(module) => module,
-        Err(error) => return Err(refusal(bytes.as_slice(), options, error)),
+        Err(error) => return Err(refusal(alloc, bytes.as_slice(), options, error)),
     };
     match write_and_flush(out, module.as_slice()) {
         Ok(()) => Ok(()),
@@ -131,7 +134,7 @@ fn main(rt: HostRuntime) -> ExitCode {
 
 /// Does what the arguments ask for, and returns the exit status.
 fn start<E: Write>(rt: &HostRuntime, err: &mut E) -> Result<u8, Failure> {
-    match parse_arguments(rt, &[KEEP_WIDTHS, STRIP])? {
+    match parse_arguments(rt, &[KEEP_WIDTHS, PRUNE, STRIP])? {
         Request::Help => printed(rt.stdout().write_all(HELP.as_bytes())),
         Request::Version => printed(write_version("wasmnorm", &mut rt.stdout())),
         Request::Work { names, options } => {
@@ -154,9 +157,15 @@ fn normalise_options(options: &[String]) -> NormaliseOptions {
     } else {
         Descriptions::Kept
     };
+    let unused = if has_option(options, PRUNE) {
+        UnusedTypes::Deleted
+    } else {
+        UnusedTypes::Kept
+    };
     NormaliseOptions {
         widths,
         descriptions,
+        unused,
     }
 }
 

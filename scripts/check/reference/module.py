@@ -2,9 +2,10 @@
 
 It is slow and plain, and shares no text with the crates. The grammar is that of the WebAssembly core specification 3.0,
 "Binary Format", with a few proposals: the older exceptions, wide arithmetic, memories of 64 bits and their page sizes,
-threads, exact heap types. Sections that describe other bytes of the module, such as debug data, are taken for any other
-custom section.
+threads, exact heap types. A custom section that describes other bytes of the module, such as debug data, is known by its
+name (`is_outdated`).
 """
+import dataclasses
 import functools
 
 from reference import type_section
@@ -26,38 +27,43 @@ class Renamer(Reader):
         # What is written so far, and where the bytes begin that were taken and not written yet.
         self.written, self.copied = bytearray(), at
         self.has_names = False
+        # Whether a number was written with more or fewer bytes than it had, and whether one was in the last content that
+        # has a size.
+        self.changes_lengths = self.changes_lengths_inside = False
 
     def write_number(self, begin, number, text=unsigned):
         """Writes a number in the place of what was taken from begin on."""
         self.written += self.data[self.copied:begin]
-        self.written += text(number, self.at - begin if self.keeps_widths else 0)
+        new = text(number, self.at - begin if self.keeps_widths else 0)
+        self.written += new
+        self.changes_lengths |= len(new) != self.at - begin
         self.copied = self.at
 
     def text(self):
         """All that was taken, as it is written."""
         return bytes(self.written + self.data[self.copied:self.at])
 
-    def image(self, index):
+    def image(self, index, at=None):
         self.has_names = True
         if index >= len(self.images):
-            raise NoSuchType
+            raise NoSuchType(index, at)
         return self.images[index]
 
     def type_index(self):
         begin = self.at
-        self.write_number(begin, self.image(self.u(32)))
+        self.write_number(begin, self.image(self.u(32), begin))
 
     def signed_type_index(self):
         begin = self.at
         number = self.s(33)
         if number < 0:
-            raise Malformed
-        self.write_number(begin, self.image(number), signed)
+            raise Malformed(self.at - 1)
+        self.write_number(begin, self.image(number, begin), signed)
 
     def inside(self, end):
         """A renamer of the bytes from here to end."""
         if end > self.end:
-            raise Malformed
+            raise Malformed(self.end)
         return Renamer(self.data, self.at, end, self.images, self.keeps_widths)
 
     def sized(self, take):
@@ -73,6 +79,8 @@ class Renamer(Reader):
             self.written += text
             self.copied = content.end
             self.has_names = True
+        self.changes_lengths_inside = content.changes_lengths
+        self.changes_lengths |= content.changes_lengths
         self.at = content.end
 
     def vec(self, take):
@@ -103,7 +111,7 @@ def reference_type(it):
     if code in (type_section.NULLABLE_CODE, type_section.PLAIN_CODE):
         heap_type(it)
     elif code not in type_section.HEAPS:
-        raise Malformed
+        raise Malformed(it.at - 1)
 
 
 def block_type(it):
@@ -119,7 +127,7 @@ def block_type(it):
 def one_of(*codes):
     def take(it):
         if it.byte() not in codes:
-            raise Malformed
+            raise Malformed(it.at - 1)
     return take
 
 
@@ -136,9 +144,10 @@ def type_index(it):
 
 
 def memory_argument(it):
+    begin = it.at
     flags = it.u(32)
     if flags >= 128:
-        raise Malformed
+        raise Malformed(begin)
     if flags & 64:
         index(it)
     it.u(64)
@@ -147,7 +156,7 @@ def memory_argument(it):
 def catch_clause(it):
     code = it.byte()
     if code > 3:
-        raise Malformed
+        raise Malformed(it.at - 1)
     for _ in range(2 if code < 2 else 1):
         index(it)
 
@@ -222,22 +231,25 @@ PREFIXED = {
 def expression(it):
     depth = 1
     while depth:
-        code = it.byte()
-        takes = PREFIXED[code].get(it.u(32)) if code in PREFIXED else INSTRUCTIONS.get(code)
-        if takes is None:
-            raise Malformed
+        begin, code = it.at, it.byte()
+        if code in PREFIXED:
+            begin = it.at
+            takes = PREFIXED[code].get(it.u(32))
+        else:
+            takes = INSTRUCTIONS.get(code)
+        # A number behind a prefix is known only as a whole, so its fault is where it begins.
+        if takes is None or code == DELEGATE and depth == 1:
+            raise Malformed(begin)
         for take in takes:
             take(it)
         depth += (code in OPENING) - (code in CLOSING)
-        if code == DELEGATE and depth == 0:
-            raise Malformed
 
 
 def limits(flags):
     def take(it):
         code = it.byte()
         if code not in flags:
-            raise Malformed
+            raise Malformed(it.at - 1)
         for bit in (0, 1, 8):
             if bit == 0 or code & bit:
                 it.u(64)
@@ -268,7 +280,7 @@ def imported(it):
     it.name()
     kind = it.byte()
     if kind > 4:
-        raise Malformed
+        raise Malformed(it.at - 1)
     [type_index, table_type, limits(range(16)), global_type, tag_type][kind](it)
 
 
@@ -288,9 +300,10 @@ def global_(it):
 
 
 def element(it):
+    begin = it.at
     form = it.u(32)
     if form > 7:
-        raise Malformed
+        raise Malformed(begin)
     if form in (2, 6):
         index(it)
     if form in (0, 2, 4, 6):
@@ -303,9 +316,10 @@ def element(it):
 
 
 def data(it):
+    begin = it.at
     form = it.u(32)
     if form > 2:
-        raise Malformed
+        raise Malformed(begin)
     if form == 2:
         index(it)
     if form in (0, 2):
@@ -334,21 +348,25 @@ def whole(it):
 
 
 def name_map(it, take):
-    """A map from types, by ascending new index. Of entries with one new index that of the least old one stays."""
+    """A map from types, by ascending new index. Of entries with one new index that of the least old one stays, and none
+    of a deleted type."""
     begin = it.at
     count = it.u(32)
     behind, entries = it.at, []
     for _ in range(count):
         entry = it.inside(it.end)
-        old = Reader(it.data, it.at, it.end).u(32)
-        entry.type_index()
+        old = entry.u(32)
+        new = entry.image(old)
+        if new is not None:
+            entry.write_number(it.at, new)
         take(entry)
         it.at = entry.at
-        entries.append((entry.image(old), old, entry.text()))
+        entries.append((new, old, entry.text()))
     if entries:
         kept = {}
         for new, old, text in sorted(entries, key=lambda entry: entry[1]):
-            kept.setdefault(new, text)
+            if new is not None:
+                kept.setdefault(new, text)
         at, it.at = it.at, behind
         it.write_number(begin, len(kept))
         it.at = it.copied = at
@@ -381,43 +399,147 @@ def custom(it):
 def sections_of(module):
     """The id of each section, and its size with its content."""
     if module[:len(HEADER)] != HEADER:
-        raise Malformed
+        raise Malformed(0)
     reader, place = Reader(module, len(HEADER), len(module)), 0
     while reader.at < reader.end:
         code = reader.byte()
         if code != CUSTOM:
             if code not in ORDER[place:]:
-                raise Malformed
+                raise Malformed(reader.at - 1)
             place = ORDER.index(code) + 1
         begin = reader.at
         reader.name()
         yield code, module[begin:reader.at]
 
 
+def first_fault(module, types):
+    """The first fault in the contents of the sections that can name types, with its place, if the module has as many
+    types. Sections are judged as far as they are framed."""
+    at = len(HEADER)
+    try:
+        for code, section in sections_of(module):
+            end = at + 1 + len(section)
+            begin = end - len(Reader(module, at + 1, end).name())
+            at = end
+            if code in CONTENTS:
+                it = Renamer(module, begin, end, range(types), False)
+                try:
+                    CONTENTS[code](it)
+                    it.finish()
+                except Malformed as fault:
+                    return f'malformed at {fault.at}'
+                except NoSuchType as fault:
+                    return f'no type {fault.index} at {fault.at}'
+    except Malformed:
+        pass
+    return None
+
+
 @functools.cache
-def normalised(section):
-    """The type section in normal form, and the new index of each type."""
+def normalised(section, roots=None):
+    """The type section in normal form, and the new index of each type; where there are roots, of what these use."""
     reader = Reader(section, 0, len(section))
-    text, images = type_section.normalised(reader.name())
+    text, images = type_section.normalised(reader.name(), roots)
     return unsigned(len(text)) + text, images
+
+
+@dataclasses.dataclass(frozen=True)
+class Section:
+    """A section before and after, each its size with its content."""
+    code: int
+    old: bytes
+    new: bytes
+    # Whether an integer gets another length, in the content and in all of the section.
+    changes_lengths_inside: bool = False
+    changes_lengths: bool = False
+
+    def changes_length(self):
+        """Whether a length in it changes. Of types and of custom sections the length of the whole counts."""
+        if self.code in (TYPE, CUSTOM):
+            return len(self.new) != len(self.old)
+        return self.changes_lengths
+
+    def name(self):
+        """The name of a custom section, or None."""
+        reader = Reader(self.old, 0, len(self.old))
+        reader.u(32)
+        return reader.name() if self.code == CUSTOM else None
 
 
 @functools.cache
 def renamed(code, section, images, keeps_widths):
-    """Another section, with these indices of types."""
+    """Another section than that of types, with these indices of types."""
     it = Renamer(section, 0, len(section), images, keeps_widths)
     it.sized(custom if code == CUSTOM else CONTENTS.get(code, whole))
-    return it.text()
+    return Section(code, section, it.text(), it.changes_lengths_inside, it.changes_lengths)
 
 
-def outcome(module, keeps_widths=False):
+def content(section):
+    reader = Reader(section, 0, len(section))
+    return reader.name()
+
+
+def is_outdated(name, sections):
+    """Whether what a custom section of this name describes changes."""
+    codes = [section.code for section in sections]
+    if name == b'external_debug_info' or name.startswith((b'.debug_', b'metadata.code.')):
+        return any(section.changes_lengths_inside for section in sections if section.code == CODE)
+    if name == b'sourceMappingURL':
+        return CODE in codes and any(section.changes_length() for section in sections[:codes.index(CODE) + 1])
+    if name == b'linking' or name.startswith(b'reloc.'):
+        return any(content(section.new) != content(section.old) for section in sections if section.code in (CODE, DATA))
+    return name == b'signature' and any(section.new != section.old for section in sections)
+
+
+def outdated_at(sections):
+    """The place of the first custom section that describes bytes that change, or None."""
+    at = len(HEADER)
+    for section in sections:
+        if section.code == CUSTOM and is_outdated(section.name(), sections):
+            return at
+        at += 1 + len(section.old)
+    return None
+
+
+class Noted:
+    """New indices of types that all stay. It notes which types are named."""
+
+    def __init__(self, count):
+        self.count, self.named = count, set()
+
+    def __len__(self):
+        return self.count
+
+    def __getitem__(self, index):
+        self.named.add(index)
+        return index
+
+
+@functools.cache
+def named(code, section, count):
+    """The types that a section names, of this many. The names that it gives to types are no such."""
+    noted = Noted(count)
+    it = Renamer(section, 0, len(section), noted, False)
+    it.sized(custom if code == CUSTOM else CONTENTS.get(code, whole))
+    return () if code == CUSTOM else tuple(sorted(noted.named))
+
+
+def outcome(module, keeps_widths=False, prunes=False):
     """The status of `wasmnorm`, and the module that it writes, or None."""
     try:
-        sections = list(sections_of(module))
-        types, images = next((normalised(section) for code, section in sections if code == TYPE), (b'', ()))
-        new = [types if code == TYPE else renamed(code, section, images, keeps_widths) for code, section in sections]
+        parts = list(sections_of(module))
+        section = next((section for code, section in parts if code == TYPE), None)
+        types, images = (b'', ()) if section is None else normalised(section)
+        if prunes and section is not None:
+            roots = {root for code, other in parts if code != TYPE for root in named(code, other, len(images))}
+            types, images = normalised(section, tuple(sorted(roots)))
+        sections = [
+            Section(code, section, types) if code == TYPE else renamed(code, section, images, keeps_widths)
+            for code, section in parts]
     except Malformed:
         return REFUSED, None
     except NoSuchType:
         return UNKNOWN, None
-    return DONE, HEADER + b''.join(bytes([code]) + section for (code, _), section in zip(sections, new))
+    if outdated_at(sections) is not None:
+        return REFUSED, None
+    return DONE, HEADER + b''.join(bytes([section.code]) + section.new for section in sections)

@@ -2,11 +2,19 @@
 
 
 class Malformed(Exception):
-    """The bytes are no text of the grammar."""
+    """The bytes are no text of the grammar: it stops at a place."""
+
+    def __init__(self, at):
+        super().__init__(at)
+        self.at = at
 
 
 class NoSuchType(Exception):
-    """An index of a type that there is not."""
+    """An index of a type that there is not, and the place where it begins, if that is known."""
+
+    def __init__(self, index, at=None):
+        super().__init__(index, at)
+        self.index, self.at = index, at
 
 
 def unsigned(number, width=0):
@@ -37,18 +45,18 @@ class Reader:
 
     def byte(self):
         if self.at == self.end:
-            raise Malformed
+            raise Malformed(self.at)
         self.at += 1
         return self.data[self.at - 1]
 
     def peek(self):
         if self.at == self.end:
-            raise Malformed
+            raise Malformed(self.at)
         return self.data[self.at]
 
     def skip(self, count):
         if count > self.end - self.at:
-            raise Malformed
+            raise Malformed(self.end)
         self.at += count
 
     def u(self, bits):
@@ -60,7 +68,7 @@ class Reader:
             shift += 7
             # The last byte that there may be has no bit above the highest.
             if number >> bits or byte >= 0x80 and shift >= bits:
-                raise Malformed
+                raise Malformed(self.at - 1)
             if byte < 0x80:
                 return number
 
@@ -74,10 +82,10 @@ class Reader:
             if byte < 0x80:
                 number -= (byte & 0x40) >> 6 << shift
                 if not -1 << bits - 1 <= number < 1 << bits - 1:
-                    raise Malformed
+                    raise Malformed(self.at - 1)
                 return number
             if shift >= bits:
-                raise Malformed
+                raise Malformed(self.at - 1)
 
     def name(self):
         """A count and as many bytes."""
@@ -88,4 +96,4 @@ class Reader:
 
     def finish(self):
         if self.at != self.end:
-            raise Malformed
+            raise Malformed(self.at)

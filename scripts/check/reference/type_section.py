@@ -40,7 +40,7 @@ def read_heap(reader):
         return EXACT, reader.u(32)
     number = reader.s(33)
     if number < 0:
-        raise Malformed
+        raise Malformed(reader.at - 1)
     return INDEX, number
 
 
@@ -52,7 +52,7 @@ def read_value(reader):
         return REFERENCE, True, ABSTRACT, HEAPS.index(code)
     if code in (NULLABLE_CODE, PLAIN_CODE):
         return REFERENCE, code == NULLABLE_CODE, *read_heap(reader)
-    raise Malformed
+    raise Malformed(reader.at - 1)
 
 
 def read_field(reader):
@@ -64,14 +64,14 @@ def read_field(reader):
         storage = (packed,)
     mutable = reader.byte()
     if mutable > 1:
-        raise Malformed
+        raise Malformed(reader.at - 1)
     return storage, mutable
 
 
 def read_composite(reader):
     kind = COMPOSITES.get(reader.byte())
     if kind is None:
-        raise Malformed
+        raise Malformed(reader.at - 1)
     if kind == FUNCTION:
         return kind, read_vec(reader, read_value), read_vec(reader, read_value)
     return kind, read_vec(reader, read_field) if kind == STRUCT else (read_field(reader),)
@@ -82,9 +82,10 @@ def read_definition(reader):
     is_final, supers = True, ()
     if reader.peek() in (FINAL_CODE, OPEN_CODE):
         is_final = reader.byte() == FINAL_CODE
+        begin = reader.at
         supers = read_vec(reader, lambda it: it.u(32))
         if len(supers) > 1:
-            raise Malformed
+            raise Malformed(begin)
     return read_composite(reader), is_final, supers
 
 
@@ -131,8 +132,9 @@ def check_names(groups):
     end = 0
     for _, definitions in groups:
         end += len(definitions)
-        if any(name >= end for definition in definitions for name in names_of(definition)):
-            raise NoSuchType
+        for name in (name for definition in definitions for name in names_of(definition)):
+            if name >= end:
+                raise NoSuchType(name)
 
 
 def kept_of(groups):
@@ -167,15 +169,31 @@ def in_order(kept):
     return done + sorted(free, key=lambda it: it[2])
 
 
-def normal_form(groups):
-    """The groups of the normal form, and the new index of each index."""
+def used_of(kept, same, roots):
+    """The kept groups that some indices use, directly or through groups that are used."""
+    group_of = {first + place: group for group in kept for first, _, definitions in [group]
+                for place in range(len(definitions))}
+    used, left = set(), [same[root] for root in roots]
+    while left:
+        first, _, definitions = group_of[left.pop()]
+        if first not in used:
+            used.add(first)
+            left += [same[name] for definition in definitions for name in names_of(definition)]
+    return [group for group in kept if group[2] and group[0] in used]
+
+
+def normal_form(groups, roots=None):
+    """The groups of the normal form, and the new index of each index. If there are roots, what they do not use is
+    deleted, and has the new index None."""
     check_names(groups)
     kept, same = kept_of(groups)
+    if roots is not None:
+        kept = used_of(kept, same, roots)
     ordered, new = in_order(kept), {}
     for first, _, definitions in ordered:
         for index in range(first, first + len(definitions)):
             new[index] = len(new)
-    images = [new[index] for index in same]
+    images = [new.get(index) for index in same]
     rename = images.__getitem__
     return [(is_rec, [renamed(it, rename) for it in definitions]) for _, is_rec, definitions in ordered], images
 
@@ -221,10 +239,11 @@ def group_text(group):
     return bytes([REC_CODE]) + vec(texts) if is_rec else texts[0]
 
 
-def normalised(content):
-    """The content of a type section in normal form, and the new index of each type."""
+def normalised(content, roots=None):
+    """The content of a type section in normal form, and the new index of each type, None if it is deleted. If there are
+    roots, only what these indices use stays."""
     reader = Reader(content, 0, len(content))
     groups = read_vec(reader, read_group)
     reader.finish()
-    normal, images = normal_form(groups)
+    normal, images = normal_form(groups, roots)
     return vec([group_text(it) for it in normal]), tuple(images)

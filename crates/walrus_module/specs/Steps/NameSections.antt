@@ -1,12 +1,12 @@
 -- Names and maps of them, from the front of bytes.
-use Rattle.std.specs.Prelude.{◌≡◌, ℕ, ◌+◌, ◌≤◌, List, [], ◌∷◌, ◌++◌, length, Some, slice_get}
+use Rattle.std.specs.Prelude.{◌≡◌, ℕ, ◌+◌, ◌<◌, ◌≤◌, List, [], ◌∷◌, ◌++◌, length, Option, Some}
 use Rattle.walrus_binary.specs.Leb128.{IsU32}
 use Rattle.walrus_binary.specs.Grammar.{AreItems}
 use Rattle.walrus_module.specs.declared.renaming.Widths.{Widths}
 use Rattle.walrus_module.specs.declared.name_maps.Follows.{Follows}
 use Rattle.walrus_module.specs.declared.name_maps.Follows.TheVariants as follows
 use Rattle.walrus_module.specs.Changes.{ChangeAll, InSized}
-use Rattle.walrus_module.specs.Renaming.{IsTextOf}
+use Rattle.walrus_module.specs.Renaming.{NewIndices, new_index, IsTextOf}
 use Rattle.walrus_module.specs.NameSections.{IsName, IsNameMap, TypeEntry, IsEntry, AreKept, IsNewEntry, RenamesSubsection}
 
 -- such a text was taken from the front of bytes
@@ -46,16 +46,17 @@ abbrev pub IsFollowing : Follows → List ℕ → Type 0
 IsFollowing follows.Name = IsName
 IsFollowing follows.NameMap = IsNameMap
 
--- an entry was taken from the front of bytes, and its type has this new index
-pub record TakesEntry (Follows : List ℕ → Type 0) (new_indices : List ℕ) (n : ℕ) (e : TypeEntry)
-    (bytes rest : List ℕ) : Type 0 where
+-- an entry was taken from the front of bytes, and its type has this new index, or is deleted
+pub record TakesEntry (Follows : List ℕ → Type 0) (new_indices : NewIndices) (n : Option ℕ)
+    (e : TypeEntry) (bytes rest : List ℕ) : Type 0 where
   pub text : List ℕ
   pub is_entry : IsEntry Follows text e
   pub parts : bytes ≡ text ++ rest
-  pub mapped : slice_get new_indices e.index ≡ Some n
+  pub known : e.index < length new_indices
+  pub mapped : new_index new_indices e.index ≡ n
 
 -- of as many entries that were taken from the front of bytes these are kept
-pub record TakesEntries (Follows : List ℕ → Type 0) (new_indices : List ℕ) (count : ℕ)
+pub record TakesEntries (Follows : List ℕ → Type 0) (new_indices : NewIndices) (count : ℕ)
     (kept : List (ℕ × TypeEntry)) (bytes rest : List ℕ) : Type 0 where
   pub entries : List TypeEntry
   pub taken : TakesItems (IsEntry Follows) entries bytes rest
@@ -72,8 +73,9 @@ BeginsNotEntries Follows count bytes =
 -- an entry with this new index was kept, or another one that was there stays in its place
 pub record Keeps (n : ℕ) (e : TypeEntry) (old new : List (ℕ × TypeEntry)) : Type 0 where
   pub keeps :
-      (new_indices : List ℕ) (entries : List TypeEntry) → AreKept new_indices entries old
-      → slice_get new_indices e.index ≡ Some n → AreKept new_indices (entries ++ e ∷ []) new
+      (new_indices : NewIndices) (entries : List TypeEntry) → AreKept new_indices entries old
+      → e.index < length new_indices → new_index new_indices e.index ≡ Some n
+      → AreKept new_indices (entries ++ e ∷ []) new
   pub few : length new ≤ length old + 1
 
 -- the bytes are the count of these entries, and the entries with their new indices
@@ -89,7 +91,7 @@ pub record IsNewMap (widths : Widths) (least : ℕ) (kept : List (ℕ × TypeEnt
 
 -- The content begins with subsections, up to `rest`, that become others. What they become is the
 -- end of `out` and the beginning of `unwritten`. Nothing is in `out` while no type was named.
-pub record IsRenamedUpTo (new_indices : List ℕ) (widths : Widths)
+pub record IsRenamedUpTo (new_indices : NewIndices) (widths : Widths)
     (header content unwritten rest out : List ℕ) : Type 0 where
   pub count : ℕ
   pub texts : List ℕ
@@ -106,7 +108,7 @@ pub record IsRenamedUpTo (new_indices : List ℕ) (widths : Widths)
 
 -- some subsection
 pub record IsSomeSubsection (text : List ℕ) : Type 0 where
-  pub new_indices : List ℕ
+  pub new_indices : NewIndices
   pub widths : Widths
   pub new : List ℕ
   pub names : List ℕ

@@ -4,7 +4,7 @@ use Rattle.walrus_binary.specs.Modules.{section, IsSection}
 use Rattle.walrus_module.specs.declared.renaming.Widths.{Widths}
 use Rattle.walrus_module.specs.Changes.{IsMalformed}
 use Rattle.walrus_module.specs.RenamedModules.{RenamesAny, AnyNamesUnknown}
-use Rattle.walrus_module.specs.Renaming.{IsTextOf}
+use Rattle.walrus_module.specs.Renaming.{NewIndices, IsTextOf}
 
 -- all bytes of a section
 abbrev pub IsWhole : List ℕ → ℕ → List ℕ → Type 0
@@ -22,7 +22,7 @@ pub record IsMalformedSection (id : ℕ) (content : List ℕ) : Type 0 where
   pub malformed : IsMalformed (RenamesAny id) content
 
 -- the content names type k, which has no new index, and it is not that of the type section
-pub record SectionNamesUnknown (new_indices : List ℕ) (widths : Widths) (k id : ℕ)
+pub record SectionNamesUnknown (new_indices : NewIndices) (widths : Widths) (k id : ℕ)
     (content : List ℕ) : Type 0 where
   pub other : id ≡ 1 → ⊥
   pub unknown : AnyNamesUnknown new_indices widths k id content

@@ -1,11 +1,11 @@
 -- What is written of new indices.
-use Rattle.std.specs.Prelude.{◌≡◌, ℕ, ◌+◌, ◌-◌, ◌/◌, ◌%◌, ◌<◌, ◌≤◌, Bool, List, [], ◌∷◌, ◌++◌, Some, slice_get, cond}
+use Rattle.std.specs.Prelude.{◌≡◌, ℕ, ◌+◌, ◌-◌, ◌/◌, ◌%◌, ◌<◌, ◌≤◌, Bool, List, [], ◌∷◌, ◌++◌, Some, None, cond}
 use Rattle.walrus_module.specs.declared.scan.ScanError.{ScanError}
 use Rattle.walrus_module.specs.declared.scan.ScanError.TheVariants as scan
 use Rattle.walrus_module.specs.declared.scan.TypeIndex.{TypeIndex}
 use Rattle.walrus_module.specs.declared.renaming.RenameError.{RenameError}
 use Rattle.walrus_module.specs.declared.renaming.RenameError.TheVariants as rename
-use Rattle.walrus_module.specs.Renaming.{IsTextOf}
+use Rattle.walrus_module.specs.Renaming.{NewIndices, new_index, IsTextOf}
 
 -- such a text was put at the end
 pub record Appends (IsText : List ℕ → Type 0) (old new : List ℕ) : Type 0 where
@@ -25,15 +25,15 @@ abbrev pub index_end : Bool → ℕ
 index_end is_signed = cond is_signed 0x40 0x80
 
 -- the text of the new index of a type
-pub record IsNewIndex (new_indices : List ℕ) (least : ℕ → ℕ) (t : TypeIndex) (text : List ℕ) :
-    Type 0 where
+pub record IsNewIndex (new_indices : NewIndices) (least : ℕ → ℕ) (t : TypeIndex)
+    (text : List ℕ) : Type 0 where
   pub n : ℕ
-  pub mapped : slice_get new_indices t.index ≡ Some n
+  pub mapped : new_index new_indices t.index ≡ Some n
   pub is_text : IsTextOf (index_end t.is_signed) (least t.length) text n
 
 -- the type has no new index
-abbrev pub IsUnknown : ℕ → TypeIndex → ℕ → Type 0
-IsUnknown count t k = (k ≡ t.index) × (count ≤ k)
+abbrev pub IsUnknown : NewIndices → TypeIndex → ℕ → Type 0
+IsUnknown new_indices t k = (k ≡ t.index) × (new_index new_indices k ≡ None)
 
 abbrev pub same_error : ScanError → RenameError
 same_error scan.Malformed = rename.Malformed

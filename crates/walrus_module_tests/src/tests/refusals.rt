@@ -2,7 +2,11 @@
 //! Each request for memory of these tests may be refused, one in a run, and they still pass.
 use std::alloc::Global;
 use std::test::*;
-use walrus_module::{ScanError, body_types, expression_types, named_types, section_types};
+use walrus_module::{
+    RenameError, ScanError, Widths, body_types, expression_types, find_outdated, named_types,
+    rename_module, section_types,
+};
+use walrus_snipping::{SnipError, exported_functions, snip_functions};
 
 // What the call returns when it is made again after a refusal.
 fn named_again(alloc: Global, bytes: &[u8]) -> Result<Vec<u32>, ScanError> {
@@ -31,6 +35,43 @@ fn expression_again(alloc: Global, input: &mut &[u8]) -> Result<Vec<u32>, ScanEr
         Err(ScanError::Memory) => expression_types(alloc, input),
         other => other,
     }
+}
+
+fn snip_again(alloc: Global, bytes: &[u8]) -> Result<Vec<u8>, SnipError> {
+    match snip_functions(alloc, bytes, &[0], Widths::Shortest) {
+        Err(SnipError::Memory) => snip_functions(alloc, bytes, &[0], Widths::Shortest),
+        other => other,
+    }
+}
+
+#[test]
+fn a_refused_module_is_snipped_again(rt: HostRuntime) {
+    // a body with a local
+    let bytes = [
+        0, 0x61, 0x73, 0x6D, 1, 0, 0, 0, 10, 6, 1, 4, 1, 1, 0x7F, 0x0B,
+    ];
+    let expected = [0, 0x61, 0x73, 0x6D, 1, 0, 0, 0, 10, 5, 1, 3, 0, 0, 0x0B];
+    let new = snip_again(rt.alloc(), &bytes)
+        .ok()
+        .expect(&rt, "the second call snips");
+    assert!(rt; new.as_slice() == expected.as_slice());
+}
+
+fn find_again(alloc: Global, bytes: &[u8]) -> Result<Vec<u32>, ScanError> {
+    match exported_functions(alloc, bytes, b"f") {
+        Err(ScanError::Memory) => exported_functions(alloc, bytes, b"f"),
+        other => other,
+    }
+}
+
+#[test]
+fn a_refused_export_is_found_again(rt: HostRuntime) {
+    // function 3 is exported as f
+    let bytes = [0, 0x61, 0x73, 0x6D, 1, 0, 0, 0, 7, 5, 1, 1, 0x66, 0, 3];
+    let found = find_again(rt.alloc(), &bytes)
+        .ok()
+        .expect(&rt, "the second call finds it");
+    assert!(rt; found.as_slice() == [3].as_slice());
 }
 
 #[test]
@@ -73,4 +114,25 @@ fn a_refused_expression_is_read_again(rt: HostRuntime) {
         .expect(&rt, "the second call reads");
     assert!(rt; named.as_slice() == [5, 4].as_slice());
     assert!(rt; input.len() == 1);
+}
+
+fn outdated_in(alloc: Global, bytes: &[u8]) -> Result<Option<usize>, RenameError> {
+    let types = [2, 0x60, 0, 0, 0x5F, 0];
+    let new = rename_module(alloc, bytes, &types, &[Some(1), Some(0)], Widths::Kept)?;
+    Ok(find_outdated(alloc, bytes, new.as_slice())?)
+}
+
+fn outdated_again(alloc: Global, bytes: &[u8]) -> Result<Option<usize>, RenameError> {
+    match outdated_in(alloc, bytes) {
+        Err(RenameError::Memory) => outdated_in(alloc, bytes),
+        other => other,
+    }
+}
+
+#[test]
+fn a_refused_section_that_no_longer_fits_is_found_again(rt: HostRuntime) {
+    // a struct and a function type, a body with a null of the latter, `.debug_a` and `signature`
+    let bytes = b"\x00asm\x01\x00\x00\x00\x01\x06\x02\x5F\x00\x60\x00\x00\
+        \x0A\x07\x01\x05\x00\xD0\x01\x1A\x0B\x00\x09\x08.debug_a\x00\x0A\x09signature";
+    assert!(rt; outdated_again(rt.alloc(), bytes) == Ok(Some(36)));
 }

@@ -20,7 +20,7 @@ const ENDS: [usize; 7] = [8, 19, 28, 34, 41, 53, 58];
 // the two types in the other order
 const TYPES: [u8; 8] = [2, 0x60, 1, 0x7F, 0, 0x60, 0, 0];
 
-const MOVED: [u32; 2] = [1, 0];
+const MOVED: [Option<u32>; 2] = [Some(1), Some(0)];
 
 /// Whether the bytes become these, where the two types change places.
 fn becomes(alloc: Global, bytes: &[u8], widths: Widths, expected: &[u8]) -> bool {
@@ -46,6 +46,27 @@ fn sizes_and_indices_are_the_shortest(rt: HostRuntime) {
 }
 
 #[test]
+fn a_deleted_type_may_be_named_in_the_name_section_alone(rt: HostRuntime) {
+    // (type (struct)) (type (func)) (func (type 1)), and the names a and b of the types
+    let mut module = [
+        0, 0x61, 0x73, 0x6D, 1, 0, 0, 0, 1, 6, 2, 0x5F, 0, 0x60, 0, 0, 3, 2, 1, 1, 0, 14, 4, 0x6E,
+        0x61, 0x6D, 0x65, 4, 7, 2, 0, 1, 0x61, 1, 1, 0x62,
+    ];
+    let expected = [
+        0, 0x61, 0x73, 0x6D, 1, 0, 0, 0, 1, 4, 1, 0x60, 0, 0, 3, 2, 1, 0, 0, 11, 4, 0x6E, 0x61,
+        0x6D, 0x65, 4, 4, 1, 0, 1, 0x62,
+    ];
+    let types = [1, 0x60, 0, 0];
+    let kept = [None, Some(0)];
+    let new = rename_module(rt.alloc(), &module, &types, &kept, Widths::Shortest);
+    assert!(rt; new.expect(&rt, "memory").as_slice() == expected.as_slice());
+    // a function of the deleted type
+    module[19] = 0;
+    let refused = rename_module(rt.alloc(), &module, &types, &kept, Widths::Shortest);
+    assert!(rt; refused.err() == Some(RenameError::UnknownType { index: 0 }));
+}
+
+#[test]
 fn sizes_and_indices_keep_their_widths(rt: HostRuntime) {
     // but the size of the type section
     let expected = [
@@ -59,7 +80,7 @@ fn sizes_and_indices_keep_their_widths(rt: HostRuntime) {
 #[test]
 fn a_kept_width_grows_where_an_index_needs_more_room(rt: HostRuntime) {
     let bytes = [0, 0x61, 0x73, 0x6D, 1, 0, 0, 0, 3, 2, 1, 0];
-    let new = rename_module(rt.alloc(), &bytes, &TYPES, &[128], Widths::Kept).expect(
+    let new = rename_module(rt.alloc(), &bytes, &TYPES, &[Some(128)], Widths::Kept).expect(
         &rt, "a module",
     );
     let expected = [0, 0x61, 0x73, 0x6D, 1, 0, 0, 0, 3, 3, 1, 0x80, 1];

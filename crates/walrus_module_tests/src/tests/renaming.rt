@@ -10,7 +10,18 @@ use std::test::*;
 use walrus_module::{RenameError, Widths, rename_body, rename_expression};
 
 /// The new indices of ten types.
-const NEW_INDICES: [u32; 10] = [10, 11, 12, 13, 14, 15, 16, 17, 18, 19];
+const NEW_INDICES: [Option<u32>; 10] = [
+    Some(10),
+    Some(11),
+    Some(12),
+    Some(13),
+    Some(14),
+    Some(15),
+    Some(16),
+    Some(17),
+    Some(18),
+    Some(19),
+];
 
 /// Whether all of the bytes are an expression that is written again as these bytes.
 fn becomes(alloc: Global, bytes: &[u8], expected: &[u8]) -> bool {
@@ -163,6 +174,19 @@ fn the_first_type_without_a_new_index_is_refused(rt: HostRuntime) {
     let body = [1, 1, 0x64, 0xE4, 0, 0xD0, 11, 0x0B];
     let found = rename_body(rt.alloc(), &body, &NEW_INDICES, Widths::Kept);
     assert!(rt; found.err() == Some(RenameError::UnknownType { index: 100 }));
+}
+
+#[test]
+fn code_may_name_no_deleted_type(rt: HostRuntime) {
+    let new_indices = [Some(4), None];
+    let unknown = Some(RenameError::UnknownType { index: 1 });
+    // ref.null 0, ref.null 1, and no instruction
+    let mut input = [0xD0, 0, 0xD0, 1, 0xFF].as_slice();
+    let refused = rename_expression(rt.alloc(), &mut input, &new_indices, Widths::Shortest);
+    assert!(rt; refused.err() == unknown);
+    // a local of (ref 1)
+    let body = [1, 1, 0x64, 1, 0x0B];
+    assert!(rt; rename_body(rt.alloc(), &body, &new_indices, Widths::Kept).err() == unknown);
 }
 
 #[test]

@@ -25,7 +25,7 @@ fn a_body_of_eleven_million_bytes_is_renamed(rt: HostRuntime) {
         body.extend_from_slice(&part).expect(&rt, "memory");
     }
     body.push(0x0B).expect(&rt, "memory");
-    let new = rename_body(rt.alloc(), &body, &[1, 300], Widths::Shortest);
+    let new = rename_body(rt.alloc(), &body, &[Some(1), Some(300)], Widths::Shortest);
     assert!(rt; matches!(&new, Ok(new) if new.len() == body.len() + 1_000_000));
 }
 

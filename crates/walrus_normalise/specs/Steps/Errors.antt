@@ -7,6 +7,10 @@ use Rattle.walrus_module.specs.declared.renaming.RenameError.{RenameError}
 use Rattle.walrus_module.specs.declared.renaming.RenameError.TheVariants as rename
 use Rattle.walrus_sections.specs.declared.error.ReadError.{ReadError}
 use Rattle.walrus_sections.specs.declared.error.ReadError.TheVariants as read
+use Rattle.walrus_module.specs.declared.scan.ScanError.{ScanError}
+use Rattle.walrus_module.specs.declared.scan.ScanError.TheVariants as scan
+use Rattle.walrus_unused.specs.declared.error.NormaliseUsedError.{NormaliseUsedError}
+use Rattle.walrus_unused.specs.declared.error.NormaliseUsedError.TheVariants as used
 use Rattle.walrus_normalise.specs.declared.error.NormaliseModuleError.{NormaliseModuleError}
 use Rattle.walrus_normalise.specs.declared.error.NormaliseModuleError.TheVariants as error
 
@@ -19,6 +23,15 @@ abbrev pub read_failure : ReadError → NormaliseModuleError
 read_failure (read.BadIndex entry index end) = error.BadIndex entry index end
 read_failure read.TooMany = error.TooMany
 read_failure read.Memory = error.Memory
+
+abbrev pub used_failure : NormaliseUsedError → NormaliseModuleError
+used_failure (used.Section e) = read_failure e
+used_failure (used.UnknownRoot index) = error.UnknownType index
+used_failure used.Memory = error.Memory
+
+abbrev pub scan_failure : ScanError → NormaliseModuleError
+scan_failure scan.Malformed = error.Malformed
+scan_failure scan.Memory = error.Memory
 
 abbrev pub encode_failure : EncodeError → NormaliseModuleError
 encode_failure encode.TooMany = error.TooLong

@@ -7,7 +7,7 @@ use std::alloc::{AllocError, Global};
 use std::process::Abort;
 use walrus_types::{
     GroupAt, HashKeys, ModuleTypes, ReadError, SectionReader, TypeId, ValAt, is_normal_form,
-    normalise, parse_types, same_up_to_moves,
+    normalise, normalise_owned, parse_types, same_up_to_moves,
 };
 
 // A function type, a `Rec` of two that name each other, the function type again, and a struct type.
@@ -244,4 +244,29 @@ fn a_refused_comparison_comes_when_it_is_asked_for_again(rt: HostRuntime) {
     assert_equal(&rt, are_same_again(alloc, groups, alone), Ok(false));
     assert_equal(&rt, are_same_again(alloc, ill, groups), Err(bad));
     assert_equal(&rt, are_same_again(alloc, groups, ill), Err(bad));
+}
+
+// The normal form of the section. The section is made again after a refusal of memory.
+fn normalise_owned_again(
+    alloc: Global,
+    pieces: &[Piece],
+) -> Result<(Vec<GroupAt>, Vec<u32>), ReadError> {
+    let groups = section_again(alloc, pieces)?;
+    match normalise_owned(alloc, HashKeys::fixed(), groups) {
+        Err(ReadError::Memory) => {
+            normalise_owned(alloc, HashKeys::fixed(), section_again(alloc, pieces)?)
+        }
+        answer => answer,
+    }
+}
+
+#[test]
+fn a_refused_normal_form_of_an_owned_section_comes_again(rt: HostRuntime) {
+    let (func, int) = (One(Func(None)), One(Struct(Some(ValAt::I32))));
+    let pieces = [int, func, One(Struct(Some(to(0))))];
+    let sorted = [func, int, One(Struct(Some(to(1))))];
+    let (output, map) = normalise_owned_again(rt.alloc(), &pieces).expect(&rt, "memory");
+    let wanted = section_again(rt.alloc(), &sorted).expect(&rt, "memory");
+    assert!(rt; output == wanted);
+    assert_equal(&rt, map.as_slice(), [1, 0, 2].as_slice());
 }

@@ -3,8 +3,9 @@ use Rattle.std.proofs.lemmas.Result.{err_from_is_err_and}
 use Rattle.walrus_module.specs.declared.renaming.RenameError.TheVariants as rename
 use Rattle.walrus_module.specs.Steps.NameSections.{IsFollowing}
 use Rattle.walrus_module.proofs.NameMaps.{following_free}
-use Rattle.walrus_module.proofs.TypeMaps.{entries_begun, entries_on, entries_malformed, entries_unknown}
+use Rattle.walrus_module.proofs.TypeMaps.{entries_begun, entries_on, entries_passed, entries_malformed, entries_unknown}
 use Rattle.walrus_module.proofs.Rewriting.{same_failure}
+use Rattle.walrus_module.proofs.name_maps.take_entries.Goals.{in-Some+in_ok-keep, in_default}
 use Rattle.walrus_module.proofs.name_maps.take_entries.Goals as goal
 
 pub loop-init : goal.loop-init
@@ -30,6 +31,16 @@ returns-in_err-new_index-clause-unknown c =
 
 pub loop-preserved : goal.loop-preserved
 loop-preserved c =
-    entries_on (IsFollowing c.args.follows) c.args.new_indices.now c.loop.counter c.loop.kept.entries
-    c.keep.new.kept.entries c.args.input.now.now c.loop.input.now c.take_entry.new.input.now
-    c.in_ok-new_index.new_index _ c.loop.invariant c.in_ok-new_index.ensures.taken c.in_ok-keep.ensures
+    elim c.match-new_index.branch [
+      | in-Some+in_ok-keep w ↦
+          rw w.kept-is (entries_on (IsFollowing c.args.follows) c.args.new_indices.now c.loop.counter
+          c.loop.kept.entries w.keep.new.kept.entries c.args.input.now.now c.loop.input.now
+          c.take_entry.new.input.now w.in-Some.new_index c.in_ok-new_index.new_index
+          c.in_ok-new_index.entry c.loop.invariant c.in_ok-new_index.ensures.taken w.in-Some.is
+          w.in_ok-keep.ensures)
+      | in_default w ↦
+          rw w.kept-is (entries_passed (IsFollowing c.args.follows) c.args.new_indices.now c.loop.counter
+          c.loop.kept.entries c.args.input.now.now c.loop.input.now c.take_entry.new.input.now
+          c.in_ok-new_index.new_index c.in_ok-new_index.entry c.loop.invariant
+          c.in_ok-new_index.ensures.taken w.in_default.is)
+    ]

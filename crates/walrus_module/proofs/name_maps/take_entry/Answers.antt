@@ -1,5 +1,5 @@
-use Rattle.std.proofs.Common.{◌-◌, length, slice_index_or, refl, arith}
-use Rattle.std.proofs.lemmas.Option.{slice_get-get_or}
+use Rattle.std.proofs.Common.{◌-◌, length, refl, arith}
+use Rattle.walrus_module.specs.Renaming.{new_index}
 use Rattle.walrus_module.specs.Steps.NameSections.{IsFollowing}
 use Rattle.walrus_module.proofs.Taking.{u32_shorter}
 use Rattle.walrus_module.proofs.NameMaps.{begins_unknown, unknown_is, entry_indexless, entry_malformed, entry_taken}
@@ -28,10 +28,10 @@ returns-in_default-take_following-clause-malformed c = λ e.
 
 pub returns-clause-taken : goal.returns-clause-taken
 returns-clause-taken c =
-    let ni = c.args.new_indices.now in
+    let new = c.args.new_indices.now in
     let k = c.in-Some.index in
     entry_taken (IsFollowing c.args.follows) c.args.input.now.now k
     (length c.args.input.now.now - length c.read_u32.new.input.now) c.read_u32.new.input.now
-    c.in-Some-take_following.follows.now c.take_following.new.input.now ni (slice_index_or ni k 0)
+    c.in-Some-take_following.follows.now c.take_following.new.input.now new (new_index new k)
     c.in-Some.ensures refl c.in-Some-take_following.ensures.taken.0 c.in-Some-take_following.ensures.taken.1
-    (slice_get-get_or ni k 0 (omega (arith, c.if-index-new_indices.false)))
+    (omega (arith, c.if-index-new_indices.false)) refl

@@ -1,4 +1,4 @@
-use Rattle.std.proofs.Common.{◌≡◌, ◌∙◌, ◌+◌, ◌++◌, List, ℕ, Err, length, sym, ap, subst, arith}
+use Rattle.std.proofs.Common.{◌≡◌, ◌∙◌, ◌+◌, ◌++◌, List, ℕ, Err, sym, ap, subst, arith}
 use Rattle.std.proofs.lemmas.Result.{err_from_is_err_and}
 use Rattle.walrus_module.specs.declared.renaming.RenameError.TheVariants as rename
 use Rattle.walrus_module.specs.declared.scan.ScanError.TheVariants as scan
@@ -38,7 +38,7 @@ returns-in_err-new-clause-unknown c =
     let p = err_from_is_err_and r.result r.ensures.1 in
     λ k e. let is = sym p.2 ∙ same_failure r.result p.0 (rename.UnknownType k) p.1 e in
     written_first (RenamesBody c.args.new_indices.now c.args.widths)
-    (InSized (λ b. NamesUnknown (length c.args.new_indices.now) body b k)) c.args.count l.counter
+    (InSized (λ b. NamesUnknown c.args.new_indices.now body b k)) c.args.count l.counter
     c.args.input.now.now l.input.now l.unwritten.now l.out.items l.invariant c.loop-test.true
     (c.in_err-new.ensures.unknown k (ap (λ x. Err x) is))
 

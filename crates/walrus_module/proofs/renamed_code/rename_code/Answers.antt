@@ -1,4 +1,4 @@
-use Rattle.std.proofs.Common.{◌∙◌, Err, length, sym, ap}
+use Rattle.std.proofs.Common.{◌∙◌, Err, sym, ap}
 use Rattle.std.proofs.lemmas.Result.{err_from_is_err_and}
 use Rattle.walrus_module.specs.declared.renaming.RenameError.TheVariants as rename
 use Rattle.walrus_module.specs.declared.scan.ScanError.TheVariants as scan
@@ -34,7 +34,7 @@ returns-in_err-new_bodies-clause-unknown c =
     let p = err_from_is_err_and r.result r.ensures.1 in
     λ k e. let is = sym p.2 ∙ same_failure r.result p.0 (rename.UnknownType k) p.1 e in
     code_first c.args.new_indices.now c.args.widths
-    (λ b. NamesUnknown (length c.args.new_indices.now) body b k) c.args.content.now c.in-Some.count
+    (λ b. NamesUnknown c.args.new_indices.now body b k) c.args.content.now c.in-Some.count
     c.read_u32.new.input.now c.in-Some.ensures (c.in_err-new_bodies.ensures.unknown k (ap (λ x. Err x) is))
 
 pub returns-in_err-new_bodies-clause-too_long : goal.returns-in_err-new_bodies-clause-too_long

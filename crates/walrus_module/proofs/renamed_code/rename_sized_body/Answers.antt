@@ -40,7 +40,7 @@ returns-in_err-new_body-clause-unknown c =
     let r = c.from_residual in
     let p = err_from_is_err_and r.result r.ensures.1 in
     λ k e. let is = sym p.2 ∙ same_failure r.result p.0 (rename.UnknownType k) p.1 e in
-    sized_so (λ b. NamesUnknown (length c.args.new_indices.now) body b k) c.args.input.now.now
+    sized_so (λ b. NamesUnknown c.args.new_indices.now body b k) c.args.input.now.now
     c.split_at.result.0.now c.split_at.result.1.now c.read_u32.new.input.now cut
     (c.in_err-new_body.ensures.unknown k (ap (λ x. Err x) is))
 

@@ -20,7 +20,7 @@ fn name_section(alloc: Global, subsections: &[u8]) -> Result<Vec<u8>, AllocError
 fn renamed(
     alloc: Global,
     subsections: &[u8],
-    new_indices: &[u32],
+    new_indices: &[Option<u32>],
     widths: Widths,
 ) -> Result<Vec<u8>, RenameError> {
     let content = name_section(alloc, subsections)?;
@@ -31,7 +31,7 @@ fn renamed(
 fn becomes(
     alloc: Global,
     subsections: &[u8],
-    new_indices: &[u32],
+    new_indices: &[Option<u32>],
     widths: Widths,
     expected: &[u8],
 ) -> bool {
@@ -46,7 +46,7 @@ fn becomes(
 
 /// Why these subsections are refused where two types change places.
 fn refusal(alloc: Global, subsections: &[u8]) -> Option<RenameError> {
-    renamed(alloc, subsections, &[1, 0], Widths::Shortest).err()
+    renamed(alloc, subsections, &[Some(1), Some(0)], Widths::Shortest).err()
 }
 
 #[test]
@@ -54,7 +54,15 @@ fn names_follow_types_that_change_places(rt: HostRuntime) {
     // type 0 is a, type 1 is bc
     let names = [4, 8, 2, 0, 1, 0x61, 1, 2, 0x62, 0x63];
     let expected = [4, 8, 2, 0, 2, 0x62, 0x63, 1, 1, 0x61];
-    assert!(rt; becomes(rt.alloc(), &names, &[1, 0], Widths::Shortest, &expected));
+    assert!(rt;
+        becomes(
+            rt.alloc(),
+            &names,
+            &[Some(1), Some(0)],
+            Widths::Shortest,
+            &expected
+        )
+    );
 }
 
 #[test]
@@ -66,7 +74,7 @@ fn the_least_type_gives_a_merged_one_its_name(rt: HostRuntime) {
         becomes(
             rt.alloc(),
             &names,
-            &[5, 4, 5, 4],
+            &[Some(5), Some(4), Some(5), Some(4)],
             Widths::Shortest,
             &expected
         )
@@ -78,7 +86,15 @@ fn the_first_of_two_names_of_a_type_stays(rt: HostRuntime) {
     // type 1 is x, then type 1 is y
     let names = [4, 7, 2, 1, 1, 0x78, 1, 1, 0x79];
     let expected = [4, 4, 1, 0, 1, 0x78];
-    assert!(rt; becomes(rt.alloc(), &names, &[0, 0], Widths::Shortest, &expected));
+    assert!(rt;
+        becomes(
+            rt.alloc(),
+            &names,
+            &[Some(0), Some(0)],
+            Widths::Shortest,
+            &expected
+        )
+    );
 }
 
 #[test]
@@ -86,7 +102,15 @@ fn names_of_fields_follow_their_types(rt: HostRuntime) {
     // type 0 has fields 0 f and 1 g, type 1 has field 3 h
     let names = [10, 14, 2, 0, 2, 0, 1, 0x66, 1, 1, 0x67, 1, 1, 3, 1, 0x68];
     let expected = [10, 14, 2, 0, 1, 3, 1, 0x68, 1, 2, 0, 1, 0x66, 1, 1, 0x67];
-    assert!(rt; becomes(rt.alloc(), &names, &[1, 0], Widths::Shortest, &expected));
+    assert!(rt;
+        becomes(
+            rt.alloc(),
+            &names,
+            &[Some(1), Some(0)],
+            Widths::Shortest,
+            &expected
+        )
+    );
 }
 
 #[test]
@@ -98,7 +122,7 @@ fn other_subsections_stay(rt: HostRuntime) {
     let expected = [
         0, 1, 0xFF, 1, 4, 1, 0, 1, 0x66, 4, 4, 1, 7, 1, 0x61, 11, 0x80, 0,
     ];
-    assert!(rt; becomes(rt.alloc(), &names, &[7], Widths::Shortest, &expected));
+    assert!(rt; becomes(rt.alloc(), &names, &[Some(7)], Widths::Shortest, &expected));
 }
 
 #[test]
@@ -106,9 +130,9 @@ fn sizes_counts_and_indices_are_as_wide_as_they_were(rt: HostRuntime) {
     // size, count and index in two bytes each
     let names = [4, 0x86, 0, 0x81, 0, 0x80, 0, 1, 0x61];
     let kept = [4, 0x86, 0, 0x81, 0, 0x83, 0, 1, 0x61];
-    assert!(rt; becomes(rt.alloc(), &names, &[3], Widths::Kept, &kept));
+    assert!(rt; becomes(rt.alloc(), &names, &[Some(3)], Widths::Kept, &kept));
     let shortest = [4, 4, 1, 3, 1, 0x61];
-    assert!(rt; becomes(rt.alloc(), &names, &[3], Widths::Shortest, &shortest));
+    assert!(rt; becomes(rt.alloc(), &names, &[Some(3)], Widths::Shortest, &shortest));
 }
 
 #[test]
@@ -151,6 +175,64 @@ fn malformed_subsections_are_refused(rt: HostRuntime) {
 }
 
 #[test]
+fn names_of_deleted_types_go(rt: HostRuntime) {
+    // type 0 is a, 1 is b, 2 is c; type 1 is deleted
+    let names = [4, 10, 3, 0, 1, 0x61, 1, 1, 0x62, 2, 1, 0x63];
+    let expected = [4, 7, 2, 0, 1, 0x63, 1, 1, 0x61];
+    let new_indices = [Some(1), None, Some(0)];
+    assert!(rt;
+        becomes(
+            rt.alloc(),
+            &names,
+            &new_indices,
+            Widths::Shortest,
+            &expected
+        )
+    );
+}
+
+#[test]
+fn a_map_that_loses_all_entries_is_empty(rt: HostRuntime) {
+    // size and count in two bytes each
+    let names = [4, 0x88, 0, 0x82, 0, 0, 1, 0x61, 1, 1, 0x62];
+    let deleted = [None, None];
+    assert!(rt; becomes(rt.alloc(), &names, &deleted, Widths::Shortest, &[4, 1, 0]));
+    assert!(rt;
+        becomes(
+            rt.alloc(),
+            &names,
+            &deleted,
+            Widths::Kept,
+            &[4, 0x82, 0, 0x80, 0]
+        )
+    );
+}
+
+#[test]
+fn names_of_fields_of_deleted_types_go(rt: HostRuntime) {
+    // type 0 has field 0 f, type 1 has field 3 h
+    let names = [10, 11, 2, 0, 1, 0, 1, 0x66, 1, 1, 3, 1, 0x68];
+    let expected = [10, 6, 1, 0, 1, 3, 1, 0x68];
+    assert!(rt;
+        becomes(
+            rt.alloc(),
+            &names,
+            &[None, Some(0)],
+            Widths::Shortest,
+            &expected
+        )
+    );
+}
+
+#[test]
+fn an_index_past_the_deleted_types_is_refused(rt: HostRuntime) {
+    // type 0 is deleted, and there is no type 1
+    let names = [4, 7, 2, 0, 1, 0x61, 1, 1, 0x62];
+    let refused = renamed(rt.alloc(), &names, &[None], Widths::Shortest);
+    assert!(rt; refused.err() == Some(RenameError::UnknownType { index: 1 }));
+}
+
+#[test]
 fn a_type_without_a_new_index_is_refused(rt: HostRuntime) {
     let alloc = rt.alloc();
     // type 2, and no name behind it
@@ -163,11 +245,13 @@ fn a_type_without_a_new_index_is_refused(rt: HostRuntime) {
 #[test]
 fn a_refused_call_is_made_again(rt: HostRuntime) {
     let content = [4, 0x6E, 0x61, 0x6D, 0x65, 4, 4, 1, 0, 1, 0x61];
-    let new = match rename_custom_section(rt.alloc(), &content, &[2], Widths::Kept) {
+    let new = match rename_custom_section(rt.alloc(), &content, &[Some(2)], Widths::Kept) {
         Ok(new) => new,
         Err(error) => {
             assert_equal(&rt, error, RenameError::Memory);
-            rename_custom_section(rt.alloc(), &content, &[2], Widths::Kept).expect(&rt, "memory")
+            rename_custom_section(rt.alloc(), &content, &[Some(2)], Widths::Kept).expect(
+                &rt, "memory",
+            )
         }
     };
     let expected = [4, 0x6E, 0x61, 0x6D, 0x65, 4, 4, 1, 2, 1, 0x61];

@@ -6,15 +6,15 @@ use std::test::*;
 use walrus_module::{RenameError, Widths, rename_body, rename_expression, rename_section};
 
 fn renamed(alloc: Global, input: &mut &[u8]) -> Result<Vec<u8>, RenameError> {
-    rename_expression(alloc, input, &[1, 0], Widths::Shortest)
+    rename_expression(alloc, input, &[Some(1), Some(0)], Widths::Shortest)
 }
 
 fn renamed_body(alloc: Global, content: &[u8]) -> Result<Vec<u8>, RenameError> {
-    rename_body(alloc, content, &[1, 0], Widths::Kept)
+    rename_body(alloc, content, &[Some(1), Some(0)], Widths::Kept)
 }
 
 fn renamed_code(alloc: Global, content: &[u8]) -> Result<Vec<u8>, RenameError> {
-    rename_section(alloc, 10, content, &[1, 0], Widths::Kept)
+    rename_section(alloc, 10, content, &[Some(1), Some(0)], Widths::Kept)
 }
 
 #[test]

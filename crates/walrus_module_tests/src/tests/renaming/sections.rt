@@ -9,7 +9,18 @@ const SHORTEST: Widths = Widths::Shortest;
 const KEPT: Widths = Widths::Kept;
 
 /// The new indices of ten types.
-const NEW_INDICES: [u32; 10] = [10, 11, 12, 13, 14, 15, 16, 17, 18, 19];
+const NEW_INDICES: [Option<u32>; 10] = [
+    Some(10),
+    Some(11),
+    Some(12),
+    Some(13),
+    Some(14),
+    Some(15),
+    Some(16),
+    Some(17),
+    Some(18),
+    Some(19),
+];
 
 /// Whether the content of a section with this id becomes this one.
 fn becomes(alloc: Global, id: u8, content: &[u8], expected: &[u8]) -> bool {
@@ -24,14 +35,14 @@ fn code_becomes(
     widths: Widths,
     expected: &[u8],
 ) -> bool {
-    changes(alloc, 10, content, &[index], widths, expected)
+    changes(alloc, 10, content, &[Some(index)], widths, expected)
 }
 
 fn changes(
     alloc: Global,
     id: u8,
     content: &[u8],
-    new_indices: &[u32],
+    new_indices: &[Option<u32>],
     widths: Widths,
     expected: &[u8],
 ) -> bool {
@@ -43,7 +54,7 @@ fn changes(
 
 /// Whether type 0 alone has a new index, and the content is refused with this error.
 fn is_refused(alloc: Global, id: u8, content: &[u8], error: RenameError) -> bool {
-    match rename_section(alloc, id, content, &[7], KEPT) {
+    match rename_section(alloc, id, content, &[Some(7)], KEPT) {
         Ok(_) => false,
         Err(found) => found == error,
     }
@@ -137,12 +148,19 @@ fn other_sections_stay(rt: HostRuntime) {
 
 /// Whether the type of a function becomes this text.
 fn u32_becomes(alloc: Global, index: u32, expected: &[u8]) -> bool {
-    changes(alloc, 3, &[1, 0], &[index], SHORTEST, expected)
+    changes(alloc, 3, &[1, 0], &[Some(index)], SHORTEST, expected)
 }
 
 /// Whether the type of a table, (ref null 0), becomes this text.
 fn s33_becomes(alloc: Global, index: u32, expected: &[u8]) -> bool {
-    changes(alloc, 4, &[1, 0x63, 0, 0, 1], &[index], SHORTEST, expected)
+    changes(
+        alloc,
+        4,
+        &[1, 0x63, 0, 0, 1],
+        &[Some(index)],
+        SHORTEST,
+        expected,
+    )
 }
 
 #[test]
@@ -168,8 +186,17 @@ fn types_of_tables_are_s33s(rt: HostRuntime) {
 #[test]
 fn padded_indices_are_kept_wide_or_made_short(rt: HostRuntime) {
     let functions = [1, 0x80, 0x80, 0];
-    assert!(rt; changes(rt.alloc(), 3, &functions, &[5], SHORTEST, &[1, 5]));
-    assert!(rt; changes(rt.alloc(), 3, &functions, &[5], KEPT, &[1, 0x85, 0x80, 0]));
+    assert!(rt; changes(rt.alloc(), 3, &functions, &[Some(5)], SHORTEST, &[1, 5]));
+    assert!(rt;
+        changes(
+            rt.alloc(),
+            3,
+            &functions,
+            &[Some(5)],
+            KEPT,
+            &[1, 0x85, 0x80, 0]
+        )
+    );
 }
 
 // ---- sizes and counts
@@ -254,7 +281,7 @@ fn padded_counts_stay(rt: HostRuntime) {
             rt.alloc(),
             3,
             &[0x82, 0, 0, 0],
-            &[3],
+            &[Some(3)],
             SHORTEST,
             &[0x82, 0, 3, 3]
         )

@@ -26,7 +26,7 @@ fn becomes(
         return false;
     };
     let mut input = code.as_slice();
-    match rename_expression(alloc, &mut input, &[index], widths) {
+    match rename_expression(alloc, &mut input, &[Some(index)], widths) {
         Ok(new) => is_instruction(new.as_slice(), opcode, expected),
         Err(_) => false,
     }

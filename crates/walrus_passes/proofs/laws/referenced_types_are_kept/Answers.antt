@@ -1,4 +1,4 @@
-use Rattle.walrus_passes.specs.NeededTypes.{root}
+use Rattle.walrus_unused.specs.NeededTypes.{root}
 use Rattle.walrus_passes.proofs.laws.referenced_types_are_kept.Goals as goal
 
 pub returns : goal.returns

@@ -1,0 +1,214 @@
+-- Two renamings of a module are one, where the first keeps the order of types that become one.
+use Rattle.std.proofs.Common.{◌≡◌, ℕ, suc, List, [], ◌∷◌, ◌++◌, length, refl, sym, ap, subst, ◌∙◌, append_assoc}
+use Rattle.std.proofs.lemmas.List.{append_cancel_left, append_cancel_right}
+use Rattle.walrus_binary.specs.Modules.{ids, header}
+use Rattle.walrus_binary.proofs.Modules.Uniqueness.{one_module}
+use Rattle.walrus_module.specs.declared.renaming.Widths.{Widths}
+use Rattle.walrus_module.specs.declared.renaming.Widths.TheVariants as widths
+use Rattle.walrus_module.specs.Changes.{Change, ChangesSized, ChangeAll, none, next}
+use Rattle.walrus_module.specs.Composition.{AreInTurn, DeleteNone, KeepOrder}
+use Rattle.walrus_module.specs.NameSections.{IsName, IsNameMap, RenamesNames, type_names, field_names, RenamesSubsection, subsection, name_bytes, RenamesCustom, name_section}
+use Rattle.walrus_module.specs.NameSections.RenamesCustom.{other as other_name}
+use Rattle.walrus_module.specs.NameSections.RenamesNames.{others as other_names}
+use Rattle.walrus_module.specs.RenamedModules.{RenamesAny, RenamesSection, RenamesModule}
+use Rattle.walrus_module.specs.RenamedModules.RenamesAny.{custom, other as other_content}
+use Rattle.walrus_module.specs.RenamedModules.RenamesSection.{type_section, other as other_section}
+use Rattle.walrus_module.specs.Renaming.{NewIndices}
+use Rattle.walrus_module.proofs.ComposedNames.{map_composes}
+use Rattle.walrus_module.proofs.Composing.{Compose, ComposeInFront, Joined, more_named, sized_compose, all_compose, content_composes}
+use Rattle.walrus_module.proofs.ModuleLaws.{have_same_ids}
+use Rattle.walrus_module.proofs.NameMaps.{name_free, name_map_free}
+use Rattle.walrus_module.proofs.OneModule.{same_first, same_later, named, some_subsection}
+use Rattle.walrus_module.proofs.SecondModules.{as_many}
+use Rattle.walrus_module.proofs.SizedContents.{same_content}
+
+module _ (first second both : NewIndices) (turn : AreInTurn first second both)
+    (none_deleted : DeleteNone first) (order : KeepOrder first second) (w : Widths) where
+  names_compose : (id : ℕ) →
+      Compose (RenamesNames id first w) (RenamesNames id second widths.Shortest)
+      (RenamesNames id both widths.Shortest)
+  names_compose id _ _ new names more (type_names text mid _ is h) (type_names _ _ _ is' g) =
+      let j = map_composes first second both turn none_deleted order IsName name_free w text mid new names
+      more h g in
+      record { becomes = type_names text new names is j.becomes; none_named = j.none_named }
+  names_compose id _ _ new names more (type_names text mid _ is h) (field_names _ _ _ is' g) =
+      absurd (let k : 4 ≡ 10 = sym is ∙ is' in cc)
+  names_compose id _ _ _ names _ (type_names text mid _ is h) (other_names _ fails lacks) = absurd (fails is)
+  names_compose id _ _ new names more (field_names text mid _ is h) (type_names _ _ _ is' g) =
+      absurd (let k : 10 ≡ 4 = sym is ∙ is' in cc)
+  names_compose id _ _ new names more (field_names text mid _ is h) (field_names _ _ _ is' g) =
+      let j = map_composes first second both turn none_deleted order IsNameMap name_map_free w text mid new
+      names more h
+      g in
+      record { becomes = field_names text new names is j.becomes; none_named = j.none_named }
+  names_compose id _ _ _ names _ (field_names text mid _ is h) (other_names _ fails lacks) = absurd (lacks is)
+  names_compose id _ _ new _ more (other_names text fails lacks) (type_names _ _ _ is g) = absurd (fails is)
+  names_compose id _ _ new _ more (other_names text fails lacks) (field_names _ _ _ is g) = absurd (lacks is)
+  names_compose id _ _ _ _ _ (other_names text fails lacks) (other_names _ fails' lacks') =
+      record { becomes = other_names text fails lacks; none_named = ((λ e. e), (λ e. e)) }
+
+  subsection_composes :
+      ComposeInFront (RenamesSubsection first w) (RenamesSubsection second widths.Shortest)
+      (RenamesSubsection both widths.Shortest)
+  subsection_composes _ _ _ _ _ _ r s (subsection id text mid names h) (subsection id' rest new more g) e =
+      let first-is : id ≡ id' = same_first id id' (mid ++ r) (rest ++ s) e in
+      let j = sized_compose w (RenamesNames id first w) (RenamesNames id second widths.Shortest)
+      (RenamesNames id both widths.Shortest) (names_compose id) text mid rest new names more r s h
+      (subst (λ k. ChangesSized widths.Shortest (RenamesNames k second widths.Shortest) rest new more)
+      (sym first-is) g) (same_later id id' (mid ++ r) (rest ++ s) e) in (
+        record {
+          becomes =
+              subst (λ k. RenamesSubsection both widths.Shortest (id ∷ text) (k ∷ new) names) first-is
+              (subsection id text new names j.0.becomes);
+          none_named = j.0.none_named;
+        },
+        j.1,
+      )
+
+  -- the subsections of a whole section, however many there are
+  record SubsectionsJoined (text new names more : List ℕ) : Type 0 where
+    count : ℕ
+    joined : Joined (ChangeAll (RenamesSubsection both widths.Shortest) count) text new names more
+
+  subsections_compose : (count many : ℕ) (text mid whole new names more : List ℕ) →
+      ChangeAll (RenamesSubsection first w) count text mid names →
+      ChangeAll (RenamesSubsection second widths.Shortest) many whole new more → mid ≡ whole →
+      SubsectionsJoined text new names more
+  subsections_compose _ _ _ _ _ _ _ _ none none e =
+      record { count = 0; joined = record { becomes = none; none_named = ((λ k. k), (λ k. k)) } }
+  subsections_compose _ _ _ _ _ _ _ _ none (next many text rest new news more further g gs) e =
+      absurd (some_subsection second widths.Shortest text rest new more g e)
+  subsections_compose _ _ _ _ _ _ _ _ (next count text texts mid mids names others h hs) none e =
+      absurd (some_mid text mid mids names h (sym e))
+    where
+      some_mid : (text mid rest names : List ℕ) → RenamesSubsection first w text mid names →
+          [] ≡ mid ++ rest → ⊥
+      some_mid _ _ rest _ (subsection id text mid names h) e = absurd cc
+  subsections_compose _ _ _ _ _ _ _ _ (next count text texts mid mids names others h hs)
+      (next many whole rest new news more further g gs) e =
+      let j = subsection_composes text mid whole new names more mids rest h g e in
+      let js = subsections_compose count many texts mids rest news others further hs gs j.1 in
+      record {
+        count = suc js.count;
+        joined = record {
+          becomes = next js.count text texts new news names others j.0.becomes js.joined.becomes;
+          none_named = more_named names more others further j.0.none_named js.joined.none_named;
+        };
+      }
+
+  custom_joined : (text mid whole new names more : List ℕ) → RenamesCustom first w text mid names →
+      RenamesCustom second widths.Shortest whole new more → mid ≡ whole →
+      Joined (RenamesCustom both widths.Shortest) text new names more
+  custom_joined _ _ _ _ _ _ (name_section count size text mid names h hs)
+      (name_section many size' whole new more g gs) e =
+      let c = same_content (size ++ (name_bytes ++ mid)) name_bytes mid name_bytes whole
+      (named size name_bytes mid _ h refl) (named size' name_bytes whole _ g e) in
+      let sizes : size ≡ size' = append_cancel_right size size' (name_bytes ++ mid)
+      (e ∙ ap (λ (u : List ℕ). size' ++ (name_bytes ++ u)) (sym c.1)) in
+      let j = subsections_compose count many text mid whole new names more hs gs c.1 in
+      record {
+        becomes =
+            subst
+            (λ (u : List ℕ). RenamesCustom both widths.Shortest (size ++ (name_bytes ++ text))
+            (u ++ (name_bytes ++ new)) names) sizes
+            (name_section j.count size text new names h j.joined.becomes);
+        none_named = j.joined.none_named;
+      }
+  custom_joined _ _ _ _ _ _ (name_section count size text mid names h hs)
+      (other_name size' bytes follows g different) e =
+      let c = same_content (size ++ (name_bytes ++ mid)) name_bytes mid bytes follows
+      (named size name_bytes mid _ h refl) (named size' bytes follows _ g e) in
+      absurd (different (sym c.0))
+  custom_joined _ _ _ _ _ _ (other_name size bytes follows h different)
+      (name_section many size' whole new more g gs) e =
+      let c = same_content (size ++ (bytes ++ follows)) bytes follows name_bytes whole
+      (named size bytes follows _ h refl) (named size' name_bytes whole _ g e) in
+      absurd (different c.0)
+  custom_joined _ _ _ _ _ _ (other_name size bytes follows h different)
+      (other_name size' bytes' follows' g different') e =
+      record {
+        becomes =
+            subst
+            (λ (u : List ℕ). RenamesCustom both widths.Shortest (size ++ (bytes ++ follows)) u []) e
+            (other_name size bytes follows h different);
+        none_named = ((λ k. k), (λ k. k));
+      }
+
+  any_composes : (id : ℕ) →
+      Compose (RenamesAny id first w) (RenamesAny id second widths.Shortest)
+      (RenamesAny id both widths.Shortest)
+  any_composes id _ _ new names more (custom text mid _ is h) (custom _ _ _ is' g) =
+      let j = custom_joined text mid mid new names more h g refl in
+      record { becomes = custom text new names is j.becomes; none_named = j.none_named }
+  any_composes id _ _ new names more (custom text mid _ is h) (other_content _ _ _ fails g) =
+      absurd (fails is)
+  any_composes id _ _ new names more (other_content text mid _ fails h) (custom _ _ _ is g) =
+      absurd (fails is)
+  any_composes id _ _ new names more (other_content text mid _ fails h) (other_content _ _ _ fails' g) =
+      let j = content_composes first second both turn w id text mid new names more h g in
+      record { becomes = other_content text new names fails j.becomes; none_named = j.none_named }
+
+  section_composes : (types others : List ℕ) →
+      ComposeInFront (RenamesSection types first w) (RenamesSection others second widths.Shortest)
+      (RenamesSection others both widths.Shortest)
+  section_composes types others _ _ _ _ _ _ r s (type_section size content mid_size h t)
+      (type_section size' content' new_size g t') e =
+      let c = same_content ((mid_size ++ types) ++ r) types r content' s
+      (named mid_size types r _ t.is_text (append_assoc mid_size types r))
+      (named size' content' s _ g (same_later 1 1 _ _ e ∙ append_assoc size' content' s)) in (
+        record {
+          becomes = type_section size content new_size h t';
+          none_named = ((λ k. k), (λ k. k));
+        },
+        c.1,
+      )
+  section_composes types others _ _ _ _ _ _ r s (type_section size content mid_size h t)
+      (other_section id text new more fails g) e =
+      absurd (fails (sym (same_first 1 id ((mid_size ++ types) ++ r) (text ++ s) e)))
+  section_composes types others _ _ _ _ _ _ r s (other_section id text mid names fails h)
+      (type_section size content new_size g t) e =
+      absurd (fails (same_first id 1 (mid ++ r) ((size ++ content) ++ s) e))
+  section_composes types others _ _ _ _ _ _ r s (other_section id text mid names fails h)
+      (other_section id' whole new more fails' g) e =
+      let first-is : id ≡ id' = same_first id id' (mid ++ r) (whole ++ s) e in
+      let j = sized_compose w (RenamesAny id first w) (RenamesAny id second widths.Shortest)
+      (RenamesAny id both widths.Shortest) (any_composes id) text mid whole new names more r s h
+      (subst (λ k. ChangesSized widths.Shortest (RenamesAny k second widths.Shortest) whole new more)
+      (sym first-is) g) (same_later id id' (mid ++ r) (whole ++ s) e) in (
+        record {
+          becomes =
+              subst (λ k. RenamesSection others both widths.Shortest (id ∷ text) (k ∷ new) names) first-is
+              (other_section id text new names fails j.0.becomes);
+          none_named = j.0.none_named;
+        },
+        j.1,
+      )
+
+  pub modules_compose : (types others bytes mid new : List ℕ) → RenamesModule types first w bytes mid →
+      RenamesModule others second widths.Shortest mid new →
+      RenamesModule others both widths.Shortest bytes new
+  modules_compose types others bytes mid new r s =
+      let h = have_same_ids types first w bytes mid r in
+      let old : h.sections ≡ r.sections = one_module bytes h.sections r.sections h.before r.is_module in
+      let found : h.new_sections ≡ s.sections = one_module mid h.new_sections s.sections h.after s.is_module
+      in
+      let many : length s.sections ≡ length r.sections =
+      as_many s.sections r.sections (sym (ap ids found) ∙ h.same ∙ ap ids old) in
+      let S : Change = RenamesSection others second widths.Shortest in
+      let texts-are : r.new_texts ≡ s.texts = append_cancel_left header r.new_texts s.texts
+      (sym r.new_parts ∙ s.parts) in
+      let j = all_compose (RenamesSection types first w) S (RenamesSection others both widths.Shortest)
+      (section_composes types others) (length r.sections) r.texts r.new_texts s.texts s.new_texts r.names
+      s.names [] [] r.renames
+      (subst (λ k. ChangeAll S k s.texts s.new_texts s.names) many s.renames)
+      (ap (λ (u : List ℕ). u ++ []) texts-are) in
+      record {
+        sections = r.sections;
+        is_module = r.is_module;
+        texts = r.texts;
+        new_texts = s.new_texts;
+        names = r.names;
+        parts = r.parts;
+        new_parts = s.new_parts;
+        renames = j.0.becomes;
+      }

@@ -1,0 +1,69 @@
+//! Laws of modules in normal form. Each function does nothing; its clauses are theorems, which a
+//! caller gets by calling it.
+ghost use Rattle.std.specs.Prelude.{◌≡◌, ℕ, suc, List, map};
+ghost use Rattle.walrus_binary.specs.ModuleSections.{HasTypes};
+ghost use Rattle.walrus_module.specs.Renaming.{NewIndices};
+ghost use Rattle.walrus_module.specs.declared.renaming.Widths.TheVariants.{Shortest};
+ghost use Rattle.walrus_normalise.specs.Moved.{IsMoved, KeepsOrderOfEqual};
+ghost use Rattle.walrus_normalise.specs.NormalModules.{HasNormalForm, IsShortest, IsNormalised};
+ghost use Rattle.walrus_normalise.specs.declared.options.NormaliseOptions.{NormaliseOptions};
+ghost use Rattle.walrus_normalise.specs.declared.options.UnusedTypes.TheVariants as kinds;
+ghost use Rattle.walrus_sections.specs.Moves.{exchange};
+ghost use Rattle.walrus_sections.specs.NormalForm.{identity};
+ghost use Rattle.walrus_sections.specs.Section.{index_space};
+ghost use Rattle.walrus_ty.specs.Definition.{Names};
+ghost use Rattle.walrus_ty.specs.Records.{section_of};
+ghost use Rattle.walrus_ty.specs.declared.records.GroupAt.{GroupAt};
+
+/// Where unused types are kept, the result is determined by the module and the options.
+pub fn one_normalised_module()
+    ensures { (options : NormaliseOptions) (bytes a b : List ℕ) → options.unused ≡ kinds.Kept →
+        IsNormalised options bytes a → IsNormalised options bytes b → a ≡ b }
+{}
+
+/// The shortest text of a list of recursion groups is determined.
+pub fn one_shortest_text()
+    ensures { (groups : List GroupAt) (a b : List ℕ) → IsShortest a groups → IsShortest b groups →
+        a ≡ b }
+{}
+
+/// Where unused types are kept, the types of the result are the normal form of the module's types.
+pub fn result_has_the_normal_form()
+    ensures { (options : NormaliseOptions) (bytes new : List ℕ) → options.unused ≡ kinds.Kept →
+        IsNormalised options bytes new →
+        (normal : List GroupAt) × (new_indices : NewIndices) ×
+        HasNormalForm kinds.Kept bytes normal new_indices × HasTypes new normal }
+{}
+
+/// Where unused types are kept, a second round changes nothing, whatever the other options are.
+pub fn second_round()
+    ensures itself { (options : NormaliseOptions) (bytes new : List ℕ) →
+        options.unused ≡ kinds.Kept →
+        IsNormalised options bytes new → IsNormalised options new new }
+    ensures unchanged { (options : NormaliseOptions) (bytes new again : List ℕ) →
+        options.unused ≡ kinds.Kept →
+        IsNormalised options bytes new → IsNormalised options new again → again ≡ new }
+{}
+
+/// Two modules that differ by a move of their types have the same result, with the shortest widths
+/// and where unused types are kept.
+///
+/// The moves are: an empty recursion group goes out; a lone type that repeats an earlier one goes
+/// out; two neighbouring lone types that name no type but themselves change places.
+///
+/// Types that become one must not be moved past each other. Otherwise the name section could keep
+/// the name of another one of them. Two neighbouring lone types that name no type and differ do not
+/// become one.
+pub fn moved_module_has_the_same_result()
+    ensures same { (options : NormaliseOptions) (bytes moved a b : List ℕ)
+        (m : IsMoved bytes moved) → options.widths ≡ Shortest →
+        options.unused ≡ kinds.Kept →
+        KeepsOrderOfEqual bytes m.indices →
+        IsNormalised options bytes a → IsNormalised options moved b → a ≡ b }
+    ensures different { (bytes : List ℕ) (groups : List GroupAt) (i : ℕ) → HasTypes bytes groups →
+        ((k : ℕ) → ¬ (Names ((index_space (section_of groups)).definition i) k)) →
+        ((k : ℕ) → ¬ (Names ((index_space (section_of groups)).definition (suc i)) k)) →
+        ¬ ((index_space (section_of groups)).definition i ≡
+        (index_space (section_of groups)).definition (suc i)) →
+        KeepsOrderOfEqual bytes (map (exchange i) (identity (section_of groups))) }
+{}

@@ -1,0 +1,9 @@
+//! Tests of modules in normal form through the public calls of `walrus_normalise`, and of the laws
+//! that connect two modules.
+//!
+//! They are in a crate of their own, since tests inside a crate have the gate prove that crate a
+//! second time.
+#![tactic(auto)]
+
+#[cfg(test)]
+mod tests;

@@ -1,9 +1,0 @@
-use Rattle.walrus_passes.specs.Steps.Marking.{steps_left}
-use Rattle.walrus_passes.proofs.UnusedTypes.Reaching.{IsMarking}
-use Rattle.walrus_passes.proofs.unused_types.marking.Marking.mark_needed.Given as goal
-
-abbrev pub invariant-loop-id : goal.invariant-loop-id
-invariant-loop-id l = IsMarking l.types l.roots l.self
-
-abbrev pub decreases-loop-id : goal.decreases-loop-id
-decreases-loop-id l = steps_left l.self

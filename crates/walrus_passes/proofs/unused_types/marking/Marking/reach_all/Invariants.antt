@@ -1,6 +1,0 @@
-use Rattle.std.proofs.Common.{◌≡◌, take}
-use Rattle.walrus_passes.specs.Steps.Marking.{with_all_group_marks}
-use Rattle.walrus_passes.proofs.unused_types.marking.Marking.reach_all.Given as goal
-
-abbrev pub invariant-loop-id : goal.invariant-loop-id
-invariant-loop-id l = l.self ≡ with_all_group_marks l.types (take l.id-index l.ids) l.fn.self

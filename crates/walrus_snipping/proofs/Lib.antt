@@ -1,0 +1,13 @@
+pub mod Items
+pub mod Sized
+pub mod Order
+pub mod Imports
+pub mod FunctionCounts
+pub mod Bodies
+pub mod Sections
+pub mod Failures
+pub mod SameFunctions
+pub mod Once
+pub mod Again
+pub mod Listing
+pub mod Exporting

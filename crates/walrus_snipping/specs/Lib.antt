@@ -1,0 +1,4 @@
+pub mod Functions
+pub mod SnippedModules
+pub mod Exports
+pub mod Steps

@@ -1,0 +1,4 @@
+-- What private functions promise one another.
+pub mod Counting
+pub mod Snipping
+pub mod Exporting

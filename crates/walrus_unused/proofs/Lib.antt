@@ -1,0 +1,3 @@
+pub mod UnusedTypes
+pub mod IndexMaps
+pub mod UsedSections

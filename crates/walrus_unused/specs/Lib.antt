@@ -1,0 +1,5 @@
+pub mod NeededTypes
+pub mod AllIndices
+pub mod IndexMaps
+pub mod UsedSections
+pub mod Steps

@@ -1,0 +1,74 @@
+//! Where a module is wrong outside its type section.
+ghost use Rattle.wasmnorm.specs.Steps.Failures.{IsFaultOf};
+
+use std::alloc::Global;
+use walrus_binary::{DecodeError, module_types, section_around};
+use walrus_module::{Fault, FaultKind, find_module_fault};
+use walrus_normalise::NormaliseModuleError;
+use walrus_ty::GroupAt;
+
+/// The first fault of a module that was refused with this error, if it is what the error says, or
+/// if it comes before what the error says.
+pub fn fault_of(alloc: Global, bytes: &[u8], error: NormaliseModuleError) -> Option<Fault>
+    ensures { IsFaultOf bytes.now result }
+{
+    let count = type_count(alloc, whole_sections(bytes, error))?;
+    let fault = first_fault(alloc, bytes, count)?;
+    if !agrees(error, fault) {
+        return None;
+    }
+    Some(fault)
+}
+
+/// The bytes before the section in which the bytes stop being a module, or all of them.
+fn whole_sections(bytes: &[u8], error: NormaliseModuleError) -> &[u8] {
+    let NormaliseModuleError::Types(DecodeError::Malformed { offset, .. }) = error else {
+        return bytes;
+    };
+    match section_around(bytes, offset) {
+        Some(section) => bytes.get(..section.offset).unwrap_or(bytes),
+        None => bytes,
+    }
+}
+
+fn first_fault(alloc: Global, bytes: &[u8], count: u32) -> Option<Fault>
+    ensures { IsFaultOf bytes.now result }
+{
+    match find_module_fault(alloc, bytes, count) {
+        Ok(found) => found,
+        Err(_) => None,
+    }
+}
+
+/// Whether the error says the same as a fault, or something that comes later. A name section that
+/// is wrong has no place.
+fn agrees(error: NormaliseModuleError, fault: Fault) -> bool {
+    match (error, fault.kind) {
+        (NormaliseModuleError::Types(DecodeError::Malformed { offset, .. }), _) => {
+            fault.offset <= offset
+        }
+        (NormaliseModuleError::Malformed, FaultKind::Malformed) => true,
+        (
+            NormaliseModuleError::UnknownType { index },
+            FaultKind::UnknownType { index: named, .. },
+        ) => index == named,
+        _ => false,
+    }
+}
+
+/// How many types the module has, if they can be read.
+fn type_count(alloc: Global, bytes: &[u8]) -> Option<u32> {
+    let groups = module_types(alloc, bytes).ok()?;
+    let mut count: u32 = 0;
+    for group in groups.as_slice() {
+        count = count.checked_add(entry_count(group)?)?;
+    }
+    Some(count)
+}
+
+fn entry_count(group: &GroupAt) -> Option<u32> {
+    match group {
+        GroupAt::Single(_) => Some(1),
+        GroupAt::Rec(entries) => u32::try_from(entries.len()).ok(),
+    }
+}
