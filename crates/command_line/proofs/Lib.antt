@@ -1,2 +1,4 @@
+pub mod Codes
+pub mod Contexts
 pub mod Lookalikes
 pub mod Options

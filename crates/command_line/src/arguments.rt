@@ -2,11 +2,20 @@
 ghost use Rattle.std.specs.Prelude.{◌≡◌, ◌↔◌, IfOk, IsTrue, bytes_eq};
 ghost use Rattle.std.specs.List.{Any, list_any};
 ghost use Rattle.std.specs.String.{string_bytes};
-ghost use Rattle.command_line.specs.Arguments.{HasNames, HasOptionsOf, IsName, IsNoWork};
+ghost use Rattle.command_line.specs.Arguments.{HasNames, HasOptionsOf, HasValuesOf, IsName, IsNoWork};
 
 use std::alloc::{AllocError, Global};
 use std::env::{self, Args, Env};
 use std::io::ErrorKind;
+
+/// An option with its value.
+#[derive(Debug, Drop)]
+pub struct OptionValue {
+    /// The option.
+    pub option: String,
+    /// The argument behind it.
+    pub value: String,
+}
 
 /// What the arguments of a program ask for.
 #[derive(Debug, Drop)]
@@ -22,15 +31,18 @@ pub enum Request {
         /// The options of the program that are there, each as often as it is there.
         /// [`has_option`] finds one.
         options: Vec<String>,
+        /// The options that have a value, in their order, each as often as it is there.
+        values: Vec<OptionValue>,
     },
     /// Nothing that any program does: the arguments are wrong.
     Usage,
 }
 
 /// Returns what the arguments ask for. `options` are the options that the program has besides
-/// `--help` and `--version`. Any other argument that begins with `-` and is longer is wrong. The
-/// first argument that is wrong, or is `--help` or `--version`, decides. One that is not UTF-8 is
-/// wrong wherever it is.
+/// `--help` and `--version`, and `with_value` are the ones that have a value: the argument behind
+/// them, whatever it is. Without that argument they are wrong, and so is any other argument that
+/// begins with `-` and is longer. The first argument that is wrong, or is `--help` or `--version`,
+/// decides. One that is not UTF-8 is wrong wherever it is.
 ///
 /// # Errors
 ///
@@ -38,11 +50,14 @@ pub enum Request {
 pub fn parse_arguments<R: Env + AllocGlobal>(
     rt: &R,
     options: &[&str],
+    with_value: &[&str],
 ) -> Result<Request, AllocError>
     // Each name that is returned is the name of a file.
     ensures names { IfOk result HasNames }
     // Each option that is returned is one of the program.
     ensures options { IfOk result (HasOptionsOf (λ o. Any (λ k. k.now ≡ o) options.now)) }
+    // Each option with a value is one of the program.
+    ensures values { IfOk result (HasValuesOf (λ o. Any (λ k. k.now ≡ o) with_value.now)) }
 {
     let mut arguments = match env::args(rt) {
         Ok(arguments) => arguments,
@@ -50,7 +65,7 @@ pub fn parse_arguments<R: Env + AllocGlobal>(
         Err(_) => return Ok(Request::Usage),
     };
     let _program = arguments.next();
-    work(rt.alloc(), arguments, options)
+    work(rt.alloc(), arguments, options, with_value)
 }
 
 /// Whether an option is among the ones that are there.
@@ -66,22 +81,42 @@ pub fn has_option(options: &[String], option: &str) -> bool
 }
 
 /// The names of files among the arguments, and the options.
-fn work(alloc: Global, arguments: Args, own: &[&str]) -> Result<Request, AllocError>
+fn work(
+    alloc: Global,
+    arguments: Args,
+    own: &[&str],
+    with_value: &[&str],
+) -> Result<Request, AllocError>
     ensures names { IfOk result HasNames }
     ensures options { IfOk result (HasOptionsOf (λ o. Any (λ k. k.now ≡ o) own.now)) }
+    ensures values { IfOk result (HasValuesOf (λ o. Any (λ k. k.now ≡ o) with_value.now)) }
 {
+    let mut left = arguments;
     let mut names = Vec::new(alloc);
     let mut options = Vec::new(alloc);
-    for argument in arguments {
+    let mut values = Vec::new(alloc);
+    while let Some(argument) = left.next() {
         if is_option(argument.as_str(), own) {
             options.push(argument)?;
+        } else if is_option(argument.as_str(), with_value) {
+            let Some(value) = left.next() else {
+                return Ok(Request::Usage);
+            };
+            values.push(OptionValue {
+                option: argument,
+                value,
+            })?;
         } else if is_name(argument.as_str()) {
             names.push(argument)?;
         } else {
             return Ok(without_work(argument.as_str()));
         }
     }
-    Ok(Request::Work { names, options })
+    Ok(Request::Work {
+        names,
+        options,
+        values,
+    })
 }
 
 /// What an argument asks for that is no name and no option of the program.
@@ -95,7 +130,7 @@ fn without_work(argument: &str) -> Request
     }
 }
 
-/// Whether an argument is an option of the program.
+/// Whether an argument is one of these options.
 fn is_option(argument: &str, own: &[&str]) -> bool
     ensures { IsTrue result ↔ Any (λ k. k.now ≡ argument.now) own.now }
 {

@@ -4,8 +4,8 @@ use std::io;
 use std::random::RandomSource;
 use walrus_arena::HashKeys;
 
-// No clause: which bytes a random source gives is nothing that a contract can say, and any keys would
-// meet it.
+// No clause: which bytes a random source gives is nothing that a contract can say, and any keys
+// would meet it.
 /// Returns keys that the author of an input can't foresee.
 ///
 /// # Errors

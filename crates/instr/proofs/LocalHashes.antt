@@ -1,8 +1,7 @@
 -- The parts of a local are read back from what `Hash` is fed of it.
-use Rattle.std.proofs.Common.{◌≡◌, ℕ, ◌<◌, ◌^◌, List, [], ◌∷◌, ◌++◌, Option, Some, None, refl, ap, sym, ◌∙◌, append_assoc}
+use Rattle.std.proofs.Common.{◌≡◌, ℕ, ◌<◌, ◌^◌, List, [], ◌∷◌, ◌++◌, Option, Some, None, refl, ap, sym, ◌∙◌, append_assoc, IfSome}
 use Rattle.std.specs.Hash.{HashWrites}
 use Rattle.std.specs.Hash as fed
-use Rattle.std.specs.Option.{IfSome}
 use Rattle.std.specs.declared.string.String.{String}
 use Rattle.std.specs.declared.alloc.Global.{Global}
 use Rattle.walrus_ty.specs.declared.ty.value.Val.{Val}
@@ -23,9 +22,8 @@ parts_input p = fed.usize p.id ++ (val_input p.ty ++ fed.option fed.str p.name)
 abbrev local : ℕ → Val ℕ → Option (String Global) → LocalVariable
 local i v o = record { id = i; ty = v; name = o }
 
-input_of :
-    (i : ℕ) (v : Val ℕ) (o : Option (String Global)) → local_input (local i v o) ≡
-    parts_input (local_parts (local i v o))
+input_of : (i : ℕ) (v : Val ℕ) (o : Option (String Global)) →
+    local_input (local i v o) ≡ parts_input (local_parts (local i v o))
 input_of i v None = refl
 input_of i v (Some s) = refl
 
@@ -72,8 +70,7 @@ parts_back p h ts =
     ∙ ap (λ q. bind q (λ o us. Got (parts p.id p.ty o) us))
     (option_back (λ t. t ≡ t) fed.str text_read text_back p.name (any_text p.name) ts)))
 
-pub locals_hash :
-    HashesBy local_parts (λ l. (l.id < 2 ^ 64) × Fits 64 (val_name l.ty)) local_input
+pub locals_hash : HashesBy local_parts (λ l. (l.id < 2 ^ 64) × Fits 64 (val_name l.ty)) local_input
 locals_hash = record {
   alike = λ l m e. input_is l ∙ (ap parts_input e ∙ sym (input_is m));
   apart = λ l m f g e. apart PartsFit parts_input parts_read parts_back (local_parts l) (local_parts m) f g

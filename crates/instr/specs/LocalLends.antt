@@ -7,5 +7,4 @@ use Rattle.instr.specs.contracts.locals.ModuleLocals.{the_row as locals_row}
 
 -- once the borrow of the local ends, the id has the last one written through it
 abbrev pub LendsLocal : MutBor (List LocalVariable) → ℕ → MutBor LocalVariable → Fml
-LendsLocal locals id variable =
-    Lends locals_row local_row locals variable (slice_set locals.now id)
+LendsLocal locals id variable = Lends locals_row local_row locals variable (slice_set locals.now id)

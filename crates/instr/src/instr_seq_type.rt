@@ -35,12 +35,10 @@ impl InstrSeqType {
             (λ of. result ≡ Ok (Simple of)) }
         ensures unchanged { IfSome (simple_result params.now results.now)
             (λ of. types.new ≡ types.old) }
-        ensures holds { simple_result params.now results.now ≡ None →
-            IfOk result (λ ty. IsMultiValue ty
-            (λ id. T.has types.old params.now results.now types.new id)) }
-        ensures ok { simple_result params.now results.now ≡ None →
-            IfOk result (λ ty. IsMultiValue ty
-            (λ id. T.adds types.old params.now results.now types.new id)) }
+        ensures holds { simple_result params.now results.now ≡ None → IfOk result
+            (λ ty. IsMultiValue ty (λ id. T.has types.old params.now results.now types.new id)) }
+        ensures ok { simple_result params.now results.now ≡ None → IfOk result
+            (λ ty. IsMultiValue ty (λ id. T.adds types.old params.now results.now types.new id)) }
         ensures err { OnErr result (T.is_same types.old types.new) }
     {
         match simple(params, results) {

@@ -12,8 +12,7 @@ use std::hash::Hash;
 
 /// Equal block types are the same in every part.
 pub fn equal_block_types_are_the_same()
-    ensures { (s t : BlockType) →
-        (IsTrue (⟦<InstrSeqType as PartialEq>⟧.eq s t) ↔ (s ≡ t)) }
+    ensures { (s t : BlockType) → (IsTrue (⟦<InstrSeqType as PartialEq>⟧.eq s t) ↔ (s ≡ t)) }
 {}
 
 /// Locals are equal exactly where their parts are: the id, the type and the bytes of the name.

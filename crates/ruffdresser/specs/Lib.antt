@@ -138,6 +138,7 @@ pub use Rattle.walrus_binary.specs.Modules
 pub use Rattle.walrus_binary.specs.ModuleSections
 pub use Rattle.walrus_binary.specs.Replacement
 pub use Rattle.walrus_binary.specs.Sections as SectionPlaces
+pub use Rattle.walrus_binary.specs.CustomSections
 pub use Rattle.walrus_module.specs.Sections
 pub use Rattle.walrus_module.specs.Opcodes
 pub use Rattle.walrus_module.specs.Immediates
@@ -157,7 +158,13 @@ pub use Rattle.walrus_snipping.specs.SnippedModules
 pub use Rattle.walrus_module.specs.RenamedNames
 pub use Rattle.walrus_module.specs.Lengths
 pub use Rattle.walrus_module.specs.Outdated
+pub use Rattle.walrus_module.specs.IntegerFaults
+pub use Rattle.walrus_module.specs.ContentFaults
+pub use Rattle.walrus_module.specs.CustomFaults
+pub use Rattle.walrus_module.specs.ModuleFaults
 pub use Rattle.walrus_snipping.specs.Exports as ModuleExports
+pub use Rattle.walrus_snipping.specs.FunctionNames
+pub use Rattle.walrus_snipping.specs.WithName as FunctionsWithName
 pub use Rattle.walrus_normalise.specs.NormalModules
 pub use Rattle.walrus_normalise.specs.Moved as MovedModules
 pub use Rattle.walrus_binary.specs.declared.error.Expected
@@ -170,6 +177,8 @@ pub use Rattle.walrus_module.specs.declared.renaming.RenameError
 pub use Rattle.walrus_module.specs.declared.renaming.Widths
 pub use Rattle.walrus_snipping.specs.declared.error.SnipError
 pub use Rattle.walrus_module.specs.declared.description_kinds.DescriptionKind
+pub use Rattle.walrus_module.specs.declared.faults.Fault
+pub use Rattle.walrus_module.specs.declared.faults.FaultKind
 pub use Rattle.walrus_normalise.specs.declared.error.NormaliseModuleError
 -- Text.
 pub use Rattle.walrus_text.specs.Words

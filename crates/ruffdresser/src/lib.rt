@@ -15,8 +15,8 @@
 //! [`section_laws`].
 //!
 //! Contracts find the definitions of all libraries in `Rattle.ruffdresser.specs`, one module for
-//! each file. Each enum has a module there with its variants, such as `ReadError.TheVariants`. Where
-//! two of them have the same name, one has another name here.
+//! each file. Each enum has a module there with its variants, such as `ReadError.TheVariants`.
+//! Where two of them have the same name, one has another name here.
 //!
 //! # The type section that is needed
 //!
@@ -214,8 +214,8 @@ pub use walrus_unused::{
 // Binary: the sections of a module, its type section, and modules in normal form.
 pub use walrus_binary::{
     DecodeError, EncodeError, Expected, NotHeld, ReplaceError, SectionPlace, TypeSectionReader,
-    decode_types, encode_types, laws as binary_laws, module_types, replace_type_section,
-    section_around, type_section,
+    custom_section_name, decode_types, encode_types, laws as binary_laws, module_types,
+    replace_type_section, section_around, type_section,
 };
 pub use walrus_module::{
     DescriptionKind, Fault, FaultKind, RenameError, ScanError, Section, SectionIter, Widths,
@@ -228,7 +228,10 @@ pub use walrus_normalise::{
     Descriptions, NormaliseModuleError, NormaliseOptions, UnusedTypes, laws as normal_module_laws,
     normalise_module,
 };
-pub use walrus_snipping::{SnipError, exported_functions, laws as snipping_laws, snip_functions};
+pub use walrus_snipping::{
+    SnipError, exported_functions, functions_with_name, laws as snipping_laws, named_functions,
+    snip_functions,
+};
 
 // Text: type sections as text.
 pub use walrus_text::{

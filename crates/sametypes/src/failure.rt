@@ -1,6 +1,7 @@
 //! What ends a run without a result: its line on standard error.
 ghost use Rattle.std.specs.Prelude.{◌≡◌};
 
+use command_line::Context;
 use std::fmt;
 use std::fmt::Formatter;
 use std::io::{self, ErrorKind, Write};
@@ -30,7 +31,12 @@ pub enum Failure {
 #[derive(Debug, Drop)]
 pub enum InputError {
     /// The bytes are no module, or its types can't be read.
-    Module(DecodeError),
+    Module {
+        /// Why.
+        error: DecodeError,
+        /// What else is known of the input.
+        context: Context,
+    },
     /// The text is not the text of a section.
     Text(TextError),
     /// The section has no normal form.
@@ -68,18 +74,12 @@ pub fn report<E: Write>(failure: &Failure, names: Names<'_>, err: &mut E) -> u8
 impl fmt::Display for InputError {
     fn fmt<W: fmt::Write>(&self, f: &mut Formatter<W>) -> fmt::Result {
         match self {
-            InputError::Module(error) => write!(f, "{error}"),
+            InputError::Module { error, context } => write!(f, "{error}{context}"),
             InputError::Text(error) => write!(f, "{error}"),
             InputError::Section(error) => write!(f, "{error}"),
             InputError::Input(error) => write!(f, "input failed: {error}"),
             InputError::Memory => write!(f, "out of memory"),
         }
-    }
-}
-
-impl From<DecodeError> for InputError {
-    fn from(error: DecodeError) -> InputError {
-        InputError::Module(error)
     }
 }
 

@@ -134,7 +134,7 @@ fn main(rt: HostRuntime) -> ExitCode {
 /// Does what the arguments ask for, and returns the exit status.
 fn start<E: Write>(rt: &HostRuntime, err: &mut E) -> u8 {
     let no_names = Names { a: "", b: "" };
-    let request = match parse_arguments(rt, &[]) {
+    let request = match parse_arguments(rt, &[], &[]) {
         Ok(request) => request,
         Err(_) => return report(&Failure::Memory, no_names, err),
     };

@@ -1,12 +1,13 @@
 //! The normal form of what a reader gives, and where two of them differ.
 ghost use Rattle.std.specs.Prelude.{◌≡◌, ◌↔◌, ◌<◌, ◌^◌, IfOk, IfSome, None};
 ghost use Rattle.walrus_ty.specs.Records.{section_of};
+ghost use Rattle.walrus_binary.specs.ModuleSections.{HasTypes};
 ghost use Rattle.walrus_sections.specs.Section.{index_space, IsWellNamed};
 ghost use Rattle.sametypes.specs.Runs.{HasSection, IsFirstDifference};
 ghost use Rattle.sametypes.specs.Steps.Verdicts.{HasNormalForm};
 
 use crate::failure::InputError;
-use command_line::read_bytes;
+use command_line::{context_of_error, read_bytes};
 use std::alloc::Global;
 use std::io::Read;
 use walrus_binary::module_types;
@@ -45,10 +46,23 @@ fn section_in(alloc: Global, bytes: &[u8]) -> Result<Vec<GroupAt>, InputError>
     ensures { IfOk result (λ groups. HasSection bytes.now groups.items) }
 {
     if bytes.starts_with(&MAGIC) {
-        return Ok(module_types(alloc, bytes)?);
+        return types_of(alloc, bytes);
     }
     let mut text = bytes;
     Ok(read_section(alloc, &mut text)?)
+}
+
+/// The types of a module.
+fn types_of(alloc: Global, bytes: &[u8]) -> Result<Vec<GroupAt>, InputError>
+    ensures { IfOk result (λ groups. HasTypes bytes.now groups.items) }
+{
+    match module_types(alloc, bytes) {
+        Ok(groups) => Ok(groups),
+        Err(error) => Err(InputError::Module {
+            error,
+            context: context_of_error(bytes, error),
+        }),
+    }
 }
 
 /// The index of the first entry of the first group in which two normal forms differ, or at which

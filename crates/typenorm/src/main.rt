@@ -129,10 +129,10 @@ fn main(rt: HostRuntime) -> ExitCode {
 
 /// Does what the arguments ask for, and returns the exit status.
 fn start<E: Write>(rt: &HostRuntime, err: &mut E) -> Result<u8, Failure> {
-    match parse_arguments(rt, &["--no-map"])? {
+    match parse_arguments(rt, &["--no-map"], &[])? {
         Request::Help => printed(rt.stdout().write_all(HELP.as_bytes())),
         Request::Version => printed(write_version("typenorm", &mut rt.stdout())),
-        Request::Work { names, options } => {
+        Request::Work { names, options, .. } => {
             let has_map = !has_option(options.as_slice(), "--no-map");
             normalise_named(rt, names.as_slice(), has_map, err)
         }

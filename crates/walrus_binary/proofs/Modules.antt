@@ -12,4 +12,5 @@ pub mod FirstSections
 pub mod Customs
 pub mod BadTypes
 pub mod Around
+pub mod CustomNames
 pub mod NoFurther

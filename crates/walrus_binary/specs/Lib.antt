@@ -6,5 +6,6 @@ pub mod SectionProgress
 pub mod Modules
 pub mod ModuleSections
 pub mod Sections
+pub mod CustomSections
 pub mod Replacement
 pub mod Steps

@@ -4,4 +4,5 @@ pub mod Reading
 pub mod Progress
 pub mod Refusals
 pub mod Framing
+pub mod CustomSections
 pub mod Writing

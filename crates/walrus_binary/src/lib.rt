@@ -3,7 +3,7 @@
 //!
 //! - [`type_section`] finds the type section of a module, and [`replace_type_section`] gives it
 //!   another content. The rest of the module still names the old indices then. [`section_around`]
-//!   says which section a byte is in.
+//!   says which section a byte is in, and [`custom_section_name`] which name it has.
 //! - [`decode_types`] reads the groups of a section, and says where bytes are no text of groups.
 //!   [`module_types`] reads the groups of a module. A [`TypeSectionReader`] reads a section group
 //!   by group, in the memory of one.
@@ -37,4 +37,7 @@ mod module;
 pub use decode::{TypeSectionReader, decode_types};
 pub use encode::encode_types;
 pub use error::{DecodeError, EncodeError, Expected, NotHeld, ReplaceError};
-pub use module::{SectionPlace, module_types, replace_type_section, section_around, type_section};
+pub use module::{
+    SectionPlace, custom_section_name, module_types, replace_type_section, section_around,
+    type_section,
+};

@@ -8,6 +8,7 @@ ghost use Rattle.walrus_binary.specs.Steps.Framing.{IsTypeSectionFrom};
 ghost use Rattle.walrus_binary.specs.Modules.{IsTypeSectionAt, HasNoTypeSection, IsModule, IsNoModule, BeginsNoModule};
 
 mod around;
+mod custom;
 mod replace;
 mod section;
 mod types;
@@ -15,6 +16,7 @@ mod types;
 use crate::error::{DecodeError, Fault};
 use crate::module::section::{TYPE, place_after, read_header, read_section};
 pub use around::{SectionPlace, section_around};
+pub use custom::custom_section_name;
 pub use replace::replace_type_section;
 use std::ops::Range;
 pub use types::module_types;

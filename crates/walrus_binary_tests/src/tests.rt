@@ -5,6 +5,7 @@ mod compiled;
 mod encoding;
 mod integers;
 mod modules;
+mod names;
 mod productions;
 mod refusals;
 mod replacing;

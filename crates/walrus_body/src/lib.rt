@@ -1,5 +1,5 @@
-//! Function bodies of WebAssembly modules: all public names of `walrus_functions`, `walrus_nesting`,
-//! `walrus_traversals` and `walrus_traversals_mut`.
+//! Function bodies of WebAssembly modules: all public names of `walrus_functions`,
+//! `walrus_nesting`, `walrus_traversals` and `walrus_traversals_mut`.
 //!
 //! - [`FunctionBuilder`] builds a function, and [`LocalFunction`] is a function that has a body.
 //! - [`check_nesting`] says whether a body is nested.

@@ -17,6 +17,7 @@ mod examples;
 #[cfg(test)]
 mod refusals;
 #[cfg(test)]
+mod snipping;
 #[cfg(test)]
 mod unreachable;
 #[cfg(test)]

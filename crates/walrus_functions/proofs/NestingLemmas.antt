@@ -17,5 +17,4 @@ pub both_not :
     ((f : Body) × Fills second ty mid (Ok tt) f × ((last ≡ f) × Not parent f e)))))
 both_not first second ty old mid f last Not at parent (Ok x) same one two not = tt
 both_not first second ty old mid f last Not at parent (Err e) same one two not =
-    let P : ℕ → Type 0 = λ p. Not p f e in
-    inr (mid, one, inr (f, two, (not.0, subst P same not.1)))
+    inr (mid, one, inr (f, two, (not.0, subst (λ (p : ℕ). Not p f e) same not.1)))

@@ -81,8 +81,7 @@ Nests (post ∷ others) ty parent place make old new =
     (mid : Body) × Fills post ty old (Ok tt) mid
     × Nests others ty parent place (make (next_seq old)) mid new
 
-abbrev pub FailsToNest :
-    List Post → InstrSeqType → ℕ → Option ℕ → Body → BuildError → Body → Type 0
+abbrev pub FailsToNest : List Post → InstrSeqType → ℕ → Option ℕ → Body → BuildError → Body → Type 0
 FailsToNest [] ty parent place old e new = (new ≡ old) × FailsToAttach old parent place e
 FailsToNest (post ∷ others) ty parent place old e new =
     FailsToFill post ty old e new

@@ -2,8 +2,7 @@
 -- WebAssembly core specification, "Structured Control Flow": an instruction such as `block` holds
 -- sequences of instructions. Here it holds their ids, so a body may be no tree; it is nested where
 -- unfolding it ends.
-use Rattle.std.specs.Prelude.{ℕ, ◌<◌, List, [], ◌∷◌, Contains}
-use Rattle.std.specs.List.{flat_map}
+use Rattle.std.specs.Prelude.{ℕ, ◌<◌, List, [], ◌∷◌, Contains, flat_map}
 use Rattle.instr.specs.declared.instr.Instr.{Instr}
 use Rattle.instr.specs.declared.instr.Instr.TheVariants as instr
 use Rattle.instr.specs.declared.exceptions.LegacyCatch.{LegacyCatch}

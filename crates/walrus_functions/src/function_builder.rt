@@ -207,7 +207,8 @@ impl FunctionBuilder {
         self.ty
     }
 
-    /// The name that it was given last, if it was given one. [`FunctionBuilder::name`] gives it one.
+    /// The name that it was given last, if it was given one. [`FunctionBuilder::name`] gives it
+    /// one.
     pub fn name_text(&self) -> Option<&str>
         ensures { option_copied result ≡ self.now.name }
     {

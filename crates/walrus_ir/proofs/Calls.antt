@@ -41,9 +41,7 @@ module _ {V : Type 0} (step : StepRelation V) where
   pub visits_then : {A B : Type 0} (t : Calls A) (k : A → Calls B) (v u w : V) (y : A) (e : Extent) (z : B) →
       Visits step v t Full u y → Visits step u (k y) e w z → Visits step v (and_then t k) e w z
   visits_then {A} (leaves x) k v u w y e z h i =
-      let F : A → Type 0 = λ a. Visits step u (k a) e w z in
-      let G : V → Type 0 = λ b. Visits step b (k x) e w z in
-      subst G h.0 (subst F h.1 i)
+      subst (λ (b : V). Visits step b (k x) e w z) h.0 (subst (λ (a : A). Visits step u (k a) e w z) h.1 i)
   visits_then (call hook given rest) k v u w y Full z h i =
       (h.0, h.1, h.2, visits_then (rest h.1) k h.0 u w y Full z h.3 i)
   visits_then (call hook given rest) k v u w y Partial z h i =
@@ -53,14 +51,12 @@ module _ {V : Type 0} (step : StepRelation V) where
   pub visits_cut : {A B : Type 0} (t : Calls A) (k : A → Calls B) (v w : V) (y : A) →
       Visits step v t Partial w y → Visits step v (and_then t k) Partial w (unchanged (k y))
   visits_cut {A} {B} (leaves x) k v w y h =
-      let F : A → Type 0 = λ a. Visits step w (k a) Partial w (unchanged (k y)) in
       let G : V → Type 0 = λ b. Visits step b (k x) Partial w (unchanged (k y)) in
-      subst G h.0 (subst F h.1 (not_begun w (k y)))
-  visits_cut (call hook given rest) k v w y h =
-      elim h [
-        | inl n ↦ inl (n.0, ap (λ a. unchanged (k a)) n.1 ∙ sym (unchanged_then (rest given) k))
-        | inr n ↦ inr (n.0, n.1, n.2, visits_cut (rest n.1) k n.0 w y n.3)
-      ]
+      subst G h.0 (subst (λ (a : A). Visits step w (k a) Partial w (unchanged (k y))) h.1 (not_begun w (k y)))
+  visits_cut (call hook given rest) k v w y h = elim h [
+    | inl n ↦ inl (n.0, ap (λ a. unchanged (k a)) n.1 ∙ sym (unchanged_then (rest given) k))
+    | inr n ↦ inr (n.0, n.1, n.2, visits_cut (rest n.1) k n.0 w y n.3)
+  ]
 
   -- what stands at last is put into a whole
   pub visits_put : {A B : Type 0} (t : Calls A) (put : A → B) (v w : V) (e : Extent) (y : A) →
@@ -84,12 +80,11 @@ module _ {V : Type 0} (step : StepRelation V) where
   pub before_list : {A B : Type 0} (hook : Hook) (f : A → Calls A) (put : Given hook → List A → B)
       (x : Given hook) (xs : List A) (v w : V) (y : Given hook) → IsWhole f → w ≡ v → y ≡ x →
       Visits step v (call hook x (λ a. and_then (each f xs) (λ b. leaves (put a b)))) Partial w (put y xs)
-  before_list hook f put x xs v w y whole h k =
-      inl (
-        h,
-        ap (λ a. put a xs) k ∙ sym (unchanged_then (each f xs) (λ b. leaves (put x b))
-            ∙ ap (put x) (each_whole f whole xs)),
-      )
+  before_list hook f put x xs v w y whole h k = inl (
+    h,
+    ap (λ a. put a xs) k ∙ sym (unchanged_then (each f xs) (λ b. leaves (put x b))
+        ∙ ap (put x) (each_whole f whole xs)),
+  )
 
 pub clauses_whole : IsWhole clause_fields
 clauses_whole (clause.Catch tag label) = refl
@@ -111,39 +106,34 @@ pub record Done {V A K : Type 0} (step : StepRelation V) (f : A → Calls A) (ke
   pub size : length now ≡ length init
   pub same : map key now ≡ map key init
 
-pub drop_at :
-    {X : Type 0} (i : ℕ) (l : List X) (d : X) → i < length l →
-    drop i l ≡ get_or l i d ∷ drop (suc i) l
+pub drop_at : {X : Type 0} (i : ℕ) (l : List X) (d : X) →
+    i < length l → drop i l ≡ get_or l i d ∷ drop (suc i) l
 drop_at zero (x ∷ l) d h = refl
 drop_at (suc i) (x ∷ l) d h = drop_at i l d (omega arith)
 drop_at i [] d h = absurd (omega arith)
 
-pub same_from :
-    {X : Type 0} (i : ℕ) (a b : List X) (d : X) → i < length a → i < length b →
-    drop i a ≡ drop i b → (get_or a i d ≡ get_or b i d) × (drop (suc i) a ≡ drop (suc i) b)
+pub same_from : {X : Type 0} (i : ℕ) (a b : List X) (d : X) → i < length a →
+    i < length b → drop i a ≡ drop i b → (get_or a i d ≡ get_or b i d) × (drop (suc i) a ≡ drop (suc i) b)
 same_from zero (x ∷ xs) (y ∷ ys) d h k e = (cc, cc)
 same_from (suc i) (x ∷ xs) (y ∷ ys) d h k e = same_from i xs ys d (omega arith) (omega arith) e
 same_from i [] b d h k e = absurd (omega arith)
 same_from i a [] d h k e = absurd (omega arith)
 
 -- an equal image at the place of a write
-pub map-set :
-    {X Y : Type 0} (f : X → Y) (l : List X) (i : ℕ) (y d : X) → f y ≡ f (get_or l i d) →
-    map f (set l i y) ≡ map f l
+pub map-set : {X Y : Type 0} (f : X → Y) (l : List X) (i : ℕ) (y d : X) →
+    f y ≡ f (get_or l i d) → map f (set l i y) ≡ map f l
 map-set f [] i y d e = refl
 map-set f (x ∷ l) zero y d e = ap (λ z. z ∷ map f l) e
 map-set f (x ∷ l) (suc i) y d e = ap (λ z. f x ∷ z) (map-set f l i y d e)
 
-pub split_set :
-    {X : Type 0} (i : ℕ) (l : List X) (y : X) → i < length l →
-    set l i y ≡ take i l ++ y ∷ drop (suc i) l
+pub split_set : {X : Type 0} (i : ℕ) (l : List X) (y : X) →
+    i < length l → set l i y ≡ take i l ++ y ∷ drop (suc i) l
 split_set zero (x ∷ l) y h = refl
 split_set (suc i) (x ∷ l) y h = ap (λ z. x ∷ z) (split_set i l y (omega arith))
 split_set i [] y h = absurd (omega arith)
 
-pub take_put :
-    {X : Type 0} (i : ℕ) (l : List X) (y : X) (ys : List X) → i < length l →
-    take (suc i) (set l i y) ++ ys ≡ take i l ++ y ∷ ys
+pub take_put : {X : Type 0} (i : ℕ) (l : List X) (y : X) (ys : List X) →
+    i < length l → take (suc i) (set l i y) ++ ys ≡ take i l ++ y ∷ ys
 take_put zero (x ∷ l) y ys h = refl
 take_put (suc i) (x ∷ l) y ys h = ap (λ z. x ∷ z) (take_put i l y ys (omega arith))
 take_put i [] y ys h = absurd (omega arith)
@@ -204,8 +194,7 @@ module _ {V A K : Type 0} (step : StepRelation V) (f : A → Calls A) (key : A �
       i ≡ length now → Visits step v (each f init) Full u now
   done_all v init u now i h e =
       let F : List A → Type 0 = λ l. Visits step u (each f l) Full u [] in
-      let G : List A → Type 0 = λ l. Visits step v (each f init) Full u l in
-      subst G (take_all now i e) (h.goes_on Full u []
+      subst (λ (l : List A). Visits step v (each f init) Full u l) (take_all now i e) (h.goes_on Full u []
       (subst F (sym (drop_all init i (e ∙ h.size))) (refl, refl)))
 
 pub fields_whole : IsWhole fields
@@ -218,8 +207,7 @@ fields_whole (instr.Try x) =
 fields_whole _ = refl
 
 pub instr_whole : IsWhole instr_calls
-instr_whole x =
-    unchanged_then (fields x.0) (λ i. leaves (i, x.1)) ∙ ap (λ i. (i, x.1)) (fields_whole x.0)
+instr_whole x = unchanged_then (fields x.0) (λ i. leaves (i, x.1)) ∙ ap (λ i. (i, x.1)) (fields_whole x.0)
 
 type_whole : IsWhole type_fields
 type_whole (MultiValue id) = refl
@@ -235,18 +223,15 @@ pub instrs_whole : (s : Sequence) (ty : InstrSeqType) →
     unchanged (and_then (each instr_calls s.instrs) (λ is.
     call end_instr_seq (record s { ty = ty; instrs = is }) (λ new. leaves new))) ≡ record s { ty = ty }
 instrs_whole s ty =
-    unchanged_then (each instr_calls s.instrs) (λ is.
-    call end_instr_seq (record s { ty = ty; instrs = is }) (λ new. leaves new))
-    ∙ ap (λ (is : List (Instr × ℕ)). record s { ty = ty; instrs = is })
+    unchanged_then (each instr_calls s.instrs) (λ is. call end_instr_seq (record s { ty = ty; instrs = is })
+    (λ new. leaves new)) ∙ ap (λ (is : List (Instr × ℕ)). record s { ty = ty; instrs = is })
     (each_whole instr_calls instr_whole s.instrs)
 
 pub sequence_whole : IsWhole sequence_calls
 sequence_whole s =
-    unchanged_then (type_fields s.ty) (λ ty. and_then
-    (each instr_calls s.instrs) (λ is. call end_instr_seq (record s { ty = ty; instrs = is }) (λ new.
-    leaves new)))
-    ∙ instrs_whole s (unchanged (type_fields s.ty))
-    ∙ ap (λ (ty : InstrSeqType). record s { ty = ty }) (type_whole s.ty)
+    unchanged_then (type_fields s.ty) (λ ty. and_then (each instr_calls s.instrs)
+    (λ is. call end_instr_seq (record s { ty = ty; instrs = is }) (λ new. leaves new))) ∙ instrs_whole s
+    (unchanged (type_fields s.ty)) ∙ ap (λ (ty : InstrSeqType). record s { ty = ty }) (type_whole s.ty)
 
 module _ {V : Type 0} (step : StepRelation V) where
   -- an instruction: its hook refuses, or its fields come then

@@ -1,6 +1,5 @@
 -- What calls of hooks in turn report.
-use Rattle.std.proofs.Common.{◌≡◌, List, [], ◌∷◌, ◌++◌, refl, ap, ◌∙◌, append-nil}
-use Rattle.std.specs.List.{flat_map}
+use Rattle.std.proofs.Common.{◌≡◌, List, [], ◌∷◌, ◌++◌, refl, ap, ◌∙◌, append-nil, flat_map}
 use Rattle.walrus_ir.specs.Calls.{Calls, leaves, call, and_then, each, reported, unchanged, at}
 
 -- what calls in turn report

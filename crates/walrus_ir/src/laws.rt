@@ -20,8 +20,7 @@ pub fn new_block_type(
     params: &[ValType],
     results: &[ValType],
 ) -> Result<InstrSeqType, AllocError>
-    ensures simple { IfSome (simple_result params.now results.now)
-        (λ of. result ≡ Ok (Simple of)) }
+    ensures simple { IfSome (simple_result params.now results.now) (λ of. result ≡ Ok (Simple of)) }
     ensures unchanged { IfSome (simple_result params.now results.now)
         (λ of. types.new ≡ types.old) }
     ensures holds { simple_result params.now results.now ≡ None →

@@ -1,29 +1,30 @@
 -- A content with a fault is none that names known types.
-use Rattle.std.proofs.Common.{◌≡◌, ℕ, ◌+◌, ◌^◌, ◌<◌, ◌≤◌, zero, suc, List, [], ◌∷◌, ◌++◌, length, take, drop, Option, Some, None, Ok, refl, sym, ap, subst, ◌∙◌, arith, append_assoc, append-nil, length-append, take_at, inl, inr, ◌⊎◌}
+use Rattle.std.proofs.Common.{◌≡◌, ℕ, ◌<◌, ◌≤◌, List, [], ◌∷◌, ◌++◌, length, take, Option, Some, None, refl, sym, ap, subst, ◌∙◌, arith, append_assoc, append-nil, take_at}
 use Rattle.std.specs.List.{All, concat}
 use Rattle.std.proofs.lemmas.List.Elements.{All-head, All-tail, All-nil, All-cons}
-use Rattle.walrus_binary.specs.Leb128.{IsU32}
 use Rattle.walrus_binary.specs.Grammar.{AreItems, none, next}
 use Rattle.walrus_binary.specs.Steps.Reading.{u32_at}
 use Rattle.walrus_module.specs.declared.faults.FaultKind.{FaultKind}
 use Rattle.walrus_module.specs.declared.kind.Kind.{Kind}
 use Rattle.walrus_module.specs.Bodies.{Names, body, IsBody}
 use Rattle.walrus_module.specs.Contents.{section_kinds}
-use Rattle.walrus_module.specs.ContentFaults.{IsKnownContent, StopsAt, IsSomeU32, BeginsNot, Reaches, AreKnownBodies, IsTextFault, IsBodyFault, IsCodeFault, IsContentFault}
+use Rattle.walrus_module.specs.ContentFaults.{IsKnownContent, Reaches, IsTextFault, IsBodyFault, IsCodeFault, IsContentFault}
 use Rattle.walrus_module.specs.ContentFaults.IsTextFault.{malformed, surplus, unknown}
 use Rattle.walrus_module.specs.ContentFaults.IsBodyFault.{no_size, too_short, in_content}
 use Rattle.walrus_module.specs.ContentFaults.IsCodeFault.{no_number, in_body, surplus as code_surplus}
-use Rattle.walrus_module.specs.ContentFaults.IsContentFault.{in_texts, in_code}
-use Rattle.walrus_module.specs.Immediates.{Piece, type_name, Begins, Runs, stop, step, AreTexts, names_of, type_names}
-use Rattle.walrus_module.specs.NamedTypes.{IsSizedBody, IsCode, IsContent, texts, code, nameless, code_id}
+use Rattle.walrus_module.specs.ContentFaults.IsContentFault.{in_texts, in_code, in_custom}
+use Rattle.walrus_module.specs.CustomFaults.{IsKnownCustom, IsCustomFault}
+use Rattle.walrus_module.specs.Immediates.{Piece, type_name, Begins, stop, step, AreTexts, names_of, type_names}
+use Rattle.walrus_module.specs.NamedTypes.{IsSizedBody, IsContent, texts, code, nameless, code_id}
 use Rattle.walrus_module.specs.Steps.ContentFaults.{AreKnown, IsKnownCode}
 use Rattle.walrus_module.specs.Steps.Contents.{BeginsWithBody}
 use Rattle.walrus_module.proofs.CodeSections.{opened, body_cut_off, opened_code, same_rest, same_bodies}
 use Rattle.walrus_module.proofs.OneResult.{same_names, same_kinds, no_texts_of_code}
 use Rattle.walrus_module.proofs.Heads.{begin_again}
+use Rattle.walrus_module.proofs.CustomFaults.{custom_refused}
+use Rattle.walrus_module.proofs.IntegerFaults.{no_number_there}
 use Rattle.walrus_module.proofs.SizedContents.{number_read, same_number}
-use Rattle.walrus_binary.proofs.Basics.{done, value_is, rest_is}
-use Rattle.walrus_binary.proofs.Integers.{u32_sound, u32_complete}
+use Rattle.walrus_binary.proofs.Basics.{done, value_is}
 use Rattle.walrus_module.specs.Steps.Heads.{beginning, begin_at}
 use Rattle.walrus_module.proofs.NamedTypes.{no_kinds}
 use Rattle.walrus_module.proofs.Scanning.{follows, first_of}
@@ -92,51 +93,6 @@ text_refused kinds count bytes _ _ (surplus passed rest e r some) known =
 text_refused kinds count bytes _ _ (unknown kind left more passed text rest piece k e r b named from) known =
     unknown_there kinds left more count k bytes passed text rest kind piece e r b named from known
 
--- ---- a number that is none
-
--- one of two beginnings of the same bytes begins the other
-overlap : (a b c d : List ℕ) → a ++ b ≡ c ++ d → ((m : List ℕ) × (a ≡ c ++ m))
-    ⊎ ((x : ℕ) × (m : List ℕ) × (c ≡ a ++ (x ∷ m)) × (b ≡ x ∷ (m ++ d)))
-overlap [] b [] d e = inl ([], refl)
-overlap [] b (x ∷ c) d e = inr (x, c, refl, e)
-overlap (x ∷ a) b [] d e = inl (x ∷ a, refl)
-overlap (x ∷ a) b (y ∷ c) d e =
-    let first : x ≡ y = cc in
-    let later : a ++ b ≡ c ++ d = cc in
-    elim (overlap a b c d later) [
-      | inl l ↦ inl (l.0, ap (λ z. z ∷ a) first ∙ ap (λ (u : List ℕ). y ∷ u) l.1)
-      | inr r ↦
-          inr (
-            r.0,
-            r.1,
-            ap (λ z. z ∷ c) (sym first) ∙ ap (λ (u : List ℕ). x ∷ u) r.2,
-            r.3,
-          )
-    ]
-
--- where a number stops being one, none begins
-no_number_there : (bytes front rest : List ℕ) (n : ℕ) (others : List ℕ) → bytes ≡ front ++ rest →
-    StopsAt IsSomeU32 front rest → u32_at bytes ≡ Ok (n, others) → ⊥
-no_number_there bytes front rest n others e s reads =
-    let t = u32_sound bytes n others reads in
-    elim (overlap front rest t.text others (sym e ∙ t.parts)) [
-      | inl l ↦
-          let g = s.goes_on in
-          let a : u32_at (front ++ s.more) ≡ Ok (n, l.0 ++ s.more) =
-          ap (λ (u : List ℕ). u32_at (u ++ s.more)) l.1 ∙ ap u32_at (append_assoc t.text l.0 s.more)
-          ∙ u32_complete t.text n (l.0 ++ s.more) t.is_text in
-          let b : u32_at (front ++ s.more) ≡ Ok (g.0, []) =
-          ap u32_at (sym (append-nil (front ++ s.more))) ∙ u32_complete (front ++ s.more) g.0 [] g.1 in
-          let same = same_number (u32_at (front ++ s.more)) n g.0 (l.0 ++ s.more) [] a b in
-          s.has_more (no_more l.0 s.more same.1)
-      | inr r ↦
-          s.stuck r.0 (r.1 ++ others) r.1 r.3 (n, subst (λ (u : List ℕ). IsU32 u n) r.2 t.is_text)
-    ]
-  where
-    no_more : (a b : List ℕ) → a ++ b ≡ [] → b ≡ []
-    no_more [] b e = e
-    no_more (x ∷ a) b e = absurd cc
-
 -- ---- bodies
 
 body_refused : (count : ℕ) (bytes : List ℕ) (what : FaultKind) (place : ℕ) (rest names : List ℕ) →
@@ -157,12 +113,12 @@ body_refused count bytes _ _ rest names (in_content size content behind what pla
     text_refused body count content what place f
     (record { names = names; are = subst (λ (u : List ℕ). IsBody u names) is o.is_body; known = known })
 
-all_front : {X : Type 0} (P : X → Type 0) (xs ys : List X) → All P (xs ++ ys) → All P xs
+pub all_front : {X : Type 0} (P : X → Type 0) (xs ys : List X) → All P (xs ++ ys) → All P xs
 all_front P [] ys h = All-nil P
 all_front P (x ∷ xs) ys h =
     All-cons P x xs (All-head P x (xs ++ ys) h) (all_front P xs ys (All-tail P x (xs ++ ys) h))
 
-all_back : {X : Type 0} (P : X → Type 0) (xs ys : List X) → All P (xs ++ ys) → All P ys
+pub all_back : {X : Type 0} (P : X → Type 0) (xs ys : List X) → All P (xs ++ ys) → All P ys
 all_back P [] ys h = h
 all_back P (x ∷ xs) ys h = all_back P xs ys (All-tail P x (xs ++ ys) h)
 
@@ -246,6 +202,8 @@ content_refused id count content what place (in_texts kinds _ _ is f) known =
     texts_refused id count content known.names kinds what place is f known.is_content known.known
 content_refused id count content what place (in_code _ _ is f) known =
     in_code_refused id count content known.names what place is f known.is_content known.known
+content_refused id count content what place (in_custom _ _ is f) known =
+    custom_refused count content what place f (known.custom is)
 
 -- ---- what was found
 
@@ -258,10 +216,18 @@ pub fault_in_code : (id count : ℕ) (content : List ℕ) (what : FaultKind) (pl
     IsCodeFault count content what place → IsContentFault id count content what place
 fault_in_code id count content what place is f = in_code what place is f
 
+no_texts_of_custom : (id : ℕ) (kinds : List Kind) → section_kinds id ≡ Some kinds → id ≡ 0 → ⊥
+no_texts_of_custom id kinds is e = no_kinds (section_kinds id) kinds is (ap section_kinds e)
+
 pub known_texts : (id count : ℕ) (content : List ℕ) (kinds : List Kind) → section_kinds id ≡ Some kinds →
     AreKnown kinds count content → IsKnownContent id count content
 known_texts id count content kinds is k =
-    record { names = k.names; is_content = texts id kinds content k.names is k.are; known = k.known }
+    record {
+      names = k.names;
+      is_content = texts id kinds content k.names is k.are;
+      known = k.known;
+      custom = λ e. absurd (no_texts_of_custom id kinds is e);
+    }
 
 pub known_code : (id count : ℕ) (content : List ℕ) → id ≡ code_id → IsKnownCode count content →
     IsKnownContent id count content
@@ -270,13 +236,24 @@ known_code id count content is k =
       names = k.names;
       is_content = subst (λ (m : ℕ). IsContent m content k.names) (sym is) (code content k.names k.is_code);
       known = k.known;
+      custom = λ e. absurd (omega (arith, is, e));
     }
 
 pub known_nameless : (id count : ℕ) (content : List ℕ) → section_kinds id ≡ None → (id ≡ code_id → ⊥) →
-    IsKnownContent id count content
-known_nameless id count content without other =
+    (id ≡ 0 → IsKnownCustom count content) → IsKnownContent id count content
+known_nameless id count content without other custom =
     record {
       names = [];
       is_content = nameless id content without other;
       known = All-nil (λ k. k < count);
+      custom = custom;
     }
+
+pub fault_in_custom : (id count : ℕ) (content : List ℕ) (what : FaultKind) (place : ℕ) → id ≡ 0 →
+    IsCustomFault count content what place → IsContentFault id count content what place
+fault_in_custom id count content what place is f = in_custom what place is f
+
+pub known_custom : (id count : ℕ) (content : List ℕ) → id ≡ 0 → IsKnownCustom count content →
+    IsKnownContent id count content
+known_custom id count content is k =
+    known_nameless id count content (ap section_kinds is) (λ e. omega (arith, is, e)) (λ e. k)

@@ -1,10 +1,9 @@
 -- What custom sections describe, by their names.
-use Rattle.std.proofs.Common.{◌≡◌, ℕ, List, [], ◌∷◌, ◌++◌, Option, Some, None, refl, sym, subst, ◌∙◌}
+use Rattle.std.proofs.Common.{◌≡◌, ℕ, List, ◌∷◌, ◌++◌, Option, Some, None, refl, sym, subst, ◌∙◌}
 use Rattle.std.specs.Prelude.{codes, nat_eq, cond, IfNone}
 use Rattle.walrus_binary.specs.Modules.{section}
 use Rattle.walrus_module.specs.declared.description_kinds.DescriptionKind.{DescriptionKind}
 use Rattle.walrus_module.specs.declared.description_kinds.DescriptionKind.TheVariants as kind
-use Rattle.walrus_module.specs.Customs.{HasName}
 use Rattle.walrus_module.specs.Outdated.{IsNameOf, external_debug_info, debug, code_metadata, source_mapping_url, linking, relocations, signature, IsDescriptionOf}
 use Rattle.walrus_module.specs.Steps.Customs.{BeginsWith}
 use Rattle.walrus_module.specs.Steps.NameSections.{TakesSized, BeginsUnsized}

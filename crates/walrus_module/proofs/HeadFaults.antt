@@ -1,18 +1,18 @@
 -- Where no text of a kind begins, and the place of the fault there.
-use Rattle.std.proofs.Common.{◌≡◌, ℕ, ◌^◌, ◌<◌, ◌≤◌, nat_lt, nat_le, ◌&&◌, ◌||◌, Bool, true, false, cond, List, [], ◌∷◌, ◌++◌, length, take, drop, Option, Some, None, Ok, Err, refl, sym, ap, subst, ◌∙◌, arith, append_assoc, append-nil, ltb-true, ltb-false, leb-true, leb-false, length-append}
-use Rattle.std.proofs.lemmas.Grind.{common_steps}
-use Rattle.walrus_binary.specs.Leb128.{IsInteger, last, more, IsU32, IsS33}
+use Rattle.std.proofs.Common.{◌≡◌, ℕ, ◌^◌, ◌<◌, ◌≤◌, nat_lt, nat_le, ◌&&◌, ◌||◌, Bool, true, false, cond, List, [], ◌∷◌, ◌++◌, length, drop, Option, Some, None, Ok, Err, refl, sym, ap, subst, ◌∙◌, arith, append-nil, ltb-false, leb-false}
+use Rattle.walrus_binary.specs.Leb128.{IsInteger, last, more}
 use Rattle.walrus_binary.specs.Steps.Reading.{◌>>=◌, u32_at, s33_at}
 use Rattle.walrus_binary.proofs.Basics.{Reading, which}
 use Rattle.walrus_binary.proofs.Integers.{u32_sound}
 use Rattle.walrus_module.specs.declared.kind.Space.{Space}
 use Rattle.walrus_module.specs.declared.kind.Kind.{Kind}
 use Rattle.walrus_module.specs.declared.kind.Kind.TheVariants as kind
-use Rattle.walrus_module.specs.ContentFaults.{StopsAt, IsSomeU32, IsByNumber, IsByByte, IsLeading, IsFaultPlace, BeginsNot}
+use Rattle.walrus_module.specs.ContentFaults.{IsByNumber, IsByByte, IsLeading, IsFaultPlace, BeginsNot}
+use Rattle.walrus_module.specs.IntegerFaults.{IsSomeU32}
 use Rattle.walrus_module.specs.ContentFaults.IsLeading.{index, signed_index, number, offset, i32, i64, length_of_bytes, length_of_name}
 use Rattle.walrus_module.specs.ContentFaults.IsFaultPlace.{in_integer, number as number_place, byte as byte_place, too_few_bytes, too_short}
-use Rattle.walrus_module.specs.Immediates.{IsSigned, Piece, type_name, may_be_index, behind_byte, behind_number, Begins}
-use Rattle.walrus_module.specs.Steps.Heads.{Beginning, beginning, fault, skip_at, signed_at, raw_at, byte_vec_at, byte_at, number_at, name_in, index_at, signed_index_at, index_or_byte_at, begin_at, plain, behind}
+use Rattle.walrus_module.specs.Immediates.{IsSigned, type_name, may_be_index, behind_byte, behind_number}
+use Rattle.walrus_module.specs.Steps.Heads.{Beginning, beginning, fault, skip_at, signed_at, raw_at, byte_vec_at, byte_at, number_at, name_in, index_at, index_or_byte_at, begin_at, behind}
 use Rattle.walrus_module.proofs.Heads.{begin_again}
 use Rattle.walrus_module.proofs.IntegerFaults.{left_is, no_fault, bind_fault, IsSome, Stops, integer_here, integer_ends, integer_stops, skip_stops, i32_stops, i64_stops}
 

@@ -1,12 +1,13 @@
 -- Where an integer stops being one.
-use Rattle.std.proofs.Common.{◌≡◌, ℕ, zero, suc, ◌+◌, ◌*◌, ◌/◌, ◌^◌, ◌<◌, ◌≤◌, nat_lt, nat_le, ◌&&◌, ◌||◌, Bool, true, false, cond, List, [], ◌∷◌, ◌++◌, length, Result, Ok, Err, refl, sym, ap, subst, ◌∙◌, arith, append_assoc, ltb-true, ltb-false, lt-ltb, le-ltb, leb-true, leb-false, le-leb, ◌-◌}
+use Rattle.std.proofs.Common.{◌≡◌, ℕ, zero, suc, ◌+◌, ◌*◌, ◌/◌, ◌^◌, ◌<◌, ◌≤◌, nat_lt, nat_le, ◌&&◌, true, false, List, [], ◌∷◌, ◌++◌, length, Result, Ok, Err, refl, sym, ap, subst, ◌∙◌, arith, append_assoc, append-nil, inl, inr, ◌⊎◌, ltb-true, ltb-false, lt-ltb, leb-false, ◌-◌}
 use Rattle.walrus_binary.specs.declared.error.Fault.{Fault}
-use Rattle.walrus_binary.specs.Leb128.{IsInteger, last, more}
-use Rattle.walrus_binary.specs.Steps.Reading.{◌>>=◌, integer_at}
+use Rattle.walrus_binary.specs.Leb128.{IsInteger, last, more, IsU32}
+use Rattle.walrus_binary.specs.Steps.Reading.{◌>>=◌, integer_at, u32_at}
 use Rattle.walrus_binary.proofs.Basics.{Reading, which}
-use Rattle.walrus_binary.proofs.Integers.{both_true}
+use Rattle.walrus_binary.proofs.Integers.{both_true, u32_sound, u32_complete}
+use Rattle.walrus_module.proofs.SizedContents.{same_number}
 use Rattle.walrus_module.specs.Immediates.{IsSigned, positive, negative, longer}
-use Rattle.walrus_module.specs.ContentFaults.{StopsAt}
+use Rattle.walrus_module.specs.IntegerFaults.{StopsAt, IsSomeU32}
 use Rattle.walrus_module.specs.Steps.Heads.{fault, skip_at, signed_at}
 
 -- ---- how many bytes a fault leaves
@@ -260,3 +261,48 @@ pub i64_stops : (bytes left : List ℕ) → signed_at (2 ^ 63) bytes ≡ fault l
     Stops (IsSigned (2 ^ 63)) bytes left
 i64_stops bytes left e =
     signed_stops_from 9 1 (2 ^ 63) bytes left (omega arith) (omega arith) (omega arith) e
+
+-- ---- where no number begins
+
+-- one of two beginnings of the same bytes begins the other
+overlap : (a b c d : List ℕ) → a ++ b ≡ c ++ d → ((m : List ℕ) × (a ≡ c ++ m))
+    ⊎ ((x : ℕ) × (m : List ℕ) × (c ≡ a ++ (x ∷ m)) × (b ≡ x ∷ (m ++ d)))
+overlap [] b [] d e = inl ([], refl)
+overlap [] b (x ∷ c) d e = inr (x, c, refl, e)
+overlap (x ∷ a) b [] d e = inl (x ∷ a, refl)
+overlap (x ∷ a) b (y ∷ c) d e =
+    let first : x ≡ y = cc in
+    let later : a ++ b ≡ c ++ d = cc in
+    elim (overlap a b c d later) [
+      | inl l ↦ inl (l.0, ap (λ z. z ∷ a) first ∙ ap (λ (u : List ℕ). y ∷ u) l.1)
+      | inr r ↦
+          inr (
+            r.0,
+            r.1,
+            ap (λ z. z ∷ c) (sym first) ∙ ap (λ (u : List ℕ). x ∷ u) r.2,
+            r.3,
+          )
+    ]
+
+-- where a number stops being one, none begins
+pub no_number_there : (bytes front rest : List ℕ) (n : ℕ) (others : List ℕ) → bytes ≡ front ++ rest →
+    StopsAt IsSomeU32 front rest → u32_at bytes ≡ Ok (n, others) → ⊥
+no_number_there bytes front rest n others e s reads =
+    let t = u32_sound bytes n others reads in
+    elim (overlap front rest t.text others (sym e ∙ t.parts)) [
+      | inl l ↦
+          let g = s.goes_on in
+          let a : u32_at (front ++ s.more) ≡ Ok (n, l.0 ++ s.more) =
+          ap (λ (u : List ℕ). u32_at (u ++ s.more)) l.1 ∙ ap u32_at (append_assoc t.text l.0 s.more)
+          ∙ u32_complete t.text n (l.0 ++ s.more) t.is_text in
+          let b : u32_at (front ++ s.more) ≡ Ok (g.0, []) =
+          ap u32_at (sym (append-nil (front ++ s.more))) ∙ u32_complete (front ++ s.more) g.0 [] g.1 in
+          let same = same_number (u32_at (front ++ s.more)) n g.0 (l.0 ++ s.more) [] a b in
+          s.has_more (no_more l.0 s.more same.1)
+      | inr r ↦
+          s.stuck r.0 (r.1 ++ others) r.1 r.3 (n, subst (λ (u : List ℕ). IsU32 u n) r.2 t.is_text)
+    ]
+  where
+    no_more : (a b : List ℕ) → a ++ b ≡ [] → b ≡ []
+    no_more [] b e = e
+    no_more (x ∷ a) b e = absurd cc

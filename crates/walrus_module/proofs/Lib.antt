@@ -50,7 +50,13 @@ pub mod IntegerFaults
 pub mod HeadFaults
 pub mod TextFaults
 pub mod CodeFaults
+pub mod NameFaults
+pub mod CustomFaults
 pub mod ContentFaults
 pub mod ModuleFaults
 pub mod TakenImports
 pub mod RenamedNames
+pub mod KnownContents
+pub mod KnownNames
+pub mod KnownModules
+pub mod UnknownNames

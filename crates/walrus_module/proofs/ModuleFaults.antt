@@ -1,15 +1,15 @@
 -- The first fault in the contents of a module's sections.
-use Rattle.std.proofs.Common.{◌≡◌, ℕ, ◌+◌, ◌-◌, ◌<◌, ◌≤◌, ◌⊎◌, inl, inr, nat_eq, cond, true, false, List, [], ◌∷◌, ◌++◌, length, take, take_all, drop, map, refl, sym, ap, subst, ◌∙◌, arith, append_assoc, append-nil, length-append, eqb-true}
+use Rattle.std.proofs.Common.{◌≡◌, ℕ, ◌+◌, ◌-◌, ◌<◌, ◌≤◌, inl, inr, List, [], ◌∷◌, ◌++◌, length, take, take_all, drop, refl, sym, ap, subst, ◌∙◌, arith, append_assoc, append-nil, length-append}
 use Rattle.std.specs.List.{All}
 use Rattle.std.proofs.lemmas.List.Elements.{All-nil, All-cons, All-push, All-head, All-tail}
 use Rattle.walrus_binary.specs.Grammar.{AreItems, none, next}
 use Rattle.walrus_binary.specs.Leb128.{IsU32}
-use Rattle.walrus_binary.specs.Modules.{Section, section, ids, IsSection, sized, IsPlace, AreInOrder, no_more, header}
+use Rattle.walrus_binary.specs.Modules.{Section, section, ids, IsSection, sized, AreInOrder, no_more, header}
 use Rattle.walrus_binary.specs.Steps.Framing.{place_of, place_after}
 use Rattle.walrus_binary.proofs.Modules.Orders.{place_from, place_is, order_on, order_parts}
 use Rattle.walrus_module.specs.declared.faults.FaultKind.{FaultKind}
 use Rattle.walrus_module.specs.ContentFaults.{IsKnownContent, IsContentFault}
-use Rattle.walrus_module.specs.ModuleFaults.{AreKnownSections, BeginsWithSections, HasKnownContents, IsModuleFault}
+use Rattle.walrus_module.specs.ModuleFaults.{AreKnownSections, HasKnownContents, IsModuleFault}
 use Rattle.walrus_module.specs.Steps.Customs.{BeginsWith}
 use Rattle.walrus_module.specs.Steps.NameSections.{TakesSized, BeginsUnsized}
 use Rattle.walrus_module.specs.Steps.ModuleFaults.{MayFollow, TakesSection, BeginsNoSection}

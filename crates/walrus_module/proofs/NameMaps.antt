@@ -72,10 +72,10 @@ name_free a b rest after h k e =
 -- ---- what follows an index
 
 -- an index, and a text behind it
-record Indexed (IsText : List ℕ → Type 0) (k : ℕ) (bytes rest : List ℕ) : Type 0 where
-  behind : List ℕ
-  reads : u32_at bytes ≡ Ok (k, behind)
-  takes : Takes IsText behind rest
+pub record Indexed (IsText : List ℕ → Type 0) (k : ℕ) (bytes rest : List ℕ) : Type 0 where
+  pub behind : List ℕ
+  pub reads : u32_at bytes ≡ Ok (k, behind)
+  pub takes : Takes IsText behind rest
 
 indexed_name : (text rest : List ℕ) (k : ℕ) → IsIndexedName text k → Indexed IsName k (text ++ rest) rest
 indexed_name _ rest _ (indexed index text k h is_name) =
@@ -95,7 +95,7 @@ indexed_taken bytes k behind rest e t =
       parts = n.parts ∙ ap (λ (u : List ℕ). n.text ++ u) t.parts ∙ sym (append_assoc n.text t.text rest);
     }
 
-opened_indexed : (bytes rest : List ℕ) (t : Takes (IsAny IsIndexedName) bytes rest) →
+pub opened_indexed : (bytes rest : List ℕ) (t : Takes (IsAny IsIndexedName) bytes rest) →
     Indexed IsName t.is_text.item bytes rest
 opened_indexed bytes rest t =
     subst (λ (u : List ℕ). Indexed IsName t.is_text.item u rest) (sym t.parts)
@@ -113,7 +113,7 @@ no_name_behind bytes k behind e h rest t =
 
 -- ---- maps from indices to names
 
-indexed_name_free : IsPrefixFree (IsAny IsIndexedName)
+pub indexed_name_free : IsPrefixFree (IsAny IsIndexedName)
 indexed_name_free a b rest after h k e =
     let o = indexed_name a rest h.item h.is_text in
     let p = indexed_name b after k.item k.is_text in
@@ -202,10 +202,10 @@ unknown_is i k e = cc
 
 module _ (Follows : List ℕ → Type 0) where
   -- what begins the bytes as an entry does
-  record Opened (e : TypeEntry) (bytes rest : List ℕ) : Type 0 where
-    behind : List ℕ
-    reads : u32_at bytes ≡ Ok (e.index, behind)
-    takes : Takes Follows behind rest
+  pub record Opened (e : TypeEntry) (bytes rest : List ℕ) : Type 0 where
+    pub behind : List ℕ
+    pub reads : u32_at bytes ≡ Ok (e.index, behind)
+    pub takes : Takes Follows behind rest
 
   opened_text : (text rest : List ℕ) (e : TypeEntry) → IsEntry Follows text e → Opened e (text ++ rest) rest
   opened_text _ rest _ (entry text behind k h f) =
@@ -216,7 +216,7 @@ module _ (Follows : List ℕ → Type 0) where
         takes = record { text = behind; is_text = f; parts = refl };
       }
 
-  opened_entry : (bytes rest : List ℕ) (t : Takes (IsAny (IsEntry Follows)) bytes rest) →
+  pub opened_entry : (bytes rest : List ℕ) (t : Takes (IsAny (IsEntry Follows)) bytes rest) →
       Opened t.is_text.item bytes rest
   opened_entry bytes rest t =
       subst (λ (u : List ℕ). Opened t.is_text.item u rest) (sym t.parts)

@@ -4,7 +4,6 @@ use Rattle.std.specs.List.{All, Contains, concat}
 use Rattle.std.proofs.lemmas.List.{append_cancel_right}
 use Rattle.std.proofs.lemmas.List.Elements.{All-contains, All-head, All-tail, Contains-append_right}
 use Rattle.walrus_binary.specs.Grammar.{AreItems, none, next}
-use Rattle.walrus_binary.specs.Leb128.{IsU32}
 use Rattle.walrus_binary.specs.Modules.{header}
 use Rattle.walrus_binary.specs.Steps.Reading.{u32_at}
 use Rattle.walrus_binary.proofs.Basics.{done, value_is}

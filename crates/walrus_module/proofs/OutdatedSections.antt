@@ -1,7 +1,6 @@
 -- Which sections no longer fit, from what was found of both modules.
 use Rattle.std.proofs.Common.{◌≡◌, ℕ, ◌<◌, true, List, [], ◌∷◌, ◌++◌, length, get_or, refl, sym, subst, ◌∙◌, rules}
 use denote.Enum.Bare.{sameb, same_true}
-use Rattle.std.specs.List.{All, Contains}
 use Rattle.std.proofs.lemmas.List.Elements.{All-contains, All-push}
 use Rattle.walrus_module.specs.declared.description_kinds.DescriptionKind.{DescriptionKind}
 use Rattle.walrus_module.specs.contracts.description_kinds.DescriptionKind.{the_type as kind_type}

@@ -1,5 +1,5 @@
 -- Imports, from a scan.
-use Rattle.std.proofs.Common.{◌≡◌, ℕ, List, [], ◌∷◌, ◌++◌, sym, ap, ◌∙◌}
+use Rattle.std.proofs.Common.{◌≡◌, ℕ, List, [], ◌∷◌, ◌++◌}
 use Rattle.walrus_module.specs.declared.kind.Kind.TheVariants as kind
 use Rattle.walrus_module.specs.declared.scan.ScanError.{ScanError}
 use Rattle.walrus_module.specs.declared.scan.ScanError.TheVariants as scan

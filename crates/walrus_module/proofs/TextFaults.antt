@@ -1,18 +1,17 @@
 -- The first fault of bytes that are to be texts of kinds.
 use Rattle.std.proofs.Common.{◌≡◌, ℕ, ◌+◌, ◌-◌, ◌<◌, ◌≤◌, List, [], ◌∷◌, ◌++◌, length, Option, Some, None, IfNone, Ok, refl, sym, ap, subst, ◌∙◌, arith, append_assoc, append-nil, length-append}
 use Rattle.std.specs.List.{All}
-use Rattle.std.proofs.lemmas.List.Elements.{All-nil, All-push, All-append}
+use Rattle.std.proofs.lemmas.List.Elements.{All-nil, All-push}
 use Rattle.walrus_module.specs.declared.faults.FaultKind.{FaultKind}
 use Rattle.walrus_module.specs.declared.faults.FaultKind.TheVariants.{Malformed, UnknownType}
 use Rattle.walrus_module.specs.declared.kind.Kind.{Kind}
-use Rattle.walrus_module.specs.Bodies.{Names}
 use Rattle.walrus_module.specs.ContentFaults.{Reaches, IsTextFault}
 use Rattle.walrus_module.specs.ContentFaults.IsTextFault.{malformed, surplus, unknown}
-use Rattle.walrus_module.specs.Immediates.{Piece, type_name, Begins, Runs, stop, AreTexts, names_of, type_names}
+use Rattle.walrus_module.specs.Immediates.{Piece, type_name, Runs, stop, names_of, type_names}
 use Rattle.walrus_module.specs.Steps.ContentFaults.{AreKnown}
 use Rattle.walrus_module.specs.Steps.Heads.{Beginning, begin_at, fault}
 use Rattle.walrus_module.specs.Steps.Scans.{Reads, PassesPieces}
-use Rattle.walrus_module.proofs.HeadFaults.{NoBeginning, no_beginning}
+use Rattle.walrus_module.proofs.HeadFaults.{no_beginning}
 use Rattle.walrus_module.proofs.Heads.{begin_sound}
 use Rattle.walrus_module.proofs.PlainInstructions.{passed_framed}
 use Rattle.walrus_module.proofs.Rewriting.{same_number}

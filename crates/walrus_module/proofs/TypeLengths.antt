@@ -2,32 +2,26 @@
 use Rattle.std.proofs.Common.{◌≡◌, ℕ, ◌+◌, ◌-◌, ◌≤◌, Bool, true, false, List, [], ◌∷◌, ◌++◌, length, take, drop, Ok, Option, Some, None, refl, sym, ap, subst, ◌∙◌, arith, append_assoc, append-nil, length-append, cond}
 use Rattle.std.specs.List.{concat}
 use Rattle.std.proofs.lemmas.Grind.{flat_map-append}
-use Rattle.std.proofs.lemmas.List.{append_cancel_right}
 use Rattle.walrus_binary.specs.Grammar.{AreItems, none, next}
 use Rattle.walrus_binary.specs.Leb128.{IsU32}
 use Rattle.walrus_binary.specs.Steps.Reading.{u32_at}
-use Rattle.walrus_binary.proofs.Basics.{done, value_is}
 use Rattle.walrus_binary.proofs.Integers.{u32_sound}
 use Rattle.walrus_module.specs.declared.kind.Kind.{Kind}
 use Rattle.walrus_module.specs.declared.kind.Space.TheVariants as space
 use Rattle.walrus_module.specs.declared.scan.TypeIndex.{TypeIndex}
 use Rattle.walrus_module.specs.Bodies.{body}
 use Rattle.walrus_module.specs.Contents.{section_kinds}
-use Rattle.walrus_module.specs.Immediates.{Piece, unsigned, signed, type_name, Begins, stop, step, AreTexts, names_of, type_names}
+use Rattle.walrus_module.specs.Immediates.{Piece, unsigned, signed, type_name, stop, AreTexts, names_of, type_names}
 use Rattle.walrus_module.specs.Lengths.{length_of, type_lengths, HasTypeLengths, HasBodyLengths, sized, HasCodeLengths, counted, HasContentLengths, texts, code, nameless}
 use Rattle.walrus_module.specs.NamedTypes.{code_id}
 use Rattle.walrus_module.specs.Renaming.{text_of}
-use Rattle.walrus_module.specs.Steps.Heads.{beginning, begin_at, kinds_or_none}
+use Rattle.walrus_module.specs.Steps.Heads.{kinds_or_none}
 use Rattle.walrus_module.specs.Steps.Lengths.{TakesBody, TakesBodies}
-use Rattle.walrus_module.specs.Steps.NameSections.{TakesSized}
 use Rattle.walrus_module.specs.Steps.Renaming.{Appends}
 use Rattle.walrus_module.specs.Steps.Scans.{Reads, piece_of, PassesType, PassesNone}
-use Rattle.walrus_module.proofs.Heads.{begin_again}
 use Rattle.walrus_module.proofs.NamedTypes.{some_kinds}
-use Rattle.walrus_module.proofs.Pieces.{piece_text}
-use Rattle.walrus_module.proofs.Scanning.{same_step}
 use Rattle.walrus_module.proofs.Searching.{reads_join}
-use Rattle.walrus_module.proofs.SizedContents.{number_read, same_number, same_content, sized_taken}
+use Rattle.walrus_module.proofs.SizedContents.{number_read, same_number, sized_taken}
 
 -- ---- pieces
 

@@ -12,31 +12,22 @@ use Rattle.walrus_module.specs.declared.kind.Kind.TheVariants as kind
 use Rattle.walrus_module.specs.declared.kind.Space.{Space}
 use Rattle.walrus_module.specs.Bodies.{body}
 use Rattle.walrus_module.specs.Contents.{section_kinds}
+use Rattle.walrus_module.specs.CustomFaults.{IsKnownCustom, IsCustomFault}
+use Rattle.walrus_module.specs.IntegerFaults.{StopsAt, IsSomeU32}
 use Rattle.walrus_module.specs.Immediates.{IsU64, IsSigned, Piece, type_name, may_be_index, behind_byte, behind_number, Begins, Runs, type_names}
 use Rattle.walrus_module.specs.NamedTypes.{IsSizedBody, code_id, IsContent}
 
 -- ---- no fault
 
--- a section of this id may have this content, and it names no type from this count on
+-- A section of this id may have this content, and it names no type from this count on. In the
+-- custom section `name` these are the types that get names, for themselves or for their fields.
 pub record IsKnownContent (id count : ℕ) (content : List ℕ) : Type 0 where
   pub names : List ℕ
   pub is_content : IsContent id content names
   pub known : All (λ k. k < count) names
+  pub custom : id ≡ 0 → IsKnownCustom count content
 
--- ---- the place of a fault in an integer
-
--- Some text begins with the bytes before the place and has more. None begins with these and the
--- byte at the place.
-pub record StopsAt (IsText : List ℕ → Type 0) (front rest : List ℕ) : Type 0 where
-  pub more : List ℕ
-  pub has_more : more ≡ [] → ⊥
-  pub goes_on : IsText (front ++ more)
-  pub stuck :
-      (byte : ℕ) (behind others : List ℕ)
-      → rest ≡ byte ∷ behind → IsText (front ++ byte ∷ others) → ⊥
-
-abbrev pub IsSomeU32 : List ℕ → Type 0
-IsSomeU32 text = (n : ℕ) × IsU32 text n
+-- ---- the place of a fault in the beginning of a text
 
 -- some number begins texts of this kind
 abbrev pub IsByNumber : Kind → Type 0
@@ -57,8 +48,6 @@ pub data IsLeading : Kind → List ℕ → Type 0 where
   i64 : (text : List ℕ) → IsSigned (2 ^ 63) text → IsLeading kind.S64 text
   length_of_bytes : (text : List ℕ) → IsSomeU32 text → IsLeading kind.ByteVec text
   length_of_name : (text : List ℕ) → IsSomeU32 text → IsLeading kind.Import text
-
--- ---- the place of a fault in the beginning of a text
 
 -- Where the fault is of bytes with which no text of this kind begins: where an integer stops being
 -- one, at the first byte of a number, or at a byte, that can't be there, or at the end of too few
@@ -156,4 +145,7 @@ pub data IsContentFault (id count : ℕ) (content : List ℕ) : FaultKind → �
       → IsTextFault kinds count content what place → IsContentFault id count content what place
   in_code :
       (what : FaultKind) (place : ℕ) → id ≡ code_id → IsCodeFault count content what place
+      → IsContentFault id count content what place
+  in_custom :
+      (what : FaultKind) (place : ℕ) → id ≡ 0 → IsCustomFault count content what place
       → IsContentFault id count content what place

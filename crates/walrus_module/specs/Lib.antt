@@ -14,6 +14,8 @@ pub mod Customs
 pub mod Lengths
 pub mod Outdated
 pub mod Composition
+pub mod IntegerFaults
+pub mod CustomFaults
 pub mod ContentFaults
 pub mod ModuleFaults
 pub mod Imports

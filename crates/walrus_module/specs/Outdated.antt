@@ -2,7 +2,7 @@
 -- written again.
 -- WebAssembly core specification, "Binary Format", "Custom Section". The names are conventions of
 -- tools.
-use Rattle.std.specs.Prelude.{◌≡◌, ℕ, List, [], ◌∷◌, ◌++◌, codes}
+use Rattle.std.specs.Prelude.{◌≡◌, ℕ, List, ◌∷◌, ◌++◌, codes}
 use Rattle.std.specs.List.{All}
 use Rattle.walrus_binary.specs.Modules.{Section}
 use Rattle.walrus_module.specs.declared.description_kinds.DescriptionKind.{DescriptionKind}

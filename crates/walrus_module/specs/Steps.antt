@@ -13,5 +13,6 @@ pub mod NameSections
 pub mod Customs
 pub mod Lengths
 pub mod Outdated
+pub mod CustomFaults
 pub mod ContentFaults
 pub mod ModuleFaults

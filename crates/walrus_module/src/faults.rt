@@ -7,10 +7,14 @@ ghost use Rattle.walrus_module.specs.ContentFaults.{IsKnownContent, IsContentFau
 
 use crate::code_faults::code_fault;
 use crate::contents::section_kinds;
+use crate::custom_faults::custom_fault;
 use crate::kind::Immediates;
 use crate::stack::Stack;
 use crate::text_faults::text_fault;
 use std::alloc::{AllocError, Global};
+
+/// The id of a custom section.
+const CUSTOM: u8 = 0;
 
 /// The id of the code section.
 const CODE: u8 = 10;
@@ -51,8 +55,10 @@ pub struct Fault {
 /// - Where bytes go on behind their text, it is the first byte behind it.
 /// - An index of a type that is not below `count` is at fault at its first byte.
 ///
-/// A size is judged before what it counts. The contents of sections that name no type from outside
-/// the type section are not judged: see [`section_types`](crate::section_types).
+/// A size is judged before what it counts. Of a custom section (0) its own name is judged, and where
+/// that is `name`, the subsections with names of types (4) and of their fields (10), and the sizes
+/// of the others. The contents of other sections that name no type from outside the type section
+/// are not judged: see [`section_types`](crate::section_types).
 ///
 /// # Errors
 ///
@@ -83,6 +89,9 @@ pub fn find_content_fault(
     // Without a fault it is one, and each type that it names is there.
     ensures none { IfOk result (λ found. IfNone found (IsKnownContent id count content.now)) }
 {
+    if id == CUSTOM {
+        return Ok(custom_fault(content, count));
+    }
     if id == CODE {
         return code_fault(alloc, content, count);
     }

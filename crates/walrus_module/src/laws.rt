@@ -1,13 +1,14 @@
 //! Laws of code and of modules with other indices of types. Each function does nothing; its clause
 //! is a theorem, which a caller gets by calling it.
-ghost use Rattle.std.specs.Prelude.{◌≡◌, ℕ, List, Some};
-ghost use Rattle.walrus_binary.specs.Modules.{HasNoTypeSection};
+ghost use Rattle.std.specs.Prelude.{◌≡◌, ℕ, List, length, Some};
+ghost use Rattle.walrus_binary.specs.Modules.{Section, IsModule, HasNoTypeSection};
 ghost use Rattle.walrus_module.specs.declared.kind.Kind.{Kind};
 ghost use Rattle.walrus_module.specs.declared.renaming.Widths.{Widths};
 ghost use Rattle.walrus_module.specs.declared.renaming.Widths.TheVariants.{Kept, Shortest};
 ghost use Rattle.walrus_module.specs.Composition.{AreInTurn, AreOwn, DeleteNone, KeepOrder};
 ghost use Rattle.walrus_module.specs.Customs.{IsStripped, HasNoDescription};
-ghost use Rattle.walrus_module.specs.RenamedModules.{RenamesModule, HaveSameIds};
+ghost use Rattle.walrus_module.specs.ModuleFaults.{HasKnownContents};
+ghost use Rattle.walrus_module.specs.RenamedModules.{RenamesModule, HaveSameIds, CanNotBeRenamed, ModuleNamesUnknown};
 ghost use Rattle.walrus_module.specs.RenamedNames.{NamesFollow};
 ghost use Rattle.walrus_module.specs.Renaming.{NewIndices, type_maps, new_index, least_width, Renames, AreRenamed};
 
@@ -117,4 +118,16 @@ pub fn one_stripped_module()
 /// A module without the custom sections that describe other bytes of it has no more of them.
 pub fn stripped_module_describes_nothing()
     ensures { (bytes new : List ℕ) → IsStripped bytes new → HasNoDescription new }
+{}
+
+/// What [`rename_module`](crate::rename_module) refuses as malformed, or for a type where none is
+/// deleted, has a fault: [`find_module_fault`](crate::find_module_fault) finds one. For malformed
+/// modules that holds with any number of types, else with that of the new indices.
+pub fn refused_module_has_a_fault()
+    ensures malformed { (count : ℕ) (bytes : List ℕ) (sections : List Section) →
+        IsModule bytes sections → CanNotBeRenamed bytes → ¬ HasKnownContents count bytes }
+    ensures unknown { (types : List ℕ) (new_indices : NewIndices) (widths : Widths) (k : ℕ)
+        (bytes : List ℕ) → DeleteNone new_indices →
+        ModuleNamesUnknown types new_indices widths k bytes →
+        ¬ HasKnownContents (length new_indices) bytes }
 {}

@@ -22,6 +22,7 @@ mod bodies;
 mod code;
 mod code_faults;
 mod contents;
+mod custom_faults;
 mod customs;
 mod description_kinds;
 mod faults;

@@ -23,8 +23,8 @@ const CUSTOM: u8 = 0;
 /// The module has `count` types (WebAssembly core specification, "Binary Format", "Modules").
 ///
 /// The sections are judged from left to right, each as [`find_content_fault`] judges it. So the
-/// contents of custom sections and of the type section are not judged. The offset of a fault is
-/// counted from the first byte of the module.
+/// content of the type section is not judged. The offset of a fault is counted from the first byte
+/// of the module.
 ///
 /// The module need not be whole: sections are judged as far as their framing goes, which is their
 /// order, their ids and their sizes. Where that ends too early, [`sections`](crate::sections) says

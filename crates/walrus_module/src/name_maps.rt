@@ -4,7 +4,9 @@
 ghost use Rattle.std.specs.Prelude.{◌≡◌, ◌≤◌, ◌<◌, ◌^◌, ◌++◌, ℕ, [], length, IfOk, IfSome, IfNone, OnOk, IsErrOf};
 ghost use Rattle.std.specs.List.{All};
 ghost use Rattle.walrus_module.specs.Changes.{Changes, IsMalformed, FirstIn};
+ghost use Rattle.walrus_module.specs.CustomFaults.{IsNameFault, IsIndexedNameFault, IsNameMapFault};
 ghost use Rattle.walrus_module.specs.NameSections.{IsName, IsNameMap, IsIndexedName, IsEntry, IsKnownEntry, BeginsUnknown, MapNamesUnknown, RenamesMap};
+ghost use Rattle.walrus_module.specs.Steps.CustomFaults.{StopsMalformed, IsFollowingFault};
 ghost use Rattle.walrus_module.specs.Steps.NameSections.{Takes, BeginsNone, TakesSized, BeginsUnsized, IsFollowing, TakesEntry, IsAny, Keeps, IsNewMap, TakesEntries, BeginsNotEntries};
 ghost use Rattle.walrus_module.specs.declared.renaming.RenameError.TheVariants.{Malformed, UnknownType, TooLong};
 
@@ -169,11 +171,13 @@ fn take_following<'a>(follows: Follows, input: &mut &'a [u8]) -> Option<&'a [u8]
     Some(&start[..start.len() - input.len()])
 }
 
-/// Passes over what follows the index of a type.
-fn skip_following(follows: Follows, input: &mut &[u8]) -> Option<()>
+/// Passes over what follows the index of a type. With `None` the input is left at the first fault.
+pub fn skip_following(follows: Follows, input: &mut &[u8]) -> Option<()>
     ensures taken { IfSome result (λ u.
         Takes (IsFollowing follows) input.old.now input.new.now) }
     ensures none { IfNone result (BeginsNone (IsFollowing follows) input.old.now) }
+    ensures stops { IfNone result
+        (StopsMalformed (IsFollowingFault follows) input.old.now input.new.now) }
 {
     match follows {
         Follows::Name => skip_name(input),
@@ -185,6 +189,7 @@ fn skip_following(follows: Follows, input: &mut &[u8]) -> Option<()>
 fn skip_name_map(input: &mut &[u8]) -> Option<()>
     ensures taken { IfSome result (λ u. Takes IsNameMap input.old.now input.new.now) }
     ensures none { IfNone result (BeginsNone IsNameMap input.old.now) }
+    ensures stops { IfNone result (StopsMalformed IsNameMapFault input.old.now input.new.now) }
 {
     let count = read_u32(input)?;
     for _ in 0..count {
@@ -197,6 +202,8 @@ fn skip_name_map(input: &mut &[u8]) -> Option<()>
 fn skip_indexed_name(input: &mut &[u8]) -> Option<()>
     ensures taken { IfSome result (λ u. Takes (IsAny IsIndexedName) input.old.now input.new.now) }
     ensures none { IfNone result (BeginsNone (IsAny IsIndexedName) input.old.now) }
+    ensures stops { IfNone result
+        (StopsMalformed IsIndexedNameFault input.old.now input.new.now) }
 {
     read_u32(input)?;
     skip_name(input)
@@ -206,20 +213,24 @@ fn skip_indexed_name(input: &mut &[u8]) -> Option<()>
 fn skip_name(input: &mut &[u8]) -> Option<()>
     ensures taken { IfSome result (λ u. Takes IsName input.old.now input.new.now) }
     ensures none { IfNone result (BeginsNone IsName input.old.now) }
+    ensures stops { IfNone result (StopsMalformed IsNameFault input.old.now input.new.now) }
 {
     take_sized(input)?;
     Some(())
 }
 
-/// Takes a size and as many bytes from the front. Returns the bytes.
+/// Takes a size and as many bytes from the front. Returns the bytes. With `None` the input is left at
+/// the first fault: where the size stops being one, or at the end, where it goes past that.
 pub fn take_sized<'a>(input: &mut &'a [u8]) -> Option<&'a [u8]>
     ensures taken { IfSome result (λ content.
         TakesSized content.now input.old.now input.new.now) }
     ensures none { IfNone result (BeginsUnsized input.old.now) }
+    ensures stops { IfNone result (StopsMalformed IsNameFault input.old.now input.new.now) }
 {
     let size = read_u32(input)? as usize;
     let behind = *input;
     if size > behind.len() {
+        *input = &behind[behind.len()..];
         return None;
     }
     let (content, rest) = behind.split_at(size);

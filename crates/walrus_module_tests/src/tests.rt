@@ -2,7 +2,9 @@
 mod code;
 mod content_faults;
 mod contents;
+mod custom_faults;
 mod customs;
+mod function_names;
 mod laws;
 mod module_faults;
 mod named;

@@ -21,8 +21,7 @@ module _ {A : Type 0} where
   get_cases (z ∷ xs) y zero x h = inl h
   get_cases (z ∷ xs) y (suc i) x h = elim (get_cases xs y i x h) [
     | inl k ↦ inl k
-    | inr k ↦
-        inr (ap suc k.0, k.1)
+    | inr k ↦ inr (ap suc k.0, k.1)
   ]
 
   -- what stands at a place within
@@ -68,29 +67,25 @@ apart x (y ∷ xs) none = (by_test (nat_eq x y) refl, apart x xs (λ u h. none (
     by_test false e = refl
     by_test true e = absurd (none 0 (ap (λ (n : ℕ). Some n) (sym (eqb-true x y (sym e)))))
 
-pub distinct_from_once :
-    (xs : List ℕ) → ((i j id : ℕ) → slice_get xs i ≡ Some id → slice_get xs j ≡ Some id → i ≡ j) →
-    IsDistinct nat_eq xs
+pub distinct_from_once : (xs : List ℕ) →
+    ((i j id : ℕ) → slice_get xs i ≡ Some id → slice_get xs j ≡ Some id → i ≡ j) → IsDistinct nat_eq xs
 unfolding IsDistinct
 distinct_from_once [] once = tt
 distinct_from_once (x ∷ xs) once = (
-  apart x xs (λ u h.
-      (let e : suc u ≡ 0 = once (suc u) 0 x h refl in omega (arith, e))),
+  apart x xs (λ u h. (let e : suc u ≡ 0 = once (suc u) 0 x h refl in omega (arith, e))),
   distinct_from_once xs (λ i j id h k. (let e : suc i ≡ suc j = once (suc i) (suc j) id h k in
       omega (arith, e))),
 )
 
-first_alone :
-    (x : ℕ) (xs : List ℕ) (j : ℕ) → AllByRecursion (λ y. nat_eq x y ≡ false) xs →
-    slice_get xs j ≡ Some x → ⊥
+first_alone : (x : ℕ) (xs : List ℕ) (j : ℕ) →
+    AllByRecursion (λ y. nat_eq x y ≡ false) xs → slice_get xs j ≡ Some x → ⊥
 first_alone x [] j a h = absurd (cc)
 first_alone x (y ∷ xs) zero a h = let e : x ≡ y = cc in let t = eq-eqb x y e in let f = a.0 in let no : ⊥ =
     cc in no
 first_alone x (y ∷ xs) (suc j) a h = first_alone x xs j a.1 h
 
-pub once_from_distinct :
-    (xs : List ℕ) → IsDistinct nat_eq xs → (i j id : ℕ) → slice_get xs i ≡ Some id →
-    slice_get xs j ≡ Some id → i ≡ j
+pub once_from_distinct : (xs : List ℕ) →
+    IsDistinct nat_eq xs → (i j id : ℕ) → slice_get xs i ≡ Some id → slice_get xs j ≡ Some id → i ≡ j
 unfolding IsDistinct
 once_from_distinct [] d i j id h k = absurd (cc)
 once_from_distinct (x ∷ xs) d zero zero id h k = refl

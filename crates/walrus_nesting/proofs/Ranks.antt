@@ -35,6 +35,5 @@ under_lt r t i (suc n) l h =
     let b = one_le r (r i) t n (omega arith) in
     elim (cases_lt i n) [
       | inl k ↦ (let a = under_lt r t i n k h in omega arith)
-      | inr k ↦
-          last r t i n (omega arith) h
+      | inr k ↦ last r t i n (omega arith) h
     ]

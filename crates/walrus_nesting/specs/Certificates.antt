@@ -18,9 +18,8 @@ pub record ShowsNested (f : Body) (start : ℕ) (list : List ℕ) : Type 0 where
   -- every id in it is known
   pub known : All (Knows f) list
   -- each child stands before its parent
-  pub children_first : (i parent child : ℕ) →
-      slice_get list i ≡ Some parent → IsChild f parent child →
-      (k : ℕ) × (k < i) × (slice_get list k ≡ Some child)
+  pub children_first : (i parent child : ℕ) → slice_get list i ≡ Some parent →
+      IsChild f parent child → (k : ℕ) × (k < i) × (slice_get list k ≡ Some child)
 
 -- the path begins with `start`, and each id in it is a child of the one before
 pub record IsPath (f : Body) (start : ℕ) (path : List ℕ) : Type 0 where
@@ -33,9 +32,8 @@ pub record ShowsCycle (f : Body) (start : ℕ) (path : List ℕ) (back_to : ℕ)
   pub is_path : IsPath f start path
   pub known : All (Knows f) path
   pub within : back_to < length path
-  pub back : (last first : ℕ) →
-      slice_get path (length path - 1) ≡ Some last → slice_get path back_to ≡ Some first →
-      IsChild f last first
+  pub back : (last first : ℕ) → slice_get path (length path - 1) ≡ Some last →
+      slice_get path back_to ≡ Some first → IsChild f last first
 
 -- a path whose last id alone is not known
 pub record ShowsUnknown (f : Body) (start : ℕ) (path : List ℕ) : Type 0 where

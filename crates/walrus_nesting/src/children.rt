@@ -71,8 +71,7 @@ fn push_handler<T: From<InstrSeqId> + Drop>(
     stack: &mut Vec<T>,
     clause: LegacyCatch,
 ) -> Result<(), AllocError>
-    ensures { OnOk result
-        (Pushes T.from_gives (handlers clause) stack.old.items stack.new.items) }
+    ensures { OnOk result (Pushes T.from_gives (handlers clause) stack.old.items stack.new.items) }
 {
     match clause {
         LegacyCatch::Catch { handler, .. } => push(stack, handler),

@@ -1,7 +1,9 @@
 pub mod Errors
 pub mod NormalForms
 pub mod ShortestTexts
+pub mod OneNaming
 pub mod OneNormalModule
 pub mod ResultTypes
 pub mod SecondNormal
+pub mod MovedUsed
 pub mod MovedModules

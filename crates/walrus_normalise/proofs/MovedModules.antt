@@ -1,7 +1,7 @@
 -- Modules that differ by a move of their types have the same normal form.
 use Rattle.std.proofs.Common.{◌≡◌, ℕ, suc, ◌<◌, List, [], ◌∷◌, ◌++◌, length, map, Some, inl, inr, refl, sym, ap, subst, ◌∙◌, arith}
 use Rattle.std.proofs.lemmas.List.{length-map}
-use Rattle.std.proofs.lemmas.List.FromFn.{length-range_with_len, get_or-range_with_len, length-map-range_with_len, get_or-map-range_with_len}
+use Rattle.std.proofs.lemmas.List.FromFn.{length-range_with_len, get_or-range_with_len}
 use Rattle.walrus_binary.specs.ModuleSections.{HasTypes, without_section}
 use Rattle.walrus_ty.specs.Definition.{Names}
 use Rattle.walrus_ty.specs.Groups.{Group, Section}
@@ -26,13 +26,19 @@ use Rattle.walrus_module.specs.declared.renaming.Widths.{Widths}
 use Rattle.walrus_module.specs.declared.renaming.Widths.TheVariants as widths
 use Rattle.walrus_module.proofs.ComposedModules.{modules_compose}
 use Rattle.walrus_module.proofs.StrippedRenamed.{stripped_renamed}
-use Rattle.walrus_normalise.specs.Moved.{MovesTo, drops_empty_rec, drops_repeat, swaps_neighbours, IsMoved, KeepsOrderOfEqual}
+use Rattle.walrus_normalise.specs.Moved.{MovesTo, drops_empty_rec, drops_repeat, swaps_neighbours, IsMoved, KeepsOrderOfEqual, MoveChainTo, stop, forth, back}
 use Rattle.walrus_normalise.specs.NormalModules.{HasNormalForm, IsLeft, IsNormalised}
 use Rattle.walrus_normalise.specs.declared.options.Descriptions.{Descriptions}
 use Rattle.walrus_normalise.specs.declared.options.Descriptions.TheVariants as descriptions
 use Rattle.walrus_normalise.specs.declared.options.NormaliseOptions.{NormaliseOptions}
 use Rattle.walrus_normalise.specs.declared.options.UnusedTypes.TheVariants as kinds
-use Rattle.walrus_normalise.proofs.OneNormalModule.{types_once, AllNormal, all_normal, normal_form_of, normalised_once}
+use Rattle.walrus_ty.specs.Lookups.{value_or_zero}
+use Rattle.walrus_ty.proofs.Equality.Contents.{same_section}
+use Rattle.walrus_unused.specs.UsedSections.{IsUsedNormal}
+use Rattle.walrus_unused.proofs.UsedForms.Roots.{has_place}
+use Rattle.walrus_normalise.specs.declared.options.UnusedTypes.{UnusedTypes}
+use Rattle.walrus_normalise.proofs.MovedUsed.{listing, listed_at, listed_long, moved_used, keep_used_order}
+use Rattle.walrus_normalise.proofs.OneNormalModule.{types_once, all_normal, normal_form_of, used_normal, have_new, same_texts, same_module, normalised_once}
 use Rattle.walrus_normalise.proofs.ResultTypes.{has_new_types}
 use Rattle.walrus_normalise.proofs.SecondNormal.{all_kept, item_at, item_is}
 
@@ -43,15 +49,6 @@ record Corresponds (s r : Section) (indices m w : List ℕ) : Type 0 where
   many : length indices ≡ (index_space s).count
   within : (k : ℕ) → k < (index_space s).count → image indices k < (index_space r).count
   same : (k : ℕ) → k < (index_space s).count → image w (image indices k) ≡ image m k
-
-abbrev listing : Section → (ℕ → ℕ) → List ℕ
-listing s f = map f (identity s)
-
-listed_at : (s : Section) (f : ℕ → ℕ) (k : ℕ) → k < (index_space s).count → image (listing s f) k ≡ f k
-listed_at s f k h = get_or-map-range_with_len f 0 (index_space s).count k k 0 h (omega arith)
-
-listed_long : (s : Section) (f : ℕ → ℕ) → length (listing s f) ≡ (index_space s).count
-listed_long s f = length-map-range_with_len f 0 (index_space s).count
 
 -- a map by a function as a list
 listed :
@@ -173,7 +170,7 @@ none_deleted indices k h = (
 
 keep_order : (bytes : List ℕ) (normal : List GroupAt) (new_indices : NewIndices) (s r n : Section)
     (indices m w : List ℕ) → HasNormalForm kinds.Kept bytes normal new_indices → new_indices ≡ all_kept m →
-    Corresponds s r indices m w → IsNormalForm s n m → KeepsOrderOfEqual bytes indices →
+    Corresponds s r indices m w → IsNormalForm s n m → KeepsOrderOfEqual kinds.Kept bytes indices →
     KeepOrder (all_kept indices) (all_kept w)
 keep_order bytes normal new_indices s r n indices m w has is cor c order j k a b p less ja kb ap' bp =
     let x = item_at indices j a ja in
@@ -210,10 +207,27 @@ left_renamed descriptions.Kept types m w bytes moved left new_left e f r =
 left_renamed descriptions.Stripped types m w bytes moved left new_left s t r =
     stripped_renamed types m w bytes moved left new_left r s t
 
-pub moved_once : (options : NormaliseOptions) (bytes moved a b : List ℕ) (mv : IsMoved bytes moved) →
-    options.widths ≡ widths.Shortest → options.unused ≡ kinds.Kept → KeepsOrderOfEqual bytes mv.indices →
-    IsNormalised options bytes a → IsNormalised options moved b → a ≡ b
-moved_once options bytes moved a b mv short kept order h k =
+-- where the types are the same, and lead on as the ones after the move
+moved_same : (options : NormaliseOptions) (bytes moved a b : List ℕ) (mv : IsMoved bytes moved) →
+    options.widths ≡ widths.Shortest → (h : IsNormalised options bytes a) → (k : IsNormalised options moved b)
+    → h.has.normal ≡ k.has.normal → AreInTurn (all_kept mv.indices) k.new_indices h.new_indices
+    → KeepOrder (all_kept mv.indices) k.new_indices → a ≡ b
+moved_same options bytes moved a b mv short h k one turn ordered =
+    let first = left_renamed options.descriptions mv.types (all_kept mv.indices) mv.widths bytes moved h.left
+    k.left h.is_left k.is_left mv.renamed in
+    let second : RenamesModule k.types k.new_indices widths.Shortest k.left b =
+    subst (λ u. RenamesModule k.types k.new_indices u k.left b) short k.renamed in
+    let both = modules_compose (all_kept mv.indices) k.new_indices h.new_indices turn
+    (none_deleted mv.indices) ordered mv.widths mv.types k.types h.left k.left b first second in
+    same_module widths.Shortest h.types k.types h.new_indices h.new_indices h.left h.left a b
+    (same_texts h.types k.types h.has.normal k.has.normal one h.has.written k.has.written) refl refl
+    (subst (λ u. RenamesModule h.types h.new_indices u h.left a) short h.renamed) both
+
+moved_kept : (options : NormaliseOptions) (bytes moved a b : List ℕ) (mv : IsMoved bytes moved) →
+    options.widths ≡ widths.Shortest → options.unused ≡ kinds.Kept →
+    KeepsOrderOfEqual kinds.Kept bytes mv.indices → IsNormalised options bytes a →
+    IsNormalised options moved b → a ≡ b
+moved_kept options bytes moved a b mv short kept order h k =
     let f = all_normal options.unused bytes h.has.normal h.new_indices kept h.has.has in
     let g = all_normal options.unused moved k.has.normal k.new_indices kept k.has.has in
     let s : Section = section_of mv.groups in
@@ -230,75 +244,107 @@ moved_once options bytes moved a b mv short kept order h k =
     let d : IsNormalForm r p g.indices =
     subst (λ (u : List GroupAt). IsNormalForm (section_of u) p g.indices) read-on g.is_normal_form in
     let cor = corresponds s r n p mv.indices f.indices g.indices mv.moves ws wr c d in
-    let first = left_renamed options.descriptions mv.types (all_kept mv.indices) mv.widths bytes moved h.left
-    k.left h.is_left k.is_left mv.renamed in
-    let second : RenamesModule k.types (all_kept g.indices) widths.Shortest k.left b =
-    subst (λ (u : NewIndices). RenamesModule k.types u widths.Shortest k.left b) g.all_kept
-    (subst (λ u. RenamesModule k.types k.new_indices u k.left b) short k.renamed) in
     let turn = in_turn s r n p mv.indices f.indices g.indices cor.1 c d in
     let ordered = keep_order bytes h.has.normal h.new_indices s r n mv.indices f.indices g.indices
     (normal_form_of kinds.Kept bytes h.has.normal h.new_indices refl f) f.all_kept
     cor.1 c order in
-    let both = modules_compose (all_kept mv.indices) (all_kept g.indices) (all_kept f.indices) turn
-    (none_deleted mv.indices) ordered mv.widths mv.types k.types h.left k.left b first second in
-    let normal-is : n ≡ p = cor.0 in
-    let form : AllNormal bytes k.has.normal (all_kept f.indices) = record {
-      groups = f.groups;
-      read = f.read;
-      well_named = f.well_named;
-      indices = f.indices;
-      is_normal_form =
-          subst (λ (u : Section). IsNormalForm (section_of f.groups) u f.indices) normal-is f.is_normal_form;
-      all_kept = refl;
-    } in
-    normalised_once options bytes a b kept h (record {
-      types = k.types;
-      new_indices = all_kept f.indices;
-      has = record {
-        normal = k.has.normal;
-        has = normal_form_of options.unused bytes k.has.normal (all_kept f.indices) kept form;
-        written = k.has.written;
-      };
-      left = h.left;
-      is_left = h.is_left;
-      renamed = subst (λ u. RenamesModule k.types (all_kept f.indices) u h.left b) (sym short) both;
-    })
+    moved_same options bytes moved a b mv short h k (same_section h.has.normal k.has.normal cor.0)
+    (subst (λ (u : NewIndices). AreInTurn (all_kept mv.indices) u h.new_indices) (sym g.all_kept)
+    (subst (λ (u : NewIndices). AreInTurn (all_kept mv.indices) (all_kept g.indices) u) (sym f.all_kept) turn))
+    (subst (λ (u : NewIndices). KeepOrder (all_kept mv.indices) u) (sym g.all_kept) ordered)
+
+moved_deleted : (options : NormaliseOptions) (bytes moved a b : List ℕ) (mv : IsMoved bytes moved) →
+    options.widths ≡ widths.Shortest → options.unused ≡ kinds.Deleted →
+    KeepsOrderOfEqual kinds.Deleted bytes mv.indices → IsNormalised options bytes a →
+    IsNormalised options moved b → a ≡ b
+moved_deleted options bytes moved a b mv short deleted order h k =
+    let f = used_normal options.unused bytes h.has.normal h.new_indices deleted h.has.has in
+    let g = used_normal options.unused moved k.has.normal k.new_indices deleted k.has.has in
+    let u = moved_used bytes moved mv h.has.normal k.has.normal h.new_indices k.new_indices f g
+    (moved_types bytes moved mv) (have_new options bytes a h) in
+    moved_same options bytes moved a b mv short h k u.same u.turn
+    (keep_used_order bytes h.has.normal mv.indices h.new_indices k.new_indices u.turn
+    (subst (λ v. HasNormalForm v bytes h.has.normal h.new_indices) deleted h.has.has) order)
+
+pub moved_once : (options : NormaliseOptions) (bytes moved a b : List ℕ) (mv : IsMoved bytes moved) →
+    options.widths ≡ widths.Shortest → KeepsOrderOfEqual options.unused bytes mv.indices →
+    IsNormalised options bytes a → IsNormalised options moved b → a ≡ b
+moved_once options bytes moved a b mv short order h k = by_kind options.unused refl
+  where
+    by_kind : (u : UnusedTypes) → options.unused ≡ u → a ≡ b
+    by_kind kinds.Kept kept =
+        moved_kept options bytes moved a b mv short kept
+        (subst (λ u. KeepsOrderOfEqual u bytes mv.indices) kept order) h k
+    by_kind kinds.Deleted deleted =
+        moved_deleted options bytes moved a b mv short deleted
+        (subst (λ u. KeepsOrderOfEqual u bytes mv.indices) deleted order) h k
+
+-- ---- chains of moves
+
+pub chain_once : (options : NormaliseOptions) (last bytes a b : List ℕ) → options.widths ≡ widths.Shortest →
+    MoveChainTo options last bytes → IsNormalised options bytes a → IsNormalised options last b → a ≡ b
+chain_once options last _ a b short stop h k = normalised_once options last a b h k
+chain_once options last _ a b short (forth bytes next new (move, order) has chain) h k =
+    moved_once options bytes next a new move short order h has
+    ∙ chain_once options last next new b short chain has k
+chain_once options last _ a b short (back bytes next new (move, order) has chain) h k =
+    sym (moved_once options next bytes new a move short order has h)
+    ∙ chain_once options last next new b short chain has k
 
 -- ---- where the order stays
 
-pub different_keep_order : (bytes : List ℕ) (groups : List GroupAt) (i : ℕ) → HasTypes bytes groups →
-    ((k : ℕ) → ¬ (Names ((index_space (section_of groups)).definition i) k))
+-- what has a new index is a type of the module; if it names none, it is defined there as before
+new_definition : (u : UnusedTypes) (bytes : List ℕ) (groups normal : List GroupAt) (m : NewIndices) (q p : ℕ) →
+    HasTypes bytes groups → HasNormalForm u bytes normal m → new_index m q ≡ Some p
+    → (q < (index_space (section_of groups)).count)
+    × (((k : ℕ) → ¬ (Names ((index_space (section_of groups)).definition q) k))
+    → (index_space (section_of normal)).definition p ≡ (index_space (section_of groups)).definition q)
+new_definition kinds.Kept bytes groups normal m q p read form e =
+    let has = all_normal kinds.Kept bytes normal m refl form in
+    let s : Section = section_of groups in
+    let same : has.groups ≡ groups = types_once bytes has.groups groups has.read read in
+    let c : IsNormalForm s (section_of normal) has.indices =
+    subst (λ (u : List GroupAt). IsNormalForm (section_of u) (section_of normal) has.indices) same
+    has.is_normal_form in
+    let x = item_at has.indices q p (sym (ap (λ (u : NewIndices). new_index u q) has.all_kept) ∙ e) in
+    let below : q < (index_space s).count = subst (λ u. q < u) c.one_each x.0 in (
+      below,
+      λ none.
+          ap (index_space (section_of normal)).definition (sym x.1)
+          ∙ (c.laws.same q below ∙ nameless (image has.indices) ((index_space s).definition q) none),
+    )
+new_definition kinds.Deleted bytes groups normal m q p read form e =
+    let has = used_normal kinds.Deleted bytes normal m refl form in
+    let s : Section = section_of groups in
+    let same : has.groups ≡ groups = types_once bytes has.groups groups has.read read in
+    let c : IsUsedNormal s has.roots (section_of normal) m =
+    subst (λ (u : List GroupAt). IsUsedNormal (section_of u) has.roots (section_of normal) m) same
+    has.is_used_normal in (
+      subst (λ u. q < u) c.one_each (has_place m q p e),
+      λ none.
+          c.contents.same q p e
+          ∙ nameless (value_or_zero (new_index m)) ((index_space s).definition q) none,
+    )
+
+pub different_keep_order : (unused : UnusedTypes) (bytes : List ℕ) (groups : List GroupAt) (i : ℕ) →
+    HasTypes bytes groups → ((k : ℕ) → ¬ (Names ((index_space (section_of groups)).definition i) k))
     → ((k : ℕ) → ¬ (Names ((index_space (section_of groups)).definition (suc i)) k))
     → ¬ ((index_space (section_of groups)).definition i ≡ (index_space (section_of groups)).definition (suc
     i))
-    → KeepsOrderOfEqual bytes (map (exchange i) (identity (section_of groups)))
-different_keep_order bytes groups i read first second differ normal new_indices form j k p less jp kp =
-    let has = all_normal kinds.Kept bytes normal new_indices refl form in
+    → KeepsOrderOfEqual unused bytes (map (exchange i) (identity (section_of groups)))
+different_keep_order unused bytes groups i read first second differ normal m form j k p less jp kp =
     let s : Section = section_of groups in
-    let m = has.indices in
-    let same : has.groups ≡ groups = types_once bytes has.groups groups has.read read in
-    let c : IsNormalForm s (section_of normal) m =
-    subst (λ (u : List GroupAt). IsNormalForm (section_of u) (section_of normal) m) same has.is_normal_form in
-    let at : (q : ℕ) → new_index new_indices q ≡ Some p → (q < (index_space s).count) × (image m q ≡ p) =
-    λ q to. let x = item_at m q p (sym (ap (λ (u : NewIndices). new_index u q) has.all_kept) ∙ to) in
-    (subst (λ u. q < u) c.one_each x.0, x.1) in
-    let x = at j jp in
-    let y = at k kp in
+    let at : (q : ℕ) → new_index m q ≡ Some p → (q < (index_space s).count)
+    × (((k : ℕ) → ¬ (Names ((index_space s).definition q) k))
+    → (index_space (section_of normal)).definition p ≡ (index_space s).definition q) =
+    λ q e. new_definition unused bytes groups normal m q p read form e in
     elim (exchange_order i j k less) [
       | inl before ↦ (
-          let a = listed_at s (exchange i) j x.0 in
-          let b = listed_at s (exchange i) k y.0 in
+          let a = listed_at s (exchange i) j (at j jp).0 in
+          let b = listed_at s (exchange i) k (at k kp).0 in
           omega (arith, before, a, b))
       | inr both ↦ absurd (
-          let d = (index_space s).definition in
-          let j-is : image m i ≡ p = ap (image m) (sym both.0) ∙ x.1 in
-          let k-is : image m (suc i) ≡ p = ap (image m) (sym both.1) ∙ y.1 in
-          let here : i < (index_space s).count = subst (λ u. u < (index_space s).count) both.0 x.0 in
-          let there : suc i < (index_space s).count = subst (λ u. u < (index_space s).count) both.1 y.0 in
-          let z = index_space (section_of normal) in
-          let one : z.definition (image m i) ≡ d i = c.laws.same i here
-          ∙ nameless (image m) (d i) first in
-          let two : z.definition (image m (suc i)) ≡ d (suc i) = c.laws.same (suc i) there
-          ∙ nameless (image m) (d (suc i)) second in
-          differ (sym one ∙ ap z.definition (j-is ∙ sym k-is) ∙ two))
+          let one = (at i (ap (new_index m) (sym both.0) ∙ jp)).1 first in
+          let two = (at (suc i) (ap (new_index m) (sym both.1) ∙ kp)).1 second in
+          differ (sym one ∙ two))
     ]

@@ -1,26 +1,33 @@
 -- There is one normal form of a module.
-use Rattle.std.proofs.Common.{◌≡◌, ℕ, List, [], ◌++◌, length, map, take, Some, refl, sym, ap, subst, ◌∙◌, take_at}
+use Rattle.std.proofs.Common.{◌≡◌, ℕ, List, [], ◌++◌, length, map, take, Some, refl, sym, ap, subst, ◌∙◌, arith, take_at}
 use Rattle.walrus_binary.specs.Grammar.{IsTypes}
 use Rattle.walrus_binary.specs.ModuleSections.{HasTypes, in_section, without_section}
 use Rattle.walrus_binary.specs.Modules.{IsTypeSectionAt}
 use Rattle.walrus_binary.proofs.Modules.FirstSections.{contents}
 use Rattle.walrus_binary.proofs.Sections as groups
+use Rattle.walrus_ty.specs.Groups.{Section}
 use Rattle.walrus_ty.specs.Records.{section_of}
 use Rattle.walrus_ty.specs.declared.records.GroupAt.{GroupAt}
 use Rattle.walrus_ty.proofs.Equality.Contents.{same_section}
 use Rattle.walrus_sections.specs.NormalForm.{IsNormalForm}
-use Rattle.walrus_sections.specs.Section.{IsWellNamed}
+use Rattle.walrus_sections.specs.Section.{IsWellNamed, index_space}
 use Rattle.walrus_sections.proofs.NormalForms.One.{one_normal_form}
-use Rattle.walrus_module.specs.Renaming.{NewIndices}
+use Rattle.walrus_module.specs.NamedTypes.{NamesOutside}
+use Rattle.walrus_module.specs.Renaming.{NewIndices, new_index}
 use Rattle.walrus_module.specs.RenamedModules.{RenamesModule}
 use Rattle.walrus_module.proofs.OneModule.{renamed_once}
 use Rattle.walrus_module.proofs.StrippedOnce.{stripped_once}
-use Rattle.walrus_normalise.specs.NormalModules.{HasNormalForm, of_all, of_used, HasNormalTypes, IsLeft, IsNormalised}
+use Rattle.walrus_module.specs.declared.renaming.Widths.{Widths}
+use Rattle.walrus_unused.specs.UsedSections.{IsUsedNormal}
+use Rattle.walrus_unused.proofs.UsedForms.OneForm.{one_used_form}
+use Rattle.walrus_unused.proofs.UsedForms.Roots.{has_place, roots_known}
+use Rattle.walrus_normalise.specs.NormalModules.{HasNormalForm, of_all, of_used, IsShortest, IsLeft, IsNormalised}
 use Rattle.walrus_normalise.specs.declared.options.UnusedTypes.{UnusedTypes}
 use Rattle.walrus_normalise.specs.declared.options.UnusedTypes.TheVariants as kinds
 use Rattle.walrus_normalise.specs.declared.options.Descriptions.{Descriptions}
 use Rattle.walrus_normalise.specs.declared.options.Descriptions.TheVariants as descriptions
 use Rattle.walrus_normalise.specs.declared.options.NormaliseOptions.{NormaliseOptions}
+use Rattle.walrus_normalise.proofs.OneNaming.{named_once, new_roots_of}
 use Rattle.walrus_normalise.proofs.ShortestTexts.{shortest_types_once}
 
 -- ---- the types of a module
@@ -77,11 +84,31 @@ pub normal_form_of : (u : UnusedTypes) (bytes : List ℕ) (normal : List GroupAt
 normal_form_of u bytes normal m kept h =
     of_all h.groups h.indices kept h.read h.well_named h.is_normal_form h.all_kept
 
-pub normal_form_once : (u : UnusedTypes) (bytes : List ℕ) (a b : List GroupAt) (m w : NewIndices) →
-    u ≡ kinds.Kept → HasNormalForm u bytes a m → HasNormalForm u bytes b w → (a ≡ b) × (m ≡ w)
-normal_form_once u bytes a b m w kept has too =
-    let h = all_normal u bytes a m kept has in
-    let k = all_normal u bytes b w kept too in
+-- the normal form of the used types of a module
+pub record UsedNormal (bytes : List ℕ) (normal : List GroupAt) (new_indices : NewIndices) : Type 0 where
+  pub groups : List GroupAt
+  pub roots : List ℕ
+  pub read : HasTypes bytes groups
+  pub well_named : IsWellNamed (section_of groups)
+  pub named : NamesOutside bytes roots
+  pub is_used_normal : IsUsedNormal (section_of groups) roots (section_of normal) new_indices
+
+pub used_normal : (u : UnusedTypes) (bytes : List ℕ) (normal : List GroupAt) (m : NewIndices) →
+    u ≡ kinds.Deleted → HasNormalForm u bytes normal m → UsedNormal bytes normal m
+used_normal u bytes normal m deleted (of_all groups indices kept read well_named is all) =
+    absurd (not_deleted (sym kept ∙ deleted))
+used_normal u bytes normal m deleted (of_used groups roots same read well_named named form used) = record {
+  groups = groups;
+  roots = roots;
+  read = read;
+  well_named = well_named;
+  named = named;
+  is_used_normal = used;
+}
+
+all_once : (bytes : List ℕ) (a b : List GroupAt) (m w : NewIndices) → AllNormal bytes a m → AllNormal bytes b w →
+    (a ≡ b) × (m ≡ w)
+all_once bytes a b m w h k =
     let same : k.groups ≡ h.groups = types_once bytes k.groups h.groups k.read h.read in
     let one = one_normal_form (section_of h.groups) (section_of a) (section_of b) h.indices k.indices
     h.well_named.below_ends h.is_normal_form
@@ -89,16 +116,40 @@ normal_form_once u bytes a b m w kept has too =
     in
     (same_section a b one.0, h.all_kept ∙ ap (λ (v : List ℕ). map (λ n. Some n) v) one.1 ∙ sym k.all_kept)
 
-pub normal_types_once : (u : UnusedTypes) (bytes a b : List ℕ) (m w : NewIndices) → u ≡ kinds.Kept →
-    HasNormalTypes u bytes a m → HasNormalTypes u bytes b w → (a ≡ b) × (m ≡ w)
-normal_types_once u bytes a b m w kept h k =
-    let one = normal_form_once u bytes h.normal k.normal m w kept h.has k.has in
-    let text : IsTypes b h.normal = subst (λ (v : List GroupAt). IsTypes b v) (sym one.0) k.written.is_text
-    in (
-      shortest_types_once a b h.normal h.written.is_text text h.written.least
-          (λ o t. k.written.least o (subst (λ (v : List GroupAt). IsTypes o v) one.0 t)),
-      one.1,
-    )
+-- all types that the module names have a new index
+abbrev pub HaveNew : NewIndices → List ℕ → Type 0
+HaveNew m bytes = (roots : List ℕ) → NamesOutside bytes roots → (new_roots : List ℕ)
+    × (map (λ k. new_index m k) roots ≡ map (λ k. Some k) new_roots)
+
+used_once : (bytes : List ℕ) (a b : List GroupAt) (m w : NewIndices) → HaveNew m bytes → UsedNormal bytes a m →
+    UsedNormal bytes b w → (a ≡ b) × (m ≡ w)
+used_once bytes a b m w have h k =
+    let same : k.groups ≡ h.groups = types_once bytes k.groups h.groups k.read h.read in
+    let roots-are : k.roots ≡ h.roots = named_once bytes k.roots h.roots k.named h.named in
+    let s : Section = section_of h.groups in
+    let again : IsUsedNormal s h.roots (section_of b) w =
+    subst (λ (u : List ℕ). IsUsedNormal s u (section_of b) w) roots-are
+    (subst (λ (v : List GroupAt). IsUsedNormal (section_of v) k.roots (section_of b) w) same k.is_used_normal)
+    in
+    let new = have h.roots h.named in
+    let known = roots_known (new_index m) h.roots new.0 new.1 (index_space s).count
+    (λ i p e. (let at = has_place m i p e in omega (arith, at, h.is_used_normal.one_each))) in
+    let one = one_used_form s h.roots h.well_named.below_ends known (section_of a) (section_of b) m w
+    h.is_used_normal again in
+    (same_section a b one.0, one.1)
+
+pub normal_form_once : (u : UnusedTypes) (bytes : List ℕ) (a b : List GroupAt) (m w : NewIndices) →
+    HaveNew m bytes → HasNormalForm u bytes a m → HasNormalForm u bytes b w → (a ≡ b) × (m ≡ w)
+normal_form_once kinds.Kept bytes a b m w have h k =
+    all_once bytes a b m w (all_normal kinds.Kept bytes a m refl h) (all_normal kinds.Kept bytes b w refl k)
+normal_form_once kinds.Deleted bytes a b m w have h k =
+    used_once bytes a b m w have (used_normal kinds.Deleted bytes a m refl h)
+    (used_normal kinds.Deleted bytes b w refl k)
+
+pub same_texts : (a b : List ℕ) (n p : List GroupAt) → n ≡ p → IsShortest a n → IsShortest b p → a ≡ b
+same_texts a b n p e h k =
+    shortest_types_once a b n h.is_text (subst (λ (v : List GroupAt). IsTypes b v) (sym e) k.is_text) h.least
+    (λ o t. k.least o (subst (λ (v : List GroupAt). IsTypes o v) e t))
 
 -- ---- modules
 
@@ -106,14 +157,26 @@ pub left_once : (d : Descriptions) (bytes a b : List ℕ) → IsLeft d bytes a �
 left_once descriptions.Kept bytes a b h k = h ∙ sym k
 left_once descriptions.Stripped bytes a b h k = stripped_once bytes a b h k
 
-pub normalised_once : (options : NormaliseOptions) (bytes a b : List ℕ) → options.unused ≡ kinds.Kept →
+-- two modules with the same types and new indices are the same
+pub same_module : (w : Widths) (types others : List ℕ) (m n : NewIndices) (left rest a b : List ℕ) →
+    types ≡ others → m ≡ n → left ≡ rest → RenamesModule types m w left a → RenamesModule others n w rest b →
+    a ≡ b
+same_module w types others m n left rest a b e f g h k =
+    renamed_once others n w rest a b
+    (subst (λ (u : List ℕ). RenamesModule others n w u a) g
+    (subst (λ (u : NewIndices). RenamesModule others u w left a) f
+    (subst (λ (u : List ℕ). RenamesModule u m w left a) e h))) k
+
+pub have_new : (options : NormaliseOptions) (bytes new : List ℕ) → (h : IsNormalised options bytes new) →
+    HaveNew h.new_indices bytes
+have_new options bytes new h roots named =
+    let r = new_roots_of options bytes new roots h named in (r.new_roots, r.mapped)
+
+pub normalised_once : (options : NormaliseOptions) (bytes a b : List ℕ) →
     IsNormalised options bytes a → IsNormalised options bytes b → a ≡ b
-normalised_once options bytes a b kept h k =
-    let types = normal_types_once options.unused bytes h.types k.types h.new_indices k.new_indices kept h.has
-    k.has in
-    let left : h.left ≡ k.left = left_once options.descriptions bytes h.left k.left h.is_left k.is_left in
-    renamed_once k.types k.new_indices options.widths k.left a b
-    (subst (λ (u : List ℕ). RenamesModule k.types k.new_indices options.widths u a) left
-    (subst (λ (u : NewIndices). RenamesModule k.types u options.widths h.left a) types.1
-    (subst (λ (u : List ℕ). RenamesModule u h.new_indices options.widths h.left a) types.0 h.renamed)))
-    k.renamed
+normalised_once options bytes a b h k =
+    let one = normal_form_once options.unused bytes h.has.normal k.has.normal h.new_indices k.new_indices
+    (have_new options bytes a h) h.has.has k.has.has in
+    same_module options.widths h.types k.types h.new_indices k.new_indices h.left k.left a b
+    (same_texts h.types k.types h.has.normal k.has.normal one.0 h.has.written k.has.written) one.1
+    (left_once options.descriptions bytes h.left k.left h.is_left k.is_left) h.renamed k.renamed

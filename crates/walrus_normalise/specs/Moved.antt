@@ -13,8 +13,9 @@ use Rattle.walrus_sections.specs.NormalForm.{identity, image}
 use Rattle.walrus_ty.specs.Groups.{Section}
 use Rattle.walrus_ty.specs.Records.{section_of}
 use Rattle.walrus_ty.specs.declared.records.GroupAt.{GroupAt}
-use Rattle.walrus_normalise.specs.NormalModules.{HasNormalForm}
-use Rattle.walrus_normalise.specs.declared.options.UnusedTypes.TheVariants as kinds
+use Rattle.walrus_normalise.specs.NormalModules.{HasNormalForm, IsNormalised}
+use Rattle.walrus_normalise.specs.declared.options.NormaliseOptions.{NormaliseOptions}
+use Rattle.walrus_normalise.specs.declared.options.UnusedTypes.{UnusedTypes}
 
 -- one move leads from s to r, and these are the indices in r of the types of s
 pub data MovesTo (s r : Section) : List ℕ → Type 0 where
@@ -37,9 +38,24 @@ pub record IsMoved (bytes moved : List ℕ) : Type 0 where
   pub renamed : RenamesModule types (map (λ n. Some n) indices) widths bytes moved
 
 -- types that become one in normal form are not moved past each other
-abbrev pub KeepsOrderOfEqual : List ℕ → List ℕ → Type 0
-KeepsOrderOfEqual bytes indices =
+abbrev pub KeepsOrderOfEqual : UnusedTypes → List ℕ → List ℕ → Type 0
+KeepsOrderOfEqual unused bytes indices =
     (normal : List GroupAt) (new_indices : NewIndices)
-    → HasNormalForm kinds.Kept bytes normal new_indices
+    → HasNormalForm unused bytes normal new_indices
     → (j k p : ℕ) → j < k → new_index new_indices j ≡ Some p → new_index new_indices k ≡ Some p
     → image indices j ≤ image indices k
+
+-- the same, by a move that does not move types past each other that become one
+abbrev pub IsMovedInOrder : UnusedTypes → List ℕ → List ℕ → Type 0
+IsMovedInOrder unused bytes moved =
+    (move : IsMoved bytes moved) × KeepsOrderOfEqual unused bytes move.indices
+
+-- Such moves and their reverses lead from a module to `last`. Each module on the way has a result.
+pub data MoveChainTo (options : NormaliseOptions) (last : List ℕ) : List ℕ → Type 0 where
+  stop : MoveChainTo options last last
+  forth :
+      (bytes next new : List ℕ) → IsMovedInOrder options.unused bytes next → IsNormalised options next new
+      → MoveChainTo options last next → MoveChainTo options last bytes
+  back :
+      (bytes next new : List ℕ) → IsMovedInOrder options.unused next bytes → IsNormalised options next new
+      → MoveChainTo options last next → MoveChainTo options last bytes

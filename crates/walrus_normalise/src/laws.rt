@@ -4,9 +4,10 @@ ghost use Rattle.std.specs.Prelude.{◌≡◌, ℕ, suc, List, map};
 ghost use Rattle.walrus_binary.specs.ModuleSections.{HasTypes};
 ghost use Rattle.walrus_module.specs.Renaming.{NewIndices};
 ghost use Rattle.walrus_module.specs.declared.renaming.Widths.TheVariants.{Shortest};
-ghost use Rattle.walrus_normalise.specs.Moved.{IsMoved, KeepsOrderOfEqual};
+ghost use Rattle.walrus_normalise.specs.Moved.{IsMoved, KeepsOrderOfEqual, MoveChainTo};
 ghost use Rattle.walrus_normalise.specs.NormalModules.{HasNormalForm, IsShortest, IsNormalised};
 ghost use Rattle.walrus_normalise.specs.declared.options.NormaliseOptions.{NormaliseOptions};
+ghost use Rattle.walrus_normalise.specs.declared.options.UnusedTypes.{UnusedTypes};
 ghost use Rattle.walrus_normalise.specs.declared.options.UnusedTypes.TheVariants as kinds;
 ghost use Rattle.walrus_sections.specs.Moves.{exchange};
 ghost use Rattle.walrus_sections.specs.NormalForm.{identity};
@@ -15,9 +16,9 @@ ghost use Rattle.walrus_ty.specs.Definition.{Names};
 ghost use Rattle.walrus_ty.specs.Records.{section_of};
 ghost use Rattle.walrus_ty.specs.declared.records.GroupAt.{GroupAt};
 
-/// Where unused types are kept, the result is determined by the module and the options.
+/// The result is determined by the module and the options.
 pub fn one_normalised_module()
-    ensures { (options : NormaliseOptions) (bytes a b : List ℕ) → options.unused ≡ kinds.Kept →
+    ensures { (options : NormaliseOptions) (bytes a b : List ℕ) →
         IsNormalised options bytes a → IsNormalised options bytes b → a ≡ b }
 {}
 
@@ -27,26 +28,34 @@ pub fn one_shortest_text()
         a ≡ b }
 {}
 
-/// Where unused types are kept, the types of the result are the normal form of the module's types.
+/// The types of the result are the normal form of the module's types, or of the used ones where
+/// unused types are deleted.
 pub fn result_has_the_normal_form()
-    ensures { (options : NormaliseOptions) (bytes new : List ℕ) → options.unused ≡ kinds.Kept →
-        IsNormalised options bytes new →
+    ensures { (options : NormaliseOptions) (bytes new : List ℕ) → IsNormalised options bytes new →
         (normal : List GroupAt) × (new_indices : NewIndices) ×
-        HasNormalForm kinds.Kept bytes normal new_indices × HasTypes new normal }
+        HasNormalForm options.unused bytes normal new_indices × HasTypes new normal }
 {}
 
-/// Where unused types are kept, a second round changes nothing, whatever the other options are.
+/// A second round changes nothing, whatever the options are: the result is its own result, and has
+/// no other. Where the first round deleted unused types, the second one may keep them as well: there
+/// are none left.
 pub fn second_round()
     ensures itself { (options : NormaliseOptions) (bytes new : List ℕ) →
-        options.unused ≡ kinds.Kept →
         IsNormalised options bytes new → IsNormalised options new new }
     ensures unchanged { (options : NormaliseOptions) (bytes new again : List ℕ) →
-        options.unused ≡ kinds.Kept →
         IsNormalised options bytes new → IsNormalised options new again → again ≡ new }
+    ensures itself_after_deleting { (options other : NormaliseOptions) (bytes new : List ℕ) →
+        options.unused ≡ kinds.Deleted → other.widths ≡ options.widths →
+        other.descriptions ≡ options.descriptions →
+        IsNormalised options bytes new → IsNormalised other new new }
+    ensures unchanged_after_deleting { (options other : NormaliseOptions)
+        (bytes new again : List ℕ) →
+        options.unused ≡ kinds.Deleted → other.widths ≡ options.widths →
+        other.descriptions ≡ options.descriptions →
+        IsNormalised options bytes new → IsNormalised other new again → again ≡ new }
 {}
 
-/// Two modules that differ by a move of their types have the same result, with the shortest widths
-/// and where unused types are kept.
+/// Two modules that differ by a move of their types have the same result, with the shortest widths.
 ///
 /// The moves are: an empty recursion group goes out; a lone type that repeats an earlier one goes
 /// out; two neighbouring lone types that name no type but themselves change places.
@@ -57,13 +66,22 @@ pub fn second_round()
 pub fn moved_module_has_the_same_result()
     ensures same { (options : NormaliseOptions) (bytes moved a b : List ℕ)
         (m : IsMoved bytes moved) → options.widths ≡ Shortest →
-        options.unused ≡ kinds.Kept →
-        KeepsOrderOfEqual bytes m.indices →
+        KeepsOrderOfEqual options.unused bytes m.indices →
         IsNormalised options bytes a → IsNormalised options moved b → a ≡ b }
-    ensures different { (bytes : List ℕ) (groups : List GroupAt) (i : ℕ) → HasTypes bytes groups →
+    ensures different { (unused : UnusedTypes) (bytes : List ℕ) (groups : List GroupAt) (i : ℕ) →
+        HasTypes bytes groups →
         ((k : ℕ) → ¬ (Names ((index_space (section_of groups)).definition i) k)) →
         ((k : ℕ) → ¬ (Names ((index_space (section_of groups)).definition (suc i)) k)) →
         ¬ ((index_space (section_of groups)).definition i ≡
         (index_space (section_of groups)).definition (suc i)) →
-        KeepsOrderOfEqual bytes (map (exchange i) (identity (section_of groups))) }
+        KeepsOrderOfEqual unused bytes (map (exchange i) (identity (section_of groups))) }
+{}
+
+/// Two modules that are joined by a chain of moves and their reverses have the same result, with the
+/// shortest widths. Each module of the chain has to have a result, and no move may turn around the
+/// order of types that become one.
+pub fn joined_modules_have_the_same_result()
+    ensures { (options : NormaliseOptions) (bytes last a b : List ℕ) →
+        options.widths ≡ Shortest → MoveChainTo options last bytes →
+        IsNormalised options bytes a → IsNormalised options last b → a ≡ b }
 {}

@@ -8,7 +8,23 @@
 //! [`rename_module`](walrus_module::rename_module) writes the module. Where [`NormaliseOptions`]
 //! want that, [`normalise_used`](walrus_unused::normalise_used) deletes the types that nothing
 //! uses, and [`strip_descriptions`](walrus_module::strip_descriptions) leaves out debug data and
-//! the like.
+//! the like. Where these are kept, [`find_outdated`](walrus_module::find_outdated) looks for a
+//! custom section that no longer fits.
+//!
+//! # Which section no longer fits
+//!
+//! [`NormaliseModuleError::Outdated`] has the place of the section, at which
+//! [`custom_section_name`](walrus_binary::custom_section_name) finds its name. For the place of any
+//! other error, [`section_around`](walrus_binary::section_around) finds the section.
+//!
+//! ```
+//! fn outdated_name(bytes: &[u8], error: NormaliseModuleError) -> Option<&[u8]> {
+//!     match error {
+//!         NormaliseModuleError::Outdated { offset } => custom_section_name(bytes.get(offset..)?),
+//!         _ => None,
+//!     }
+//! }
+//! ```
 #![tactic(auto)]
 
 mod error;

@@ -58,4 +58,5 @@ fn the_laws_hold() {
     laws::result_has_the_normal_form();
     laws::second_round();
     laws::moved_module_has_the_same_result();
+    laws::joined_modules_have_the_same_result();
 }

@@ -1,22 +1,18 @@
 -- Exports from the front of bytes.
-use Rattle.std.proofs.Common.{◌≡◌, ℕ, ◌+◌, ◌≤◌, List, [], ◌∷◌, ◌++◌, length, Option, Some, None, Ok, refl, sym, ap, subst, ◌∙◌, arith, append_assoc}
-use Rattle.walrus_binary.specs.Grammar.{IsVec}
-use Rattle.walrus_binary.specs.Leb128.{IsU32}
-use Rattle.walrus_binary.specs.Modules.{Section, IsModule}
+use Rattle.std.proofs.Common.{◌≡◌, ℕ, ◌≤◌, List, ◌∷◌, ◌++◌, Option, Some, Ok, sym, ap, subst, ◌∙◌, append_assoc}
 use Rattle.walrus_binary.specs.Steps.Reading.{u32_at}
 use Rattle.walrus_binary.proofs.Integers.{u32_sound, u32_complete}
 use Rattle.walrus_binary.proofs.Modules.Uniqueness.{one_module}
 use Rattle.walrus_module.specs.declared.scan.ScanError.{ScanError}
 use Rattle.walrus_module.specs.declared.scan.ScanError.TheVariants as scan
 use Rattle.walrus_module.specs.Steps.Heads.{fault}
-use Rattle.walrus_module.specs.Steps.NameSections.{TakesSized, BeginsUnsized, BeginsNone, IsAny}
+use Rattle.walrus_module.specs.Steps.NameSections.{Takes, TakesSized, BeginsUnsized, BeginsNone, IsAny}
 use Rattle.walrus_module.proofs.SizedContents.{no_number, same_number, same_content}
 use Rattle.walrus_module.proofs.TextItems.{IsPrefixFree}
-use Rattle.walrus_snipping.specs.Exports.{Export, export, IsExport, exported, IsFunctionUnder, AreFunctionsUnder, no_export, found, passed, ExportsFunctions, ExportedBy, ExportsUnder}
+use Rattle.walrus_snipping.specs.Exports.{Export, export, IsExport, exported, ExportedBy, ExportsUnder, ExportsNoneBy}
 use Rattle.walrus_snipping.specs.Functions.{section_content}
 use Rattle.walrus_snipping.specs.Steps.Counting.{HasContent, IsNoModuleBy}
-use Rattle.walrus_snipping.specs.Steps.Exporting.{TakesExport, TakesNoExport, HasNoExportsBy, ExportsNoneBy}
-use Rattle.walrus_snipping.proofs.Items.{ItemsUpTo, one_on}
+use Rattle.walrus_snipping.specs.Steps.Exporting.{HasNoExportsBy}
 
 -- ---- one export
 
@@ -40,9 +36,10 @@ opened _ rest _ (exported size name index kind k h low g) =
       reads = u32_complete index k rest g;
     }
 
-opened_in : (bytes rest : List ℕ) (e : Export) → TakesExport e bytes rest → Opened e bytes rest
-opened_in bytes rest e t =
-    subst (λ (u : List ℕ). Opened e u rest) (sym t.parts) (opened t.text rest e t.is_export)
+opened_in : (bytes rest : List ℕ) (t : Takes (IsAny IsExport) bytes rest) → Opened t.is_text.item bytes rest
+opened_in bytes rest t =
+    subst (λ (u : List ℕ). Opened t.is_text.item u rest) (sym t.parts)
+    (opened t.text rest t.is_text.item t.is_text.is_text)
 
 same_first : (a b : ℕ) (x y : List ℕ) → a ∷ x ≡ b ∷ y → a ≡ b
 same_first a b x y e = cc
@@ -60,69 +57,42 @@ any_export_free a b rest after h k e =
     (same_number (u32_at p.behind) h.item.index k.item.index rest after (ap u32_at (sym behind) ∙ o.reads)
     p.reads).1
 
-pub none_any : (bytes : List ℕ) → TakesNoExport bytes → BeginsNone (IsAny IsExport) bytes
-none_any bytes h rest t =
-    h t.is_text.item rest (record { text = t.text; is_export = t.is_text.is_text; parts = t.parts })
-
 pub export_taken : (name bytes behind last rest : List ℕ) (kind k : ℕ) → TakesSized name bytes behind →
     (behind ≡ kind ∷ last) × (kind ≤ 4) → u32_at last ≡ Ok (k, rest) →
-    TakesExport (export name kind k) bytes rest
+    Takes (λ text. IsExport text (export name kind k)) bytes rest
 export_taken name bytes behind last rest kind k t low reads =
     let n = u32_sound last k rest reads in
     let whole : List ℕ = t.size ++ (name ++ kind ∷ n.text) in
     record {
       text = whole;
-      is_export = exported t.size name n.text kind k t.is_size low.1 n.is_text;
+      is_text = exported t.size name n.text kind k t.is_size low.1 n.is_text;
       parts =
           t.parts ∙ ap (λ (u : List ℕ). t.size ++ (name ++ u)) (low.0 ∙ ap (λ (u : List ℕ). kind ∷ u) n.parts)
           ∙ ap (λ (u : List ℕ). t.size ++ u) (sym (append_assoc name (kind ∷ n.text) rest))
           ∙ sym (append_assoc t.size (name ++ kind ∷ n.text) rest);
     }
 
-pub no_name : (bytes : List ℕ) → BeginsUnsized bytes → TakesNoExport bytes
-no_name bytes h e rest t =
-    let o = opened_in bytes rest e t in
+pub no_name : (bytes : List ℕ) → BeginsUnsized bytes → BeginsNone (IsAny IsExport) bytes
+no_name bytes h rest t =
+    let e = t.is_text.item in
+    let o = opened_in bytes rest t in
     h e.name (e.kind ∷ o.behind) o.takes
 
 pub no_kind : (bytes name behind : List ℕ) → TakesSized name bytes behind →
-    ((kind : ℕ) (rest : List ℕ) → kind ≤ 4 → behind ≡ kind ∷ rest → ⊥) → TakesNoExport bytes
-no_kind bytes name behind k h e rest t =
-    let o = opened_in bytes rest e t in
+    ((kind : ℕ) (rest : List ℕ) → kind ≤ 4 → behind ≡ kind ∷ rest → ⊥) → BeginsNone (IsAny IsExport) bytes
+no_kind bytes name behind k h rest t =
+    let e = t.is_text.item in
+    let o = opened_in bytes rest t in
     h e.kind o.behind o.low (same_content bytes name behind e.name (e.kind ∷ o.behind) k o.takes).1
 
 pub no_index : (bytes name behind last left : List ℕ) (kind : ℕ) → TakesSized name bytes behind →
-    (behind ≡ kind ∷ last) × (kind ≤ 4) → u32_at last ≡ fault left → TakesNoExport bytes
-no_index bytes name behind last left kind k low none e rest t =
-    let o = opened_in bytes rest e t in
+    (behind ≡ kind ∷ last) × (kind ≤ 4) → u32_at last ≡ fault left → BeginsNone (IsAny IsExport) bytes
+no_index bytes name behind last left kind k low none rest t =
+    let e = t.is_text.item in
+    let o = opened_in bytes rest t in
     let same = (same_content bytes name behind e.name (e.kind ∷ o.behind) k o.takes).1 in
     let lasts : last ≡ o.behind = same_others kind e.kind last o.behind (sym low.0 ∙ same) in
     no_number (u32_at last) left _ _ none (ap u32_at lasts ∙ o.reads)
-
--- ---- the functions among exports
-
-pub one_found : (name : List ℕ) (items : List Export) (indices : List ℕ) (e : Export) →
-    AreFunctionsUnder name items indices → IsFunctionUnder name e →
-    AreFunctionsUnder name (items ++ e ∷ []) (indices ++ e.index ∷ [])
-one_found name _ _ e no_export h = found e [] [] h no_export
-one_found name _ _ e (found f others indices k rest) h =
-    found f (others ++ e ∷ []) (indices ++ e.index ∷ []) k (one_found name others indices e rest h)
-one_found name _ _ e (passed f others indices fails rest) h =
-    passed f (others ++ e ∷ []) (indices ++ e.index ∷ []) fails (one_found name others indices e rest h)
-
-pub one_passed : (name : List ℕ) (items : List Export) (indices : List ℕ) (e : Export) →
-    AreFunctionsUnder name items indices → (IsFunctionUnder name e → ⊥) →
-    AreFunctionsUnder name (items ++ e ∷ []) indices
-one_passed name _ _ e no_export h = passed e [] [] h no_export
-one_passed name _ _ e (found f others indices k rest) h =
-    found f (others ++ e ∷ []) indices k (one_passed name others indices e rest h)
-one_passed name _ _ e (passed f others indices fails rest) h =
-    passed f (others ++ e ∷ []) indices fails (one_passed name others indices e rest h)
-
-pub export_on : (items : List Export) (bytes : List ℕ) (count i : ℕ) (rest after : List ℕ) (e : Export) →
-    ItemsUpTo IsExport items bytes count i rest → TakesExport e rest after →
-    ItemsUpTo IsExport (items ++ e ∷ []) bytes count (i + 1) after
-export_on items bytes count i rest after e u t =
-    one_on IsExport items bytes count i rest after t.text e u t.is_export t.parts
 
 -- ---- the module
 

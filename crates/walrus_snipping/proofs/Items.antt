@@ -3,7 +3,7 @@ use Rattle.std.proofs.Common.{◌≡◌, ℕ, ◌+◌, ◌<◌, List, [], ◌∷
 use Rattle.walrus_binary.specs.Grammar.{IsVec}
 use Rattle.walrus_binary.specs.Steps.Reading.{u32_at}
 use Rattle.walrus_module.specs.Steps.Heads.{fault}
-use Rattle.walrus_module.specs.Steps.NameSections.{BeginsNone, IsAny, TakesItems}
+use Rattle.walrus_module.specs.Steps.NameSections.{Takes, BeginsNone, IsAny, TakesItems}
 use Rattle.walrus_module.proofs.TextItems.{IsPrefixFree, same_items, no_items, items_on, items_cut_off, vec_taken, vec_items, vec_countless}
 
 -- so many of the items were taken, and this is behind them
@@ -34,6 +34,12 @@ module _ {A : Type 0} (IsText : List ℕ → A → Type 0) where
         takes = items_on IsText items u.behind rest after last x u.takes h e;
         many = one_longer items x i u.many;
       }
+
+  pub taken_on : (items : List A) (bytes : List ℕ) (count i : ℕ) (rest after : List ℕ) (x : A) →
+      ItemsUpTo IsText items bytes count i rest → Takes (λ text. IsText text x) rest after →
+      ItemsUpTo IsText (items ++ x ∷ []) bytes count (i + 1) after
+  taken_on items bytes count i rest after x u t =
+      one_on items bytes count i rest after t.text x u t.is_text t.parts
 
   -- as many items as the number says begin what is behind it
   opened : (items : List A) (bytes : List ℕ) (count i : ℕ) (rest : List ℕ)

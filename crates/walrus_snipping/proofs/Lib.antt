@@ -1,4 +1,5 @@
 pub mod Items
+pub mod Gathering
 pub mod Sized
 pub mod Order
 pub mod Imports
@@ -11,3 +12,6 @@ pub mod Once
 pub mod Again
 pub mod Listing
 pub mod Exporting
+pub mod FunctionNames
+pub mod NameSections
+pub mod WithName

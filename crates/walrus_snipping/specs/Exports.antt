@@ -1,9 +1,11 @@
 -- Functions by the names of their exports.
 -- WebAssembly core specification, "Binary Format", export section.
 use Rattle.std.specs.Prelude.{◌≡◌, ℕ, ◌≤◌, List, [], ◌∷◌, ◌++◌, length, Option, Some, None}
-use Rattle.walrus_binary.specs.Grammar.{IsVec}
+use Rattle.walrus_binary.specs.Grammar.{AreItems, IsVec}
 use Rattle.walrus_binary.specs.Leb128.{IsU32}
 use Rattle.walrus_binary.specs.Modules.{Section, IsModule}
+use Rattle.walrus_module.specs.declared.scan.ScanError.{ScanError}
+use Rattle.walrus_module.specs.declared.scan.ScanError.TheVariants as scan
 use Rattle.walrus_snipping.specs.Functions.{section_content}
 
 -- what is exported: its name, its kind, and its index among those of the kind
@@ -26,22 +28,21 @@ pub record IsFunctionUnder (name : List ℕ) (e : Export) : Type 0 where
   pub same : e.name ≡ name
   pub is_function : e.kind ≡ 0
 
--- the indices of the functions that are exported under this name, in the order of the exports
-pub data AreFunctionsUnder (name : List ℕ) : List Export → List ℕ → Type 0 where
-  no_export : AreFunctionsUnder name [] []
-  found :
-      (e : Export) (others : List Export) (indices : List ℕ) → IsFunctionUnder name e
-      → AreFunctionsUnder name others indices
-      → AreFunctionsUnder name (e ∷ others) (e.index ∷ indices)
-  passed :
-      (e : Export) (others : List Export) (indices : List ℕ) → (IsFunctionUnder name e → ⊥)
-      → AreFunctionsUnder name others indices → AreFunctionsUnder name (e ∷ others) indices
+-- What an item adds to a list of indices: its own index where it has a property, and else nothing.
+pub data Adds {A : Type 0} (index : A → ℕ) (Has : A → Type 0) : List ℕ → A → Type 0 where
+  itself : (x : A) → Has x → Adds index Has (index x ∷ []) x
+  nothing : (x : A) → (Has x → ⊥) → Adds index Has [] x
 
--- the content of an export section, which exports these functions under this name
+-- the function of an export under this name, and else none
+abbrev pub ExportGives : List ℕ → List ℕ → Export → Type 0
+ExportGives name = Adds (λ e. e.index) (IsFunctionUnder name)
+
+-- the content of an export section, which exports these functions under this name, one export after
+-- another
 pub record ExportsFunctions (name content indices : List ℕ) : Type 0 where
   pub exports : List Export
   pub are : IsVec IsExport content exports
-  pub functions : AreFunctionsUnder name exports indices
+  pub gives : AreItems (ExportGives name) indices exports
 
 -- the same where there may be no such section
 abbrev pub ExportedBy : List ℕ → Option (List ℕ) → List ℕ → Type 0
@@ -53,3 +54,14 @@ pub record ExportsUnder (name indices bytes : List ℕ) : Type 0 where
   pub sections : List Section
   pub is_module : IsModule bytes sections
   pub exported : ExportedBy name (section_content 7 sections) indices
+
+-- ---- what is refused
+
+-- no functions are found under any name, unless memory was refused
+abbrev pub FindsNoneBy : (List ℕ → List ℕ → Type 0) → ScanError → Type 0
+FindsNoneBy Finds scan.Malformed = (name indices : List ℕ) → Finds name indices → ⊥
+FindsNoneBy Finds scan.Memory = Unit {0}
+
+-- the bytes are no module whose export section is well formed, unless memory was refused
+abbrev pub ExportsNoneBy : List ℕ → ScanError → Type 0
+ExportsNoneBy bytes = FindsNoneBy (λ name indices. ExportsUnder name indices bytes)

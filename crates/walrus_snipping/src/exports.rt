@@ -2,8 +2,10 @@
 //!
 //! WebAssembly core specification, "Binary Format", export section.
 ghost use Rattle.std.specs.Prelude.{◌≡◌, ◌≤◌, ◌++◌, ℕ, List, [], ◌∷◌, false, IfOk, IfErr, IfSome, IfNone, IsTrue, OnOk};
-ghost use Rattle.walrus_snipping.specs.Exports.{Export, export, AreFunctionsUnder, IsFunctionUnder, ExportsFunctions, ExportsUnder};
-ghost use Rattle.walrus_snipping.specs.Steps.Exporting.{TakesExport, TakesNoExport, HasNoExportsBy, ExportsNoneBy};
+ghost use Rattle.walrus_module.specs.Steps.NameSections.{Takes, BeginsNone, IsAny};
+ghost use Rattle.walrus_module.specs.Steps.Renaming.{Appends};
+ghost use Rattle.walrus_snipping.specs.Exports.{export, IsExport, IsFunctionUnder, ExportGives, ExportsFunctions, ExportsUnder, ExportsNoneBy};
+ghost use Rattle.walrus_snipping.specs.Steps.Exporting.{HasNoExportsBy};
 
 use crate::counting::find_content;
 use crate::snipped_code::are_equal;
@@ -71,9 +73,7 @@ fn functions_under(alloc: Global, content: &[u8], name: &[u8]) -> Result<Vec<u32
         let Some(item) = take_export(&mut rest) else {
             return Err(ScanError::Malformed);
         };
-        if is_function_under(name, item) {
-            note(item.index, &mut functions)?;
-        }
+        note(item, name, &mut functions)?;
     }
     if !rest.is_empty() {
         return Err(ScanError::Malformed);
@@ -81,10 +81,16 @@ fn functions_under(alloc: Global, content: &[u8], name: &[u8]) -> Result<Vec<u32
     Ok(functions)
 }
 
-fn note(index: u32, functions: &mut Vec<u32>) -> Result<(), AllocError>
-    ensures { OnOk result (functions.new.items ≡ functions.old.items ++ index ∷ []) }
+/// Notes the function of an export under this name.
+fn note(item: ExportEntry<'_>, name: &[u8], functions: &mut Vec<u32>) -> Result<(), AllocError>
+    ensures { OnOk result (Appends (λ indices. ExportGives name.now indices
+        (export item.entry.name.now item.entry.kind item.entry.index)) functions.old.items
+        functions.new.items) }
 {
-    functions.push(index)?;
+    if !is_function_under(name, item) {
+        return Ok(());
+    }
+    functions.push(item.index)?;
     Ok(())
 }
 
@@ -103,9 +109,9 @@ fn is_function_under(name: &[u8], item: ExportEntry<'_>) -> bool
 
 /// Takes an export from the front.
 fn take_export<'a>(input: &mut &'a [u8]) -> Option<ExportEntry<'a>>
-    ensures taken { IfSome result (λ e.
-        TakesExport (export e.name.now e.kind e.index) input.old.now input.new.now) }
-    ensures none { IfNone result (TakesNoExport input.old.now) }
+    ensures taken { IfSome result (λ e. Takes (λ text.
+        IsExport text (export e.name.now e.kind e.index)) input.old.now input.new.now) }
+    ensures none { IfNone result (BeginsNone (IsAny IsExport) input.old.now) }
 {
     let name = take_sized(input)?;
     let kind = take_kind(input)?;

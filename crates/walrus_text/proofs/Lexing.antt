@@ -1,3 +1,4 @@
 -- Bytes as words and lines.
 pub mod FirstWord
+pub mod LineFeeds
 pub mod Spacing

@@ -45,6 +45,7 @@
 mod error;
 pub mod laws;
 mod line_reader;
+mod numbers;
 mod parse;
 mod print;
 mod section_builder;

@@ -5,11 +5,12 @@ ghost use Rattle.walrus_text.specs.Steps.Words.{words_if_any};
 ghost use Rattle.walrus_text.specs.Text.{HasSectionIndices, IsSectionText, section_lines};
 ghost use Rattle.walrus_text.specs.Errors.{bad_line};
 ghost use Rattle.walrus_text.specs.Steps.Builder.{BeginsNoSection, HasBuilderIndices, builder_lines};
-ghost use Rattle.walrus_text.specs.Steps.Bytes.{HasReadBytes, HasChecked};
+ghost use Rattle.walrus_text.specs.Steps.Bytes.{HasReadBytes, HasChecked, IsOneLine};
 
 use crate::error::{BadLine, Expected, TextError};
 use crate::parse::{find_fault, read_line};
 use crate::section_builder::SectionBuilder;
+use crate::words::next_line;
 use std::alloc::{AllocError, Global};
 use std::io::Read;
 use walrus_ty::GroupAt;
@@ -94,20 +95,33 @@ impl LineReader {
         ensures { OnOk result ((bytes : List ℕ) → HasReadBytes self.old bytes →
             HasReadBytes self.new (bytes ++ block.now)) }
     {
-        for byte in block {
-            self.push_byte(*byte)?;
+        let mut rest = block;
+        while let Some((line, after)) = next_line(rest) {
+            self.push_line(line)?;
+            rest = after;
         }
+        self.push_part(rest)?;
         Ok(())
     }
 
-    fn push_byte(&mut self, byte: u8) -> Result<(), AllocError>
+    /// Takes bytes without a line feed, and then a line feed.
+    fn push_line(&mut self, part: &[u8]) -> Result<(), AllocError>
+        requires { IsOneLine part.now }
         ensures { OnOk result ((bytes : List ℕ) → HasReadBytes self.old bytes →
-            HasReadBytes self.new (bytes ++ byte ∷ [])) }
+            HasReadBytes self.new (bytes ++ (part.now ++ 10 ∷ []))) }
     {
-        if byte == b'\n' {
-            return self.end_line();
-        }
-        self.line.push(byte)?;
+        self.push_part(part)?;
+        self.end_line()?;
+        Ok(())
+    }
+
+    /// Takes bytes without a line feed.
+    fn push_part(&mut self, part: &[u8]) -> Result<(), AllocError>
+        requires { IsOneLine part.now }
+        ensures { OnOk result ((bytes : List ℕ) → HasReadBytes self.old bytes →
+            HasReadBytes self.new (bytes ++ part.now)) }
+    {
+        self.line.extend_from_slice(part)?;
         Ok(())
     }
 

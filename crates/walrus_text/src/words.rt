@@ -1,8 +1,36 @@
-//! A line as words, which spaces divide. No other byte divides words.
-ghost use Rattle.std.specs.Prelude.{◌≡◌, ◌==◌, ◌∷◌, [], ◌<◌, ◌≤◌, length, not, IfSome, IfNone};
+//! Lines of bytes, and a line as words, which spaces divide. No other byte divides words.
+ghost use Rattle.std.specs.Prelude.{◌≡◌, ◌==◌, ◌++◌, ◌∷◌, [], ◌<◌, ◌≤◌, length, not, IfSome, IfNone};
 ghost use Rattle.std.specs.List.{position, position_or_len};
 ghost use Rattle.walrus_text.specs.Words.{has_items, words_of};
+ghost use Rattle.walrus_text.specs.Steps.Bytes.{IsOneLine};
 ghost use Rattle.walrus_text.specs.Steps.Words.{word_count_before};
+
+/// The bytes before the first line feed, and those behind it. `None` says that there is none.
+pub fn next_line(bytes: &[u8]) -> Option<(&[u8], &[u8])>
+    ensures found { IfSome result (λ found. bytes.now ≡ found.0.now ++ 10 ∷ found.1.now) }
+    ensures one_line { IfSome result (λ found. IsOneLine found.0.now) }
+    ensures shorter { IfSome result (λ found. length found.1.now < length bytes.now) }
+    ensures none { IfNone result (IsOneLine bytes.now) }
+{
+    let (line, from_feed) = bytes.split_at(line_len(bytes));
+    let (_, after) = from_feed.split_first()?;
+    Some((line, after))
+}
+
+/// The number of bytes before the first line feed, or of all bytes where there is none.
+#[tactic(auto, using(crate::proofs::Lexing::FirstWord::place_or_end))]
+fn line_len(bytes: &[u8]) -> usize
+    ensures within { result ≤ length bytes.now }
+    ensures value { result ≡ position_or_len (λ b. b == 10) bytes.now }
+{
+    first_line_feed(bytes).unwrap_or(bytes.len())
+}
+
+fn first_line_feed(bytes: &[u8]) -> Option<usize>
+    ensures { result ≡ position (λ b. b == 10) bytes.now }
+{
+    bytes.iter().position(|byte| *byte == b'\n')
+}
 
 /// The first word of a line, and the rest of the line. `None` says that the line has no word.
 #[tactic(auto, using(crate::proofs::Lexing::FirstWord::words_from_word, crate::proofs::Lexing::FirstWord::no_words))]

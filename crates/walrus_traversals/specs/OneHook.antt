@@ -1,7 +1,5 @@
 -- Visitors that look at one kind of what walks report.
-use Rattle.std.specs.Prelude.{◌≡◌, List, Option, None, Some}
-use Rattle.std.specs.List.{flat_map}
-use Rattle.std.specs.Option.{option_to_list}
+use Rattle.std.specs.Prelude.{◌≡◌, List, Option, None, Some, flat_map, option_to_list}
 use Rattle.walrus_ir.specs.Calls.{Event}
 
 -- the step at what is given, and none where nothing is

@@ -48,8 +48,8 @@ pub fn only_instrs_pass_on_the_instructions<V: InstrVisitor>(old: &V, new: &V)
         FoldsTo V.step old.now (all_given instr_in es) new.now }
 {}
 
-/// The same of a walk with [`OnlyIds`](crate::OnlyIds): the visitor in it was given just the ids that
-/// these events give, in their order.
+/// The same of a walk with [`OnlyIds`](crate::OnlyIds): the visitor in it was given just the ids
+/// that these events give, in their order.
 pub fn only_ids_pass_on_the_ids<V: IdVisitor>(old: &V, new: &V)
     ensures { (es : List Event) → FoldsTo (step_at id_in V.step) old.now es new.now →
         FoldsTo V.step old.now (all_given id_in es) new.now }

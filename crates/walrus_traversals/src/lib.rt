@@ -1,8 +1,8 @@
 //! Walks over function bodies of WebAssembly modules that change nothing.
 //!
 //! - [`dfs_in_order`] calls the hooks of a [`Visitor`] over a nested body, in order.
-//! - [`OnlyInstrs`] makes a visitor of an [`InstrVisitor`], which has one hook, and [`OnlyIds`] of an
-//!   [`IdVisitor`], whose one hook takes an [`AnyId`].
+//! - [`OnlyInstrs`] makes a visitor of an [`InstrVisitor`], which has one hook, and [`OnlyIds`] of
+//!   an [`IdVisitor`], whose one hook takes an [`AnyId`].
 //! - [`check_nesting`], of `walrus_nesting`, says whether a body is nested, and shows why.
 //! - [`UsedIds`] is a visitor that collects the ids that a body names, and [`used_ids`] checks and
 //!   walks in one.

@@ -8,8 +8,7 @@ use Rattle.instr.specs.declared.instr_seq_type.InstrSeqType.TheVariants.{Simple}
 use Rattle.walrus_functions.specs.Body.{Body, Knows, sequence, with_sequence}
 use Rattle.walrus_traversals_mut.specs.Walks.{last_first, last_first_of}
 
-pub count_after :
-    (f : Body) (id : ℕ) (s : Sequence) → length (with_sequence f id s).seqs ≡ length f.seqs
+pub count_after : (f : Body) (id : ℕ) (s : Sequence) → length (with_sequence f id s).seqs ≡ length f.seqs
 count_after f id s = length-set f.seqs id s
 
 children_after :
@@ -23,9 +22,8 @@ children_after (x ∷ xs) (suc i) zero new d e h = refl
 children_after (x ∷ xs) (suc i) (suc q) new d e h = children_after xs i q new d e h
 
 -- a write that keeps the children of its sequence keeps those of all
-pub last_first_after :
-    (f : Body) (id q : ℕ) (new : Sequence) → last_first new ≡ last_first (sequence f id) →
-    last_first_of (with_sequence f id new) q ≡ last_first_of f q
+pub last_first_after : (f : Body) (id q : ℕ) (new : Sequence) →
+    last_first new ≡ last_first (sequence f id) → last_first_of (with_sequence f id new) q ≡ last_first_of f q
 last_first_after f id q new h =
     children_after f.seqs id q new (empty_sequence id (Simple None)) (empty_sequence q (Simple None)) h
 

@@ -19,22 +19,20 @@ module _ {V : Type 0} (step : StepRelation V) where
       ((m : V × Body) × WalksAll step s qs Full m × WalksAll step m rs extent t)
       ⊎ (WalksAll step s qs Partial t × (extent ≡ Partial))
   split s t extent [] rs h = inl (s, none s Full, h)
-  split s t extent (q ∷ qs) rs (next a m b p ps e w r) =
-      elim (split m t extent qs rs r) [
-        | inl k ↦ inl (k.0, next s m k.0 q qs Full w k.1, k.2)
-        | inr k ↦ inr (next s m t q qs Partial w k.0, k.1)
-      ]
+  split s t extent (q ∷ qs) rs (next a m b p ps e w r) = elim (split m t extent qs rs r) [
+    | inl k ↦ inl (k.0, next s m k.0 q qs Full w k.1, k.2)
+    | inr k ↦ inr (next s m t q qs Partial w k.0, k.1)
+  ]
   split s t extent (q ∷ qs) rs (stops_in a b p ps w) = inr (stops_in s t q qs w, refl)
 
   -- a sequence is visited: its children come before the rest
   pub walk_on : (s m t : V × Body) (extent : Extent) (q : ℕ) (rest : List ℕ) → VisitsBlock step s q Full m →
       WalksAll step m (last_first_of m.1 q ++ rest) extent t → WalksAll step s (q ∷ rest) extent t
-  walk_on s m t extent q rest v h =
-      elim (split m t extent (last_first_of m.1 q) rest h) [
-        | inl k ↦ next s k.0 t q rest extent (goes_on s m k.0 q Full v k.1) k.2
-        | inr k ↦ (let F : Extent → Type 0 = λ e. WalksAll step s (q ∷ rest) e t in
-            subst F (sym k.1) (stops_in s t q rest (goes_on s m t q Partial v k.0)))
-      ]
+  walk_on s m t extent q rest v h = elim (split m t extent (last_first_of m.1 q) rest h) [
+    | inl k ↦ next s k.0 t q rest extent (goes_on s m k.0 q Full v k.1) k.2
+    | inr k ↦ (let F : Extent → Type 0 = λ e. WalksAll step s (q ∷ rest) e t in
+        subst F (sym k.1) (stops_in s t q rest (goes_on s m t q Partial v k.0)))
+  ]
 
   -- a whole walk is one that was begun
   pub all_begun : (s t : V × Body) (qs : List ℕ) → WalksAll step s qs Full t → WalksAll step s qs Partial t
@@ -75,8 +73,7 @@ module _ {V : Type 0} (step : StepRelation V) where
       same = nesting_same s0.1;
     }
 
-    pub go_on :
-        (s m : V × Body) (q : ℕ) (rest : List ℕ) → Pending s0 start s (q ∷ rest) →
+    pub go_on : (s m : V × Body) (q : ℕ) (rest : List ℕ) → Pending s0 start s (q ∷ rest) →
         VisitsBlock (keeping step) s q Full m → Pending s0 start m (last_first_of m.1 q ++ rest)
     go_on s m q rest p v =
         let same = block_keeps step s m q Full v in
@@ -101,8 +98,7 @@ module _ {V : Type 0} (step : StepRelation V) where
         IsNested s.1 start
     nested_now s pending h p = nested_after s0.1 s.1 p.same start h
 
-    pub nested_then :
-        (s m : V × Body) (pending : List ℕ) (q : ℕ) (e : Extent) → IsNested s0.1 start →
+    pub nested_then : (s m : V × Body) (pending : List ℕ) (q : ℕ) (e : Extent) → IsNested s0.1 start →
         Pending s0 start s pending → VisitsBlock (keeping step) s q e m → IsNested m.1 start
     nested_then s m pending q e h p v =
         nested_after s.1 m.1 (block_keeps step s m q e v) start (nested_now s pending h p)
@@ -111,23 +107,14 @@ module _ {V : Type 0} (step : StepRelation V) where
     ended s p = p.rest Full s (none s Full)
 
     -- a hook refuses
-    pub refused :
-        (s t : V × Body) (q : ℕ) (rest : List ℕ) → Pending s0 start s (q ∷ rest) →
+    pub refused : (s t : V × Body) (q : ℕ) (rest : List ℕ) → Pending s0 start s (q ∷ rest) →
         VisitsBlock (keeping step) s q Partial t → Walks step s0 start Partial t
     refused s t q rest p v =
         p.rest Partial t (stops_in s t q rest (stops s t q (block_visited step s t q Partial v)))
 
-    pub at_top : (s : V × Body) (pending : List ℕ) (q : ℕ) (rest : List ℕ) → pending ≡ q ∷ rest →
-        Pending s0 start s pending → Pending s0 start s (q ∷ rest)
-    at_top s pending q rest e p = let F : List ℕ → Type 0 = λ l. Pending s0 start s l in subst F e p
-
-    pub none_pending : (s : V × Body) (pending : List ℕ) → pending ≡ [] → Pending s0 start s pending →
-        Pending s0 start s []
-    none_pending s pending e p = let F : List ℕ → Type 0 = λ l. Pending s0 start s l in subst F e p
-
-    pub onto : (s : V × Body) (pending l : List ℕ) → pending ≡ l → Pending s0 start s l →
-        Pending s0 start s pending
-    onto s pending l e p = let F : List ℕ → Type 0 = λ k. Pending s0 start s k in subst F (sym e) p
+    pub pending_is : (s : V × Body) (pending l : List ℕ) → pending ≡ l → Pending s0 start s pending →
+        Pending s0 start s l
+    pending_is s pending l e p = subst (λ (x : List ℕ). Pending s0 start s x) e p
 
     pub top_known : (s : V × Body) (q : ℕ) (rest : List ℕ) → Pending s0 start s (q ∷ rest) → Knows s.1 q
     top_known s q rest p = known_within s.1 (depth s.1) q p.within.0

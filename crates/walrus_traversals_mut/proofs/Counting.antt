@@ -8,19 +8,17 @@ use Rattle.walrus_traversals_mut.specs.Walks.{VisitsBlock, Walks, WalksAll, goes
 
 module _ {V : Type 0} (step : StepRelation V) where
   -- what is visited with m left of a budget was begun with some budget
-  visits_counted :
-      {A : Type 0} (t : Calls A) (v : V) (e : Extent) (w : V) (y : A) → Visits step v t e w y →
-      (m : ℕ) → (n : ℕ) × Visits (with_budget step) (v, n) t e (w, m) y
+  visits_counted : {A : Type 0} (t : Calls A) (v : V) (e : Extent) (w : V) (y : A) →
+      Visits step v t e w y → (m : ℕ) → (n : ℕ) × Visits (with_budget step) (v, n) t e (w, m) y
   visits_counted (leaves x) v e w y h m = (m, (ap (λ u. (u, m)) h.0, h.1))
   visits_counted (call hook x rest) v Full w y h m =
       let a = visits_counted (rest h.1) h.0 Full w y h.3 m in
       (suc a.0, ((h.0, a.0), h.1, (h.2, refl), a.1))
-  visits_counted (call hook x rest) v Partial w y h m =
-      elim h [
-        | inl k ↦ (m, inl (ap (λ u. (u, m)) k.0, k.1))
-        | inr k ↦ (let a = visits_counted (rest k.1) k.0 Partial w y k.3 m in
-            (suc a.0, inr ((k.0, a.0), k.1, (k.2, refl), a.1)))
-      ]
+  visits_counted (call hook x rest) v Partial w y h m = elim h [
+    | inl k ↦ (m, inl (ap (λ u. (u, m)) k.0, k.1))
+    | inr k ↦ (let a = visits_counted (rest k.1) k.0 Partial w y k.3 m in
+        (suc a.0, inr ((k.0, a.0), k.1, (k.2, refl), a.1)))
+  ]
 
   block_counts : (s t : V × Body) (q : ℕ) (e : Extent) → VisitsBlock step s q e t → (m : ℕ) → (n : ℕ)
       × VisitsBlock (with_budget step) ((s.0, n), s.1) q e ((t.0, m), t.1)

@@ -8,9 +8,8 @@ use Rattle.walrus_traversals_mut.specs.Steps.{SameNesting, Within, visits, sum_o
 use Rattle.walrus_traversals_mut.specs.Walks.{last_first_of}
 use Rattle.walrus_traversals_mut.proofs.Members.{all_members, all_weaker, child_from_last_first}
 
-pub within_at :
-    (body : Body) (start : ℕ) (h : IsNested body start) (n : ℕ) (q : ℕ) → IsReachable body start q →
-    under h.0 (h.0 q) (length body.seqs) < n → Within body n q
+pub within_at : (body : Body) (start : ℕ) (h : IsNested body start) (n : ℕ) (q : ℕ) →
+    IsReachable body start q → under h.0 (h.0 q) (length body.seqs) < n → Within body n q
 unfolding Within
 within_at body start h zero q r lt = absurd (omega arith)
 within_at body start h (suc n) q r lt = (
@@ -24,8 +23,7 @@ within_at body start h (suc n) q r lt = (
       omega arith)),
 )
 
-pub within_from_nested :
-    (body : Body) (start : ℕ) → IsNested body start → Within body (depth body) start
+pub within_from_nested : (body : Body) (start : ℕ) → IsNested body start → Within body (depth body) start
 within_from_nested body start h =
     within_at body start h (depth body) start at_start (let a = under_le h.0 (h.0 start) (length body.seqs) in
     omega arith)
@@ -35,8 +33,7 @@ unfolding Within
 still_within body zero q h = absurd h
 still_within body (suc n) q h = (
   h.0,
-  all_weaker (Within body n) (Within body (suc n)) (last_first_of body q)
-      (still_within body n) h.1,
+  all_weaker (Within body n) (Within body (suc n)) (last_first_of body q) (still_within body n) h.1,
 )
 
 pub within_same : (f g : Body) → SameNesting f g → (n q : ℕ) → Within f n q → Within g n q
@@ -54,9 +51,8 @@ unfolding Within
 known_within body zero q h = absurd h
 known_within body (suc n) q h = h.0
 
-pub below_within :
-    (body : Body) (n q : ℕ) → Within body (suc n) q →
-    AllByRecursion (Within body n) (last_first_of body q)
+pub below_within : (body : Body) (n q : ℕ) →
+    Within body (suc n) q → AllByRecursion (Within body n) (last_first_of body q)
 unfolding Within
 below_within body n q h = h.1
 
@@ -65,9 +61,8 @@ sum_same : (a b : ℕ → ℕ) (qs : List ℕ) → ((q : ℕ) → a q ≡ b q) �
 sum_same a b [] h = refl
 sum_same a b (q ∷ qs) h = let e = h q in let k = sum_same a b qs h in omega arith
 
-sum_where :
-    (P : ℕ → Type 0) (a b : ℕ → ℕ) (qs : List ℕ) → ((q : ℕ) → P q → a q ≡ b q) →
-    AllByRecursion P qs → sum_of a qs ≡ sum_of b qs
+sum_where : (P : ℕ → Type 0) (a b : ℕ → ℕ) (qs : List ℕ) →
+    ((q : ℕ) → P q → a q ≡ b q) → AllByRecursion P qs → sum_of a qs ≡ sum_of b qs
 sum_where P a b [] h k = refl
 sum_where P a b (q ∷ qs) h k = let e = h q k.0 in let r = sum_where P a b qs h k.1 in omega arith
 
@@ -89,13 +84,11 @@ visits_deeper f (suc n) q h =
     ap suc (sum_where (Within f n) (visits f (suc n)) (visits f n) (last_first_of f q) (visits_deeper f n)
     h.1)
 
-visits_of :
-    (f : Body) (n q : ℕ) → visits f (suc n) q ≡ suc (sum_of (visits f n) (last_first_of f q))
+visits_of : (f : Body) (n q : ℕ) → visits f (suc n) q ≡ suc (sum_of (visits f n) (last_first_of f q))
 unfolding visits
 visits_of f n q = refl
 
-pub less_left :
-    (f g : Body) (q : ℕ) (rest : List ℕ) → SameNesting f g → Within f (depth f) q →
+pub less_left : (f g : Body) (q : ℕ) (rest : List ℕ) → SameNesting f g → Within f (depth f) q →
     sum_of (visits g (depth g)) (last_first_of g q ++ rest) < sum_of (visits f (depth f)) (q ∷ rest)
 less_left f g q rest s h =
     let n : ℕ = length f.seqs in
@@ -113,10 +106,9 @@ less_left f g q rest s h =
     omega arith
 
 -- the same of the stack before and after
-pub stack_falls :
-    (f g : Body) (q : ℕ) (rest old new : List ℕ) → old ≡ q ∷ rest →
-    new ≡ last_first_of g q ++ rest → SameNesting f g → Within f (depth f) q →
-    sum_of (visits g (depth g)) new < sum_of (visits f (depth f)) old
+pub stack_falls : (f g : Body) (q : ℕ) (rest old new : List ℕ) →
+    old ≡ q ∷ rest → new ≡ last_first_of g q ++ rest →
+    SameNesting f g → Within f (depth f) q → sum_of (visits g (depth g)) new < sum_of (visits f (depth f)) old
 stack_falls f g q rest old new a b s h =
     let F : List ℕ → List ℕ → Type 0 = λ x y. sum_of (visits g (depth g)) y < sum_of (visits f (depth f)) x in
     let k : F old (last_first_of g q ++ rest) =

@@ -38,9 +38,8 @@ Ends Spent Partial w = Spent w
 module _ {V : Type 0} (step : StepRelation V) (R : V → V → Type 0) (Spent : V → Type 0)
     (like : Alike step R Spent) where
   -- a spent visitor changes nothing
-  visits_idle :
-      {A : Type 0} (t : Calls A) (v : V) (e : Extent) (w : V) (y : A) → Spent v →
-      Visits step v t e w y → Ends Spent e w → (w ≡ v) × (y ≡ unchanged t)
+  visits_idle : {A : Type 0} (t : Calls A) (v : V) (e : Extent) (w : V) (y : A) →
+      Spent v → Visits step v t e w y → Ends Spent e w → (w ≡ v) × (y ≡ unchanged t)
   visits_idle (leaves x) v e w y s h end = h
   visits_idle (call hook x rest) v Full w y s h end = absurd (like.stuck hook v x h.0 h.1 s h.2)
   visits_idle (call hook x rest) v Partial w y s h end =
@@ -61,10 +60,8 @@ module _ {V : Type 0} (step : StepRelation V) (R : V → V → Type 0) (Spent : 
       elim h [ inl k ↦ inl (subst Spent k.0 end, k.0, k.1) | inr k ↦ inr k ]
 
   -- from related visitors come related ones, and the same value
-  visits_agree :
-      {A : Type 0} (t : Calls A) (v r : V) (e f : Extent) (w u : V) (y z : A) → R v r →
-      Visits step v t e w y → Visits step r t f u z → Ends Spent e w → Ends Spent f u →
-      R w u × (y ≡ z)
+  visits_agree : {A : Type 0} (t : Calls A) (v r : V) (e f : Extent) (w u : V) (y z : A) → R v r →
+      Visits step v t e w y → Visits step r t f u z → Ends Spent e w → Ends Spent f u → R w u × (y ≡ z)
   visits_agree (leaves x) v r e f w u y z rel h k end last = (related v r w u h.0 k.0 rel, h.1 ∙ sym k.1)
   visits_agree (call hook x rest) v r e f w u y z rel h k end last =
       elim (first_call hook x rest v e w y h end) [
@@ -161,8 +158,7 @@ same_alike : {V : Type 0} (step : StepRelation V) (Spent : V → Type 0) → IsF
     ((hook : Hook) (v : V) (x : Given hook) (w : V) (y : Given hook) → Spent v → step hook v x w y → ⊥) →
     Alike step Same Spent
 same_alike {V} step Spent is stuck = record {
-  steps = λ hook v r x w y u z e h k.
-      let F : V → Type 0 = λ t. step hook t x w y in is hook r x w y u z (subst F e h) k;
+  steps = λ hook v r x w y u z e h k. is hook r x w y u z (subst (λ (t : V). step hook t x w y) e h) k;
   stuck = stuck;
   left = λ v r e s. subst Spent (sym e) s;
   right = λ v r e s. subst Spent e s;
@@ -200,8 +196,7 @@ module _ {V : Type 0} (step : StepRelation V) (is : IsFunction step) where
   more_alike : (n : ℕ) → Alike (with_budget step) (More n) (λ v. ⊥)
   more_alike n = record {
     steps = λ hook v r x w y u z e h k.
-        let F : V → Type 0 = λ t. step hook t x u.0 z in
-        let d = is hook v.0 x w.0 y u.0 z h.0 (subst F (sym e.0) k.0) in
+        let d = is hook v.0 x w.0 y u.0 z h.0 (subst (λ (t : V). step hook t x u.0 z) (sym e.0) k.0) in
         let a = h.1 in
         let b = k.1 in
         let g = e.1 in
@@ -222,8 +217,7 @@ module _ {V : Type 0} (step : StepRelation V) (is : IsFunction step) where
 
   pub count_unique : (k l : ℕ) (s t u : V × Body) (q : ℕ) → CountedWalk step k s q t →
       CountedWalk step l s q u → (k ≡ l) × (t ≡ u)
-  count_unique k l s t u q h j =
-      elim (cases_lt k l) [
-        | inl a ↦ fewer_unique k l (omega arith) s t u q h j
-        | inr a ↦ (let d = fewer_unique l k (omega arith) s u t q j h in (sym d.0, sym d.1))
-      ]
+  count_unique k l s t u q h j = elim (cases_lt k l) [
+    | inl a ↦ fewer_unique k l (omega arith) s t u q h j
+    | inr a ↦ (let d = fewer_unique l k (omega arith) s u t q j h in (sym d.0, sym d.1))
+  ]

@@ -1,8 +1,7 @@
 -- Visits keep the nesting.
 use Rattle.std.proofs.lemmas.List.{reverse-append, append-nil}
 use Rattle.std.proofs.lemmas.List.Concat.{flat_map-append}
-use Rattle.std.proofs.Common.{◌≡◌, ℕ, List, [], ◌∷◌, ◌++◌, map, reverse, refl, sym, ap, ◌∙◌, subst}
-use Rattle.std.specs.List.{flat_map}
+use Rattle.std.proofs.Common.{◌≡◌, ℕ, List, [], ◌∷◌, ◌++◌, map, reverse, refl, sym, ap, ◌∙◌, subst, flat_map}
 use Rattle.instr.specs.Sequence.{Sequence}
 use Rattle.instr.specs.declared.instr.Instr.{Instr}
 use Rattle.walrus_functions.specs.Body.{Body, sequence, with_sequence}
@@ -18,13 +17,11 @@ abbrev pub back : List (List ℕ) → List ℕ
 back [] = []
 back (l ∷ ls) = back ls ++ l
 
-back_nonempty :
-    (l : List ℕ) (ls : List (List ℕ)) → back (nonempty (l ∷ ls)) ≡ back (nonempty ls) ++ l
+back_nonempty : (l : List ℕ) (ls : List (List ℕ)) → back (nonempty (l ∷ ls)) ≡ back (nonempty ls) ++ l
 back_nonempty [] ls = sym (append-nil (back (nonempty ls)))
 back_nonempty (c ∷ cs) ls = refl
 
-pub last_first_back :
-    (is : List (Instr × ℕ)) →
+pub last_first_back : (is : List (Instr × ℕ)) →
     flat_map (λ x. children x.0) (reverse is) ≡ back (nonempty (map (λ x. children x.0) is))
 last_first_back [] = refl
 last_first_back (x ∷ is) =
@@ -37,9 +34,8 @@ last_first_back (x ∷ is) =
 pub last_first_kept : (old new : Sequence) → KeepsChildren old new → last_first new ≡ last_first old
 last_first_kept old new h = last_first_back new.instrs ∙ ap back h.1 ∙ sym (last_first_back old.instrs)
 
-pub nesting_kept :
-    (body : Body) (i : ℕ) (old new : Sequence) → sequence body i ≡ old → KeepsChildren old new →
-    SameNesting body (with_sequence body i new)
+pub nesting_kept : (body : Body) (i : ℕ) (old new : Sequence) →
+    sequence body i ≡ old → KeepsChildren old new → SameNesting body (with_sequence body i new)
 nesting_kept body i old new g k = record {
   count = count_after body i new;
   children = λ q. last_first_after body i q new (last_first_kept old new k ∙ sym (ap last_first g));
@@ -53,9 +49,8 @@ flat_map_joined : {X : Type 0} (f : X → List ℕ) (xs : List X) → flat_map f
 flat_map_joined f [] = refl
 flat_map_joined f (x ∷ xs) = ap (λ l. f x ++ l) (flat_map_joined f xs)
 
-pub flat_map_kept :
-    {X : Type 0} (f : X → List ℕ) (xs ys : List X) → map f xs ≡ map f ys →
-    flat_map f xs ≡ flat_map f ys
+pub flat_map_kept : {X : Type 0} (f : X → List ℕ) (xs ys : List X) →
+    map f xs ≡ map f ys → flat_map f xs ≡ flat_map f ys
 flat_map_kept f xs ys e = flat_map_joined f xs ∙ ap joined e ∙ sym (flat_map_joined f ys)
 
 -- an instruction without children at the end
@@ -64,14 +59,12 @@ nonempty_end [] = refl
 nonempty_end ([] ∷ ls) = nonempty_end ls
 nonempty_end ((c ∷ cs) ∷ ls) = ap (λ l. (c ∷ cs) ∷ l) (nonempty_end ls)
 
-map_end :
-    (is : List (Instr × ℕ)) (x : Instr × ℕ) →
+map_end : (is : List (Instr × ℕ)) (x : Instr × ℕ) →
     map (λ y. children y.0) (is ++ x ∷ []) ≡ map (λ y. children y.0) is ++ children x.0 ∷ []
 map_end [] x = refl
 map_end (i ∷ is) x = ap (λ l. children i.0 ∷ l) (map_end is x)
 
-pub no_child_added :
-    (is : List (Instr × ℕ)) (x : Instr × ℕ) → children x.0 ≡ [] →
+pub no_child_added : (is : List (Instr × ℕ)) (x : Instr × ℕ) → children x.0 ≡ [] →
     nonempty (map (λ y. children y.0) (is ++ x ∷ [])) ≡ nonempty (map (λ y. children y.0) is)
 no_child_added is x e =
     ap nonempty (map_end is x) ∙ ap (λ l. nonempty (map (λ (y : Instr × ℕ). children y.0) is ++ l ∷ [])) e
@@ -84,10 +77,7 @@ pub nesting_same : (f : Body) → SameNesting f f
 nesting_same f = record { count = refl; children = λ q. refl }
 
 pub nesting_both : (f g h : Body) → SameNesting f g → SameNesting g h → SameNesting f h
-nesting_both f g h a b = record {
-  count = b.count ∙ a.count;
-  children = λ q. b.children q ∙ a.children q;
-}
+nesting_both f g h a b = record { count = b.count ∙ a.count; children = λ q. b.children q ∙ a.children q }
 
 -- with the same nesting, what is a child, reached, or nested in the one is so in the other
 module _ (f g : Body) (same : SameNesting f g) where

@@ -1,7 +1,6 @@
 -- What hooks keep of the nesting, their calls in turn keep.
-use Rattle.std.proofs.Common.{◌≡◌, ℕ, inl, inr, List, [], ◌∷◌, map, refl, sym, ap, ◌∙◌, subst}
+use Rattle.std.proofs.Common.{◌≡◌, ℕ, inl, inr, List, [], ◌∷◌, map, refl, sym, ap, ◌∙◌, subst, flat_map}
 use Rattle.std.specs.Bool.{⊤}
-use Rattle.std.specs.List.{flat_map}
 use Rattle.instr.specs.declared.exceptions.LegacyCatch.{LegacyCatch}
 use Rattle.instr.specs.declared.exceptions.LegacyCatch.TheVariants as legacy
 use Rattle.instr.specs.declared.instr.Instr.{Instr}
@@ -28,8 +27,7 @@ abbrev pub left : {A : Type 0} → (t : Calls A) → Answers t → A
 left (leaves x) k = x
 left (call hook x rest) k = left (rest k.0) k.2
 
-left_then :
-    {A B : Type 0} (t : Calls A) (f : A → Calls B) (k : Answers (and_then t f)) →
+left_then : {A B : Type 0} (t : Calls A) (f : A → Calls B) (k : Answers (and_then t f)) →
     (a : Answers t) × (b : Answers (f (left t a))) × (left (and_then t f) k ≡ left (f (left t a)) b)
 left_then (leaves x) f k = (tt, k, refl)
 left_then (call hook x rest) f k = let r = left_then (rest k.0) f k.2 in ((k.0, k.1, r.0), r.1, r.2)
@@ -45,8 +43,7 @@ each_keeps f key e (x ∷ xs) k =
     ap (map key) (a.2 ∙ b.2) ∙ ap (λ z. z ∷ map key (left (each f xs) b.0)) (e x a.0)
     ∙ ap (λ l. key x ∷ l) (each_keeps f key e xs b.0)
 
-legacy_keeps :
-    (c : LegacyCatch) (k : Answers (legacy_fields c)) →
+legacy_keeps : (c : LegacyCatch) (k : Answers (legacy_fields c)) →
     handlers (left (legacy_fields c) k) ≡ handlers c
 legacy_keeps (legacy.Catch tag handler) k = refl
 legacy_keeps (legacy.CatchAll handler) k = refl
@@ -55,13 +52,11 @@ legacy_keeps (legacy.Delegate depth) k = refl
 pub fields_keep : (i : Instr) (k : Answers (fields i)) → children (left (fields i) k) ≡ children i
 fields_keep (instr.Block x) = λ k. ap (λ q. q ∷ []) k.1
 fields_keep (instr.Loop x) = λ k. ap (λ q. q ∷ []) k.1
-fields_keep (instr.IfElse x) =
-    λ k. ap (λ q. q ∷ k.2.0 ∷ []) k.1 ∙ ap (λ q. x.consequent ∷ q ∷ []) k.2.1
+fields_keep (instr.IfElse x) = λ k. ap (λ q. q ∷ k.2.0 ∷ []) k.1 ∙ ap (λ q. x.consequent ∷ q ∷ []) k.2.1
 fields_keep (instr.TryTable x) =
     λ k. ap children (left_then (each clause_fields x.catches) (λ b. leaves (instr.TryTable
     (record x { seq = k.0; catches = b }))) k.2).2 ∙ ap (λ q. q ∷ []) k.1
-fields_keep (instr.Try x) =
-    λ k.
+fields_keep (instr.Try x) = λ k.
     let a = left_then (each legacy_fields x.catches) (λ b. leaves (instr.Try
     (record x { seq = k.0; catches = b }))) k.2 in
     ap children a.2 ∙ ap (λ q. q ∷ flat_map handlers (left (each legacy_fields x.catches) a.0)) k.1
@@ -69,8 +64,7 @@ fields_keep (instr.Try x) =
     (each_keeps legacy_fields handlers legacy_keeps x.catches a.0))
 fields_keep no_other = λ k. refl
 
-instr_keeps :
-    (x : Instr × ℕ) (k : Answers (instr_calls x)) →
+instr_keeps : (x : Instr × ℕ) (k : Answers (instr_calls x)) →
     children (left (instr_calls x) k).0 ≡ children x.0
 instr_keeps x k =
     let a = left_then (fields k.0.0) (λ i. leaves (i, k.0.1)) k.2 in
@@ -85,8 +79,7 @@ sequence_keeps s k =
     let b = left_then (each instr_calls t.instrs) (last (left (type_fields t.ty) a.0)) a.1 in
     subst (KeepsChildren s) (sym (a.2 ∙ b.2)) (
       b.1.1.0 ∙ k.1.0,
-      b.1.1.1 ∙ ap nonempty (each_keeps instr_calls (λ x. children x.0) instr_keeps t.instrs
-          b.0) ∙ k.1.1,
+      b.1.1.1 ∙ ap nonempty (each_keeps instr_calls (λ x. children x.0) instr_keeps t.instrs b.0) ∙ k.1.1,
     )
 
 -- what is left as it was is kept
@@ -102,20 +95,17 @@ all_same (leaves x) = (tt, refl)
 all_same (call hook x rest) = let a = all_same (rest x) in ((x, keeps_same hook x, a.0), a.1)
 
 module _ {V : Type 0} (step : StepRelation V) where
-  answered :
-      {A : Type 0} (t : Calls A) (v : V) (e : Extent) (w : V) (y : A) →
+  answered : {A : Type 0} (t : Calls A) (v : V) (e : Extent) (w : V) (y : A) →
       Visits (keeping step) v t e w y → (k : Answers t) × (y ≡ left t k)
   answered (leaves x) v e w y h = (tt, h.1)
   answered (call hook x rest) v Full w y h =
       let a = answered (rest h.1) h.0 Full w y h.3 in ((h.1, h.2.1, a.0), a.1)
-  answered (call hook x rest) v Partial w y h =
-      elim h [
-        | inl k ↦ (let a = all_same (rest x) in ((x, keeps_same hook x, a.0), k.1 ∙ sym a.1))
-        | inr k ↦ (let a = answered (rest k.1) k.0 Partial w y k.3 in ((k.1, k.2.1, a.0), a.1))
-      ]
+  answered (call hook x rest) v Partial w y h = elim h [
+    | inl k ↦ (let a = all_same (rest x) in ((x, keeps_same hook x, a.0), k.1 ∙ sym a.1))
+    | inr k ↦ (let a = answered (rest k.1) k.0 Partial w y k.3 in ((k.1, k.2.1, a.0), a.1))
+  ]
 
-  visited :
-      {A : Type 0} (t : Calls A) (v : V) (e : Extent) (w : V) (y : A) →
+  visited : {A : Type 0} (t : Calls A) (v : V) (e : Extent) (w : V) (y : A) →
       Visits (keeping step) v t e w y → Visits step v t e w y
   visited (leaves x) v e w y h = h
   visited (call hook x rest) v Full w y h = (h.0, h.1, h.2.0, visited (rest h.1) h.0 Full w y h.3)

@@ -2,13 +2,12 @@
 use Rattle.std.proofs.lemmas.Bool.{cases_eq, eq-eqb, ne_eqb, eqb-false}
 use Rattle.std.proofs.lemmas.List.Sums.{sum_by-cons, sum_by-append}
 use Rattle.std.proofs.lemmas.Map.Keys.{IsDistinct-head, IsDistinct-tail}
-use Rattle.std.proofs.Common.{◌≡◌, ℕ, zero, suc, ◌+◌, inl, inr, cond, nat_eq, false, count_by, List, [], ◌∷◌, ◌++◌, get_or, set, get_or-set_other, zero-add, suc-add, refl, sym, ap, ◌∙◌, subst}
+use Rattle.std.proofs.Common.{◌≡◌, ℕ, zero, suc, ◌+◌, inl, inr, cond, nat_eq, false, count_by, List, [], ◌∷◌, ◌++◌, get_or, set, get_or-set_other, zero-add, suc-add, refl, sym, ap, ◌∙◌, subst, None}
 use Rattle.std.specs.Fn.{iterate}
 use Rattle.std.specs.List.{AllByRecursion, IsDistinct}
 use Rattle.walrus_ir.specs.Calls.{Full, StepRelation}
 use Rattle.instr.specs.Sequence.{Sequence, empty_sequence}
 use Rattle.instr.specs.declared.instr_seq_type.InstrSeqType.TheVariants.{Simple}
-use Rattle.std.specs.Prelude.{None}
 use Rattle.walrus_functions.specs.Body.{Body, sequence, with_sequence}
 use Rattle.walrus_functions.specs.Nesting.{IsReachable}
 use Rattle.walrus_traversals_mut.specs.FieldMaps.{FieldMap, MapsFields, IsMapped, mapped_sequence}
@@ -31,8 +30,7 @@ times_cons q x xs = sum_by-cons (λ y. cond (nat_eq q y) 1 0) x xs
 none_counted : (q : ℕ) (vs : List ℕ) → (Member q vs → ⊥) → times q vs ≡ 0
 none_counted q [] h = refl
 none_counted q (x ∷ xs) h =
-    times_cons q x xs
-    ∙ ap (λ b. cond b 1 0 + times q xs) (ne_eqb q x (λ e. h (inl e)))
+    times_cons q x xs ∙ ap (λ b. cond b 1 0 + times q xs) (ne_eqb q x (λ e. h (inl e)))
     ∙ ap (λ n. 0 + n) (none_counted q xs (λ m. h (inr m)))
 
 not_again : (x : ℕ) (xs : List ℕ) → AllByRecursion (λ y. nat_eq x y ≡ false) xs → Member x xs → ⊥
@@ -46,22 +44,18 @@ once_counted q (x ∷ xs) d m =
     let apart = not_again x xs (IsDistinct-head nat_eq x xs d) in
     let F : ℕ → Type 0 = λ z. Member z xs in
     elim m [
-      | inl e ↦ (times_cons q x xs
-          ∙ ap (λ b. cond b 1 0 + times q xs) (eq-eqb q x e)
+      | inl e ↦ (times_cons q x xs ∙ ap (λ b. cond b 1 0 + times q xs) (eq-eqb q x e)
           ∙ ap (λ n. 1 + n) (none_counted q xs (λ n. apart (subst F e n))))
-      | inr n ↦ (times_cons q x xs
-          ∙ ap (λ b. cond b 1 0 + times q xs) (ne_eqb q x (λ e. apart (subst F e n)))
+      | inr n ↦ (times_cons q x xs ∙ ap (λ b. cond b 1 0 + times q xs) (ne_eqb q x (λ e. apart (subst F e n)))
           ∙ ap (λ k. 0 + k) (once_counted q xs (IsDistinct-tail nat_eq x xs d) n))
     ]
 
-iterate_add :
-    {A : Type 0} (g : A → A) (m n : ℕ) (x : A) → iterate g (m + n) x ≡ iterate g n (iterate g m x)
+iterate_add : {A : Type 0} (g : A → A) (m n : ℕ) (x : A) → iterate g (m + n) x ≡ iterate g n (iterate g m x)
 iterate_add g zero n x = ap (λ k. iterate g k x) (zero-add n)
 iterate_add g (suc m) n x = ap (λ k. iterate g k x) (suc-add m n) ∙ iterate_add g m n (g x)
 
-at_write :
-    (xs : List Sequence) (i : ℕ) (g : Sequence → Sequence) (d : Sequence) → g d ≡ d →
-    get_or (set xs i (g (get_or xs i d))) i d ≡ g (get_or xs i d)
+at_write : (xs : List Sequence) (i : ℕ) (g : Sequence → Sequence) (d : Sequence) →
+    g d ≡ d → get_or (set xs i (g (get_or xs i d))) i d ≡ g (get_or xs i d)
 at_write [] i g d h = sym h
 at_write (x ∷ xs) zero g d h = refl
 at_write (x ∷ xs) (suc i) g d h = at_write xs i g d h
@@ -83,15 +77,13 @@ module _ (f : FieldMap) where
 
   one_mapped : (a b : Body) (id : ℕ) → b ≡ with_sequence a id (mapped_sequence f (sequence a id)) →
       IsMapped f (id ∷ []) a b
-  one_mapped a b id e =
-      let F : Body → Type 0 = λ z. IsMapped f (id ∷ []) a z in
-      subst F (sym e) (record {
-        sequences = written a id;
-        count = count_after a id (mapped_sequence f (sequence a id));
-        entry = refl;
-        ty = refl;
-        name = refl;
-      })
+  one_mapped a b id e = subst (λ (z : Body). IsMapped f (id ∷ []) a z) (sym e) (record {
+    sequences = written a id;
+    count = count_after a id (mapped_sequence f (sequence a id));
+    entry = refl;
+    ty = refl;
+    name = refl;
+  })
 
   none_mapped : (a : Body) → IsMapped f [] a a
   none_mapped a = record { sequences = λ q. refl; count = refl; entry = refl; ty = refl; name = refl }

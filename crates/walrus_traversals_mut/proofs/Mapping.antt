@@ -15,15 +15,13 @@ use Rattle.walrus_traversals_mut.proofs.Determined.{moved}
 use Rattle.walrus_traversals_mut.proofs.Keeping.{keeps_children_same}
 use Rattle.walrus_traversals_mut.proofs.Kept.{Answers, left, fields_keep}
 
-mapped_then :
-    {A B : Type 0} (f : FieldMap) (t : Calls A) (k : A → Calls B) →
+mapped_then : {A B : Type 0} (f : FieldMap) (t : Calls A) (k : A → Calls B) →
     mapped f (and_then t k) ≡ mapped f (k (mapped f t))
 mapped_then f (leaves x) k = refl
 mapped_then f (call hook x rest) k = mapped_then f (rest (f hook x)) k
 
-mapped_each :
-    {A : Type 0} (f : FieldMap) (c : A → Calls A) (g : A → A) → ((x : A) → mapped f (c x) ≡ g x) →
-    (xs : List A) → mapped f (each c xs) ≡ map g xs
+mapped_each : {A : Type 0} (f : FieldMap) (c : A → Calls A) (g : A → A) →
+    ((x : A) → mapped f (c x) ≡ g x) → (xs : List A) → mapped f (each c xs) ≡ map g xs
 mapped_each f c g e [] = refl
 mapped_each f c g e (x ∷ xs) =
     mapped_then f (c x) (λ y. and_then (each c xs) (λ ys. leaves (y ∷ ys)))
@@ -31,9 +29,8 @@ mapped_each f c g e (x ∷ xs) =
     ∙ ap (λ y. y ∷ mapped f (each c xs)) (e x) ∙ ap (λ ys. g x ∷ ys) (mapped_each f c g e xs)
 
 module _ {V : Type 0} (step : StepRelation V) (v : V) (f : FieldMap) (m : MapsFields step v f) where
-  visits_map :
-      {A : Type 0} (t : Calls A) (w : V) (y : A) → Visits step v t Full w y →
-      (w ≡ v) × (y ≡ mapped f t)
+  visits_map : {A : Type 0} (t : Calls A) (w : V) (y : A) →
+      Visits step v t Full w y → (w ≡ v) × (y ≡ mapped f t)
   visits_map (leaves x) w y h = h
   visits_map (call hook x rest) w y h =
       let e = m.maps hook x h.0 h.1 h.2 in
@@ -57,8 +54,7 @@ module _ {V : Type 0} (step : StepRelation V) (v : V) (f : FieldMap) (m : MapsFi
       ∙ mapped_then f (each instr_calls t.instrs) (last (mapped_type f t.ty))
       ∙ m.ends (record t { ty = mapped_type f t.ty; instrs = mapped f (each instr_calls t.instrs) })
       ∙ ap (λ (is : List (Instr × ℕ)). record t { ty = mapped_type f t.ty; instrs = is })
-      (mapped_each f instr_calls with_location instr_mapped t.instrs)
-      ∙ ap (mapped_sequence f) (m.starts s)
+      (mapped_each f instr_calls with_location instr_mapped t.instrs) ∙ ap (mapped_sequence f) (m.starts s)
 
   -- the visit of a sequence writes it, mapped, over what stood there
   pub block_maps : (s t : V × Body) (id : ℕ) → s.0 ≡ v → VisitsBlock step s id Full t → (t.0 ≡ v)
@@ -85,8 +81,7 @@ module _ {V : Type 0} (step : StepRelation V) (v : V) (f : FieldMap) (m : MapsFi
   same_children i =
       let a = answers (fields i) in ap children (sym a.1) ∙ fields_keep i a.0
 
-  same_child_lists :
-      (is : List (Instr × ℕ)) →
+  same_child_lists : (is : List (Instr × ℕ)) →
       map (λ x. children x.0) (map with_location is) ≡ map (λ x. children x.0) is
   same_child_lists [] = refl
   same_child_lists (x ∷ is) =

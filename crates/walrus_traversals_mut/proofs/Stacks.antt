@@ -2,8 +2,7 @@
 use Rattle.std.proofs.lemmas.List.{take_more_set, reverse-append}
 use Rattle.std.proofs.Math.Seq.{take-length}
 use Rattle.std.proofs.Math.ListN.{set}
-use Rattle.std.proofs.Common.{◌+◌, ◌<◌, length, take, append_assoc, arith, reverse, ◌∙◌, ◌≡◌, ℕ, List, [], ◌∷◌, ◌++◌, refl, sym, ap}
-use Rattle.std.specs.List.{flat_map}
+use Rattle.std.proofs.Common.{◌+◌, ◌<◌, length, take, append_assoc, arith, reverse, ◌∙◌, ◌≡◌, ℕ, List, [], ◌∷◌, ◌++◌, refl, sym, ap, flat_map}
 
 module _ {X A : Type 0} (f : X → List A) where
   -- an item is replaced, and what the new one gives is pushed

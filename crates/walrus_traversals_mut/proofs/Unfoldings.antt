@@ -34,52 +34,46 @@ module _ (f : Body) where
     mutual
       visit_reached : (q : ℕ) (vs : List ℕ) → Unfolds f q vs → IsReachable f start q → (c : ℕ) → Member c vs →
           IsReachable f start c
-      visit_reached q _ (then_below a vs h) r c m =
-          elim m [
-            | inl e ↦ subst (IsReachable f start) (sym e) r
-            | inr n ↦ visits_reached (last_first_of f q) vs h (λ d k.
-                below q d r (child_from_last_first f q d k)) c n
-          ]
+      visit_reached q _ (then_below a vs h) r c m = elim m [
+        | inl e ↦ subst (IsReachable f start) (sym e) r
+        | inr n ↦ visits_reached (last_first_of f q) vs h (λ d k.
+            below q d r (child_from_last_first f q d k)) c n
+      ]
 
       visits_reached : (qs vs : List ℕ) → UnfoldsAll f qs vs →
           ((d : ℕ) → Member d qs → IsReachable f start d) → (c : ℕ) → Member c vs → IsReachable f start c
       visits_reached [] _ no_child r c m = absurd m
-      visits_reached (q ∷ qs) _ (then_rest a b vs os h k) r c m =
-          elim (member_parts c vs os m) [
-            | inl n ↦ visit_reached q vs h (r q (inl refl)) c n
-            | inr n ↦ visits_reached qs os k (λ d x. r d (inr x)) c n
-          ]
+      visits_reached (q ∷ qs) _ (then_rest a b vs os h k) r c m = elim (member_parts c vs os m) [
+        | inl n ↦ visit_reached q vs h (r q (inl refl)) c n
+        | inr n ↦ visits_reached qs os k (λ d x. r d (inr x)) c n
+      ]
 
   first_visited : (q : ℕ) (vs : List ℕ) → Unfolds f q vs → Member q vs
   first_visited q _ (then_below a vs h) = inl refl
 
   all_visited : (qs vs : List ℕ) → UnfoldsAll f qs vs → (c : ℕ) → Member c qs → Member c vs
   all_visited [] _ no_child c m = m
-  all_visited (q ∷ qs) _ (then_rest a b vs os h k) c m =
-      elim m [
-        | inl e ↦ member_left c vs os (let F : ℕ → Type 0 = λ x. Member x vs in
-            subst F (sym e) (first_visited q vs h))
-        | inr n ↦ member_right c vs os (all_visited qs os k c n)
-      ]
+  all_visited (q ∷ qs) _ (then_rest a b vs os h k) c m = elim m [
+    | inl e ↦ member_left c vs os (subst (λ (x : ℕ). Member x vs) (sym e) (first_visited q vs h))
+    | inr n ↦ member_right c vs os (all_visited qs os k c n)
+  ]
 
   mutual
     child_visited : (q : ℕ) (vs : List ℕ) → Unfolds f q vs → (p c : ℕ) → Member p vs → IsChild f p c →
         Member c vs
-    child_visited q _ (then_below a vs h) p c m i =
-        elim m [
-          | inl e ↦ inr (all_visited (last_first_of f q) vs h c
-              (last_first_from_child f q c (let F : ℕ → Type 0 = λ x. IsChild f x c in subst F e i)))
-          | inr n ↦ inr (children_visited (last_first_of f q) vs h p c n i)
-        ]
+    child_visited q _ (then_below a vs h) p c m i = elim m [
+      | inl e ↦ inr (all_visited (last_first_of f q) vs h c
+          (last_first_from_child f q c (let F : ℕ → Type 0 = λ x. IsChild f x c in subst F e i)))
+      | inr n ↦ inr (children_visited (last_first_of f q) vs h p c n i)
+    ]
 
     children_visited : (qs vs : List ℕ) → UnfoldsAll f qs vs → (p c : ℕ) → Member p vs → IsChild f p c →
         Member c vs
     children_visited [] _ no_child p c m i = absurd m
-    children_visited (q ∷ qs) _ (then_rest a b vs os h k) p c m i =
-        elim (member_parts p vs os m) [
-          | inl n ↦ member_left c vs os (child_visited q vs h p c n i)
-          | inr n ↦ member_right c vs os (children_visited qs os k p c n i)
-        ]
+    children_visited (q ∷ qs) _ (then_rest a b vs os h k) p c m i = elim (member_parts p vs os m) [
+      | inl n ↦ member_left c vs os (child_visited q vs h p c n i)
+      | inr n ↦ member_right c vs os (children_visited qs os k p c n i)
+    ]
 
   -- what is visited is reached
   pub reached_from_visited : (start : ℕ) (vs : List ℕ) → Unfolds f start vs → (c : ℕ) → Member c vs →

@@ -1,7 +1,6 @@
 -- The changing walk: a whole sequence, then its children as they then stand. A partial walk is, for
 -- some k, the one that is cut after k hook calls (`CutWalk` in `Counting`).
-use Rattle.std.specs.Prelude.{◌≡◌, ℕ, List, [], ◌∷◌, reverse}
-use Rattle.std.specs.List.{flat_map}
+use Rattle.std.specs.Prelude.{◌≡◌, ℕ, List, [], ◌∷◌, reverse, flat_map}
 use Rattle.walrus_ir.specs.Calls.{Extent, Full, Partial, StepRelation, Visits}
 use Rattle.walrus_ir.specs.Fields.{sequence_calls}
 use Rattle.instr.specs.Sequence.{Sequence}
@@ -28,20 +27,16 @@ module _ {V : Type 0} (step : StepRelation V) where
     -- from visitor and body, over the sequence of this id and all below it, to visitor and body
     pub data Walks : V × Body → ℕ → Extent → V × Body → Type 0 where
       -- the sequence is visited whole, then its children as they then stand
-      goes_on :
-          (s m t : V × Body) (id : ℕ) (extent : Extent)
-          → VisitsBlock step s id Full m → WalksAll m (last_first_of m.1 id) extent t →
-          Walks s id extent t
+      goes_on : (s m t : V × Body) (id : ℕ) (extent : Extent) → VisitsBlock step s id Full m →
+          WalksAll m (last_first_of m.1 id) extent t → Walks s id extent t
       -- the walk stops in the sequence
       stops : (s t : V × Body) (id : ℕ) → VisitsBlock step s id Partial t → Walks s id Partial t
 
     -- the same over these ids in turn, each as it then stands
     pub data WalksAll : V × Body → List ℕ → Extent → V × Body → Type 0 where
       none : (s : V × Body) (extent : Extent) → WalksAll s [] extent s
-      next :
-          (s m t : V × Body) (id : ℕ) (rest : List ℕ) (extent : Extent)
-          → Walks s id Full m → WalksAll m rest extent t → WalksAll s (id ∷ rest) extent t
+      next : (s m t : V × Body) (id : ℕ) (rest : List ℕ) (extent : Extent) →
+          Walks s id Full m → WalksAll m rest extent t → WalksAll s (id ∷ rest) extent t
       -- the walk stops in the first
-      stops_in :
-          (s t : V × Body) (id : ℕ) (rest : List ℕ) → Walks s id Partial t →
-          WalksAll s (id ∷ rest) Partial t
+      stops_in : (s t : V × Body) (id : ℕ) (rest : List ℕ) →
+          Walks s id Partial t → WalksAll s (id ∷ rest) Partial t

@@ -44,8 +44,8 @@ pub fn cut_walks_are_determined<V: VisitorMut>()
 {}
 
 /// Where a visitor has a step at each hook, whatever the hook is given, and no step changes which
-/// sequences stand in which, there is a full walk over every sequence from which the body is nested.
-/// Where the step is a function besides, there is just one
+/// sequences stand in which, there is a full walk over every sequence from which the body is
+/// nested. Where the step is a function besides, there is just one
 /// ([`full_walks_are_determined`]).
 pub fn nested_sequences_have_a_full_walk<V: VisitorMut>()
     ensures { HasSteps V.step → KeepsNesting V.step → (s : V × Body) (id : ℕ) →

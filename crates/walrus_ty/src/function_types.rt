@@ -4,7 +4,8 @@ ghost use Rattle.std.specs.Prelude.{IfOk, OnErr};
 use crate::{TypeId, ValType};
 use std::alloc::AllocError;
 
-/// A table in which function types are found and added, such as the `ModuleTypes` of `walrus_types`.
+/// A table in which function types are found and added, such as the `ModuleTypes` of
+/// `walrus_types`.
 ///
 /// The type of an instruction sequence can be a function type, so it needs such a table when it is
 /// made.

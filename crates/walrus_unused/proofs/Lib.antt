@@ -1,3 +1,4 @@
 pub mod UnusedTypes
 pub mod IndexMaps
 pub mod UsedSections
+pub mod UsedForms

@@ -5,7 +5,7 @@
 //!   and the new index of each other type.
 //! - [`new_indices`] maps the type indices of a section to its indices once it is written again.
 //!   The rest of the module still names the old ones.
-//! - [`laws`] has a theorem on that map.
+//! - [`laws`] has theorems on that map, and on the normal form of used types.
 //!
 //! The roots are the types that the rest of a module names. `walrus_passes` lists the ones that a
 //! function brings.

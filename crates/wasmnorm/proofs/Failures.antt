@@ -1,6 +1,6 @@
 -- The exit status of a failure, and what it says of the bytes.
-use Rattle.std.proofs.Common.{◌≡◌, ◌≤◌, ◌∙◌, ℕ, List, Option, None, Some, Result, Ok, Err, ◌⊎◌, inl, inr, refl, sym, subst, arith}
-use Rattle.std.specs.Prelude.{IfErr, IfSome, IsErrOf}
+use Rattle.std.proofs.Common.{◌≡◌, ◌≤◌, ℕ, List, Option, None, Some, Result, Ok, Err, refl, arith}
+use Rattle.std.specs.Prelude.{IfErr, IsErrOf}
 use Rattle.walrus_binary.specs.ModuleSections.{HasBadTypesBy}
 use Rattle.walrus_binary.specs.declared.error.DecodeError.{DecodeError}
 use Rattle.walrus_module.specs.declared.faults.Fault.{Fault}
@@ -15,6 +15,11 @@ use Rattle.walrus_normalise.specs.declared.error.NormaliseModuleError.TheVariant
 use Rattle.wasmnorm.specs.declared.failure.Failure.{Failure}
 use Rattle.wasmnorm.specs.declared.failure.Failure.TheVariants as failure
 use Rattle.wasmnorm.specs.Runs.{IsRefused, bad_types, malformed, too_long, outdated, IsIllNamed, in_types, elsewhere, before_the_end}
+use Rattle.walrus_snipping.specs.declared.error.SnipError.{SnipError}
+use Rattle.walrus_snipping.specs.declared.error.SnipError.TheVariants as snip
+use Rattle.wasmnorm.specs.declared.snip_failure.SnipFailure.{SnipFailure}
+use Rattle.wasmnorm.specs.declared.snip_failure.SnipFailure.TheVariants as snips
+use Rattle.wasmnorm.specs.Steps.Snips.{refusal_status, snip_status}
 use Rattle.wasmnorm.specs.Steps.Failures.{Explains, ExplainsError, IsFaultOf, kind_status, fault_status, refused_status, status_of}
 
 kind_range : (k : FaultKind) → kind_status k ≤ 4
@@ -35,8 +40,24 @@ error_range error.TooLong fault = omega arith
 error_range (error.Outdated offset) fault = omega arith
 error_range error.Memory fault = omega arith
 
+refusal_range : (e : SnipError) → refusal_status e ≤ 4
+refusal_range snip.Malformed = omega arith
+refusal_range (snip.Imported k) = omega arith
+refusal_range (snip.UnknownFunction k count) = omega arith
+refusal_range snip.TooLong = omega arith
+refusal_range snip.Memory = omega arith
+
+snip_range : (e : SnipFailure) → snip_status e ≤ 4
+snip_range snips.NoNames = omega arith
+snip_range (snips.NotOne name functions) = omega arith
+snip_range (snips.Refused e) = refusal_range e
+snip_range (snips.Outdated offset) = omega arith
+snip_range snips.TooLong = omega arith
+snip_range snips.Memory = omega arith
+
 pub status_range : (f : Failure) → status_of f ≤ 4
 status_range (failure.Refused e fault context advice) = error_range e fault
+status_range (failure.Unsnipped e) = snip_range e
 status_range failure.Memory = omega arith
 status_range failure.Keys = omega arith
 status_range (failure.Input error) = omega arith
@@ -82,43 +103,27 @@ error_ill_named options bytes error.TooLong fault why at is = absurd (omega (ari
 error_ill_named options bytes (error.Outdated offset) fault why at is = absurd (omega (arith, is))
 error_ill_named options bytes error.Memory fault why at is = absurd (omega (arith, is))
 
-explains_refused :
+pub explains_refused :
     (options : NormaliseOptions) (bytes : List ℕ) (f : Failure) → Explains options bytes f → status_of f ≡ 1
     → IsRefused options bytes
 explains_refused options bytes (failure.Refused e fault context advice) why is =
     error_refused options bytes e fault why.0 why.2 is
+explains_refused options bytes (failure.Unsnipped e) why is = absurd why
 explains_refused options bytes failure.Memory why is = absurd (omega (arith, is))
 explains_refused options bytes failure.Keys why is = absurd (omega (arith, is))
 explains_refused options bytes (failure.Input error) why is = absurd (omega (arith, is))
 explains_refused options bytes (failure.Output error) why is = absurd (omega (arith, is))
 
-explains_ill_named :
+pub explains_ill_named :
     (options : NormaliseOptions) (bytes : List ℕ) (f : Failure) → Explains options bytes f → status_of f ≡ 2
     → IsIllNamed options bytes
 explains_ill_named options bytes (failure.Refused e fault context advice) why is =
     error_ill_named options bytes e fault why.0 why.2 is
+explains_ill_named options bytes (failure.Unsnipped e) why is = absurd why
 explains_ill_named options bytes failure.Memory why is = absurd (omega (arith, is))
 explains_ill_named options bytes failure.Keys why is = absurd (omega (arith, is))
 explains_ill_named options bytes (failure.Input error) why is = absurd (omega (arith, is))
 explains_ill_named options bytes (failure.Output error) why is = absurd (omega (arith, is))
-
-pub known_refused :
-    (options : NormaliseOptions) (known : Option (List ℕ)) (f : Failure) (result : ℕ)
-    → IfSome known (λ bytes. Explains options bytes f) → (result ≡ status_of f) ⊎ (result ≡ 4)
-    → result ≡ 1 → IfSome known (λ bytes. IsRefused options bytes)
-known_refused options None f result why status is = tt
-known_refused options (Some bytes) f result why (inl e) is =
-    explains_refused options bytes f why (sym e ∙ is)
-known_refused options (Some bytes) f result why (inr e) is = absurd (omega (arith, sym e ∙ is))
-
-pub known_ill_named :
-    (options : NormaliseOptions) (known : Option (List ℕ)) (f : Failure) (result : ℕ)
-    → IfSome known (λ bytes. Explains options bytes f) → (result ≡ status_of f) ⊎ (result ≡ 4)
-    → result ≡ 2 → IfSome known (λ bytes. IsIllNamed options bytes)
-known_ill_named options None f result why status is = tt
-known_ill_named options (Some bytes) f result why (inl e) is =
-    explains_ill_named options bytes f why (sym e ∙ is)
-known_ill_named options (Some bytes) f result why (inr e) is = absurd (omega (arith, sym e ∙ is))
 
 -- what each error says, as the clauses of `normalise_module` have it
 pub explains_each :
@@ -141,14 +146,3 @@ explains_each options bytes (Err (error.UnknownType k)) a b c d e f g = e k refl
 explains_each options bytes (Err error.TooLong) a b c d e f g = f refl
 explains_each options bytes (Err (error.Outdated k)) a b c d e f g = g k refl
 explains_each options bytes (Err error.Memory) a b c d e f g = tt
-
--- what was read is explained, where the bytes that were read are known
-pub input_explained :
-    (options : NormaliseOptions) (known : Option (List ℕ)) (read lent again : List ℕ)
-    (e : NormaliseModuleError) (f : Failure) → IfSome known (λ bytes. read ≡ bytes) → lent ≡ read
-    → again ≡ read → ExplainsError options lent e → (ExplainsError options again e → Explains options again f)
-    → IfSome known (λ bytes. Explains options bytes f)
-input_explained options None read lent again e f is first second why says = tt
-input_explained options (Some bytes) read lent again e f is first second why says =
-    subst (λ (x : List ℕ). Explains options x f) (second ∙ is)
-    (says (subst (λ (x : List ℕ). ExplainsError options x e) (first ∙ sym second) why))

@@ -1,2 +1,3 @@
+pub mod Snips
 pub mod Runs
 pub mod Steps

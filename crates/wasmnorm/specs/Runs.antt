@@ -1,20 +1,24 @@
 -- What a run does: `IsWritten` where its bytes are a module that is normalised, `IsRefused` and
--- `IsIllNamed` where not.
+-- `IsIllNamed` where not. What stops functions from being snipped is in `Snips`.
 use Rattle.std.specs.Prelude.{ℕ, List, Option}
 use Rattle.std.specs.Io.KnownBytes.{Appends}
+use Rattle.std.specs.declared.alloc.Global.{Global}
+use Rattle.std.specs.declared.string.String.{String}
 use Rattle.walrus_binary.specs.ModuleSections.{HasBadTypesBy}
 use Rattle.walrus_binary.specs.declared.error.DecodeError.{DecodeError}
 use Rattle.walrus_module.specs.declared.faults.FaultKind.TheVariants.{UnknownType}
 use Rattle.walrus_module.specs.ModuleFaults.{IsModuleFault}
 use Rattle.walrus_normalise.specs.declared.options.NormaliseOptions.{NormaliseOptions}
-use Rattle.walrus_normalise.specs.NormalModules.{IsNormalised, HasFirstError, LeavesMalformed, NamesUnknownType, BecomesTooLong, BecomesOutdated}
+use Rattle.walrus_normalise.specs.NormalModules.{HasFirstError, LeavesMalformed, NamesUnknownType, BecomesTooLong, BecomesOutdated}
 use Rattle.walrus_sections.specs.declared.error.ReadError.{ReadError}
+use Rattle.wasmnorm.specs.Snips.{BecomesNormal}
 
--- the bytes are a module, and a writer gained the same module with its type section in normal form
-pub record IsWritten (options : NormaliseOptions) (bytes : List ℕ) (old new : Option (List ℕ)) :
-    Type 0 where
+-- The bytes are a module, and a writer gained the same module with its type section in normal form.
+-- The functions that the arguments name were snipped before.
+pub record IsWritten (options : NormaliseOptions) (snips : List (String Global)) (bytes : List ℕ)
+    (old new : Option (List ℕ)) : Type 0 where
   pub normal : List ℕ
-  pub is_normalised : IsNormalised options bytes normal
+  pub becomes : BecomesNormal options snips bytes normal
   pub written : Appends old new normal
 
 -- The bytes are no module, or its types can't be read; or another section is malformed; or a

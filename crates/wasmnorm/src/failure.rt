@@ -3,12 +3,12 @@ ghost use Rattle.std.specs.Prelude.{◌≡◌, ◌≤◌, ◌⊎◌};
 ghost use Rattle.wasmnorm.specs.Steps.Failures.{Explains, ExplainsError, HasContext, IsOfStreams, refused_status, fault_status, kind_status, status_of};
 
 use crate::fault::fault_of;
-use command_line::{Context, context_of};
+use crate::snip_failure::{SnipFailure, snip_status};
+use command_line::{Context, NamedSection, context_of, context_of_error};
 use std::alloc::{AllocError, Global};
 use std::fmt;
 use std::fmt::Formatter;
 use std::io::{self, ErrorKind, Write};
-use walrus_binary::DecodeError;
 use walrus_module::{Fault, FaultKind};
 use walrus_normalise::{NormaliseModuleError, NormaliseOptions, Widths};
 
@@ -26,6 +26,8 @@ pub enum Failure {
         /// What may help.
         advice: Advice,
     },
+    /// The functions were not snipped.
+    Unsnipped(SnipFailure),
     /// Memory was refused.
     Memory,
     /// The system has no random bytes.
@@ -61,6 +63,15 @@ impl fmt::Display for Failure {
     fn fmt<W: fmt::Write>(&self, f: &mut Formatter<W>) -> fmt::Result {
         match self {
             Failure::Refused {
+                error: NormaliseModuleError::Outdated { offset },
+                context,
+                advice,
+                ..
+            } => {
+                write_outdated(f, *offset, context)?;
+                write!(f, "{advice}")
+            }
+            Failure::Refused {
                 error,
                 fault,
                 context,
@@ -72,12 +83,32 @@ impl fmt::Display for Failure {
                 }
                 write!(f, "{context}{advice}")
             }
+            Failure::Unsnipped(failure) => write!(f, "{failure}"),
             Failure::Memory => write!(f, "out of memory"),
             Failure::Keys => write!(f, "no random keys"),
             Failure::Input(error) => write!(f, "input failed: {error}"),
             Failure::Output(error) => write!(f, "output failed: {error}"),
         }
     }
+}
+
+/// The error `Outdated`, with the name of the section.
+fn write_outdated<W: fmt::Write>(
+    f: &mut Formatter<W>,
+    offset: usize,
+    context: &Context,
+) -> fmt::Result {
+    write!(f, "the custom section")?;
+    if let Context::Within(
+        NamedSection {
+            name: Some(name),
+            ..
+        },
+    ) = context
+    {
+        write!(f, " {name}")?;
+    }
+    write!(f, " at byte {offset} describes bytes that change")
 }
 
 fn write_fault<W: fmt::Write>(f: &mut Formatter<W>, fault: Fault) -> fmt::Result {
@@ -130,19 +161,25 @@ fn context_beside(bytes: &[u8], error: NormaliseModuleError, fault: Option<Fault
     ensures { HasContext bytes.now error fault result }
 {
     match error {
-        NormaliseModuleError::Types(DecodeError::Malformed { offset, .. }) => match fault {
-            Some(fault) => context_of(bytes, fault.offset.saturating_sub(1)),
-            None => context_of(bytes, offset),
+        NormaliseModuleError::Types(error) => match fault {
+            Some(fault) => context_of_fault(bytes, fault),
+            None => context_of_error(bytes, error),
         },
-        NormaliseModuleError::Types(DecodeError::NotHeld { offset, .. }) => {
-            context_of(bytes, offset)
-        }
         NormaliseModuleError::Malformed | NormaliseModuleError::UnknownType { .. } => match fault {
-            // A fault can be at the end of its section. The byte before it is in the section.
-            Some(fault) => context_of(bytes, fault.offset.saturating_sub(1)),
+            Some(fault) => context_of_fault(bytes, fault),
             None => Context::Nothing,
         },
+        NormaliseModuleError::Outdated { offset } => context_of(bytes, offset),
         _ => Context::Nothing,
+    }
+}
+
+fn context_of_fault(bytes: &[u8], fault: Fault) -> Context {
+    // A fault can be at the end of its section. The byte before it is in the section.
+    let context = context_of(bytes, fault.offset.saturating_sub(1));
+    match fault.kind {
+        FaultKind::Malformed => context.with_proposal(bytes, fault.offset),
+        FaultKind::UnknownType { .. } => context,
     }
 }
 
@@ -183,6 +220,7 @@ fn status(failure: &Failure) -> u8
 {
     match failure {
         Failure::Refused { error, fault, .. } => refusal_status(*error, *fault),
+        Failure::Unsnipped(failure) => snip_status(failure),
         Failure::Memory => 3,
         Failure::Keys | Failure::Input(_) | Failure::Output(_) => 4,
     }

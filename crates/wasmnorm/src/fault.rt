@@ -7,12 +7,15 @@ use walrus_module::{Fault, FaultKind, find_module_fault};
 use walrus_normalise::NormaliseModuleError;
 use walrus_ty::GroupAt;
 
+/// The id of the type section.
+const TYPES: u8 = 1;
+
 /// The first fault of a module that was refused with this error, if it is what the error says, or
 /// if it comes before what the error says.
 pub fn fault_of(alloc: Global, bytes: &[u8], error: NormaliseModuleError) -> Option<Fault>
     ensures { IsFaultOf bytes.now result }
 {
-    let count = type_count(alloc, whole_sections(bytes, error))?;
+    let count = count_before(alloc, bytes, error)?;
     let fault = first_fault(alloc, bytes, count)?;
     if !agrees(error, fault) {
         return None;
@@ -20,15 +23,19 @@ pub fn fault_of(alloc: Global, bytes: &[u8], error: NormaliseModuleError) -> Opt
     Some(fault)
 }
 
-/// The bytes before the section in which the bytes stop being a module, or all of them.
-fn whole_sections(bytes: &[u8], error: NormaliseModuleError) -> &[u8] {
+/// How many types the sections before the error may name. Where the type section is what is
+/// malformed, its types are not known, and what names them before it is not judged.
+fn count_before(alloc: Global, bytes: &[u8], error: NormaliseModuleError) -> Option<u32> {
     let NormaliseModuleError::Types(DecodeError::Malformed { offset, .. }) = error else {
-        return bytes;
+        return type_count(alloc, bytes);
     };
-    match section_around(bytes, offset) {
-        Some(section) => bytes.get(..section.offset).unwrap_or(bytes),
-        None => bytes,
+    let Some(section) = section_around(bytes, offset) else {
+        return type_count(alloc, bytes);
+    };
+    if section.id == TYPES {
+        return Some(u32::MAX);
     }
+    type_count(alloc, bytes.get(..section.offset)?)
 }
 
 fn first_fault(alloc: Global, bytes: &[u8], count: u32) -> Option<Fault>
@@ -40,8 +47,7 @@ fn first_fault(alloc: Global, bytes: &[u8], count: u32) -> Option<Fault>
     }
 }
 
-/// Whether the error says the same as a fault, or something that comes later. A name section that
-/// is wrong has no place.
+/// Whether the error says the same as a fault, or something that comes later.
 fn agrees(error: NormaliseModuleError, fault: Fault) -> bool {
     match (error, fault.kind) {
         (NormaliseModuleError::Types(DecodeError::Malformed { offset, .. }), _) => {

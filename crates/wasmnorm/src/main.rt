@@ -1,25 +1,29 @@
 //! Reads a WebAssembly module and writes it with its type section in normal form.
 #![tactic(auto)]
 
-ghost use Rattle.std.specs.Prelude.{◌≡◌, ◌<◌, ◌≤◌, IfErr, IfOk, OnOk, IfSome};
+ghost use Rattle.std.specs.Prelude.{◌≡◌, ◌<◌, ◌≤◌, ◌⊎◌, IfErr, IfOk, OnOk, IfSome};
 ghost use Rattle.std.specs.Io.KnownBytes.{Appends, Keeps};
 ghost use Rattle.walrus_normalise.specs.NormalModules.{IsNormalised};
 ghost use Rattle.wasmnorm.specs.Runs.{IsWritten, IsRefused, IsIllNamed};
-ghost use Rattle.wasmnorm.specs.Steps.Failures.{Explains, ExplainsError, status_of};
+ghost use Rattle.wasmnorm.specs.Snips.{BecomesNormal, CanNotBeSnipped, MisnamesFunctions};
+ghost use Rattle.wasmnorm.specs.Steps.Failures.{ExplainsError, ExplainsRun, status_of};
 
 mod failure;
 mod fault;
+mod snip_failure;
+mod snipping;
 mod texts;
 
 use command_line::{
-    Request, has_option, open, parse_arguments, random_keys, read_bytes, report_usage,
+    OptionValue, Request, has_option, open, parse_arguments, random_keys, read_bytes, report_usage,
     write_version,
 };
 use failure::{Failure, failed_input, refusal, report};
-use std::alloc::Global;
+use snipping::snipped_module;
+use std::alloc::{AllocError, Global};
 use std::io::{self, BufWriter, Read, Write};
 use std::process::ExitCode;
-use texts::{HELP, KEEP_WIDTHS, PRUNE, STRIP, USAGE};
+use texts::{HELP, KEEP_WIDTHS, PRUNE, SNIP, STRIP, USAGE};
 use walrus_normalise::{
     Descriptions, HashKeys, NormaliseModuleError, NormaliseOptions, UnusedTypes, Widths,
     normalise_module,
@@ -34,6 +38,12 @@ use walrus_normalise::{
 /// they are. Where one of them describes bytes that would change, such as debug data, the module is
 /// refused, unless the options say that such sections are left out.
 ///
+/// `snips` are functions whose bodies become a single `unreachable` before that. Each is an index,
+/// in digits alone that write a `u32`, or else the name of one function. A module that is refused
+/// without them is refused in the same way with them, so each place in a message is one of the
+/// input. Where a body changes, a custom section that describes other bytes no longer fits,
+/// whatever it describes.
+///
 /// It returns the exit status. One line on `err` explains each of 1 to 4.
 ///
 /// - 0: done.
@@ -41,7 +51,8 @@ use walrus_normalise::{
 ///   holds. Or a section or a function body would be too long. Or a custom section describes bytes
 ///   that would change.
 /// - 2: the type section names a type that it may not name, or has too many entries. Or another
-///   section names a type that the type section does not have.
+///   section names a type that the type section does not have. Or one of `snips` is the name of no
+///   function or of several, or the index of an imported function or of none.
 /// - 3: memory was refused.
 /// - 4: a read or a write failed.
 ///
@@ -54,21 +65,22 @@ pub fn run<R: Read, W: Write, E: Write>(
     alloc: Global,
     keys: HashKeys,
     options: NormaliseOptions,
+    snips: &[String],
     reader: &mut R,
     out: &mut W,
     err: &mut E,
 ) -> u8
     ensures done { result ≡ 0 → IfSome (R.remaining reader.old)
-        (λ bytes. IsWritten options bytes (W.contents out.old) (W.contents out.new)) }
+        (λ bytes. IsWritten options snips.now bytes (W.contents out.old) (W.contents out.new)) }
     ensures silent { result ≡ 0 → Keeps (E.contents err.old) (E.contents err.new) }
     ensures refused { result ≡ 1 → IfSome (R.remaining reader.old)
-        (λ bytes. IsRefused options bytes) }
+        (λ bytes. IsRefused options bytes ⊎ CanNotBeSnipped options snips.now bytes) }
     ensures ill_named { result ≡ 2 → IfSome (R.remaining reader.old)
-        (λ bytes. IsIllNamed options bytes) }
+        (λ bytes. IsIllNamed options bytes ⊎ MisnamesFunctions snips.now bytes) }
     ensures range { result ≤ 4 }
     ensures unwritten { 0 < result → result < 4 → Keeps (W.contents out.old) (W.contents out.new) }
 {
-    match normalise_input(alloc, keys, options, reader, out) {
+    match normalise_input(alloc, keys, options, snips, reader, out) {
         Ok(()) => 0,
         Err(failure) => report(&failure, err),
     }
@@ -78,13 +90,14 @@ fn normalise_input<R: Read, W: Write>(
     alloc: Global,
     keys: HashKeys,
     options: NormaliseOptions,
+    snips: &[String],
     reader: &mut R,
     out: &mut W,
 ) -> Result<(), Failure>
     ensures done { OnOk result (IfSome (R.remaining reader.old)
-        (λ bytes. IsWritten options bytes (W.contents out.old) (W.contents out.new))) }
+        (λ bytes. IsWritten options snips.now bytes (W.contents out.old) (W.contents out.new))) }
     ensures failed { IfErr result (λ failure.
-        IfSome (R.remaining reader.old) (λ bytes. Explains options bytes failure)) }
+        IfSome (R.remaining reader.old) (λ bytes. ExplainsRun options snips.now bytes failure)) }
     ensures unwritten { IfErr result (λ failure. status_of failure < 4 →
         Keeps (W.contents out.old) (W.contents out.new)) }
 {
@@ -92,13 +105,36 @@ fn normalise_input<R: Read, W: Write>(
         Ok(bytes) => bytes,
         Err(error) => return Err(failed_input(error)),
     };
-    let module = match normal_module(alloc, keys, options, bytes.as_slice()) {
-        Ok(module) => module,
-        Err(error) => return Err(refusal(alloc, bytes.as_slice(), options, error)),
-    };
+    let module = new_module(alloc, keys, options, snips, bytes.as_slice())?;
     match write_and_flush(out, module.as_slice()) {
         Ok(()) => Ok(()),
         Err(error) => Err(Failure::Output(error)),
+    }
+}
+
+/// The module that is written. The input is judged before anything is snipped, so each place in a
+/// message is one of the input.
+fn new_module(
+    alloc: Global,
+    keys: HashKeys,
+    options: NormaliseOptions,
+    snips: &[String],
+    bytes: &[u8],
+) -> Result<Vec<u8>, Failure>
+    ensures normal { IfOk result (λ new. BecomesNormal options snips.now bytes.now new.items) }
+    ensures refused { IfErr result (ExplainsRun options snips.now bytes.now) }
+{
+    let normal = match normal_module(alloc, keys, options, bytes) {
+        Ok(module) => module,
+        Err(error) => return Err(refusal(alloc, bytes, options, error)),
+    };
+    if snips.is_empty() {
+        return Ok(normal);
+    }
+    drop(normal);
+    match snipped_module(alloc, keys, options, snips, bytes) {
+        Ok(module) => Ok(module),
+        Err(failure) => Err(Failure::Unsnipped(failure)),
     }
 }
 
@@ -134,12 +170,17 @@ fn main(rt: HostRuntime) -> ExitCode {
 
 /// Does what the arguments ask for, and returns the exit status.
 fn start<E: Write>(rt: &HostRuntime, err: &mut E) -> Result<u8, Failure> {
-    match parse_arguments(rt, &[KEEP_WIDTHS, PRUNE, STRIP])? {
+    match parse_arguments(rt, &[KEEP_WIDTHS, PRUNE, STRIP], &[SNIP])? {
         Request::Help => printed(rt.stdout().write_all(HELP.as_bytes())),
         Request::Version => printed(write_version("wasmnorm", &mut rt.stdout())),
-        Request::Work { names, options } => {
+        Request::Work {
+            names,
+            options,
+            values,
+        } => {
             let options = normalise_options(options.as_slice());
-            normalise_named(rt, names.as_slice(), options, err)
+            let snips = named_functions(rt.alloc(), values)?;
+            normalise_named(rt, names.as_slice(), options, snips.as_slice(), err)
         }
         Request::Usage => Ok(report_usage(USAGE, err)),
     }
@@ -169,15 +210,25 @@ fn normalise_options(options: &[String]) -> NormaliseOptions {
     }
 }
 
+/// The functions to snip. No other option has a value.
+fn named_functions(alloc: Global, values: Vec<OptionValue>) -> Result<Vec<String>, AllocError> {
+    let mut snips = Vec::new(alloc);
+    for value in values {
+        snips.push(value.value)?;
+    }
+    Ok(snips)
+}
+
 fn normalise_named<E: Write>(
     rt: &HostRuntime,
     names: &[String],
     options: NormaliseOptions,
+    snips: &[String],
     err: &mut E,
 ) -> Result<u8, Failure> {
     match names {
-        [] => normalise_file(rt, "-", options, err),
-        [name] => normalise_file(rt, name.as_str(), options, err),
+        [] => normalise_file(rt, "-", options, snips, err),
+        [name] => normalise_file(rt, name.as_str(), options, snips, err),
         _ => Ok(report_usage(USAGE, err)),
     }
 }
@@ -186,6 +237,7 @@ fn normalise_file<E: Write>(
     rt: &HostRuntime,
     name: &str,
     options: NormaliseOptions,
+    snips: &[String],
     err: &mut E,
 ) -> Result<u8, Failure> {
     let mut input = match open(rt, name, err) {
@@ -198,7 +250,7 @@ fn normalise_file<E: Write>(
     let Ok(mut out) = BufWriter::new(rt.alloc(), rt.stdout()) else {
         return Err(Failure::Memory);
     };
-    Ok(run(rt.alloc(), keys, options, &mut input, &mut out, err))
+    Ok(run(rt.alloc(), keys, options, snips, &mut input, &mut out, err))
 }
 
 fn printed(written: io::Result<()>) -> Result<u8, Failure> {

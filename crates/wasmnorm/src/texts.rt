@@ -9,13 +9,21 @@ pub const PRUNE: &str = "--prune";
 /// The option that leaves out sections that describe other bytes.
 pub const STRIP: &str = "--strip";
 
-pub const USAGE: &str = "usage: wasmnorm [--prune] [--strip] [--keep-widths] [FILE]\n";
+/// The option that snips a function, with its name or index behind it.
+pub const SNIP: &str = "--snip";
 
-pub const HELP: &str = "usage: wasmnorm [--prune] [--strip] [--keep-widths] [FILE]
+pub const USAGE: &str =
+    "usage: wasmnorm [--snip FUNCTION] [--prune] [--strip] [--keep-widths] [FILE]\n";
+
+pub const HELP: &str = "usage: wasmnorm [--snip FUNCTION] [--prune] [--strip] [--keep-widths] [FILE]
 Writes the WebAssembly module in FILE to standard output, with its type section in normal form and
 every other index of a type written again. Without FILE, or if it is -, the module comes from
 standard input. Custom sections other than the one named name are copied as they are, and a module
 is refused if one of them, such as debug data, describes bytes that would change.
+  --snip FUNCTION
+                 makes the body of a function a single unreachable, so that a call of it traps;
+                 FUNCTION is an index, or a name by which the module exports the function or that
+                 its section name gives it; the option can come several times
   --prune        deletes types that nothing uses outside the type section
   --strip        leaves out custom sections that describe other bytes, such as debug data
   --keep-widths  writes an index in as many bytes as it had, or in more where it needs them

@@ -4,7 +4,7 @@ ghost use Rattle.walrus_binary.specs.Faults.{error_offset};
 ghost use Rattle.walrus_binary.specs.ModuleSections.{HasBadTypes};
 ghost use Rattle.wasmtypes.specs.Steps.Failures.{Explains, IsOfStreams, decode_status, status_of};
 
-use command_line::{Context, context_of};
+use command_line::{Context, context_of_error};
 use std::alloc::AllocError;
 use std::fmt;
 use std::fmt::Formatter;
@@ -57,12 +57,10 @@ pub fn refusal(bytes: &[u8], error: DecodeError) -> Failure
         Explains result bytes.now }
     ensures status { status_of result ≡ decode_status error }
 {
-    let context = match error {
-        DecodeError::Malformed { offset, .. } => context_of(bytes, offset),
-        DecodeError::NotHeld { offset, .. } => context_of(bytes, offset),
-        DecodeError::Memory => Context::Nothing,
-    };
-    Failure::Refused { error, context }
+    Failure::Refused {
+        error,
+        context: context_of_error(bytes, error),
+    }
 }
 
 /// What a failed read ends the run with. Its status is 3 if memory was refused, and 4 otherwise.

@@ -99,7 +99,7 @@ fn main(rt: HostRuntime) -> ExitCode {
 
 /// Does what the arguments ask for, and returns the exit status.
 fn start<E: Write>(rt: &HostRuntime, err: &mut E) -> Result<u8, Failure> {
-    match parse_arguments(rt, &[])? {
+    match parse_arguments(rt, &[], &[])? {
         Request::Help => printed(rt.stdout().write_all(HELP.as_bytes())),
         Request::Version => printed(write_version("wasmtypes", &mut rt.stdout())),
         Request::Work { names, .. } => match names.as_slice() {

@@ -356,7 +356,7 @@ def name_map(it, take):
     for _ in range(count):
         entry = it.inside(it.end)
         old = entry.u(32)
-        new = entry.image(old)
+        new = entry.image(old, it.at)
         if new is not None:
             entry.write_number(it.at, new)
         take(entry)
@@ -413,18 +413,18 @@ def sections_of(module):
 
 
 def first_fault(module, types):
-    """The first fault in the contents of the sections that can name types, with its place, if the module has as many
-    types. Sections are judged as far as they are framed."""
+    """The first fault in the contents of custom sections and of those that can name types, with its place, if the module
+    has as many types. Sections are judged as far as they are framed."""
     at = len(HEADER)
     try:
         for code, section in sections_of(module):
             end = at + 1 + len(section)
             begin = end - len(Reader(module, at + 1, end).name())
             at = end
-            if code in CONTENTS:
+            if code == CUSTOM or code in CONTENTS:
                 it = Renamer(module, begin, end, range(types), False)
                 try:
-                    CONTENTS[code](it)
+                    (custom if code == CUSTOM else CONTENTS[code])(it)
                     it.finish()
                 except Malformed as fault:
                     return f'malformed at {fault.at}'

@@ -34,9 +34,8 @@ impl<'a> InstrSeqBuilder<'a> {
         ensures ok { OnOk result (Nests (F.post make_block ∷ []) ty (seq_id self.old) None
             (λ seq. instr.Block (record { seq = seq }))
             (function_of self.old) (function_of self.new)) }
-        ensures err { IfErr result (λ e.
-            FailsToNest (F.post make_block ∷ []) ty (seq_id self.old) None
-            (function_of self.old) e (function_of self.new)) }
+        ensures err { IfErr result (λ e. FailsToNest (F.post make_block ∷ []) ty
+            (seq_id self.old) None (function_of self.old) e (function_of self.new)) }
     {
         let seq = self.fill_new(ty, make_block)?;
         self.attach(Instr::Block(Block { seq }))
@@ -55,9 +54,8 @@ impl<'a> InstrSeqBuilder<'a> {
         ensures ok { OnOk result (Nests (F.post make_loop ∷ []) ty (seq_id self.old) None
             (λ seq. instr.Loop (record { seq = seq }))
             (function_of self.old) (function_of self.new)) }
-        ensures err { IfErr result (λ e.
-            FailsToNest (F.post make_loop ∷ []) ty (seq_id self.old) None
-            (function_of self.old) e (function_of self.new)) }
+        ensures err { IfErr result (λ e. FailsToNest (F.post make_loop ∷ []) ty
+            (seq_id self.old) None (function_of self.old) e (function_of self.new)) }
     {
         let seq = self.fill_new(ty, make_loop)?;
         self.attach(Instr::Loop(Loop { seq }))
@@ -81,9 +79,8 @@ impl<'a> InstrSeqBuilder<'a> {
             (Nests (F.post consequent ∷ G.post alternative ∷ []) ty (seq_id self.old) None
             (λ first second. instr.IfElse (record { consequent = first; alternative = second }))
             (function_of self.old) (function_of self.new)) }
-        ensures err { IfErr result (λ e.
-            FailsToNest (F.post consequent ∷ G.post alternative ∷ []) ty (seq_id self.old) None
-            (function_of self.old) e (function_of self.new)) }
+        ensures err { IfErr result (λ e. FailsToNest (F.post consequent ∷ G.post alternative ∷ [])
+            ty (seq_id self.old) None (function_of self.old) e (function_of self.new)) }
     {
         let same_ty = ty;
         let first = self.fill_new(ty, consequent)?;
@@ -110,9 +107,8 @@ impl<'a> InstrSeqBuilder<'a> {
             (Nests (F.post make_block ∷ []) ty (seq_id self.old) (Some position)
             (λ seq. instr.Block (record { seq = seq }))
             (function_of self.old) (function_of self.new)) }
-        ensures err { IfErr result (λ e.
-            FailsToNest (F.post make_block ∷ []) ty (seq_id self.old) (Some position)
-            (function_of self.old) e (function_of self.new)) }
+        ensures err { IfErr result (λ e. FailsToNest (F.post make_block ∷ []) ty
+            (seq_id self.old) (Some position) (function_of self.old) e (function_of self.new)) }
     {
         let seq = self.fill_new(ty, make_block)?;
         self.attach_at(position, Instr::Block(Block { seq }))
@@ -134,9 +130,8 @@ impl<'a> InstrSeqBuilder<'a> {
             (Nests (F.post make_loop ∷ []) ty (seq_id self.old) (Some position)
             (λ seq. instr.Loop (record { seq = seq }))
             (function_of self.old) (function_of self.new)) }
-        ensures err { IfErr result (λ e.
-            FailsToNest (F.post make_loop ∷ []) ty (seq_id self.old) (Some position)
-            (function_of self.old) e (function_of self.new)) }
+        ensures err { IfErr result (λ e. FailsToNest (F.post make_loop ∷ []) ty
+            (seq_id self.old) (Some position) (function_of self.old) e (function_of self.new)) }
     {
         let seq = self.fill_new(ty, make_loop)?;
         self.attach_at(position, Instr::Loop(Loop { seq }))
@@ -167,10 +162,8 @@ impl<'a> InstrSeqBuilder<'a> {
             (Some position)
             (λ first second. instr.IfElse (record { consequent = first; alternative = second }))
             (function_of self.old) (function_of self.new)) }
-        ensures err { IfErr result (λ e.
-            FailsToNest (F.post consequent ∷ G.post alternative ∷ []) ty (seq_id self.old)
-            (Some position)
-            (function_of self.old) e (function_of self.new)) }
+        ensures err { IfErr result (λ e. FailsToNest (F.post consequent ∷ G.post alternative ∷ [])
+            ty (seq_id self.old) (Some position) (function_of self.old) e (function_of self.new)) }
     {
         let same_ty = ty;
         let first = self.fill_new(ty, consequent)?;
@@ -213,8 +206,7 @@ impl<'a> InstrSeqBuilder<'a> {
         ensures same { Stays self.old self.new }
         ensures known { OnOk result (IsKnown self.new) }
         ensures ok { OnOk result
-            (Attaches (function_of self.old) (seq_id self.old) None instr
-            (function_of self.new)) }
+            (Attaches (function_of self.old) (seq_id self.old) None instr (function_of self.new)) }
         ensures err { IfErr result (λ e. (function_of self.new ≡ function_of self.old)
             × FailsToAttach (function_of self.old) (seq_id self.old) None e) }
     {

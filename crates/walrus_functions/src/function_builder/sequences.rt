@@ -64,8 +64,7 @@ impl Sequences {
     // Adds a sequence without instructions.
     pub(super) fn add(&mut self, ty: InstrSeqType) -> Result<InstrSeqId, AllocError>
         ensures id { IfOk result (λ id. id ≡ length self.old) }
-        ensures ok { OnOk result
-            (self.new ≡ self.old ++ empty_sequence (length self.old) ty ∷ []) }
+        ensures ok { OnOk result (self.new ≡ self.old ++ empty_sequence (length self.old) ty ∷ []) }
         ensures err { OnErr result (self.new ≡ self.old) }
     {
         let alloc = *self.items.allocator();

@@ -190,7 +190,6 @@ fn the_first_of_two_faults_decides(rt: HostRuntime) {
 #[test]
 fn other_contents_are_not_judged(rt: HostRuntime) {
     let alloc = rt.alloc();
-    assert!(rt; is_right(alloc, 0, &[0xFF]));
     assert!(rt; is_right(alloc, 1, &[0xFF]));
     assert!(rt; is_right(alloc, 5, &[]));
     assert!(rt; is_right(alloc, 12, &[9]));

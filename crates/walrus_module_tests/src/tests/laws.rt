@@ -17,6 +17,11 @@ fn the_laws_of_renaming_hold() {
 }
 
 #[test]
+fn the_law_of_faults_holds() {
+    laws::refused_module_has_a_fault();
+}
+
+#[test]
 fn the_laws_of_stripped_modules_hold() {
     laws::one_stripped_module();
     laws::stripped_module_describes_nothing();

@@ -1,5 +1,5 @@
-//! The first fault in the contents of a module's sections, and its place. The bytes are put together
-//! by hand from the specification's grammar of modules.
+//! The first fault in the contents of a module's sections, and its place. The bytes are put
+//! together by hand from the specification's grammar of modules.
 use std::alloc::{AllocError, Global};
 use std::test::*;
 use walrus_module::{Fault, FaultKind, find_module_fault};

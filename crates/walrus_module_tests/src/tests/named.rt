@@ -35,9 +35,9 @@ fn a_type_section_names_nothing_from_outside(rt: HostRuntime) {
 
 #[test]
 fn each_section_names_its_types_in_order(rt: HostRuntime) {
-    // types; import of a function of type 1; functions of 2 and 2; table of (ref null 3); memory; tag
-    // of 4; global of (ref null 5); export; start; elements of (ref null 6); data count; bodies that
-    // name 7 and 8; data with the offset `ref.null 9, ref.is_null`; custom
+    // types; import of a function of type 1; functions of 2 and 2; table of (ref null 3); memory;
+    // tag of 4; global of (ref null 5); export; start; elements of (ref null 6); data count; bodies
+    // that name 7 and 8; data with the offset `ref.null 9, ref.is_null`; custom
     let bytes = [
         0, 0x61, 0x73, 0x6D, 1, 0, 0, 0, 1, 4, 1, 0x60, 0, 0, 2, 5, 1, 0, 0, 0, 1, 3, 3, 2, 2, 2,
         4, 5, 1, 0x63, 3, 0, 1, 5, 3, 1, 0, 1, 13, 3, 1, 0, 4, 6, 7, 1, 0x63, 5, 0, 0xD0, 5, 0x0B,

@@ -5,9 +5,9 @@ use std::alloc::Global;
 use std::test::*;
 use walrus_module::{RenameError, Widths, rename_module};
 
-// Types of a function without parameters and of one with an i32; the import of a function of type 1;
-// a function of type 0; a memory; a body with `call_indirect 1`; a custom section `x`. Most sizes are
-// padded, and so is the index in the function section.
+// Types of a function without parameters and of one with an i32; the import of a function of type
+// 1; a function of type 0; a memory; a body with `call_indirect 1`; a custom section `x`. Most
+// sizes are padded, and so is the index in the function section.
 const MODULE: [u8; 58] = [
     0, 0x61, 0x73, 0x6D, 1, 0, 0, 0, 1, 0x88, 0, 2, 0x60, 0, 0, 0x60, 1, 0x7F, 0, 2, 7, 1, 1, 0x61,
     1, 0x62, 0, 1, 3, 0x83, 0, 1, 0x80, 0, 5, 0x83, 0x80, 0, 1, 0, 1, 10, 0x88, 0x80, 0, 1, 0x85,

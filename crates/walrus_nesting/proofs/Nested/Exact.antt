@@ -1,6 +1,5 @@
 -- A list shows a rank; a cycle or an unknown id shows that there is none.
-use Rattle.std.proofs.Common.{◌≡◌, ℕ, zero, suc, ◌+◌, ◌-◌, ◌≤◌, ◌↔◌, Bool, true, false, cond, eqb, List, [], ◌∷◌, length, refl, sym, ap, subst, ◌∙◌, arith, Some}
-use Rattle.std.specs.List.{slice_get}
+use Rattle.std.proofs.Common.{◌≡◌, ℕ, zero, suc, ◌+◌, ◌-◌, ◌≤◌, ◌↔◌, Bool, true, false, cond, eqb, List, [], ◌∷◌, length, refl, sym, ap, subst, ◌∙◌, arith, Some, slice_get}
 use Rattle.std.proofs.lemmas.Bool.{eqb-true, eq-eqb}
 use Rattle.std.proofs.lemmas.Option.{slice_get_within}
 use Rattle.walrus_functions.specs.Body.{Body, Knows}
@@ -15,8 +14,7 @@ abbrev place_in : List ℕ → ℕ → ℕ
 place_in [] id = 0
 place_in (x ∷ xs) id = cond (eqb x id) 0 (suc (place_in xs id))
 
-place_there :
-    (xs : List ℕ) (i id : ℕ) → slice_get xs i ≡ Some id → slice_get xs (place_in xs id) ≡ Some id
+place_there : (xs : List ℕ) (i id : ℕ) → slice_get xs i ≡ Some id → slice_get xs (place_in xs id) ≡ Some id
 place_there [] i id h = absurd (cc)
 place_there (x ∷ xs) zero id h =
     let e : x ≡ id = cc in
@@ -63,8 +61,7 @@ module _ (f : Body) (start : ℕ) where
       let e : b + 0 ≡ b = omega arith in
       let k' : slice_get path b ≡ Some last = subst (λ (i : ℕ). slice_get path i ≡ Some last) e k in
       let g : first ≡ last = cc in
-      let F : ℕ → Type 0 = λ x. rank x ≤ rank first in
-      subst F g (omega arith)
+      subst (λ (x : ℕ). rank x ≤ rank first) g (omega arith)
   rank_falls rank r path p b first h (suc n) last k =
       let e : b + suc n ≡ suc (b + n) = omega arith in
       let k' : slice_get path (suc (b + n)) ≡ Some last =
@@ -104,9 +101,8 @@ module _ (f : Body) (start : ℕ) where
   nested_exactly (Unknown path) s = (λ h. absurd h, no_rank_beside_unknown path.items s)
 
 -- what is reached from a child is reached
-reached_on :
-    (f : Body) (start child : ℕ) → IsReachable f start child → (id : ℕ) → IsReachable f child id →
-    IsReachable f start id
+reached_on : (f : Body) (start child : ℕ) →
+    IsReachable f start child → (id : ℕ) → IsReachable f child id → IsReachable f start id
 reached_on f start child r id at_start = r
 reached_on f start child r id (below parent c s k) = below parent id (reached_on f start child r parent s) k
 

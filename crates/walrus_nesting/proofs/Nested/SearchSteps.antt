@@ -1,6 +1,5 @@
 -- The steps of a nesting check keep what is known of it.
-use Rattle.std.proofs.Common.{◌≡◌, ℕ, zero, suc, ◌+◌, ◌-◌, ◌<◌, ◌⊎◌, inl, inr, List, [], ◌∷◌, ◌++◌, map, length, refl, sym, ap, subst, ◌∙◌, arith, Some, Contains, All, slice_set, length-append, take, reverse, get_or}
-use Rattle.std.specs.List.{slice_get}
+use Rattle.std.proofs.Common.{◌≡◌, ℕ, zero, suc, ◌+◌, ◌-◌, ◌<◌, ◌⊎◌, inl, inr, List, [], ◌∷◌, ◌++◌, map, length, refl, sym, ap, subst, ◌∙◌, arith, Some, Contains, All, slice_set, length-append, take, reverse, get_or, slice_get}
 use Rattle.std.proofs.lemmas.Bool.{cases_eq}
 use Rattle.std.proofs.lemmas.Option.{slice_get_within, slice_get_read, get_or_from_slice_get}
 use Rattle.std.proofs.lemmas.List.{length-set, length-map, take_at, reverse-append}
@@ -28,8 +27,7 @@ in_head x xs = contains_from_get (x ∷ xs) 0 x refl
 in_tail : (x : ℕ) (xs : List ℕ) (id : ℕ) → Contains xs id → Contains (x ∷ xs) id
 in_tail x xs id c = let at = get_from_contains xs id c in contains_from_get (x ∷ xs) (suc at.0) id at.1
 
-first_or_rest :
-    (x : ℕ) (xs : List ℕ) (id i : ℕ) → slice_get (x ∷ xs) i ≡ Some id → (x ≡ id) ⊎ Contains xs id
+first_or_rest : (x : ℕ) (xs : List ℕ) (id i : ℕ) → slice_get (x ∷ xs) i ≡ Some id → (x ≡ id) ⊎ Contains xs id
 first_or_rest x xs id zero h = inl cc
 first_or_rest x xs id (suc i) h = inr (contains_from_get xs i id h)
 
@@ -44,8 +42,7 @@ module _ (f : Body) (start : ℕ) where
       IsCovered f start done ahead ws → IsCovered f start more later ws
   covered_weaker done more ahead later [] d a h = elim h [ inl k ↦ inl (d start k) | inr k ↦ a start k ]
   covered_weaker done more ahead later (Enter c ∷ ws) d a h =
-      covered_weaker done more (c ∷ ahead) (c ∷ later) ws d
-      (λ id m. elim (in_cases c ahead id m) [
+      covered_weaker done more (c ∷ ahead) (c ∷ later) ws d (λ id m. elim (in_cases c ahead id m) [
         | inl e ↦ inr (subst (λ (x : ℕ). Contains (c ∷ later) x) e (in_head c later))
         | inr k ↦ elim (a id k) [ inl g ↦ inl g | inr g ↦ inr (in_tail c later id g) ]
       ]) h
@@ -88,8 +85,7 @@ module _ (f : Body) (start : ℕ) where
   covered_skipped : (done : List ℕ) (id : ℕ) (ws : List Work) → Contains done id →
       IsCovered f start done [] (Enter id ∷ ws) → IsCovered f start done [] ws
   covered_skipped done id ws there h =
-      covered_weaker done done (id ∷ []) [] ws (λ x m. m)
-      (λ x m. elim (in_cases id [] x m) [
+      covered_weaker done done (id ∷ []) [] ws (λ x m. m) (λ x m. elim (in_cases id [] x m) [
         | inl e ↦ inl (subst (λ (y : ℕ). Contains done y) e there)
         | inr k ↦ absurd (none_in x k)
       ]) h
@@ -157,9 +153,8 @@ module _ (f : Body) (start : ℕ) where
     ];
   }
 
-marks_entered :
-    (f : Body) (marks : List Mark) (path done : List ℕ) (id : ℕ) → AreMarks f marks path done →
-    slice_get marks id ≡ Some New →
+marks_entered : (f : Body) (marks : List Mark) (path done : List ℕ) (id : ℕ) →
+    AreMarks f marks path done → slice_get marks id ≡ Some New →
     AreMarks f (slice_set marks id (Open (length path))) (path ++ id ∷ []) done
 marks_entered f marks path done id m new =
     let at : slice_get (slice_set marks id (Open (length path))) id ≡ Some (Open (length path)) =
@@ -195,10 +190,8 @@ marks_entered f marks path done id m new =
           sym (ap (slice_get marks) e) ∙ mark in let no : ⊥ = cc in no) ∙ mark;
     }
 
-marks_left :
-    (f : Body) (marks : List Mark) (before done : List ℕ) (id : ℕ) →
-    AreMarks f marks (before ++ id ∷ []) done →
-    AreMarks f (slice_set marks id Done) before (done ++ id ∷ [])
+marks_left : (f : Body) (marks : List Mark) (before done : List ℕ) (id : ℕ) →
+    AreMarks f marks (before ++ id ∷ []) done → AreMarks f (slice_set marks id Done) before (done ++ id ∷ [])
 marks_left f marks before done id m =
     let open' : slice_get marks id ≡ Some (Open (length before)) =
     m.on_path id (length before) (get_last before id) in
@@ -256,22 +249,19 @@ ahead_entered f first (Open p ∷ marks) (suc i) id k e h =
 ahead_entered f first (Done ∷ marks) (suc i) id k e h =
     ahead_entered f (suc first) marks i id k (omega arith) h
 
-ahead_left :
-    (f : Body) (first : ℕ) (marks : List Mark) (i k : ℕ) → slice_get marks i ≡ Some (Open k) →
-    work_ahead f first (slice_set marks i Done) ≡ work_ahead f first marks
+ahead_left : (f : Body) (first : ℕ) (marks : List Mark) (i k : ℕ) →
+    slice_get marks i ≡ Some (Open k) → work_ahead f first (slice_set marks i Done) ≡ work_ahead f first marks
 ahead_left f first [] i k h = refl
 ahead_left f first (m ∷ marks) zero k h =
     let same : m ≡ Open k = cc in
-    let F : Mark → Type 0 = λ x. work_ahead f (suc first) marks ≡ work_ahead f first (x ∷ marks) in
-    subst F (sym same) refl
+    subst (λ (x : Mark). work_ahead f (suc first) marks ≡ work_ahead f first (x ∷ marks)) (sym same) refl
 ahead_left f first (New ∷ marks) (suc i) k h =
     ap (λ n. suc (length (children_of f first)) + n) (ahead_left f (suc first) marks i k h)
 ahead_left f first (Open p ∷ marks) (suc i) k h = ahead_left f (suc first) marks i k h
 ahead_left f first (Done ∷ marks) (suc i) k h = ahead_left f (suc first) marks i k h
 
-pub enter_sound :
-    (f : Body) (s : State) (id : ℕ) → Knows f id → slice_get s.marks id ≡ Some New →
-    IsSound f (with_work (Enter id) s) → IsSound f (after_enter f id s)
+pub enter_sound : (f : Body) (s : State) (id : ℕ) → Knows f id →
+    slice_get s.marks id ≡ Some New → IsSound f (with_work (Enter id) s) → IsSound f (after_enter f id s)
 enter_sound f s id known new h = record {
   marks = marks_entered f s.marks s.path s.done id h.marks new;
   known = All-push (Knows f) s.path id h.known known;
@@ -281,28 +271,24 @@ enter_sound f s id known new h = record {
   listed = h.listed;
 }
 
-entered_long :
-    (cs : List ℕ) (ws : List Work) (id : ℕ) →
+entered_long : (cs : List ℕ) (ws : List Work) (id : ℕ) →
     length (map Enter cs ++ Leave id ∷ ws) ≡ length cs + suc (length ws)
 entered_long cs ws id = length-append (map Enter cs) (Leave id ∷ ws)
     ∙ ap (λ n. n + suc (length ws)) (length-map cs Enter)
 
-pub enter_fewer :
-    (f : Body) (s : State) (id : ℕ) → slice_get s.marks id ≡ Some New →
+pub enter_fewer : (f : Body) (s : State) (id : ℕ) → slice_get s.marks id ≡ Some New →
     steps_left f (after_enter f id s) < steps_left f (with_work (Enter id) s)
 enter_fewer f s id new =
     let falls = ahead_entered f 0 s.marks id id (length s.path) (omega arith) new in
     let long = entered_long (children_of f id) s.work id in
     omega arith
 
-leave_at :
-    (f : Body) (s : State) (id : ℕ) (before : List ℕ) → s.path ≡ before ++ id ∷ [] →
+leave_at : (f : Body) (s : State) (id : ℕ) (before : List ℕ) → s.path ≡ before ++ id ∷ [] →
     AreMarks f s.marks s.path s.done → slice_get s.marks id ≡ Some (Open (length before))
 leave_at f s id before e m = m.on_path id (length before) (ap (λ (p : List ℕ). slice_get p (length before)) e
     ∙ get_last before id)
 
-leave_known :
-    (f : Body) (before : List ℕ) (id : ℕ) → All (Knows f) (before ++ id ∷ []) → All (Knows f) before
+leave_known : (f : Body) (before : List ℕ) (id : ℕ) → All (Knows f) (before ++ id ∷ []) → All (Knows f) before
 leave_known f before id k = all_from_get (Knows f) before (λ i x h.
     all_at (Knows f) (before ++ id ∷ []) i x k (get_left before (id ∷ []) i x h))
 
@@ -314,10 +300,9 @@ leave_to f s id before e h p stacked =
     ∙ get_last before id in
     let mark = h.marks.on_path id (length before) last in
     let M : List ℕ → Type 0 = λ q. AreMarks f s.marks q s.done in
-    let K : List ℕ → Type 0 = λ q. All (Knows f) q in
     record {
       marks = marks_left f s.marks before s.done id (subst M e h.marks);
-      known = leave_known f before id (subst K e h.known);
+      known = leave_known f before id (subst (λ (q : List ℕ). All (Knows f) q) e h.known);
       stacked = stacked;
       covered = covered_left f s.start s.done id s.work h.covered;
       listed = done_push f s.start s.done id h.listed
@@ -328,8 +313,7 @@ leave_to f s id before e h p stacked =
     }
 
 -- the path without its last
-taken : (before path : List ℕ) (id : ℕ) → path ≡ before ++ id ∷ [] →
-    take (length path - 1) path ≡ before
+taken : (before path : List ℕ) (id : ℕ) → path ≡ before ++ id ∷ [] → take (length path - 1) path ≡ before
 taken before path id e =
     let long = length-append before (id ∷ []) in
     let same : length path ≡ length (before ++ id ∷ []) = ap (length {A = ℕ}) e in
@@ -344,12 +328,10 @@ leave_sound f s id h =
     subst (λ (p : List ℕ). IsSound f (record s {
       marks = slice_set s.marks id Done;
       path = p;
-      done =
-          s.done ++ id ∷ [];
+      done = s.done ++ id ∷ [];
     })) (sym e) (leave_to f s id before h.stacked.1 h h.stacked.2 h.stacked.3)
 
-pub leave_fewer :
-    (f : Body) (s : State) (id : ℕ) → IsSound f (with_work (Leave id) s) →
+pub leave_fewer : (f : Body) (s : State) (id : ℕ) → IsSound f (with_work (Leave id) s) →
     steps_left f (after_leave id s) < steps_left f (with_work (Leave id) s)
 leave_fewer f s id h =
     let mark = leave_at f s id h.stacked.0 h.stacked.1 h.marks in
@@ -357,15 +339,13 @@ leave_fewer f s id h =
     omega arith
 
 -- what is to be left has a mark
-pub leave_marked :
-    (f : Body) (s : State) (id : ℕ) → IsSound f (with_work (Leave id) s) → id < length s.marks
+pub leave_marked : (f : Body) (s : State) (id : ℕ) → IsSound f (with_work (Leave id) s) → id < length s.marks
 leave_marked f s id h = slice_get_within s.marks id (Open (length h.stacked.0))
     (leave_at f s id h.stacked.0 h.stacked.1 h.marks)
 
 -- a sequence that is done is not entered again
-pub skip_sound :
-    (f : Body) (s : State) (id : ℕ) → slice_get s.marks id ≡ Some Done →
-    IsSound f (with_work (Enter id) s) → IsSound f s
+pub skip_sound : (f : Body) (s : State) (id : ℕ) →
+    slice_get s.marks id ≡ Some Done → IsSound f (with_work (Enter id) s) → IsSound f s
 skip_sound f s id mark h = record {
   marks = h.marks;
   known = h.known;
@@ -375,9 +355,8 @@ skip_sound f s id mark h = record {
 }
 
 -- a path that goes on to an id is one by itself, unless it is empty
-path_back :
-    (f : Body) (start : ℕ) (path : List ℕ) (id place there : ℕ) → IsPath f start (path ++ id ∷ []) →
-    slice_get path place ≡ Some there → IsPath f start path
+path_back : (f : Body) (start : ℕ) (path : List ℕ) (id place there : ℕ) →
+    IsPath f start (path ++ id ∷ []) → slice_get path place ≡ Some there → IsPath f start path
 path_back f start path id place there p h =
     let within = slice_get_within path place there h in
     let at = get_at path 0 (omega arith) in
@@ -391,8 +370,7 @@ path_back f start path id place there p h =
     }
 
 -- an id that is on the path closes a cycle
-pub back_shows :
-    (f : Body) (s : State) (id place : ℕ) → slice_get s.marks id ≡ Some (Open place) →
+pub back_shows : (f : Body) (s : State) (id place : ℕ) → slice_get s.marks id ≡ Some (Open place) →
     IsSound f (with_work (Enter id) s) → ShowsCycle f s.start s.path place
 back_shows f s id place mark h =
     let there = h.marks.opened id place mark in
@@ -412,18 +390,16 @@ back_shows f s id place mark h =
     }
 
 -- at the end of all work the list is that of a nested body
-all_reached :
-    (f : Body) (start : ℕ) (list : List ℕ) → IsDone f start list → Contains list start → (id : ℕ) →
-    IsReachable f start id → Contains list id
+all_reached : (f : Body) (start : ℕ) (list : List ℕ) →
+    IsDone f start list → Contains list start → (id : ℕ) → IsReachable f start id → Contains list id
 all_reached f start list d first id at_start = first
 all_reached f start list d first id (below parent child r c) =
     let at = get_from_contains list parent (all_reached f start list d first parent r) in
     let k = d.children_first at.0 parent child at.1 c in
     contains_from_get list k.0 child k.2
 
-done_shows :
-    (f : Body) (start : ℕ) (list : List ℕ) → IsDone f start list → Contains list start →
-    ShowsNested f start list
+done_shows : (f : Body) (start : ℕ) (list : List ℕ) →
+    IsDone f start list → Contains list start → ShowsNested f start list
 done_shows f start list d first = record {
   once = distinct_from_once list d.once;
   reached = λ id. (
@@ -441,8 +417,7 @@ done_shows f start list d first = record {
 
 pub end_shows : (f : Body) (s : State) → IsSound f s → s.work ≡ [] → ShowsNested f s.start s.done
 end_shows f s h e =
-    let C : List Work → Type 0 = λ ws. IsCovered f s.start s.done [] ws in
-    let covered = subst C e h.covered in
+    let covered = subst (λ (ws : List Work). IsCovered f s.start s.done [] ws) e h.covered in
     done_shows f s.start s.done h.listed (elim covered [ inl k ↦ k | inr k ↦ absurd (none_in s.start k) ])
 
 -- the same of the state that a call leaves, by its parts
@@ -464,8 +439,7 @@ pub record Enters (f : Body) (s : State) (id len at : ℕ) (path : List ℕ) (se
 reverse_push : (ws : List Work) (w : Work) → reverse (ws ++ w ∷ []) ≡ w ∷ reverse ws
 reverse_push ws w = reverse-append ws (w ∷ [])
 
-pub pushed_first :
-    (old new : List Work) (w : Work) → new ≡ old ++ w ∷ [] → reverse new ≡ w ∷ reverse old
+pub pushed_first : (old new : List Work) (w : Work) → new ≡ old ++ w ∷ [] → reverse new ≡ w ∷ reverse old
 pushed_first old new w e = ap (reverse {A = Work}) e ∙ reverse_push old w
 
 pub entered_is : (f : Body) (s : State) (id len at : ℕ) (path : List ℕ) (seq : Sequence)
@@ -485,9 +459,8 @@ entered_is f s id len at path seq instrs pushed work l =
     cc
 
 -- a read of the marks
-pub mark_read :
-    (marks shown : List Mark) (i id : ℕ) (x : Mark) → marks ≡ shown → i ≡ id → id < length shown →
-    x ≡ get_or marks i x → slice_get shown id ≡ Some x
+pub mark_read : (marks shown : List Mark) (i id : ℕ) (x : Mark) →
+    marks ≡ shown → i ≡ id → id < length shown → x ≡ get_or marks i x → slice_get shown id ≡ Some x
 mark_read marks shown i id x same place within read =
     let r : x ≡ get_or shown id x = cc in
     slice_get_read shown (length shown) id x refl within r

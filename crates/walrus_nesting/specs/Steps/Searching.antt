@@ -1,6 +1,5 @@
 -- How far a nesting check has come.
-use Rattle.std.specs.Prelude.{◌≡◌, ℕ, suc, ◌+◌, ◌<◌, ◌⊎◌, List, [], ◌∷◌, ◌++◌, All, Contains, Some, slice_get, slice_set, map, take, length, ◌-◌}
-use Rattle.std.specs.List.{flat_map}
+use Rattle.std.specs.Prelude.{◌≡◌, ℕ, suc, ◌+◌, ◌<◌, ◌⊎◌, List, [], ◌∷◌, ◌++◌, All, Contains, Some, slice_get, slice_set, map, take, length, ◌-◌, flat_map}
 use Rattle.instr.specs.declared.instr.Instr.{Instr}
 use Rattle.walrus_functions.specs.Body.{Body, Knows}
 use Rattle.walrus_functions.specs.Nesting.{children, children_of, IsChild, IsReachable}
@@ -68,9 +67,8 @@ pub record IsDone (f : Body) (start : ℕ) (done : List ℕ) : Type 0 where
   pub once : (i j id : ℕ) → slice_get done i ≡ Some id → slice_get done j ≡ Some id → i ≡ j
   pub reached : All (IsReachable f start) done
   pub known : All (Knows f) done
-  pub children_first : (i parent child : ℕ) →
-      slice_get done i ≡ Some parent → IsChild f parent child →
-      (k : ℕ) × (k < i) × (slice_get done k ≡ Some child)
+  pub children_first : (i parent child : ℕ) → slice_get done i ≡ Some parent →
+      IsChild f parent child → (k : ℕ) × (k < i) × (slice_get done k ≡ Some child)
 
 -- the marks tell the path and what is done
 pub record AreMarks (f : Body) (marks : List Mark) (path done : List ℕ) : Type 0 where

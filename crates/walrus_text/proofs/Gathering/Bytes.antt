@@ -1,5 +1,5 @@
 -- What a byte, a line feed and the end do to what a line reader knows.
-use Rattle.std.proofs.Common.{◌≡◌, ℕ, ◌==◌, Bool, true, false, List, [], ◌∷◌, ◌++◌, map, filter, All, Option, None, Some, ◌<◌, length, take, refl, sym, ◌∙◌, ap, subst, append_assoc, append-nil}
+use Rattle.std.proofs.Common.{◌≡◌, ℕ, ◌==◌, Bool, true, false, List, [], ◌∷◌, ◌++◌, map, filter, Option, None, Some, ◌<◌, length, take, refl, sym, ◌∙◌, ap, subst, append_assoc, append-nil}
 use Rattle.std.specs.Prelude.{is_some, IfSome}
 use Rattle.std.specs.Io.KnownBytes.{Consumes, IsAtEnd}
 use Rattle.std.proofs.KnownBytes.{Consumes-whole, Consumes-trans}
@@ -9,9 +9,9 @@ use Rattle.walrus_text.specs.Steps.Words.{words_if_any}
 use Rattle.walrus_text.specs.Text.{IsSectionText}
 use Rattle.walrus_text.specs.Steps.Builder.{BeginsNoSection, HasBuilderIndices, builder_lines}
 use Rattle.walrus_text.specs.declared.error.BadLine.{BadLine}
-use Rattle.walrus_text.specs.Steps.Bytes.{HasChecked, HasReadBytes}
+use Rattle.walrus_text.specs.Steps.Bytes.{HasChecked, HasReadBytes, IsOneLine}
 use Rattle.std.specs.List.{slice_split}
-use Rattle.std.proofs.lemmas.List.Elements.{All-nil, All-push}
+use Rattle.std.proofs.lemmas.List.Elements.{All-nil, All-append}
 use Rattle.std.proofs.lemmas.List.Splits.{slice_split_none, slice_split_at}
 use Rattle.walrus_text.specs.declared.line_reader.LineReader.{LineReader}
 use Rattle.walrus_text.specs.declared.section_builder.SectionBuilder.{SectionBuilder}
@@ -22,9 +22,6 @@ Lines = List (List (List ℕ))
 
 abbrev is_feed : ℕ → Bool
 is_feed b = b == 10
-
-abbrev pub IsOneLine : List ℕ → Type 0
-IsOneLine line = All (λ b. (b == 10) ≡ false) line
 
 some_lines :
     (ws : List (List ℕ)) (others : Lines) →
@@ -55,20 +52,20 @@ nothing_read reader none good no_lines fits = record {
   checked = subst (λ b. HasChecked reader.section b []) (sym good) no_lines;
 }
 
--- one more byte of the line
-pub byte_read :
-    (old new : LineReader) (byte : ℕ) (bytes : List ℕ) → (byte == 10) ≡ false →
-    new.line.items ≡ old.line.items ++ byte ∷ [] → new.section ≡ old.section → new.bad ≡ old.bad →
-    HasReadBytes old bytes → HasReadBytes new (bytes ++ byte ∷ [])
-byte_read old new byte bytes other pushed section bad h = record {
+-- more bytes of the line
+pub part_read :
+    (old new : LineReader) (part bytes : List ℕ) → IsOneLine part →
+    new.line.items ≡ old.line.items ++ part → new.section ≡ old.section → new.bad ≡ old.bad →
+    HasReadBytes old bytes → HasReadBytes new (bytes ++ part)
+part_read old new part bytes one pushed section bad h = record {
   fits = subst HasBuilderIndices (sym section) h.fits;
   lines = h.lines;
   split = λ rest.
-      ap lines_of (append_assoc bytes (byte ∷ []) rest)
-      ∙ (h.split (byte ∷ rest) ∙ ap (λ l. h.lines ++ lines_of l)
-      (sym (append_assoc old.line.items (byte ∷ []) rest) ∙ ap (λ l. l ++ rest) (sym pushed)));
-  one_line = subst IsOneLine (sym pushed) (All-push (λ (b : ℕ). (b == 10) ≡ false) old.line.items byte
-      h.one_line other);
+      ap lines_of (append_assoc bytes part rest)
+      ∙ (h.split (part ++ rest) ∙ ap (λ l. h.lines ++ lines_of l)
+      (sym (append_assoc old.line.items part rest) ∙ ap (λ l. l ++ rest) (sym pushed)));
+  one_line = subst IsOneLine (sym pushed) (All-append (λ (b : ℕ). (b == 10) ≡ false) old.line.items part
+      h.one_line one);
   checked = subst (λ s. HasChecked s new.bad h.lines) (sym section)
       (subst (λ b. HasChecked old.section b h.lines) (sym bad) h.checked);
 }

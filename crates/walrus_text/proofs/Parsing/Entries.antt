@@ -4,7 +4,7 @@ use Rattle.std.specs.Prelude.{Option, Some, None, codes, decimal, not, if◌then
 use Rattle.std.proofs.lemmas.Bool.{false≢true}
 use Rattle.walrus_text.specs.Words.{has_items}
 use Rattle.walrus_text.specs.Text.{AreIndices, IsText, heap_word, val_word, field_word, open_words, supertype_words, composite_words}
-use Rattle.walrus_text.specs.Steps.Parts.{BeginsWith, PassesOver, one_passed, IsValWord, IsFieldWord, IsSupertypeWord, IsArrayLine, IsCompositeLine, IsSubtypeLine, IsEntryLine}
+use Rattle.walrus_text.specs.Steps.Parts.{BeginsWith, PassesOver, one_passed, IsValWord, IsFieldWord, IsSupertypeWord, IsCompositeLine, IsSubtypeLine, IsEntryLine}
 use Rattle.std.specs.List.{flat_map, AllByRecursion}
 use Rattle.walrus_ty.specs.declared.ty.value.Val.{Val}
 use Rattle.walrus_ty.specs.declared.ty.value.Val.TheVariants as val
@@ -203,13 +203,29 @@ more_after_fields ws left vs e stops some (comp.Function ps rs, fits, k) = let d
 more_after_fields ws left vs e stops some (comp.Array g, fits, k) = let d : 115 ≡ 97 = ap byte_of k in
     omega (arith, d)
 
--- a line that begins as none of the three begin is no composite type
+-- a line without words, and one that begins as none of the three begin, are no composite type
+pub no_words : (ws : List (List ℕ)) → ws ≡ [] → ¬ IsCompositeLine ws
+no_words ws e (comp.Function ps rs, fits, k) =
+    let d : 0 ≡ 1 + length (map val_word ps ++ codes "->" ∷ map val_word rs) = ap count (sym e ∙ k) in
+    omega (arith, d)
+no_words ws e (comp.Struct fs, fits, k) = let d : 0 ≡ 1 + length (map field_word fs) = ap count (sym e ∙ k) in
+    omega (arith, d)
+no_words ws e (comp.Array f, fits, k) = let d : 0 ≡ 2 = ap count (sym e ∙ k) in omega (arith, d)
+
 pub no_composite :
-    (ws : List (List ℕ)) → ((rest : List (List ℕ)) → ws ≢ codes "func" ∷ rest) →
-    ((rest : List (List ℕ)) → ws ≢ codes "struct" ∷ rest) → ¬ IsArrayLine ws → ¬ IsCompositeLine ws
-no_composite ws func struct array (comp.Function ps rs, fits, k) = func _ k
-no_composite ws func struct array (comp.Struct fs, fits, k) = struct _ k
-no_composite ws func struct array (comp.Array f, fits, k) = array (f, fits, k)
+    (ws others : List (List ℕ)) (w : List ℕ) → ws ≡ w ∷ others → w ≢ codes "func" → w ≢ codes "struct" →
+    w ≢ codes "array" → ¬ IsCompositeLine ws
+no_composite ws others w e func struct array (comp.Function ps rs, fits, k) = func (ap (first_of []) (sym e ∙ k))
+no_composite ws others w e func struct array (comp.Struct fs, fits, k) = struct (ap (first_of []) (sym e ∙ k))
+no_composite ws others w e func struct array (comp.Array f, fits, k) = array (ap (first_of []) (sym e ∙ k))
+
+-- what follows `array` is not one field
+pub no_array :
+    (ws : List (List ℕ)) → ¬ IsText (λ f. field_word f ∷ []) (λ f. AreIndices (field_names f)) ws →
+    ¬ IsCompositeLine (codes "array" ∷ ws)
+no_array ws none (comp.Array f, fits, k) = none (f, fits, ap rest_of k)
+no_array ws none (comp.Function ps rs, fits, k) = let d : 97 ≡ 102 = ap byte_of k in omega (arith, d)
+no_array ws none (comp.Struct fs, fits, k) = let d : 97 ≡ 115 = ap byte_of k in omega (arith, d)
 
 pub not_blank : (ws : List (List ℕ)) → not (has_items ws) ≡ false → ¬ (ws ≡ [])
 not_blank [] h e = false≢true (sym h)
@@ -220,9 +236,9 @@ blank_is [] h = refl
 blank_is (w ∷ ws) h = absurd (false≢true h)
 
 pub not_alone :
-    (ws others : List (List ℕ)) (w : List ℕ) → ws ≡ w ∷ others → not (has_items others) ≡ false →
-    ws ≢ w ∷ []
-not_alone ws others w e h k = not_blank others h (ap rest_of (sym e ∙ k))
+    (others : List (List ℕ)) (w wanted : List ℕ) → not (has_items others) ≡ false →
+    w ∷ others ≢ wanted ∷ []
+not_alone others w wanted h k = not_blank others h (ap rest_of k)
 
 -- one more word is passed over
 pub passes_value : (words others after : List (List ℕ)) (v : Val ℕ) → PassesOver IsValWord words others →

@@ -12,11 +12,15 @@ abbrev pub HasChecked : SectionBuilder → Option BadLine → List (List (List �
 HasChecked section None lines = builder_lines section ≡ lines
 HasChecked section (Some bad) lines = BeginsNoSection lines
 
+-- no line feed is among these bytes
+abbrev pub IsOneLine : List ℕ → Type 0
+IsOneLine bytes = All (λ b. (b == 10) ≡ false) bytes
+
 -- the reader was given these bytes: some lines, which are checked, and the beginning of one more
 pub record HasReadBytes (reader : LineReader) (bytes : List ℕ) : Type 0 where
   pub lines : List (List (List ℕ))
   pub split :
       (rest : List ℕ) → lines_of (bytes ++ rest) ≡ lines ++ lines_of (reader.line.items ++ rest)
-  pub one_line : All (λ b. (b == 10) ≡ false) reader.line.items
+  pub one_line : IsOneLine reader.line.items
   pub checked : HasChecked reader.section reader.bad lines
   pub fits : HasBuilderIndices reader.section

@@ -55,10 +55,6 @@ IsFieldWord word = IsText field_word (λ f. AreIndices (field_names f)) word
 abbrev pub IsSupertypeWord : List ℕ → Type 0
 IsSupertypeWord word = IsText (λ k. codes "sub:" ++ decimal k) (λ k. k < 2 ^ 32) word
 
-abbrev pub IsArrayLine : List (List ℕ) → Type 0
-IsArrayLine words =
-    IsText (λ f. codes "array" ∷ field_word f ∷ []) (λ f. AreIndices (field_names f)) words
-
 -- the words of a composite type
 abbrev pub IsCompositeLine : List (List ℕ) → Type 0
 IsCompositeLine words =

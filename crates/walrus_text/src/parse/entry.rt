@@ -6,7 +6,7 @@ ghost use Rattle.walrus_ty.specs.Definition.{names_of, composite_names, supertyp
 ghost use Rattle.walrus_ty.specs.Records.{comp_composite, entry_definition};
 ghost use Rattle.walrus_text.specs.Words.{words_of};
 ghost use Rattle.walrus_text.specs.Text.{AreIndices, IsText, val_word, field_word, composite_words, supertype_words, open_words, entry_words};
-ghost use Rattle.walrus_text.specs.Steps.Parts.{BeginsWith, IsSupertypeWord, IsArrayLine, IsValWord, IsFieldWord, IsCompositeLine, IsSubtypeLine, IsEntryLine};
+ghost use Rattle.walrus_text.specs.Steps.Parts.{BeginsWith, IsSupertypeWord, IsValWord, IsFieldWord, IsCompositeLine, IsSubtypeLine, IsEntryLine};
 
 use crate::parse::value::{after_prefix, field_type, type_index, value_type};
 use crate::words::{is_blank, next_word, word_count, word_count_before};
@@ -87,7 +87,7 @@ pub fn after_word<'a>(line: &'a [u8], wanted: &[u8]) -> Option<&'a [u8]>
     if word == wanted { Some(rest) } else { None }
 }
 
-#[tactic(auto, using(crate::proofs::Parsing::Entries::no_composite))]
+#[tactic(auto, using(crate::proofs::Parsing::Entries::no_composite, crate::proofs::Parsing::Entries::no_words))]
 fn composite(alloc: Global, line: &[u8]) -> Result<Option<CompAt>, AllocError>
     ensures found { IfOk result (λ found.
         IfSome found (λ c. words_of line.now ≡ composite_words c)) }
@@ -95,13 +95,15 @@ fn composite(alloc: Global, line: &[u8]) -> Result<Option<CompAt>, AllocError>
         (λ c. AreIndices (composite_names (comp_composite c)))) }
     ensures none { IfOk result (λ found. IfNone found (¬ IsCompositeLine (words_of line.now))) }
 {
-    if let Some(rest) = after_word(line, b"func") {
-        return function(alloc, rest);
+    let Some((word, rest)) = next_word(line) else {
+        return Ok(None);
+    };
+    match word {
+        b"func" => function(alloc, rest),
+        b"struct" => structure(alloc, rest),
+        b"array" => Ok(array(rest)),
+        _ => Ok(None),
     }
-    if let Some(rest) = after_word(line, b"struct") {
-        return structure(alloc, rest);
-    }
-    Ok(array(line))
 }
 
 /// A function type, from the word after `func` on.
@@ -147,13 +149,14 @@ fn structure(alloc: Global, line: &[u8]) -> Result<Option<CompAt>, AllocError>
     }))
 }
 
-/// An array type.
+/// An array type, from the word after `array` on.
+#[tactic(auto, using(crate::proofs::Parsing::Entries::no_array))]
 fn array(line: &[u8]) -> Option<CompAt>
-    ensures found { IfSome result (λ c. words_of line.now ≡ composite_words c) }
+    ensures found { IfSome result (λ c. codes "array" ∷ words_of line.now ≡ composite_words c) }
     ensures fits { IfSome result (λ c. AreIndices (composite_names (comp_composite c))) }
-    ensures none { IfNone result (¬ IsArrayLine (words_of line.now)) }
+    ensures none { IfNone result (¬ IsCompositeLine (codes "array" ∷ words_of line.now)) }
 {
-    let field = only_field(after_word(line, b"array")?)?;
+    let field = only_field(line)?;
     Some(CompAt::Array { field })
 }
 

@@ -3,8 +3,8 @@ ghost use Rattle.std.specs.Prelude.{◌≡◌, ◌≢◌, ◌∷◌, [], false, 
 ghost use Rattle.walrus_text.specs.Words.{words_of};
 ghost use Rattle.walrus_text.specs.Steps.Lines.{HasIndices, line_words, IsLine};
 
-use crate::parse::entry::{after_word, entry};
-use crate::words::is_blank;
+use crate::parse::entry::entry;
+use crate::words::{is_blank, next_word};
 use std::alloc::{AllocError, Global};
 use walrus_ty::EntryAt;
 
@@ -28,13 +28,13 @@ pub fn read_line(alloc: Global, line: &[u8]) -> Result<Option<Line>, AllocError>
     ensures fits { IfOk result (λ found. IfSome found HasIndices) }
     ensures none { IfOk result (λ found. IfNone found (¬ IsLine (words_of line.now))) }
 {
-    if is_blank(line) {
+    let Some((word, rest)) = next_word(line) else {
         return Ok(Some(Line::Blank));
-    }
-    if is_word(line, b"rec") {
+    };
+    if is_alone(word, rest, b"rec") {
         return Ok(Some(Line::Begin));
     }
-    if is_word(line, b"end") {
+    if is_alone(word, rest, b"end") {
         return Ok(Some(Line::End));
     }
     let Some(entry) = entry(alloc, line)? else {
@@ -43,14 +43,14 @@ pub fn read_line(alloc: Global, line: &[u8]) -> Result<Option<Line>, AllocError>
     Ok(Some(Line::Entry(entry)))
 }
 
-/// Whether the line is this word alone.
+/// Whether the first word of a line is this one, and the rest has no word.
 #[tactic(auto, using(crate::proofs::Parsing::Entries::blank_is))]
-fn is_word(line: &[u8], wanted: &[u8]) -> bool
-    ensures yes { IsTrue result → words_of line.now ≡ wanted.now ∷ [] }
-    ensures no { result ≡ false → words_of line.now ≢ wanted.now ∷ [] }
+fn is_alone(word: &[u8], rest: &[u8], wanted: &[u8]) -> bool
+    ensures yes { IsTrue result → word.now ∷ words_of rest.now ≡ wanted.now ∷ [] }
+    ensures no { result ≡ false → word.now ∷ words_of rest.now ≢ wanted.now ∷ [] }
 {
-    let Some(rest) = after_word(line, wanted) else {
+    if word != wanted {
         return false;
-    };
+    }
     is_blank(rest)
 }

@@ -34,8 +34,7 @@ pub left-append : (f : Body) (ws vs : List Work) → left f (ws ++ vs) ≡ left 
 left-append f ws vs = ap (flat_map (work_events f)) (reverse-append ws vs)
     ∙ flat_map-append (work_events f) (reverse vs) (reverse ws)
 
-pub left-children :
-    (f : Body) (cs : List ℕ) → left f (reverse (map Enter cs)) ≡ flat_map (events f) cs
+pub left-children : (f : Body) (cs : List ℕ) → left f (reverse (map Enter cs)) ≡ flat_map (events f) cs
 left-children f cs = ap (flat_map (work_events f)) (reverse-reverse (map Enter cs))
     ∙ flat_map-map (work_events f) Enter cs
 
@@ -44,31 +43,27 @@ abbrev pub front : {A : Type 0} → Option A → List A → List A
 front None xs = []
 front (Some x) xs = x ∷ xs
 
-pub drop_front :
-    {A : Type 0} (xs : List A) (k : ℕ) → drop k xs ≡ front (slice_get xs k) (drop (suc k) xs)
+pub drop_front : {A : Type 0} (xs : List A) (k : ℕ) → drop k xs ≡ front (slice_get xs k) (drop (suc k) xs)
 drop_front [] zero = refl
 drop_front [] (suc k) = refl
 drop_front (x ∷ xs) zero = refl
 drop_front (x ∷ xs) (suc k) = drop_front xs k
 
-pub All-drop :
-    {X : Type 0} (P : X → Type 0) (k : ℕ) (xs : List X) → AllByRecursion P xs →
-    AllByRecursion P (drop k xs)
+pub All-drop : {X : Type 0} (P : X → Type 0) (k : ℕ) (xs : List X) →
+    AllByRecursion P xs → AllByRecursion P (drop k xs)
 All-drop P zero xs h = h
 All-drop P (suc k) [] h = tt
 All-drop P (suc k) (x ∷ xs) h = All-drop P k xs h.1
 
-pub All-reverse :
-    {X : Type 0} (P : X → Type 0) (xs : List X) → AllByRecursion P xs →
-    AllByRecursion P (reverse xs)
+pub All-reverse : {X : Type 0} (P : X → Type 0) (xs : List X) →
+    AllByRecursion P xs → AllByRecursion P (reverse xs)
 All-reverse P [] h = tt
 All-reverse {X} P (x ∷ xs) h = let F : List X → Type 0 = λ l. AllByRecursion P l in
     subst F (sym (reverse-append (x ∷ []) xs)) (All-append P (reverse xs) (x ∷ []) (All-reverse P xs h.1)
     (h.0, tt))
 
-pub All-map :
-    {X Y : Type 0} (P : Y → Type 0) (g : X → Y) (xs : List X) → AllByRecursion (λ x. P (g x)) xs →
-    AllByRecursion P (map g xs)
+pub All-map : {X Y : Type 0} (P : Y → Type 0) (g : X → Y) (xs : List X) →
+    AllByRecursion (λ x. P (g x)) xs → AllByRecursion P (map g xs)
 All-map P g [] h = tt
 All-map P g (x ∷ xs) h = (h.0, All-map P g xs h.1)
 
@@ -93,8 +88,7 @@ pub inside_front :
 inside_front f None rest h = tt
 inside_front f (Some x) rest h = h.0
 
-pub inside_at :
-    (f : Body) (q k : ℕ) → Within f (levels f) q → InsideAt f (slice_get (sequence f q).instrs k)
+pub inside_at : (f : Body) (q k : ℕ) → Within f (levels f) q → InsideAt f (slice_get (sequence f q).instrs k)
 inside_at f q k h =
     let F : List (Instr × ℕ) → Type 0 = λ l. AllByRecursion (λ x.
     AllByRecursion (Within f (length f.seqs)) (children x.0)) l in
@@ -105,10 +99,9 @@ regroup : {A : Type 0} (a b c e : List A) → ((a ++ b) ++ c) ++ e ≡ a ++ (b +
 regroup a b c e = simp append_assoc
 
 -- from a place on: what is reported there, then what that leaves
-pub resume_parts :
-    (f : Body) (q k : ℕ) (o : Option (Instr × ℕ)) →
-    drop k (sequence f q).instrs ≡ front o (drop (k + 1) (sequence f q).instrs) → InsideAt f o →
-    work_events f (Resume q k) ≡ at_place (sequence f q) o ++ left f (after_place q k o)
+pub resume_parts : (f : Body) (q k : ℕ) (o : Option (Instr × ℕ)) →
+    drop k (sequence f q).instrs ≡ front o (drop (k + 1) (sequence f q).instrs) →
+    InsideAt f o → work_events f (Resume q k) ≡ at_place (sequence f q) o ++ left f (after_place q k o)
 resume_parts f q k None e h = ap (λ l. events_of_instrs (events_to f (length f.seqs)) l ++ at end_instr_seq
     (sequence f q) ∷ []) e
 resume_parts f q k (Some x) e h =
@@ -125,8 +118,7 @@ resume_parts f q k (Some x) e h =
     ∙ ap (λ l. flat_map go (children x.0) ++ l) (append-nil (work_events f (Resume q (k + 1))))))
 
 -- the events of a piece of work: what it reports, then those of what it leaves
-pub work_parts :
-    (f : Body) (w : Work) → IsSound f w → work_events f w ≡ reports f w ++ left f (leaves f w)
+pub work_parts : (f : Body) (w : Work) → IsSound f w → work_events f w ≡ reports f w ++ left f (leaves f w)
 unfolding events_to
 work_parts f (Enter q) h =
     ap (λ l. at start_instr_seq (sequence f q) ∷ l)
@@ -139,9 +131,8 @@ work_parts f (Resume q k) h =
     (inside_at f q k h)
 
 -- what is left stays sound
-pub sound_place :
-    (f : Body) (q k : ℕ) (o : Option (Instr × ℕ)) → Within f (levels f) q → InsideAt f o →
-    AllByRecursion (IsSound f) (after_place q k o)
+pub sound_place : (f : Body) (q k : ℕ) (o : Option (Instr × ℕ)) →
+    Within f (levels f) q → InsideAt f o → AllByRecursion (IsSound f) (after_place q k o)
 sound_place f q k None h i = tt
 sound_place f q k (Some x) h i = (
   h,

@@ -19,8 +19,7 @@ at_place s None = at end_instr_seq s ∷ []
 
 -- what a piece of work reports before other work is done
 abbrev pub reports : Body → Work → List Event
-reports f (Enter q) =
-    at start_instr_seq (sequence f q) ∷ reported (type_fields (sequence f q).ty)
+reports f (Enter q) = at start_instr_seq (sequence f q) ∷ reported (type_fields (sequence f q).ty)
 reports f (Resume q k) = at_place (sequence f q) (slice_get (sequence f q).instrs k)
 
 -- what is left of a sequence after the instruction at a place: first what is inside it, then the

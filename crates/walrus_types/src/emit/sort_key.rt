@@ -104,9 +104,17 @@ impl<'a> Ord for KeyedType<'a> {
 
     fn cmp(&self, other: &Self) -> Ordering {
         match self.key.cmp(&other.key) {
-            Ordering::Equal => self.ty.cmp(other.ty),
+            Ordering::Equal => compare_types(self.ty, other.ty),
             Ordering::Less => Ordering::Less,
             Ordering::Greater => Ordering::Greater,
         }
     }
+}
+
+// Few comparisons get here. Inlined, it would make all the others save registers.
+#[inline(never)]
+fn compare_types(ty: &Type, other: &Type) -> Ordering
+    ensures { result ≡ ⟦<Type as Ord>⟧.cmp ty.now other.now }
+{
+    ty.cmp(other)
 }

@@ -1,9 +1,9 @@
 -- What the roots use of a section is what the types need that the roots stand for.
-use Rattle.std.proofs.Common.{◌≡◌, ℕ, zero, suc, ◌<◌, inl, inr, refl, sym, ap, subst, ◌∙◌, arith, Some, None, List, [], ◌∷◌, Bool, true, false, cond, nat_le, Option, IsSome, map, length, All, Contains, get_or}
+use Rattle.std.proofs.Common.{◌≡◌, ℕ, zero, suc, ◌<◌, inl, inr, refl, sym, ap, subst, ◌∙◌, arith, Some, None, List, [], ◌∷◌, Bool, true, false, cond, nat_le, Option, IsSome, map, length, All, get_or}
 use Rattle.std.specs.Option.{IsSomeAnd}
 use Rattle.std.proofs.lemmas.Bool.Decides.{nat_tests}
 use Rattle.std.proofs.lemmas.List.Elements.{All-contains}
-use Rattle.std.proofs.lemmas.List.{get_or-map, get_or_default, length-map}
+use Rattle.std.proofs.lemmas.List.{get_or-map, length-map}
 use Rattle.walrus_ty.specs.Definition.{Definition, Names}
 use Rattle.walrus_ty.specs.Groups.{Section}
 use Rattle.walrus_ty.specs.Types.{ModuleType, type_definition}
@@ -20,6 +20,7 @@ use Rattle.walrus_sections.proofs.Emission.Made.{read-same}
 use Rattle.walrus_types.proofs.Reading.Section.{stored_definition}
 use Rattle.walrus_unused.specs.NeededTypes.{IsNeeded, root, named, grouped}
 use Rattle.walrus_unused.specs.UsedSections.{first_unknown, IsUsed, at_root, by_name, by_group, by_equality}
+use Rattle.walrus_unused.proofs.UnusedTypes.Elements.{contains_map, contains_before}
 use Rattle.walrus_unused.proofs.UsedSections.ReadTables.{live_below, live_own, slot_live, live_slot, kind_of, rec_below, rec_own, one_group, mates}
 
 -- where no root is unknown, all are indices
@@ -47,23 +48,6 @@ module _ (s : Section) (t : Table) (ids roots : List ℕ) (has : IsReadInto s t 
 
   abbrev r : ℕ → ℕ
   r = image ids
-
-  contains_sent : (i : ℕ) → Contains roots i → Contains (map r roots) (r i)
-  contains_sent i c =
-      let below = c.1 in (
-        c.0,
-        omega (arith, below, length-map roots r),
-        get_or-map r roots c.0 i (r i) c.1 ∙ ap r c.2,
-      )
-
-  sent_from : (id : ℕ) → Contains (map r roots) id → (i : ℕ) × Contains roots i × (r i ≡ id)
-  sent_from id c =
-      let below = c.1 in
-      let within : c.0 < length roots = omega (arith, below, length-map roots r) in (
-        get_or roots c.0 0,
-        (c.0, within, get_or_default roots c.0 (get_or roots c.0 0) 0 within),
-        sym (get_or-map r roots c.0 0 id within) ∙ c.2,
-      )
 
   -- what an index names is named where it stands
   pub named_at : (user i : ℕ) → user < S.count → Names (S.definition user) i →
@@ -107,7 +91,7 @@ module _ (s : Section) (t : Table) (ids roots : List ℕ) (has : IsReadInto s t 
   pub used_from : (id : ℕ) → IsNeeded t (map r roots) id → (i : ℕ) → i < S.count → r i ≡ id →
       IsUsed S r roots i
   used_from _ (root id c) i h e =
-      let k = sent_from id c in
+      let k = contains_before r roots id c in
       by_equality k.0 i (at_root k.0 k.1) h (e ∙ sym k.2)
   used_from _ (named user id u n live) i h e =
       let l = is_live (live_type t.types.slots user) id n in
@@ -132,7 +116,7 @@ module _ (s : Section) (t : Table) (ids roots : List ℕ) (has : IsReadInto s t 
     used_below _ (by_equality twin i u h e) = h
 
     pub needed : (i : ℕ) → IsUsed S r roots i → IsNeeded t (map r roots) (r i)
-    needed _ (at_root i c) = root (r i) (contains_sent i c)
+    needed _ (at_root i c) = root (r i) (contains_map r roots i c)
     needed _ (by_name user i u n) =
         let h = used_below user u in
         named (r user) (r i) (needed user u) (named_at user i h n)

@@ -30,7 +30,7 @@ use Rattle.walrus_unused.proofs.UsedSections.ReadTables.{live_below, live_own, s
 use Rattle.walrus_unused.proofs.UsedSections.LeftTables.{left_needed, left_no_entry}
 use Rattle.walrus_unused.proofs.UsedSections.Written.{some_of, one_each, used_kept, here, within, member, index_of, member_needed, member_live, same_explicit, defined, reads, named_written}
 
-not_greater : (o p : Ordering) → p ≡ ordering_reverse o → o ≡ Less → ¬ (p ≡ Less)
+pub not_greater : (o p : Ordering) → p ≡ ordering_reverse o → o ≡ Less → ¬ (p ≡ Less)
 not_greater Less p e h q = cc
 not_greater Equal p e h q = cc
 not_greater Greater p e h q = cc

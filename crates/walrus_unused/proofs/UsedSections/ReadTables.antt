@@ -125,13 +125,13 @@ module _ (s : Section) (t : Table) (ids : List ℕ) (has : IsReadInto s t ids) w
   pub grouped_live : (g u id : ℕ) → IsIdAt t.groups g u id → IsLive t.types.slots id
   grouped_live g u id m = let k = kind_of g u id m in own_live id k.0 k.1
 
-  one_number : (g u v a b k l : ℕ) → IsIdAt t.groups g u a → IsIdAt t.groups g v b →
+  pub one_number : (g u v a b k l : ℕ) → IsIdAt t.groups g u a → IsIdAt t.groups g v b →
       S.rec_position a ≡ Some (k, u) → S.rec_position b ≡ Some (l, v) → k ≡ l
   one_number g u v a b k l m n at_a at_b = lies.number g u v a b k l
       (subst (IsMember (read_groups 0 r s) g u) (sym (from_zero a)) (to_read g u a m))
       (subst (IsMember (read_groups 0 r s) g v) (sym (from_zero b)) (to_read g v b n)) at_a at_b
 
-  rising : (g u h v a b k l : ℕ) → g < h → IsIdAt t.groups g u a → IsIdAt t.groups h v b →
+  pub rising : (g u h v a b k l : ℕ) → g < h → IsIdAt t.groups g u a → IsIdAt t.groups h v b →
       S.rec_position a ≡ Some (k, u) → S.rec_position b ≡ Some (l, v) → k < l
   rising g u h v a b k l less m n at_a at_b = lies.numbers g u h v a b k l less
       (subst (IsMember (read_groups 0 r s) g u) (sym (from_zero a)) (to_read g u a m))

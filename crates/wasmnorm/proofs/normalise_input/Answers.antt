@@ -1,10 +1,13 @@
-use Rattle.wasmnorm.proofs.Failures.{input_explained}
+use Rattle.wasmnorm.specs.declared.failure.Failure.TheVariants as failure
+use Rattle.wasmnorm.proofs.Snips.{known_of_streams}
 use Rattle.wasmnorm.proofs.normalise_input.Goals as goal
 
-pub returns-in-Err-normal_module-clause-failed : goal.returns-in-Err-normal_module-clause-failed
-returns-in-Err-normal_module-clause-failed g c =
-    input_explained c.args.options (g.R.Read.remaining c.args.reader.now) c.in-Ok.bytes.items
-    c.as_slice.result.now c.as_slice-in-Err-normal_module.result.now c.in-Err-normal_module.error
-    c.refusal.result c.in-Ok.ensures c.as_slice.ensures.value
-    c.as_slice-in-Err-normal_module.ensures.value c.in-Err-normal_module.ensures.refused
-    c.refusal.ensures.explains
+pub returns-in-Err-clause-failed : goal.returns-in-Err-clause-failed
+returns-in-Err-clause-failed g c =
+    known_of_streams c.args.options c.args.snips.now (g.R.Read.remaining c.args.reader.now)
+    c.failed_input.result c.failed_input.ensures
+
+pub returns-clause-failed : goal.returns-clause-failed
+returns-clause-failed g c =
+    known_of_streams c.args.options c.args.snips.now (g.R.Read.remaining c.args.reader.now)
+    (failure.Output c.in-Err-write_and_flush.error) tt

@@ -1,14 +1,32 @@
-use Rattle.std.proofs.Common.{◌≡◌, ◌∙◌, Some, arith, sym, subst}
+use Rattle.std.proofs.Common.{◌≡◌, ◌∙◌, Some, arith, sym}
 use Rattle.std.proofs.lemmas.Option.{IfSome_then}
 use Rattle.std.proofs.lemmas.Result.{IfOk-weaker}
 use Rattle.walrus_module.specs.Contents.{section_kinds}
 use Rattle.walrus_module.specs.NamedTypes.{code_id}
 use Rattle.walrus_module.specs.Steps.Heads.{kinds_or_none}
 use Rattle.walrus_module.specs.Steps.Tables.{row_kinds}
-use Rattle.walrus_module.proofs.ContentFaults.{content_refused, fault_in_texts, fault_in_code, known_texts, known_code, known_nameless}
+use Rattle.walrus_module.proofs.ContentFaults.{content_refused, fault_in_texts, fault_in_code, fault_in_custom, known_texts, known_code, known_custom, known_nameless}
 use Rattle.walrus_module.proofs.NamedTypes.{row_some, some_kinds}
 use Rattle.walrus_module.proofs.TextFaults.{if_none_then}
 use Rattle.walrus_module.proofs.faults.find_content_fault.Goals as goal
+
+pub returns-then-id-eq-CUSTOM-clause-fault : goal.returns-then-id-eq-CUSTOM-clause-fault
+returns-then-id-eq-CUSTOM-clause-fault c =
+    IfSome_then c.custom_fault.result c.custom_fault.ensures.fault
+    (λ f k. fault_in_custom c.args.id c.args.count c.args.content.now f.kind f.offset
+    (omega (arith, c.if-id-eq-CUSTOM.true)) k)
+
+pub returns-then-id-eq-CUSTOM-clause-refused : goal.returns-then-id-eq-CUSTOM-clause-refused
+returns-then-id-eq-CUSTOM-clause-refused c =
+    IfSome_then c.custom_fault.result c.custom_fault.ensures.fault
+    (λ f k. content_refused c.args.id c.args.count c.args.content.now f.kind f.offset
+    (fault_in_custom c.args.id c.args.count c.args.content.now f.kind f.offset
+    (omega (arith, c.if-id-eq-CUSTOM.true)) k))
+
+pub returns-then-id-eq-CUSTOM-clause-none : goal.returns-then-id-eq-CUSTOM-clause-none
+returns-then-id-eq-CUSTOM-clause-none c =
+    if_none_then c.custom_fault.result c.custom_fault.ensures.none
+    (known_custom c.args.id c.args.count c.args.content.now (omega (arith, c.if-id-eq-CUSTOM.true)))
 
 pub returns-then-id-eq-CODE-clause-fault : goal.returns-then-id-eq-CODE-clause-fault
 returns-then-id-eq-CODE-clause-fault c =
@@ -37,7 +55,7 @@ returns-then-id-eq-CODE-clause-none c =
 pub returns-in-NoInstruction-clause-none : goal.returns-in-NoInstruction-clause-none
 returns-in-NoInstruction-clause-none c =
     known_nameless c.args.id c.args.count c.args.content.now (sym c.in-NoInstruction.ensures)
-    (λ e. omega (arith, e, c.if-id-eq-CODE.false))
+    (λ e. omega (arith, e, c.if-id-eq-CODE.false)) (λ e. absurd (omega (arith, e, c.if-id-eq-CUSTOM.false)))
 
 pub returns-in_ok-from_row-in_default : goal.returns-in_ok-from_row-in_default
 returns-in_ok-from_row-in_default c =

@@ -1,7 +1,5 @@
-use Rattle.std.proofs.Common.{◌≡◌, None, arith, sym}
+use Rattle.std.proofs.Common.{arith, sym}
 use Rattle.std.proofs.lemmas.Result.{on_ok_weaker}
-use Rattle.walrus_module.specs.Contents.{section_kinds}
-use Rattle.walrus_module.specs.NamedTypes.{code_id}
 use Rattle.walrus_module.specs.Steps.Tables.{row_kinds}
 use Rattle.walrus_module.proofs.NamedTypes.{row_some}
 use Rattle.walrus_module.proofs.TypeLengths.{code_content, text_content, nameless_content}

@@ -1,4 +1,5 @@
 use Rattle.walrus_module.proofs.NameMaps.{if_some, if_none, indexed_taken, no_index, no_name_behind}
+use Rattle.walrus_module.proofs.NameFaults.{index_of_name_stops, indexed_name_stops}
 use Rattle.walrus_module.proofs.name_maps.skip_indexed_name.Goals as goal
 
 pub returns-in_err-read_u32-clause-none : goal.returns-in_err-read_u32-clause-none
@@ -15,3 +16,13 @@ pub returns-clause-none : goal.returns-clause-none
 returns-clause-none c =
     if_none (no_name_behind c.args.input.now.now c.in_ok-read_u32.field-0 c.read_u32.new.input.now
     c.in_ok-read_u32.ensures) c.skip_name.result c.skip_name.ensures.none
+
+pub returns-in_err-read_u32-clause-stops : goal.returns-in_err-read_u32-clause-stops
+returns-in_err-read_u32-clause-stops c =
+    rw c.from_residual.ensures (index_of_name_stops c.args.input.now.now c.read_u32.new.input.now
+    c.in_err-read_u32.ensures)
+
+pub returns-clause-stops : goal.returns-clause-stops
+returns-clause-stops c =
+    if_none (indexed_name_stops c.args.input.now.now c.in_ok-read_u32.field-0 c.read_u32.new.input.now
+    c.skip_name.new.input.now c.in_ok-read_u32.ensures) c.skip_name.result c.skip_name.ensures.stops

@@ -9,3 +9,6 @@ pub returns-clause-taken : goal.returns-clause-taken
 returns-clause-taken c =
     name_taken c.in_ok-take_sized.field-0.now c.args.input.now.now c.take_sized.new.input.now
     c.in_ok-take_sized.ensures.taken
+
+pub returns-in_err-take_sized-clause-stops : goal.returns-in_err-take_sized-clause-stops
+returns-in_err-take_sized-clause-stops c = rw c.from_residual.ensures c.in_err-take_sized.ensures.stops

@@ -1,5 +1,8 @@
 use Rattle.std.proofs.Common.{arith}
+use Rattle.walrus_module.specs.CustomFaults.{IsIndexedNameFault}
+use Rattle.walrus_module.specs.NameSections.{IsIndexedName}
 use Rattle.walrus_module.proofs.NameMaps.{none_counted, one_counted, map_ended, no_count, no_indexed_name}
+use Rattle.walrus_module.proofs.NameFaults.{count_stops, name_map_stops}
 use Rattle.walrus_module.proofs.name_maps.skip_name_map.Goals as goal
 
 pub returns-in_err-count-clause-none : goal.returns-in_err-count-clause-none
@@ -37,3 +40,14 @@ pub returns-clause-taken : goal.returns-clause-taken
 returns-clause-taken c =
     map_ended c.args.input.now.now c.in_ok-count.count c.loop.counter c.loop.input.now c.loop.invariant
     (omega (arith, c.loop-test.false, c.loop.auto.counter-end))
+
+pub returns-in_err-count-clause-stops : goal.returns-in_err-count-clause-stops
+returns-in_err-count-clause-stops c =
+    rw c.from_residual.ensures (count_stops IsIndexedName IsIndexedNameFault c.args.input.now.now
+    c.read_u32.new.input.now c.in_err-count.ensures)
+
+pub returns-in_err-skip_indexed_name-clause-stops : goal.returns-in_err-skip_indexed_name-clause-stops
+returns-in_err-skip_indexed_name-clause-stops c =
+    rw c.from_residual-in_err-skip_indexed_name.ensures (name_map_stops c.args.input.now.now
+    c.in_ok-count.count c.loop.counter c.loop.input.now c.skip_indexed_name.new.input.now c.loop.invariant
+    c.loop-test.true c.in_err-skip_indexed_name.ensures.stops)

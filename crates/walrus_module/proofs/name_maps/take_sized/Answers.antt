@@ -1,5 +1,6 @@
 use Rattle.std.proofs.Common.{arith}
 use Rattle.walrus_module.proofs.SizedContents.{sized_taken, sizeless, cut_off}
+use Rattle.walrus_module.proofs.NameFaults.{size_stops, size_past_the_end, none_behind}
 use Rattle.walrus_module.proofs.name_maps.take_sized.Goals as goal
 
 pub returns-in_err-size-clause-none : goal.returns-in_err-size-clause-none
@@ -16,3 +17,12 @@ returns-clause-taken c =
     sized_taken c.args.input.now.now c.in_ok-size.field-0 c.read_u32.new.input.now c.split_at.result.0.now
     c.split_at.result.1.now c.in_ok-size.ensures (omega (arith, c.if-size-behind.false))
     c.split_at.ensures.front c.split_at.ensures.back
+
+pub returns-in_err-size-clause-stops : goal.returns-in_err-size-clause-stops
+returns-in_err-size-clause-stops c =
+    rw c.from_residual.ensures (size_stops c.args.input.now.now c.read_u32.new.input.now c.in_err-size.ensures)
+
+pub returns-then-size-behind-clause-stops : goal.returns-then-size-behind-clause-stops
+returns-then-size-behind-clause-stops c =
+    size_past_the_end c.args.input.now.now c.in_ok-size.field-0 c.read_u32.new.input.now _ c.in_ok-size.ensures
+    (omega (arith, c.if-size-behind.true)) (none_behind c.read_u32.new.input.now)

@@ -1,7 +1,7 @@
 use Rattle.walrus_module.specs.Outdated.{Fits}
 use Rattle.walrus_module.specs.Sections.{placed}
 use Rattle.walrus_module.proofs.ModuleLengths.{one_passed}
-use Rattle.walrus_module.proofs.OutdatedSections.{outdated_at, all_fit}
+use Rattle.walrus_module.proofs.OutdatedSections.{all_fit}
 use Rattle.walrus_module.proofs.outdated.first_outdated.Goals as goal
 
 pub loop-section-preserved : goal.loop-section-preserved

@@ -1,4 +1,4 @@
-use Rattle.std.proofs.Common.{◌≡◌, ℕ, List, Option, Some, None}
+use Rattle.std.proofs.Common.{Some, None}
 use Rattle.walrus_module.specs.Lengths.{HasContent}
 use Rattle.walrus_module.proofs.Changing.{if_none, if_some}
 use Rattle.walrus_module.proofs.OneLength.{found_once}

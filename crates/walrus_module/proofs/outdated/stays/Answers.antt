@@ -1,4 +1,4 @@
-use Rattle.std.proofs.Common.{◌≡◌, ℕ, List, subst, sym, ap}
+use Rattle.std.proofs.Common.{ℕ, List, subst, sym}
 use Rattle.walrus_module.specs.Lengths.{HasLengthsInCode, HasLengthsToCodeEnd}
 use Rattle.walrus_module.specs.Outdated.{Stays}
 use Rattle.walrus_module.proofs.OneLength.{in_code_once, to_code_end_once}

@@ -46,8 +46,7 @@ returns-in_ok-visit_instr_seq_id-in-TryTable-clause-err g c =
     (rw (← c.as_slice.ensures) k)))
     c.report_clauses.ensures.err
 
-pub returns-in_ok-visit_instr_seq_id-in-Try-clause-ok :
-    goal.returns-in_ok-visit_instr_seq_id-in-Try-clause-ok
+pub returns-in_ok-visit_instr_seq_id-in-Try-clause-ok : goal.returns-in_ok-visit_instr_seq_id-in-Try-clause-ok
 returns-in_ok-visit_instr_seq_id-in-Try-clause-ok g c =
     let x = c.in-Try.x in
     let first = c.in_ok-visit_instr_seq_id-in-Try.ensures.ok in

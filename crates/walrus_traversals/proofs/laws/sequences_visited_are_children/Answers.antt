@@ -1,5 +1,4 @@
-use Rattle.std.proofs.Common.{◌≡◌, List, [], ◌∷◌, ◌++◌, refl, ap, ◌∙◌}
-use Rattle.std.specs.List.{flat_map}
+use Rattle.std.proofs.Common.{◌≡◌, List, [], ◌∷◌, ◌++◌, refl, ap, ◌∙◌, flat_map}
 use Rattle.std.proofs.lemmas.List.Concat.{flat_map-append}
 use Rattle.instr.specs.declared.instr.Instr.{Instr}
 use Rattle.instr.specs.declared.instr.Instr.TheVariants as instr
@@ -16,18 +15,16 @@ use Rattle.walrus_traversals.specs.Sequences.{handlers_of, labels_visited}
 use Rattle.walrus_traversals.proofs.laws.sequences_visited_are_children.Goals as goal
 
 -- no clause is given a sequence
-none_of :
-    {A : Type 0} (f : A → Calls A) → ((x : A) → flat_map instr_seqs_in (reported (f x)) ≡ []) →
+none_of : {A : Type 0} (f : A → Calls A) → ((x : A) → flat_map instr_seqs_in (reported (f x)) ≡ []) →
     (xs : List A) → flat_map instr_seqs_in (flat_map (λ x. reported (f x)) xs) ≡ []
 none_of f e [] = refl
 none_of f e (x ∷ xs) =
     flat_map-append instr_seqs_in (reported (f x)) (flat_map (λ y. reported (f y)) xs)
     ∙ ap (λ l. l ++ flat_map instr_seqs_in (flat_map (λ y. reported (f y)) xs)) (e x) ∙ none_of f e xs
 
-none_listed :
-    {A B : Type 0} (f : A → Calls A) (put : List A → B) →
-    ((x : A) → flat_map instr_seqs_in (reported (f x)) ≡ []) → (xs : List A) →
-    flat_map instr_seqs_in (reported (and_then (each f xs) (λ ys. leaves (put ys)))) ≡ []
+none_listed : {A B : Type 0} (f : A → Calls A) (put : List A → B) →
+    ((x : A) → flat_map instr_seqs_in (reported (f x)) ≡ []) →
+    (xs : List A) → flat_map instr_seqs_in (reported (and_then (each f xs) (λ ys. leaves (put ys)))) ≡ []
 none_listed f put e xs =
     ap (flat_map instr_seqs_in) (reported_put (each f xs) put ∙ reported_each f xs) ∙ none_of f e xs
 
@@ -42,9 +39,8 @@ in_legacy (legacy.Catch tag handler) = refl
 in_legacy (legacy.CatchAll handler) = refl
 in_legacy (legacy.Delegate depth) = refl
 
-visited :
-    (i : Instr) → flat_map instr_seqs_in (reported (fields i)) ++ handlers_of i
-    ≡ labels_visited i ++ children i
+visited : (i : Instr) →
+    flat_map instr_seqs_in (reported (fields i)) ++ handlers_of i ≡ labels_visited i ++ children i
 visited (instr.TryTable x) =
     ap (λ l. x.seq ∷ l ++ [])
     (none_listed clause_fields (λ b. instr.TryTable (record x { catches = b })) in_clause x.catches)

@@ -1,10 +1,7 @@
-use Rattle.std.proofs.Common.{◌≡◌, ◌<◌, ℕ, length, arith, refl, sym}
+use Rattle.std.proofs.Common.{◌≡◌, ◌<◌, length, arith, refl, sym}
 use Rattle.std.proofs.lemmas.Option.{get_or_from_slice_get}
 use Rattle.std.proofs.lemmas.Result.{err_from_is_err_and}
-use Rattle.instr.specs.declared.exceptions.LegacyCatch.{LegacyCatch}
-use Rattle.walrus_ir.specs.Fields.{legacy_fields}
 use Rattle.walrus_ir.proofs.Calls.{legacies_whole, done_more, done_begun, done_all}
-use Rattle.walrus_traversals_mut.specs.Steps.{keeping}
 use Rattle.walrus_traversals_mut.proofs.fields_mut.visit_legacy_catches.Goals as goal
 
 pub index_mut-requires : goal.index_mut-requires
@@ -14,30 +11,22 @@ pub returns-in_err-visit_legacy_catch-clause-err : goal.returns-in_err-visit_leg
 returns-in_err-visit_legacy_catch-clause-err g c =
     let inv = c.loop-i.invariant in
     let lt : c.loop-i.i < length c.loop-i.clauses = omega (arith, inv.size) in
-    let here = sym (get_or_from_slice_get c.loop-i.clauses c.loop-i.i c.index_mut.result.now
-    c.index_mut.result.now c.index_mut.ensures.value) in
+    let here = sym (get_or_from_slice_get c.loop-i.clauses c.loop-i.i _ c.index_mut.result.now
+    c.index_mut.ensures.value) in
     let p = err_from_is_err_and c.from_residual.result c.from_residual.ensures.1 in
-    rw p.1 (done_begun {K = ℕ} (keeping g.V.VisitorMut.step) legacy_fields (λ
-    (x : LegacyCatch). 0) c.args.visitor.now c.args.clauses.now c.loop-i.visitor c.loop-i.clauses c.loop-i.i
-    c.visit_legacy_catch.new.visitor c.index_mut.result.now c.visit_legacy_catch.new.clause legacies_whole
-    inv lt here c.in_err-visit_legacy_catch.ensures.err)
+    rw p.1 (done_begun _ _ _ _ _ _ _ _ _ _ _ legacies_whole inv lt here
+    c.in_err-visit_legacy_catch.ensures.err)
 
 pub loop-i-preserved : goal.loop-i-preserved
 loop-i-preserved g c =
     let inv = c.loop-i.invariant in
     let lt : c.loop-i.i < length c.loop-i.clauses = omega (arith, inv.size) in
-    let here = sym (get_or_from_slice_get c.loop-i.clauses c.loop-i.i c.index_mut.result.now
-    c.index_mut.result.now c.index_mut.ensures.value) in
-    done_more {K =
-    ℕ} (keeping g.V.VisitorMut.step) legacy_fields (λ (x : LegacyCatch). 0) c.args.visitor.now
-    c.args.clauses.now c.loop-i.visitor c.loop-i.clauses c.loop-i.i
-    c.visit_legacy_catch.new.visitor c.index_mut.result.now c.visit_legacy_catch.new.clause inv lt here
-    c.in_ok-visit_legacy_catch.ensures.ok refl
+    let here = sym (get_or_from_slice_get c.loop-i.clauses c.loop-i.i _ c.index_mut.result.now
+    c.index_mut.ensures.value) in
+    done_more _ _ _ _ _ _ _ _ _ _ _ inv lt here c.in_ok-visit_legacy_catch.ensures.ok refl
 
 pub returns-clause-ok : goal.returns-clause-ok
 returns-clause-ok g c =
     let inv = c.loop-i.invariant in
     let e : c.loop-i.i ≡ length c.loop-i.clauses = omega (arith, inv.size) in
-    done_all {K =
-    ℕ} (keeping g.V.VisitorMut.step) legacy_fields (λ (x : LegacyCatch). 0) c.args.visitor.now
-    c.args.clauses.now c.loop-i.visitor c.loop-i.clauses c.loop-i.i inv e
+    done_all _ _ _ _ _ _ _ _ inv e

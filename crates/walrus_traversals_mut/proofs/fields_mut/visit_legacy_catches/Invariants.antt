@@ -7,6 +7,5 @@ use Rattle.walrus_traversals_mut.proofs.fields_mut.visit_legacy_catches.Given as
 
 abbrev pub invariant-loop-i : goal.invariant-loop-i
 invariant-loop-i g l =
-    Done {K =
-    ℕ} (keeping g.V.VisitorMut.step) legacy_fields (λ (x : LegacyCatch). 0) l.initial.visitor
-    l.initial.clauses l.visitor l.clauses l.i
+    Done {K = ℕ} (keeping g.V.VisitorMut.step) legacy_fields
+    (λ (x : LegacyCatch). 0) l.initial.visitor l.initial.clauses l.visitor l.clauses l.i

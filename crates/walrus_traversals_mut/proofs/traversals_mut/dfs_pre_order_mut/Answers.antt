@@ -1,11 +1,10 @@
-use Rattle.std.proofs.Common.{◌≡◌, List, [], ◌∷◌, ◌++◌, ℕ, ap, reverse, refl, ◌∙◌, length, arith}
+use Rattle.std.proofs.Common.{◌≡◌, List, [], ◌∷◌, ◌++◌, ℕ, ap, sym, reverse, refl, ◌∙◌, length, arith}
 use Rattle.std.proofs.lemmas.Result.{err_from_is_err_and}
 use Rattle.walrus_ir.specs.Calls.{Full, Partial}
-use Rattle.walrus_functions.specs.Body.{Body}
 use Rattle.walrus_traversals_mut.proofs.Stacks.{popped, none_left}
 use Rattle.walrus_traversals_mut.proofs.Depths.{stack_falls}
 use Rattle.walrus_traversals_mut.proofs.Kept.{block_keeps}
-use Rattle.walrus_traversals_mut.proofs.Composing.{begin, go_on, ended, refused, at_top, onto, top_known, not_begun, none_pending, nested_now, nested_then}
+use Rattle.walrus_traversals_mut.proofs.Composing.{begin, go_on, ended, refused, pending_is, top_known, not_begun, nested_now, nested_then}
 use Rattle.walrus_traversals_mut.proofs.traversals_mut.dfs_pre_order_mut.Goals as goal
 
 pub returns-in-Err-clause-err : goal.returns-in-Err-clause-err
@@ -16,84 +15,48 @@ pub loop-seq-init : goal.loop-seq-init
 loop-seq-init g c =
     let e : reverse c.push.new.self.items ≡ c.args.start ∷ [] =
     ap reverse (c.in_default.ensures.items ∙ ap (λ (l : List ℕ). l ++ c.args.start ∷ [])
-    c.new-stack.ensures.items) in (
-      onto g.V.VisitorMut.step (c.args.visitor.now, c.args.func.now.body) c.args.start (
-        c.args.visitor.now,
-        c.args.func.now.body,
-      ) (reverse c.push.new.self.items) (c.args.start ∷ []) e
-          (begin g.V.VisitorMut.step (c.args.visitor.now, c.args.func.now.body) c.args.start c.requires),
-      refl,
-    )
+    c.new-stack.ensures.items) in
+    (pending_is g.V.VisitorMut.step _ _ _ _ _ (sym e) (begin g.V.VisitorMut.step _ _ c.requires), refl)
 
 pub visit_block-requires : goal.visit_block-requires
 visit_block-requires g c =
-    let s0 : g.row.V.Denot × Body = (c.args.visitor.now, c.args.func.now.body) in
-    let s : g.row.V.Denot × Body = (c.loop-seq.visitor, c.loop-seq.func.body) in
     let e = popped c.loop-seq.stack.items c.pop.new.self.items c.in-Some.seq c.in-Some.ensures.items in
-    top_known g.V.VisitorMut.step s0 c.args.start s c.in-Some.seq (reverse c.pop.new.self.items)
-    (at_top g.V.VisitorMut.step s0 c.args.start s (reverse c.loop-seq.stack.items) c.in-Some.seq
-    (reverse c.pop.new.self.items) e c.loop-seq.invariant.0)
+    top_known g.V.VisitorMut.step _ _ _ _ _
+    (pending_is g.V.VisitorMut.step _ _ _ _ _ e c.loop-seq.invariant.0)
 
 pub returns-in_err-visit_block-clause-err : goal.returns-in_err-visit_block-clause-err
 returns-in_err-visit_block-clause-err g c =
-    let s0 : g.row.V.Denot × Body = (c.args.visitor.now, c.args.func.now.body) in
-    let s : g.row.V.Denot × Body = (c.loop-seq.visitor, c.loop-seq.func.body) in
-    let t : g.row.V.Denot × Body = (c.visit_block.new.visitor, c.visit_block.new.func.body) in
     let e = popped c.loop-seq.stack.items c.pop.new.self.items c.in-Some.seq c.in-Some.ensures.items in
     let p = err_from_is_err_and c.from_residual.result c.from_residual.ensures.1 in
-    rw p.1 (refused g.V.VisitorMut.step s0 c.args.start s t c.in-Some.seq (reverse c.pop.new.self.items)
-    (at_top g.V.VisitorMut.step s0 c.args.start s (reverse c.loop-seq.stack.items) c.in-Some.seq
-    (reverse c.pop.new.self.items) e c.loop-seq.invariant.0)
-    c.in_err-visit_block.ensures.err)
+    rw p.1 (refused g.V.VisitorMut.step _ _ _ _ _ _
+    (pending_is g.V.VisitorMut.step _ _ _ _ _ e c.loop-seq.invariant.0) c.in_err-visit_block.ensures.err)
 
 pub returns-in_err-visit_block-clause-nested : goal.returns-in_err-visit_block-clause-nested
 returns-in_err-visit_block-clause-nested g c =
-    nested_then g.V.VisitorMut.step (c.args.visitor.now, c.args.func.now.body) c.args.start
-    (c.loop-seq.visitor, c.loop-seq.func.body) (c.visit_block.new.visitor, c.visit_block.new.func.body)
-    (reverse c.loop-seq.stack.items) c.in-Some.seq Partial c.requires c.loop-seq.invariant.0
+    nested_then g.V.VisitorMut.step _ _ _ _ _ _ Partial c.requires c.loop-seq.invariant.0
     c.in_err-visit_block.ensures.err
 
 pub loop-seq-smaller : goal.loop-seq-smaller
 loop-seq-smaller g c =
-    let s0 : g.row.V.Denot × Body = (c.args.visitor.now, c.args.func.now.body) in
-    let s : g.row.V.Denot × Body = (c.loop-seq.visitor, c.loop-seq.func.body) in
-    let rest = reverse c.pop.new.self.items in
     let e = popped c.loop-seq.stack.items c.pop.new.self.items c.in-Some.seq c.in-Some.ensures.items in
-    let m : g.row.V.Denot × Body = (c.visit_block.new.visitor, c.visit_block.new.func.body) in
-    let p = at_top g.V.VisitorMut.step s0 c.args.start s (reverse c.loop-seq.stack.items) c.in-Some.seq rest e
-    c.loop-seq.invariant.0 in
-    stack_falls c.loop-seq.func.body c.visit_block.new.func.body c.in-Some.seq rest
-    (reverse c.loop-seq.stack.items) (reverse c.visit_block.new.stack.items) e
-    c.in_ok-visit_block.ensures.pushed
-    (block_keeps g.V.VisitorMut.step s m c.in-Some.seq Full c.in_ok-visit_block.ensures.ok) p.within.0
+    let p = pending_is g.V.VisitorMut.step _ _ _ _ _ e c.loop-seq.invariant.0 in
+    stack_falls _ _ _ _ _ _ e c.in_ok-visit_block.ensures.pushed
+    (block_keeps g.V.VisitorMut.step _ _ _ Full c.in_ok-visit_block.ensures.ok) p.within.0
 
 pub loop-seq-preserved : goal.loop-seq-preserved
 loop-seq-preserved g c =
-    let s0 : g.row.V.Denot × Body = (c.args.visitor.now, c.args.func.now.body) in
-    let s : g.row.V.Denot × Body = (c.loop-seq.visitor, c.loop-seq.func.body) in
-    let m : g.row.V.Denot × Body = (c.visit_block.new.visitor, c.visit_block.new.func.body) in
-    let rest = reverse c.pop.new.self.items in
-    let e = popped c.loop-seq.stack.items c.pop.new.self.items c.in-Some.seq c.in-Some.ensures.items in (
-      onto g.V.VisitorMut.step s0 c.args.start m (reverse c.visit_block.new.stack.items) _
-          c.in_ok-visit_block.ensures.pushed
-          (go_on g.V.VisitorMut.step s0 c.args.start s m c.in-Some.seq rest
-          (at_top g.V.VisitorMut.step s0 c.args.start s (reverse c.loop-seq.stack.items) c.in-Some.seq rest e
-          c.loop-seq.invariant.0)
-          c.in_ok-visit_block.ensures.ok),
+    let e = popped c.loop-seq.stack.items c.pop.new.self.items c.in-Some.seq c.in-Some.ensures.items in
+    let p = pending_is g.V.VisitorMut.step _ _ _ _ _ e c.loop-seq.invariant.0 in (
+      pending_is g.V.VisitorMut.step _ _ _ _ _ (sym c.in_ok-visit_block.ensures.pushed)
+          (go_on g.V.VisitorMut.step _ _ _ _ _ _ p c.in_ok-visit_block.ensures.ok),
       c.visit_block.ensures.args ∙ c.loop-seq.invariant.1,
     )
 
 pub returns-clause-ok : goal.returns-clause-ok
 returns-clause-ok g c =
-    let s0 : g.row.V.Denot × Body = (c.args.visitor.now, c.args.func.now.body) in
-    let s : g.row.V.Denot × Body = (c.loop-seq.visitor, c.loop-seq.func.body) in
     let z : length c.loop-seq.stack.items ≡ 0 = omega (arith, c.in_default-pop.ensures.cases.0) in
-    ended g.V.VisitorMut.step s0 c.args.start s
-    (none_pending g.V.VisitorMut.step s0 c.args.start s (reverse c.loop-seq.stack.items)
-    (none_left c.loop-seq.stack.items z) c.loop-seq.invariant.0)
+    ended g.V.VisitorMut.step _ _ _
+    (pending_is g.V.VisitorMut.step _ _ _ _ _ (none_left c.loop-seq.stack.items z) c.loop-seq.invariant.0)
 
 pub returns-clause-nested : goal.returns-clause-nested
-returns-clause-nested g c =
-    nested_now g.V.VisitorMut.step (c.args.visitor.now, c.args.func.now.body) c.args.start
-    (c.loop-seq.visitor, c.loop-seq.func.body)
-    (reverse c.loop-seq.stack.items) c.requires c.loop-seq.invariant.0
+returns-clause-nested g c = nested_now g.V.VisitorMut.step _ _ _ _ c.requires c.loop-seq.invariant.0

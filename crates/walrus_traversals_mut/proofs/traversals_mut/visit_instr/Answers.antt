@@ -8,23 +8,16 @@ pub returns-in_err-visit_instr_mut-clause-err : goal.returns-in_err-visit_instr_
 returns-in_err-visit_instr_mut-clause-err g c =
     let p = err_from_is_err_and c.from_residual.result c.from_residual.ensures.1 in
     let e = c.in_err-visit_instr_mut.ensures.err in
-    rw p.1 (refused_instr (keeping g.V.VisitorMut.step) c.args.visitor.now c.visit_instr_mut.new.self
-    (c.args.instr.now, c.args.loc.now) (c.visit_instr_mut.new.instr, c.visit_instr_mut.new.loc) e.0 e.1 e.2)
+    rw p.1 (refused_instr (keeping g.V.VisitorMut.step) _ _ _ _ e.0 e.1 e.2)
 
 pub returns-clause-ok : goal.returns-clause-ok
 returns-clause-ok g c =
-    on_ok_weaker c.visit_fields.result
-    (λ k. visited_instr (keeping g.V.VisitorMut.step) c.args.visitor.now c.visit_instr_mut.new.self
-    c.visit_fields.new.visitor (c.args.instr.now, c.args.loc.now)
-    (c.visit_instr_mut.new.instr, c.visit_instr_mut.new.loc) Full c.visit_fields.new.instr
-    (c.in_ok-visit_instr_mut.ensures.ok, c.in_ok-visit_instr_mut.ensures.nesting) k)
-    c.visit_fields.ensures.ok
+    let e = c.in_ok-visit_instr_mut.ensures in
+    on_ok_weaker c.visit_fields.result (λ k. visited_instr (keeping g.V.VisitorMut.step) _ _ _ _ _ Full _
+    (e.ok, e.nesting) k) c.visit_fields.ensures.ok
 
 pub returns-clause-err : goal.returns-clause-err
 returns-clause-err g c =
-    on_err_weaker c.visit_fields.result
-    (λ k. visited_instr (keeping g.V.VisitorMut.step) c.args.visitor.now c.visit_instr_mut.new.self
-    c.visit_fields.new.visitor (c.args.instr.now, c.args.loc.now)
-    (c.visit_instr_mut.new.instr, c.visit_instr_mut.new.loc) Partial c.visit_fields.new.instr
-    (c.in_ok-visit_instr_mut.ensures.ok, c.in_ok-visit_instr_mut.ensures.nesting) k)
-    c.visit_fields.ensures.err
+    let e = c.in_ok-visit_instr_mut.ensures in
+    on_err_weaker c.visit_fields.result (λ k. visited_instr (keeping g.V.VisitorMut.step) _ _ _ _ _ Partial _
+    (e.ok, e.nesting) k) c.visit_fields.ensures.err

@@ -13,19 +13,13 @@ pub returns-in-Err-clause-err : goal.returns-in-Err-clause-err
 returns-in-Err-clause-err g c =
     let inv = c.loop-i.invariant.0 in
     let lt : c.loop-i.i < length c.loop-i.instrs.items = omega (arith, inv.size) in
-    done_begun {K = ℕ} (keeping g.V.VisitorMut.step) instr_calls (λ (x : Instr × ℕ). 0) c.args.visitor.now
-    c.args.instrs.now.items c.loop-i.visitor c.loop-i.instrs.items c.loop-i.i c.visit_instr.new.visitor
-    c.index_mut.result.now (c.visit_instr.new.instr, c.visit_instr.new.loc) instr_whole inv lt
-    c.index_mut.ensures.value c.in-Err.ensures.err
+    done_begun _ _ _ _ _ _ _ _ _ _ _ instr_whole inv lt c.index_mut.ensures.value c.in-Err.ensures.err
 
 pub returns-in-Err-push_children-clause-err : goal.returns-in-Err-push_children-clause-err
 returns-in-Err-push_children-clause-err g c =
     let inv = c.loop-i.invariant.0 in
     let lt : c.loop-i.i < length c.loop-i.instrs.items = omega (arith, inv.size) in
-    done_begun {K = ℕ} (keeping g.V.VisitorMut.step) instr_calls (λ (x : Instr × ℕ). 0) c.args.visitor.now
-    c.args.instrs.now.items c.loop-i.visitor c.loop-i.instrs.items c.loop-i.i c.visit_instr.new.visitor
-    c.index_mut.result.now (c.visit_instr.new.instr, c.visit_instr.new.loc) instr_whole inv lt
-    c.index_mut.ensures.value
+    done_begun _ _ _ _ _ _ _ _ _ _ _ instr_whole inv lt c.index_mut.ensures.value
     (full_partial (keeping g.V.VisitorMut.step) (instr_calls c.index_mut.result.now) c.loop-i.visitor
     c.visit_instr.new.visitor (c.visit_instr.new.instr, c.visit_instr.new.loc) c.in_default.ensures.ok)
 
@@ -33,10 +27,7 @@ pub loop-i-preserved : goal.loop-i-preserved
 loop-i-preserved g c =
     let inv = c.loop-i.invariant.0 in
     let lt : c.loop-i.i < length c.loop-i.instrs.items = omega (arith, inv.size) in (
-      done_more {K = ℕ} (keeping g.V.VisitorMut.step) instr_calls (λ (x : Instr × ℕ). 0) c.args.visitor.now
-          c.args.instrs.now.items c.loop-i.visitor c.loop-i.instrs.items c.loop-i.i c.visit_instr.new.visitor
-          c.index_mut.result.now (c.visit_instr.new.instr, c.visit_instr.new.loc) inv lt
-          c.index_mut.ensures.value c.in_default.ensures.ok refl,
+      done_more _ _ _ _ _ _ _ _ _ _ _ inv lt c.index_mut.ensures.value c.in_default.ensures.ok refl,
       pushed_set (λ (x : Instr × ℕ). children x.0) c.loop-i.instrs.items
           (c.visit_instr.new.instr, c.visit_instr.new.loc) c.loop-i.i _ _ _ lt c.loop-i.invariant.1
           (pushed_ids (children c.visit_instr.new.instr) _ _ c.in_default-push_children.ensures.pushed),
@@ -46,8 +37,7 @@ pub returns-clause-ok : goal.returns-clause-ok
 returns-clause-ok g c =
     let inv = c.loop-i.invariant.0 in
     let e : c.loop-i.i ≡ length c.loop-i.instrs.items = omega (arith, inv.size) in
-    done_all {K = ℕ} (keeping g.V.VisitorMut.step) instr_calls (λ (x : Instr × ℕ). 0) c.args.visitor.now
-    c.args.instrs.now.items c.loop-i.visitor c.loop-i.instrs.items c.loop-i.i inv e
+    done_all _ _ _ _ _ _ _ _ inv e
 
 pub returns-clause-pushed : goal.returns-clause-pushed
 returns-clause-pushed g c =

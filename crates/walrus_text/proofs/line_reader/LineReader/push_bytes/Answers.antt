@@ -1,26 +1,27 @@
-use Rattle.std.proofs.Common.{◌≡◌, ◌++◌, ◌∷◌, [], ◌+◌, take, sym, ap, subst, ◌∙◌, append_assoc, append-nil, arith}
-use Rattle.std.specs.Prelude.{slice_index_or}
-use Rattle.std.proofs.lemmas.List.{take_more}
-use Rattle.std.proofs.lemmas.Grind.{common_steps}
+use Rattle.std.proofs.Common.{◌++◌, ◌∷◌, [], refl, sym, ap, subst, ◌∙◌, append_assoc, append-nil}
 use Rattle.walrus_text.specs.Steps.Bytes.{HasReadBytes}
 use Rattle.walrus_text.proofs.line_reader.LineReader.push_bytes.Goals as goal
 
-pub loop-byte-init : goal.loop-byte-init
-loop-byte-init c = λ bytes h. subst (HasReadBytes c.args.self.now) (sym (append-nil bytes)) h
+pub loop-line-init : goal.loop-line-init
+loop-line-init c = ([], refl, λ bytes h. subst (HasReadBytes c.args.self.now) (sym (append-nil bytes)) h)
 
-pub loop-byte-preserved : goal.loop-byte-preserved
-loop-byte-preserved c = λ bytes h.
-    let xs = c.args.block.now in
-    let at = c.loop-byte.byte-index in
-    let more : take (at + 1) xs ≡ take at xs ++ slice_index_or xs at 0 ∷ [] =
-    take_more xs at 0 c.loop-byte-test.true in
-    let same : (bytes ++ take at xs) ++ slice_index_or xs at 0 ∷ [] ≡ bytes ++ take (at + 1) xs =
-    append_assoc bytes (take at xs) (slice_index_or xs at 0 ∷ []) ∙ ap (λ l. bytes ++ l) (sym more) in
-    subst (HasReadBytes c.push_byte.new.self) same
-    (c.in_ok-push_byte.ensures (bytes ++ take at xs) (c.loop-byte.invariant bytes h))
+pub loop-line-preserved : goal.loop-line-preserved
+loop-line-preserved c =
+    let taken = c.loop-line.invariant.0 in
+    let line = c.in-Some.line.now ++ 10 ∷ [] in (
+      taken ++ line,
+      c.loop-line.invariant.1
+          ∙ (ap (λ l. taken ++ l) (c.in-Some.ensures.found
+          ∙ sym (append_assoc c.in-Some.line.now (10 ∷ []) c.in-Some.after.now))
+          ∙ sym (append_assoc taken line c.in-Some.after.now)),
+      λ bytes h.
+          subst (HasReadBytes c.push_line.new.self) (append_assoc bytes taken line)
+          (c.in_ok-push_line.ensures (bytes ++ taken) (c.loop-line.invariant.2 bytes h)),
+    )
 
 pub returns : goal.returns
 returns c = λ bytes h.
-    let whole : take c.loop-byte.byte-index c.args.block.now ≡ c.args.block.now =
-    grind (arith, common_steps) in
-    subst (λ l. HasReadBytes c.loop-byte.self (bytes ++ l)) whole (c.loop-byte.invariant bytes h)
+    let taken = c.loop-line.invariant.0 in
+    subst (HasReadBytes c.push_part.new.self) (append_assoc bytes taken c.loop-line.rest.now
+    ∙ ap (λ l. bytes ++ l) (sym c.loop-line.invariant.1))
+    (c.in_ok-push_part.ensures (bytes ++ taken) (c.loop-line.invariant.2 bytes h))

@@ -1,0 +1,17 @@
+use Rattle.std.proofs.Common.{sym}
+use Rattle.wasmnorm.specs.Steps.Failures.{of_module, of_functions}
+use Rattle.wasmnorm.proofs.Snips.{normal_without_snips}
+use Rattle.wasmnorm.proofs.new_module.Goals as goal
+
+pub returns-in-Err-clause-refused : goal.returns-in-Err-clause-refused
+returns-in-Err-clause-refused c =
+    of_module c.refusal.result (c.refusal.ensures.explains c.in-Err.ensures.refused)
+
+pub returns-then-is_empty-clause-normal : goal.returns-then-is_empty-clause-normal
+returns-then-is_empty-clause-normal c =
+    normal_without_snips c.args.options c.args.snips.now c.args.bytes.now c.in-Ok.module.items
+    (sym c.if-is_empty.ensures) c.in-Ok.ensures.normal
+
+pub returns-in-Err-snipped_module-clause-refused : goal.returns-in-Err-snipped_module-clause-refused
+returns-in-Err-snipped_module-clause-refused c =
+    of_functions c.in-Err-snipped_module.failure c.in-Err-snipped_module.ensures.refused
