@@ -21,9 +21,9 @@ pub enum Context {
     Looks(Lookalike),
     /// The error is in this section.
     Within(NamedSection),
-    /// The error is in this section, at a code that a proposal to WebAssembly has.
+    /// The error is in this section, at a byte that looks like a code of a proposal to WebAssembly.
     Proposed(NamedSection, ProposedPart),
-    /// Nothing: the header is wrong, or the bytes end where a section may begin.
+    /// Nothing. For instance the header is wrong, or the bytes end where a section may begin.
     Nothing,
 }
 

@@ -1,7 +1,6 @@
 -- The contents of custom sections: which are known, and the first fault of one from left to right,
 -- with its place. Only name sections are judged behind their own name.
--- WebAssembly core specification, "Custom Sections" and "Name Section". Subsection 10, the names of
--- fields, is of the extended name section (proposal).
+-- WebAssembly core specification, "Custom Sections" and "Name Section".
 use Rattle.std.specs.Prelude.{◌≡◌, ℕ, ◌+◌, ◌<◌, ◌≤◌, List, [], ◌∷◌, ◌++◌, length}
 use Rattle.walrus_binary.specs.Grammar.{AreItems, IsVec}
 use Rattle.walrus_binary.specs.Leb128.{IsU32}

@@ -1,6 +1,5 @@
 -- Custom sections with other indices of types: the names of types and of their fields follow them.
--- WebAssembly core specification, "Custom Sections" and "Name Section". Subsection 10, the names of
--- fields, is of the extended name section (proposal).
+-- WebAssembly core specification, "Custom Sections" and "Name Section".
 use Rattle.std.specs.Prelude.{◌≡◌, ℕ, ◌<◌, ◌≤◌, List, [], ◌∷◌, ◌++◌, length, map, Some}
 use Rattle.std.specs.List.{All, Contains}
 use Rattle.std.specs.List.Sorted.{IsStrictlyIncreasing}

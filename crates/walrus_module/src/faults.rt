@@ -50,7 +50,8 @@ pub struct Fault {
 ///
 /// - An integer is at fault where it stops being one: at the first byte with which no integer goes
 ///   on.
-/// - An opcode, a form or an alignment that is not in the grammar is at fault at its first byte.
+/// - An opcode, a form or an alignment that is not in the grammar is at fault at its first byte. Of
+///   an opcode with a number behind its first byte this is the first byte of the number.
 /// - Where bytes end too early, or a size goes past their end, the place is that end.
 /// - Where bytes go on behind their text, it is the first byte behind it.
 /// - An index of a type that is not below `count` is at fault at its first byte.

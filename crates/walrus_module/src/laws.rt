@@ -120,9 +120,10 @@ pub fn stripped_module_describes_nothing()
     ensures { (bytes new : List ℕ) → IsStripped bytes new → HasNoDescription new }
 {}
 
-/// What [`rename_module`](crate::rename_module) refuses as malformed, or for a type where none is
-/// deleted, has a fault: [`find_module_fault`](crate::find_module_fault) finds one. For malformed
-/// modules that holds with any number of types, else with that of the new indices.
+/// A module by its framing that [`rename_module`](crate::rename_module) refuses as malformed, or
+/// for a type where none is deleted, has a fault: [`find_module_fault`](crate::find_module_fault)
+/// finds one. For malformed modules that holds with any number of types, else with that of the new
+/// indices.
 pub fn refused_module_has_a_fault()
     ensures malformed { (count : ℕ) (bytes : List ℕ) (sections : List Section) →
         IsModule bytes sections → CanNotBeRenamed bytes → ¬ HasKnownContents count bytes }

@@ -24,8 +24,7 @@ const SIZE_LIMIT: usize = 1 << 32;
 /// Returns the content of a custom section with other indices of types. In a name section the names
 /// of types and of their fields get the new indices: where `new_indices[k]` is `Some(n)`, index k
 /// becomes n. `None` is a deleted type, whose names go. All other subsections and custom sections
-/// stay byte for byte (WebAssembly core specification, "Custom Sections" and "Name Section"; the
-/// names of fields are of the extended name section proposal).
+/// stay byte for byte (WebAssembly core specification, "Custom Sections" and "Name Section").
 ///
 /// Entries for types are sorted by their new indices, as the specification wants. Where several
 /// types become one, the names of the one with the least index stay. The count of such entries and

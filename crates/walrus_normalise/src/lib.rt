@@ -14,8 +14,10 @@
 //! # Which section no longer fits
 //!
 //! [`NormaliseModuleError::Outdated`] has the place of the section, at which
-//! [`custom_section_name`](walrus_binary::custom_section_name) finds its name. For the place of any
-//! other error, [`section_around`](walrus_binary::section_around) finds the section.
+//! [`custom_section_name`](walrus_binary::custom_section_name) finds its name. For the place of an
+//! error of the type section, [`section_around`](walrus_binary::section_around) finds the section.
+//! The other errors have no place: [`find_module_fault`](walrus_module::find_module_fault) finds
+//! it.
 //!
 //! ```
 //! fn outdated_name(bytes: &[u8], error: NormaliseModuleError) -> Option<&[u8]> {

@@ -40,7 +40,7 @@ use walrus_module::{Section, Widths, sections};
 ///   [`SnipError::UnknownFunction`] where there is none of the index: at the first such index of
 ///   `functions`.
 /// - [`SnipError::TooLong`] comes where the code section would have 2^32 bytes or more. That takes
-///   bodies that are empty, and so no code.
+///   bodies of less than three bytes, since a snipped body has three.
 /// - [`SnipError::Memory`] comes where memory was refused.
 ///
 /// # A function that traps

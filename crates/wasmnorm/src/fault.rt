@@ -23,6 +23,9 @@ pub fn fault_of(alloc: Global, bytes: &[u8], error: NormaliseModuleError) -> Opt
     Some(fault)
 }
 
+/// The number of types where it is not known.
+const UNKNOWN: u32 = u32::MAX;
+
 /// How many types the sections before the error may name. Where the type section is what is
 /// malformed, its types are not known, and what names them before it is not judged.
 fn count_before(alloc: Global, bytes: &[u8], error: NormaliseModuleError) -> Option<u32> {
@@ -33,7 +36,7 @@ fn count_before(alloc: Global, bytes: &[u8], error: NormaliseModuleError) -> Opt
         return type_count(alloc, bytes);
     };
     if section.id == TYPES {
-        return Some(u32::MAX);
+        return Some(UNKNOWN);
     }
     type_count(alloc, bytes.get(..section.offset)?)
 }
@@ -50,6 +53,7 @@ fn first_fault(alloc: Global, bytes: &[u8], count: u32) -> Option<Fault>
 /// Whether the error says the same as a fault, or something that comes later.
 fn agrees(error: NormaliseModuleError, fault: Fault) -> bool {
     match (error, fault.kind) {
+        (_, FaultKind::UnknownType { count, .. }) if count == UNKNOWN => false,
         (NormaliseModuleError::Types(DecodeError::Malformed { offset, .. }), _) => {
             fault.offset <= offset
         }

@@ -25,8 +25,9 @@ pub struct SectionPlace {
 /// it is that section. `None` says that the byte is in the header, or that no section begins before
 /// the end. No memory is taken.
 ///
-/// So it finds the section of an error of [`type_section`](crate::type_section) or
-/// [`module_types`](crate::module_types), if `place` is that of the error.
+/// An error of [`type_section`](crate::type_section) or [`module_types`](crate::module_types) can
+/// be at the end of its section. So its section is the one around the byte before it, unless the id
+/// of a section was expected there.
 ///
 /// # The section of a byte
 ///
