@@ -59,6 +59,24 @@ use walrus_types::{ModuleTypes, TypeId};
 ///     delete_unused_types(alloc, &mut types, roots.as_slice())?;
 /// }
 /// ```
+///
+/// # Keeping what a module names
+///
+/// `named_types` of `walrus_module` lists the indices that a module names outside its type section.
+/// Their ids are the roots:
+///
+/// ```
+/// let groups = module_types(alloc, bytes)?;
+/// let (mut types, ids) = parse_types(alloc, keys, groups.as_slice())?;
+/// let mut roots = Vec::new(alloc);
+/// for index in named_types(alloc, bytes)? {
+///     let Some(id) = ids.get(index as usize) else {
+///         return Err(Fail::new("no such type"));
+///     };
+///     roots.push(*id)?;
+/// }
+/// delete_unused_types(alloc, &mut types, roots.as_slice())?;
+/// ```
 pub fn delete_unused_types(
     alloc: Global,
     types: &mut ModuleTypes,
