@@ -45,6 +45,7 @@ RULES = [
     (rf'^ *let alloc = {ALLOCATOR};\n', ''),
     (rf'\bvec!\[\s*in {ALLOCATOR};? ?', f'{CRATE}::try_vec!['),
     (rf'\bformat!\(\s*in {ALLOCATOR}; ?', f'{CRATE}::try_format!('),
+    (r'\.collect\(alloc\)', '.try_collect_vec()'),
     (rf'\({PASSED}(?:, ?)?', '('),
     (rf', {PASSED}', ''),
     (r'\*([\w.]+)\.allocator\(\)', f'{CRATE}::alloc::Global'),

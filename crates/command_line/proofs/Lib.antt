@@ -1,4 +1,1 @@
-pub mod Codes
-pub mod Contexts
-pub mod Lookalikes
 pub mod Options

@@ -2,7 +2,7 @@
 use std::hash::{BuildHasher, RandomState};
 use std::io;
 use std::random::RandomSource;
-use walrus_arena::HashKeys;
+use walrus_id::HashKeys;
 
 // No clause: which bytes a random source gives is nothing that a contract can say, and any keys
 // would meet it.

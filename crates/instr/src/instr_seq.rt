@@ -5,7 +5,7 @@ ghost use Rattle.instr.specs.Sequence.{empty_sequence};
 use crate::{Instr, InstrLocId, InstrSeqType};
 use std::alloc::{AllocError, Global};
 use std::marker::Model;
-use walrus_arena::Id;
+use walrus_ty::Id;
 
 /// The id of a sequence in its function.
 pub type InstrSeqId = Id<InstrSeq>;

@@ -9,8 +9,7 @@ mod iter;
 pub use iter::LocalsIter;
 use std::alloc::{AllocError, Global};
 use std::marker::Model;
-use walrus_arena::Id;
-use walrus_ty::ValType;
+use walrus_ty::{Id, ValType};
 
 /// A local of a function: a parameter, or a variable that it declares.
 #[derive(Clone, PartialEq, Eq, Hash, Debug, Drop)]

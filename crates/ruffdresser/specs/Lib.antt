@@ -1,7 +1,7 @@
 -- Arena.
+pub use Rattle.walrus_id.specs.HashKeys
 pub use Rattle.walrus_arena.specs.Arena
 pub use Rattle.walrus_arena.specs.Calls as ArenaCalls
-pub use Rattle.walrus_arena.specs.HashKeys
 pub use Rattle.walrus_arena.specs.Lends
 pub use Rattle.walrus_arena.specs.Listing
 pub use Rattle.walrus_arena.specs.Set

@@ -34,10 +34,8 @@
 #![tactic(auto)]
 
 // Arena: ids, arenas and sets.
-pub use walrus_arena::{
-    ArenaSet, HashKeys, Id, IdHashMap, IdHashSet, Iter, Key, Tombstone, TombstoneArena,
-    laws as arena_laws,
-};
+pub use walrus_arena::{ArenaSet, IdHashMap, IdHashSet, Iter, TombstoneArena, laws as arena_laws};
+pub use walrus_id::{HashKeys, Id, Key, Tombstone};
 
 // Types, and the table of a module's types.
 pub use walrus_ty::{
@@ -51,7 +49,8 @@ pub use walrus_types::{
 };
 
 // Sections: the records of a type section, and its normal form.
-pub use walrus_sections::{ReadError, first_error, is_normal_form, laws as section_laws};
+pub use walrus_normal_form_check::is_normal_form;
+pub use walrus_sections::{ReadError, first_error, laws as section_laws};
 pub use walrus_ty::{
     CompAt, EntryAt, FieldAt, FromRecordError, GroupAt, HeapAt, IdsToIndices, IndicesToIds,
     NoIndex, RefAt, StorageAt, ToRecordError, UnknownIndex, ValAt, record_laws,

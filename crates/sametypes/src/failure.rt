@@ -1,13 +1,13 @@
 //! What ends a run without a result: its line on standard error.
 ghost use Rattle.std.specs.Prelude.{◌≡◌};
 
-use command_line::Context;
+use error_context::Context;
 use std::fmt;
 use std::fmt::Formatter;
 use std::io::{self, ErrorKind, Write};
 use walrus_binary::DecodeError;
+use walrus_normal_form::ReadError;
 use walrus_text::TextError;
-use walrus_types::ReadError;
 
 /// The exit status of a run without a result, as the command `cmp` has it.
 pub const STATUS: u8 = 2;

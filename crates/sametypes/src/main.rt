@@ -22,7 +22,7 @@ use std::alloc::Global;
 use std::io::{self, Read, Write};
 use std::process::ExitCode;
 use texts::{HELP, USAGE};
-use walrus_types::HashKeys;
+use walrus_normal_form::HashKeys;
 
 /// Reads a section from each of two readers, and compares their normal forms. It writes `same` to
 /// `out` where they are the same up to moves, which is where they have the same normal form.

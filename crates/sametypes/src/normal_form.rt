@@ -7,12 +7,14 @@ ghost use Rattle.sametypes.specs.Runs.{HasSection, IsFirstDifference};
 ghost use Rattle.sametypes.specs.Steps.Verdicts.{HasNormalForm};
 
 use crate::failure::InputError;
-use command_line::{context_of_error, read_bytes};
+use command_line::read_bytes;
+use error_context::context_of_error;
 use std::alloc::Global;
 use std::io::Read;
 use walrus_binary::module_types;
+use walrus_normal_form::{GroupAt, HashKeys, normalise_owned};
 use walrus_text::read_section;
-use walrus_types::{GroupAt, HashKeys, entries_before, first_difference, normalise_owned};
+use walrus_types::{entries_before, first_difference};
 
 /// The four bytes with which each module begins, and no text of a section.
 const MAGIC: [u8; 4] = [0x00, 0x61, 0x73, 0x6D];

@@ -19,8 +19,8 @@ use std::alloc::Global;
 use std::io::{self, BufWriter, Read, Write};
 use std::process::ExitCode;
 use texts::{HELP, USAGE};
+use walrus_normal_form::{GroupAt, HashKeys, ReadError, normalise_owned};
 use walrus_text::{read_section, write_output, write_section};
-use walrus_types::{GroupAt, HashKeys, ReadError, normalise_owned};
 
 /// Reads a section from `reader`, and writes its normal form to `out`. With `has_map` a last line
 /// has the new index of each entry. Without it the output is the text of a section, which this

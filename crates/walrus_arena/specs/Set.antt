@@ -4,7 +4,7 @@ use Rattle.std.specs.Option.{option_eq}
 use Rattle.std.specs.Coded.{Coded, code_by, coded×, coded_ℕ, coded_list, coded_option}
 use Rattle.std.specs.Map.{lookup}
 use Rattle.walrus_arena.specs.Arena.{Slots, get, with_value, without}
-use Rattle.walrus_arena.specs.HashKeys.{InitialHasher, keys_code}
+use Rattle.walrus_id.specs.HashKeys.{InitialHasher, keys_code}
 
 -- the slots, the entries of the map, whose order means nothing (`mapped_id` reads them), and the
 -- keys of the map's hash

@@ -1,7 +1,7 @@
 //! A set of values in an arena: a value is found again by an equal one.
 ghost use Rattle.std.specs.Prelude.{◌≡◌, ◌∷◌, ◌++◌, [], length, IsTrue, ◌↔◌, IfOk, OnOk, OnErr, IsOk, IsSome, Some, None, MatchOption, ◌<◌, All, map, nat_eq, true};
 ghost use Rattle.walrus_arena.specs.Arena.{get, IsLive, items, range};
-ghost use Rattle.walrus_arena.specs.HashKeys.{fixed_hasher};
+ghost use Rattle.walrus_id.specs.HashKeys.{fixed_hasher};
 ghost use Rattle.walrus_arena.specs.Set.{found_id, holds, Adds, Registers, Removes, IsSame, ClonesAreEqual, RemovesAll};
 ghost use Rattle.std.specs.Borrow.{sem};
 ghost use Rattle.std.specs.List.{IsDistinct};

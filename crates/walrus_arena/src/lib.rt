@@ -36,16 +36,13 @@
 #![tactic(auto)]
 
 mod arena_set;
-mod hash_keys;
-mod id;
 mod iter;
 pub mod laws;
 mod map;
 mod tombstone_arena;
 
 pub use arena_set::ArenaSet;
-pub use hash_keys::HashKeys;
-pub use id::{Id, Key};
 pub use iter::Iter;
 pub use map::{IdHashMap, IdHashSet};
-pub use tombstone_arena::{Tombstone, TombstoneArena};
+pub use tombstone_arena::TombstoneArena;
+pub use walrus_id::{HashKeys, Id, Key, Tombstone};

@@ -5,18 +5,10 @@ ghost use Rattle.std.specs.List.{IsDistinct};
 ghost use Rattle.std.specs.Borrow.{Lends, sem};
 ghost use Rattle.walrus_arena.specs.Arena.{get, IsLive, live_count, without, without_all, range, items, ids};
 
-use crate::{Id, Iter};
+use crate::{Id, Iter, Tombstone};
 use std::alloc::{AllocError, Allocator, Global};
 use std::marker::Model;
 use std::ops::{Index, IndexMut};
-
-/// What happens to an item when it is deleted.
-pub trait Tombstone {
-    /// Frees what the item holds, such as memory. It runs once for a deletion, when the slot is
-    /// dead already. The item must stay valid, since it is dropped with its arena. No call shows it
-    /// any more.
-    fn on_delete(&mut self) {}
-}
 
 /// Items named by ids. A deleted item leaves a dead slot, so that no id is given out twice.
 ///

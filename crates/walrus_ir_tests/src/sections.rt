@@ -1,7 +1,8 @@
 //! Small sections judged.
 use crate::assertions::assert_equal;
 use std::alloc::{AllocError, Global};
-use walrus_sections::{ReadError, first_error, is_normal_form};
+use walrus_normal_form_check::is_normal_form;
+use walrus_sections::{ReadError, first_error};
 use walrus_ty::{CompAt, EntryAt, FieldAt, GroupAt, HeapAt, Listed, RefAt, StorageAt, ValAt};
 
 fn entry(comp: CompAt) -> EntryAt {

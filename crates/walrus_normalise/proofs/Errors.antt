@@ -1,75 +1,120 @@
--- What an error of a step says after it became an error of the whole.
-use Rattle.std.proofs.Common.{◌≡◌, ℕ, List, Result, Ok, Err, refl, sym, ap, subst}
+-- What an error of a step says after it became a refusal of the whole, and what the error of the
+-- whole says.
+use Rattle.std.proofs.Common.{◌≡◌, ℕ, List, Result, Ok, Err, inr, refl, sym, subst}
 use Rattle.std.specs.Prelude.{IfErr, IsErrAnd, IsErrOf}
 use Rattle.walrus_binary.specs.declared.error.EncodeError.{EncodeError}
 use Rattle.walrus_binary.specs.declared.error.EncodeError.TheVariants as encode
+use Rattle.walrus_binary.specs.ModuleSections.{HasTypes}
+use Rattle.walrus_module.specs.NamedTypes.{NamesOutside}
+use Rattle.walrus_module.specs.declared.faults.FaultKind.{FaultKind}
+use Rattle.walrus_module.specs.declared.faults.FaultKind.TheVariants as fault
 use Rattle.walrus_module.specs.declared.renaming.RenameError.{RenameError}
 use Rattle.walrus_module.specs.declared.renaming.RenameError.TheVariants as rename
+use Rattle.walrus_sections.specs.FirstError.{IsFirstError}
+use Rattle.walrus_sections.specs.declared.error.ReadError.{ReadError}
+use Rattle.walrus_sections.specs.declared.error.ReadError.TheVariants as read
+use Rattle.walrus_ty.specs.Records.{section_of}
+use Rattle.walrus_ty.specs.declared.records.GroupAt.{GroupAt}
+use Rattle.walrus_unused.specs.UsedSections.{IsRefusal as IsUsedRefusal}
+use Rattle.walrus_unused.specs.declared.error.NormaliseUsedError.{NormaliseUsedError}
+use Rattle.walrus_unused.specs.declared.error.NormaliseUsedError.TheVariants as used
+use Rattle.walrus_normalise.specs.NormalModules.{HasFirstFault, IsStoppedByFault, unread, BecomesTooLong}
+use Rattle.walrus_normalise.specs.Steps.Errors.{encode_refusal, fault_failure, read_failure, rename_refusal, used_refusal}
+use Rattle.walrus_normalise.specs.Steps.Faults.{IsFirstFaultBy}
+use Rattle.walrus_normalise.specs.Steps.NormalModules.{IsRefusal}
+use Rattle.walrus_normalise.specs.Steps.NormalTypes.{IsSectionError, IsTypesRefusal}
 use Rattle.walrus_normalise.specs.declared.error.NormaliseModuleError.{NormaliseModuleError}
 use Rattle.walrus_normalise.specs.declared.error.NormaliseModuleError.TheVariants as error
-use Rattle.walrus_module.specs.RenamedModules.{CanNotBeRenamed}
-use Rattle.walrus_normalise.specs.NormalModules.{HasUnknownName}
-use Rattle.walrus_normalise.specs.Steps.Errors.{encode_failure, rename_failure}
-use Rattle.walrus_normalise.specs.Steps.NormalTypes.{IsFault}
+use Rattle.walrus_normalise.specs.declared.options.NormaliseOptions.{NormaliseOptions}
+use Rattle.walrus_normalise.specs.declared.options.UnusedTypes.TheVariants as kinds
+use Rattle.walrus_normalise.specs.declared.refusal.Refusal.{Refusal}
+use Rattle.walrus_normalise.specs.declared.refusal.Refusal.TheVariants as refusal
 
--- a text too long to be written is one of too many items
-pub encode_too_long :
-    {A B P : Type 0} (result : Result B NormaliseModuleError) (e : EncodeError)
-    → IsErrAnd result (λ x. x ≡ encode_failure e) → (IsErrOf {T = A} (Err e) encode.TooMany → P)
-    → IsErrOf result error.TooLong → P
-encode_too_long (Ok new) e is says h = absurd is
-encode_too_long (Err x) encode.TooMany is says h = says refl
-encode_too_long (Err x) encode.Memory is says h = absurd cc
+-- ---- the types of a module
 
-pub offset_is :
-    {A : Type 0} (offset k : ℕ)
-    → IsErrOf {T = A} (Err (error.Outdated offset)) (error.Outdated k) → offset ≡ k
-offset_is offset k e = cc
+section_error : (options : NormaliseOptions) (bytes : List ℕ) (e : NormaliseModuleError) →
+    IsSectionError bytes e → IsRefusal options bytes (refusal.Other e)
+section_error options bytes (error.Types e) h = h
+section_error options bytes (error.BadIndex entry index end) h = h
+section_error options bytes error.TooMany h = h
+section_error options bytes (error.Malformed place) h = h
+section_error options bytes (error.UnknownType index count place) h = h
+section_error options bytes error.TooLong h = absurd h
+section_error options bytes (error.Outdated offset) h = absurd h
+section_error options bytes error.Memory h = tt
 
-pub rename_malformed :
-    {A B P : Type 0} (result : Result B NormaliseModuleError) (e : RenameError)
-    → IsErrAnd result (λ x. x ≡ rename_failure e) → (IsErrOf {T = A} (Err e) rename.Malformed → P)
-    → IsErrOf result error.Malformed → P
-rename_malformed (Ok new) e is says h = absurd is
-rename_malformed (Err x) rename.Malformed is says h = says refl
-rename_malformed (Err x) (rename.UnknownType index) is says h = absurd cc
-rename_malformed (Err x) rename.TooLong is says h = absurd cc
-rename_malformed (Err x) rename.Memory is says h = absurd cc
+pub types_refused : (options : NormaliseOptions) (bytes : List ℕ) (x : Refusal) →
+    IsTypesRefusal options.unused bytes x → IsRefusal options bytes x
+types_refused options bytes refusal.Fault h = unread h.0 h.1
+types_refused options bytes (refusal.Other e) h = section_error options bytes e h
 
-pub rename_unknown :
-    {A B : Type 0} (P : ℕ → Type 0) (result : Result B NormaliseModuleError) (e : RenameError)
-    → IsErrAnd result (λ x. x ≡ rename_failure e)
-    → ((k : ℕ) → IsErrOf {T = A} (Err e) (rename.UnknownType k) → P k) → (k : ℕ)
-    → IsErrOf result (error.UnknownType k) → P k
-rename_unknown P (Ok new) e is says k h = absurd is
-rename_unknown P (Err x) rename.Malformed is says k h = absurd cc
-rename_unknown P (Err x) (rename.UnknownType index) is says k h =
-    let known : index ≡ k = cc in
-    says k (ap (λ j. Err (rename.UnknownType j)) known)
-rename_unknown P (Err x) rename.TooLong is says k h = absurd cc
-rename_unknown P (Err x) rename.Memory is says k h = absurd cc
+section_first : (bytes : List ℕ) (groups : List GroupAt) (e : ReadError) → HasTypes bytes groups →
+    IsFirstError (section_of groups) e → IsSectionError bytes (read_failure e)
+section_first bytes groups (read.BadIndex entry index end) types first =
+    record { groups = groups; read = types; first = first }
+section_first bytes groups read.TooMany types first = record { groups = groups; read = types; first = first }
+section_first bytes groups read.Memory types first = tt
 
-pub rename_too_long :
-    {A B P : Type 0} (result : Result B NormaliseModuleError) (e : RenameError)
-    → IsErrAnd result (λ x. x ≡ rename_failure e) → (IsErrOf {T = A} (Err e) rename.TooLong → P)
-    → IsErrOf result error.TooLong → P
-rename_too_long (Ok new) e is says h = absurd is
-rename_too_long (Err x) rename.Malformed is says h = absurd cc
-rename_too_long (Err x) (rename.UnknownType index) is says h = absurd cc
-rename_too_long (Err x) rename.TooLong is says h = says refl
-rename_too_long (Err x) rename.Memory is says h = absurd cc
+used_is : (bytes : List ℕ) (groups : List GroupAt) (roots : List ℕ) (e : NormaliseUsedError) →
+    HasTypes bytes groups → NamesOutside bytes roots → IsUsedRefusal (section_of groups) roots e →
+    IsTypesRefusal kinds.Deleted bytes (used_refusal e)
+used_is bytes groups roots (used.Section e) types named h = section_first bytes groups e types h
+used_is bytes groups roots (used.UnknownRoot index) types named h = (
+  refl,
+  inr (record { groups = groups; roots = roots; read = types; named = named; index = index; unknown = h.1 }),
+)
+used_is bytes groups roots used.Memory types named h = tt
 
--- ---- the first fault of a module whose types are kept
+pub used_refused :
+    {B : Type 0} (bytes : List ℕ) (groups lent : List GroupAt) (roots lent_roots : List ℕ)
+    (result : Result B Refusal) (e : NormaliseUsedError)
+    → IsErrAnd result (λ x. x ≡ used_refusal e) → HasTypes bytes groups → lent ≡ groups
+    → NamesOutside bytes roots → lent_roots ≡ roots → IsUsedRefusal (section_of lent) lent_roots e
+    → IfErr result (IsTypesRefusal kinds.Deleted bytes)
+used_refused bytes groups lent roots lent_roots (Ok new) e is types same named also h = absurd is
+used_refused bytes groups lent roots lent_roots (Err x) e is types same named also h =
+    subst (λ y. IsTypesRefusal kinds.Deleted bytes y) (sym is)
+    (used_is bytes lent lent_roots e (subst (λ (u : List GroupAt). HasTypes bytes u) (sym same) types)
+    (subst (λ (u : List ℕ). NamesOutside bytes u) (sym also) named) h)
 
-pub rename_fault :
-    {A B : Type 0} (bytes : List ℕ) (result : Result B NormaliseModuleError) (e : RenameError)
-    → IsErrAnd result (λ x. x ≡ rename_failure e)
-    → (IsErrOf {T = A} (Err e) rename.Malformed → CanNotBeRenamed bytes)
-    → ((k : ℕ) → IsErrOf {T = A} (Err e) (rename.UnknownType k) → HasUnknownName k bytes)
-    → IfErr result (IsFault bytes)
-rename_fault bytes (Ok new) e is h g = absurd is
-rename_fault bytes (Err x) rename.Malformed is h g = subst (λ y. IsFault bytes y) (sym is) (h refl)
-rename_fault bytes (Err x) (rename.UnknownType index) is h g =
-    subst (λ y. IsFault bytes y) (sym is) (g index refl)
-rename_fault bytes (Err x) rename.TooLong is h g = subst (λ y. IsFault bytes y) (sym is) tt
-rename_fault bytes (Err x) rename.Memory is h g = subst (λ y. IsFault bytes y) (sym is) tt
+-- ---- the text of a type section, and modules that are written again
+
+pub encode_refused :
+    {A B : Type 0} (options : NormaliseOptions) (bytes : List ℕ) (result : Result B Refusal) (e : EncodeError)
+    → IsErrAnd result (λ x. x ≡ encode_refusal e)
+    → (IsErrOf {T = A} (Err e) encode.TooMany → BecomesTooLong options bytes)
+    → IfErr result (IsRefusal options bytes)
+encode_refused options bytes (Ok new) e is long = absurd is
+encode_refused options bytes (Err x) encode.TooMany is long =
+    subst (λ y. IsRefusal options bytes y) (sym is) (long refl)
+encode_refused options bytes (Err x) encode.Memory is long = subst (λ y. IsRefusal options bytes y) (sym is) tt
+
+pub rename_refused :
+    {A B : Type 0} (options : NormaliseOptions) (bytes : List ℕ) (result : Result B Refusal) (e : RenameError)
+    → IsErrAnd result (λ x. x ≡ rename_refusal e)
+    → (IsErrOf {T = A} (Err e) rename.Malformed → IsStoppedByFault options bytes)
+    → ((k : ℕ) → IsErrOf {T = A} (Err e) (rename.UnknownType k) → IsStoppedByFault options bytes)
+    → (IsErrOf {T = A} (Err e) rename.TooLong → BecomesTooLong options bytes)
+    → IfErr result (IsRefusal options bytes)
+rename_refused options bytes (Ok new) e is malformed unknown long = absurd is
+rename_refused options bytes (Err x) rename.Malformed is malformed unknown long =
+    subst (λ y. IsRefusal options bytes y) (sym is) (malformed refl)
+rename_refused options bytes (Err x) (rename.UnknownType index) is malformed unknown long =
+    subst (λ y. IsRefusal options bytes y) (sym is) (unknown index refl)
+rename_refused options bytes (Err x) rename.TooLong is malformed unknown long =
+    subst (λ y. IsRefusal options bytes y) (sym is) (long refl)
+rename_refused options bytes (Err x) rename.Memory is malformed unknown long =
+    subst (λ y. IsRefusal options bytes y) (sym is) tt
+
+-- ---- the error of a module
+
+pub fault_says : (bytes : List ℕ) (what : FaultKind) (place : ℕ) → HasFirstFault bytes what place →
+    IsFirstFaultBy bytes (fault_failure what place)
+fault_says bytes fault.Malformed place h = h
+fault_says bytes (fault.UnknownType index count) place h = h
+
+-- what is said of an error holds of the variant that it is
+pub error_says :
+    {A : Type 0} (P : NormaliseModuleError → Type 0) (x y : NormaliseModuleError) → P x
+    → IsErrOf {T = A} (Err x) y → P y
+error_says P x y h is = let same : x ≡ y = cc in subst P same h

@@ -5,5 +5,6 @@ pub mod OneNaming
 pub mod OneNormalModule
 pub mod ResultTypes
 pub mod SecondNormal
+pub mod FaultyModules
 pub mod MovedUsed
 pub mod MovedModules

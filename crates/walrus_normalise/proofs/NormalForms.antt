@@ -89,15 +89,13 @@ is_normalised options bytes types new_indices left new has is_left renamed = rec
 }
 
 pub becomes_outdated :
-    (options : NormaliseOptions) (bytes new lent : List ℕ) (offset k : ℕ)
+    (options : NormaliseOptions) (bytes new lent : List ℕ) (offset : ℕ)
     → IsNormalised options bytes new → options.descriptions ≡ descriptions.Kept → lent ≡ new
-    → (lent ≡ bytes → ⊥) → HasOutdatedAt bytes lent offset → offset ≡ k → BecomesOutdated options k bytes
-becomes_outdated options bytes new lent offset k normal are_kept same differs has is = record {
+    → (lent ≡ bytes → ⊥) → HasOutdatedAt bytes lent offset → BecomesOutdated options offset bytes
+becomes_outdated options bytes new lent offset normal are_kept same differs has = record {
   new = new;
   is_normalised = normal;
   are_kept = are_kept;
   differs = λ e. differs (same ∙ e);
-  has =
-      subst (λ j. HasOutdatedAt bytes new j) is
-      (subst (λ (u : List ℕ). HasOutdatedAt bytes u offset) same has);
+  has = subst (λ (u : List ℕ). HasOutdatedAt bytes u offset) same has;
 }

@@ -7,10 +7,11 @@ use Rattle.walrus_binary.specs.Grammar.{IsTypes}
 use Rattle.walrus_binary.specs.ModuleSections.{HasTypes}
 use Rattle.walrus_module.specs.Customs.{IsStripped}
 use Rattle.walrus_module.specs.Outdated.{AllFit, HasOutdatedAt}
+use Rattle.walrus_module.specs.ModuleFaults.{IsModuleFault}
 use Rattle.walrus_module.specs.NamedTypes.{NamesOutside}
 use Rattle.walrus_module.specs.Renaming.{NewIndices}
 use Rattle.walrus_module.specs.RenamedModules.{RenamesModule, CanNotBeRenamed, ModuleNamesUnknown, ModuleBecomesTooLong}
-use Rattle.walrus_module.specs.declared.renaming.Widths.TheVariants as widths
+use Rattle.walrus_module.specs.declared.faults.FaultKind.{FaultKind}
 use Rattle.walrus_sections.specs.FirstError.{IsFirstError}
 use Rattle.walrus_sections.specs.NormalForm.{IsNormalForm}
 use Rattle.walrus_sections.specs.Section.{IsWellNamed, index_space}
@@ -81,54 +82,45 @@ pub record HasFirstError (bytes : List ℕ) (e : ReadError) : Type 0 where
   pub read : HasTypes bytes groups
   pub first : IsFirstError (section_of groups) e
 
+-- From left to right, this is the first fault of the module outside its type section, at this
+-- place. The module has as many types as its type section has entries.
+pub record HasFirstFault (bytes : List ℕ) (what : FaultKind) (place : ℕ) : Type 0 where
+  pub groups : List GroupAt
+  pub read : HasTypes bytes groups
+  pub fault : IsModuleFault (index_space (section_of groups)).count bytes what place
+
 -- no types are the ones that the module names, since a section is malformed
 abbrev pub NamesNoTypes : List ℕ → Type 0
 NamesNoTypes bytes = (names : List ℕ) → NamesOutside bytes names → ⊥
 
--- A section is malformed. Where it is found, no types are the ones that the module names, or it
--- becomes no other module.
-abbrev pub HasMalformedSection : List ℕ → Type 0
-HasMalformedSection bytes = NamesNoTypes bytes ⊎ CanNotBeRenamed bytes
-
--- of the types that the module names outside its type section, k is the first that it does not have
-pub record HasUnknownRoot (k : ℕ) (bytes : List ℕ) : Type 0 where
+-- of the types that the module names outside its type section, one is the first that it does not
+-- have
+pub record HasUnknownRoot (bytes : List ℕ) : Type 0 where
   pub groups : List GroupAt
   pub roots : List ℕ
   pub read : HasTypes bytes groups
   pub named : NamesOutside bytes roots
-  pub unknown : first_unknown (index_space (section_of groups)).count roots ≡ Some k
+  pub index : ℕ
+  pub unknown : first_unknown (index_space (section_of groups)).count roots ≡ Some index
 
--- with all types in normal form, it names type k, which has no new index, outside its type section
-pub record HasUnknownName (k : ℕ) (bytes : List ℕ) : Type 0 where
-  pub types : List ℕ
-  pub new_indices : NewIndices
-  pub has : HasNormalTypes kinds.Kept bytes types new_indices
-  pub unknown : ModuleNamesUnknown types new_indices widths.Shortest k bytes
+-- no roots say which types are used
+abbrev pub HasNoKnownRoots : List ℕ → Type 0
+HasNoKnownRoots bytes = NamesNoTypes bytes ⊎ HasUnknownRoot bytes
 
-abbrev pub HasUnknownType : ℕ → List ℕ → Type 0
-HasUnknownType k bytes = HasUnknownRoot k bytes ⊎ HasUnknownName k bytes
-
--- A section is malformed: it is found where unused types are deleted, or in what is left of the
--- module.
-pub data LeavesMalformed (options : NormaliseOptions) (bytes : List ℕ) : Type 0 where
+-- A section other than the type section is malformed, or it names a type that has no new index.
+-- This is found where unused types are deleted, or in what is left of the module.
+pub data IsStoppedByFault (options : NormaliseOptions) (bytes : List ℕ) : Type 0 where
   unread :
-      options.unused ≡ kinds.Deleted → HasMalformedSection bytes → LeavesMalformed options bytes
-  unwritten :
+      options.unused ≡ kinds.Deleted → HasNoKnownRoots bytes → IsStoppedByFault options bytes
+  malformed :
       (left : List ℕ) → IsLeft options.descriptions bytes left → CanNotBeRenamed left
-      → LeavesMalformed options bytes
-
--- It names type k, which has no new index, outside its type section: this is found where unused
--- types are deleted, or in what is left of the module.
-pub data NamesUnknownType (options : NormaliseOptions) (k : ℕ) (bytes : List ℕ) : Type 0 where
-  unread :
-      options.unused ≡ kinds.Deleted → HasUnknownType k bytes
-      → NamesUnknownType options k bytes
-  unwritten :
-      (types left : List ℕ) (new_indices : NewIndices)
+      → IsStoppedByFault options bytes
+  unknown :
+      (types left : List ℕ) (new_indices : NewIndices) (k : ℕ)
       → HasNormalTypes options.unused bytes types new_indices
       → IsLeft options.descriptions bytes left
       → ModuleNamesUnknown types new_indices options.widths k left
-      → NamesUnknownType options k bytes
+      → IsStoppedByFault options bytes
 
 -- Its normal form has no text, since a list in it is too long to be counted; or a section or a
 -- function body becomes too long.

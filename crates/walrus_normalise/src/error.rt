@@ -1,14 +1,15 @@
-//! Why a module was not normalised.
+//! Why a module was not normalised, with the place.
 ghost use Rattle.std.specs.Prelude.{◌≡◌};
-ghost use Rattle.walrus_normalise.specs.Steps.Errors.{encode_failure, read_failure, rename_failure, scan_failure, types_failure, used_failure};
+ghost use Rattle.walrus_normalise.specs.Steps.Errors.{encode_failure, fault_failure, read_failure, types_failure};
 ghost use Rattle.walrus_normalise.specs.declared.error.NormaliseModuleError.TheVariants as failure;
 
 use std::alloc::AllocError;
+use std::fmt;
+use std::fmt::{Display, Formatter};
 use thiserror::Error;
 use walrus_binary::{DecodeError, EncodeError};
-use walrus_module::{RenameError, ScanError};
+use walrus_module::{Fault, FaultKind};
 use walrus_types::ReadError;
-use walrus_unused::NormaliseUsedError;
 
 /// Why a module was not normalised.
 #[derive(Clone, Copy, PartialEq, Eq, Debug, Error)]
@@ -30,14 +31,23 @@ pub enum NormaliseModuleError {
     /// The type section has 2^32 entries or more, so that no `u32` counts them.
     #[error("too many entries")]
     TooMany,
-    /// A section other than the type section is malformed.
-    #[error("a section is malformed")]
-    Malformed,
+    /// A section other than the type section is malformed. Nothing is wrong before it.
+    #[error("byte {offset}: malformed")]
+    Malformed {
+        /// The place of the byte with which no module goes on, counted from 0.
+        /// [`find_module_fault`](walrus_module::find_module_fault) says which byte that is.
+        offset: usize,
+    },
     /// A section other than the type section names a type that the type section does not have.
-    #[error("no type {index} in the type section")]
+    /// Nothing is wrong before it.
+    #[error("byte {offset}: no type {index}: the module has {types}", types = TypeCount(*.count))]
     UnknownType {
         /// The index of the type.
         index: u32,
+        /// How many types the module has.
+        count: u32,
+        /// The place of the first byte of the index, counted from 0.
+        offset: usize,
     },
     /// A function body or a section gets 2^32 bytes or more, so that no size counts them.
     #[error("a function body or a section would be too long")]
@@ -52,6 +62,19 @@ pub enum NormaliseModuleError {
     /// Memory was refused.
     #[error("out of memory")]
     Memory,
+}
+
+/// A number of types, in words.
+#[derive(Clone, Copy)]
+struct TypeCount(u32);
+
+impl Display for TypeCount {
+    fn fmt<W: fmt::Write>(&self, f: &mut Formatter<W>) -> fmt::Result {
+        match self.0 {
+            1 => write!(f, "1 type"),
+            count => write!(f, "{count} types"),
+        }
+    }
 }
 
 impl From<DecodeError> for NormaliseModuleError {
@@ -79,6 +102,22 @@ impl From<ReadError> for NormaliseModuleError {
     }
 }
 
+impl From<Fault> for NormaliseModuleError {
+    ghost from_gives = { λ f new. new ≡ fault_failure f.kind f.offset };
+
+    fn from(fault: Fault) -> NormaliseModuleError {
+        let offset = fault.offset;
+        match fault.kind {
+            FaultKind::Malformed => NormaliseModuleError::Malformed { offset },
+            FaultKind::UnknownType { index, count } => NormaliseModuleError::UnknownType {
+                index,
+                count,
+                offset,
+            },
+        }
+    }
+}
+
 impl From<EncodeError> for NormaliseModuleError {
     ghost from_gives = { λ e new. new ≡ encode_failure e };
 
@@ -90,48 +129,10 @@ impl From<EncodeError> for NormaliseModuleError {
     }
 }
 
-impl From<NormaliseUsedError> for NormaliseModuleError {
-    ghost from_gives = { λ e new. new ≡ used_failure e };
-
-    fn from(error: NormaliseUsedError) -> NormaliseModuleError {
-        match error {
-            NormaliseUsedError::Section(error) => NormaliseModuleError::from(error),
-            NormaliseUsedError::UnknownRoot { index } => NormaliseModuleError::UnknownType {
-                index,
-            },
-            NormaliseUsedError::Memory => NormaliseModuleError::Memory,
-        }
-    }
-}
-
-impl From<ScanError> for NormaliseModuleError {
-    ghost from_gives = { λ e new. new ≡ scan_failure e };
-
-    fn from(error: ScanError) -> NormaliseModuleError {
-        match error {
-            ScanError::Malformed => NormaliseModuleError::Malformed,
-            ScanError::Memory => NormaliseModuleError::Memory,
-        }
-    }
-}
-
 impl From<AllocError> for NormaliseModuleError {
     ghost from_gives = { λ _ e. e ≡ failure.Memory };
 
     fn from(_: AllocError) -> NormaliseModuleError {
         NormaliseModuleError::Memory
-    }
-}
-
-impl From<RenameError> for NormaliseModuleError {
-    ghost from_gives = { λ e new. new ≡ rename_failure e };
-
-    fn from(error: RenameError) -> NormaliseModuleError {
-        match error {
-            RenameError::Malformed => NormaliseModuleError::Malformed,
-            RenameError::UnknownType { index } => NormaliseModuleError::UnknownType { index },
-            RenameError::TooLong => NormaliseModuleError::TooLong,
-            RenameError::Memory => NormaliseModuleError::Memory,
-        }
     }
 }

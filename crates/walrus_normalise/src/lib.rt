@@ -14,10 +14,10 @@
 //! # Which section no longer fits
 //!
 //! [`NormaliseModuleError::Outdated`] has the place of the section, at which
-//! [`custom_section_name`](walrus_binary::custom_section_name) finds its name. For the place of an
-//! error of the type section, [`section_around`](walrus_binary::section_around) finds the section.
-//! The other errors have no place: [`find_module_fault`](walrus_module::find_module_fault) finds
-//! it.
+//! [`custom_section_name`](walrus_binary::custom_section_name) finds its name. For the place that
+//! another error has, [`section_around`](walrus_binary::section_around) finds the section. Where a
+//! section other than the type section is at fault, the place is the one that
+//! [`find_module_fault`](walrus_module::find_module_fault) finds.
 //!
 //! ```
 //! fn outdated_name(bytes: &[u8], error: NormaliseModuleError) -> Option<&[u8]> {
@@ -30,10 +30,12 @@
 #![tactic(auto)]
 
 mod error;
+mod faults;
 pub mod laws;
 mod normal_module;
 mod normal_types;
 mod options;
+mod refusal;
 
 pub use error::NormaliseModuleError;
 pub use normal_module::normalise_module;

@@ -1,16 +1,20 @@
 //! A module with its type section in normal form.
 //!
 //! WebAssembly core specification, "Binary Format", modules.
-ghost use Rattle.std.specs.Prelude.{◌≡◌, ℕ, List, IfOk, IfNone, IfSome, IsErrOf};
+ghost use Rattle.std.specs.Prelude.{◌≡◌, ℕ, List, IfOk, IfErr, IfNone, IfSome, IsErrOf};
 ghost use Rattle.walrus_binary.specs.ModuleSections.{HasBadTypesBy};
 ghost use Rattle.walrus_binary.specs.declared.error.DecodeError.{DecodeError};
 ghost use Rattle.walrus_module.specs.Outdated.{IsWrittenAgain, HasOutdatedAt};
-ghost use Rattle.walrus_normalise.specs.NormalModules.{IsNormalised, HasFirstError, LeavesMalformed, NamesUnknownType, BecomesTooLong, DescriptionsFit, BecomesOutdated};
+ghost use Rattle.walrus_module.specs.declared.faults.FaultKind.TheVariants as fault;
+ghost use Rattle.walrus_normalise.specs.NormalModules.{IsNormalised, HasFirstError, HasFirstFault, IsStoppedByFault, BecomesTooLong, DescriptionsFit, BecomesOutdated};
+ghost use Rattle.walrus_normalise.specs.Steps.NormalModules.{IsRefusal};
 ghost use Rattle.walrus_normalise.specs.declared.error.NormaliseModuleError.TheVariants.{Types, BadIndex, TooMany, Malformed, UnknownType, TooLong, Outdated};
 ghost use Rattle.walrus_normalise.specs.declared.options.Descriptions.TheVariants as descriptions;
 ghost use Rattle.walrus_sections.specs.declared.error.ReadError.TheVariants as read;
 
+use crate::faults::error_of_fault;
 use crate::normal_types::normal_types;
+use crate::refusal::Refusal;
 use crate::{Descriptions, HashKeys, NormaliseModuleError, NormaliseOptions};
 use std::alloc::{AllocError, Global};
 use walrus_binary::encode_types;
@@ -55,9 +59,10 @@ use walrus_module::{find_outdated, rename_module, strip_descriptions};
 /// - [`NormaliseModuleError::BadIndex`] and [`NormaliseModuleError::TooMany`] come where
 ///   [`normalise`](walrus_types::normalise) refuses the type section.
 /// - [`NormaliseModuleError::Malformed`] comes where another section that can name types is
-///   malformed.
+///   malformed. The error says at which byte.
 /// - [`NormaliseModuleError::UnknownType`] comes where another section names a type that the type
-///   section does not have.
+///   section does not have. The error says at which byte, and how many types there are. Of this
+///   error and the one before, the first from left to right comes.
 /// - [`NormaliseModuleError::TooLong`] comes where a function body or a section would get 2^32
 ///   bytes or more.
 /// - [`NormaliseModuleError::Outdated`] comes where the module has a custom section that describes
@@ -101,16 +106,42 @@ pub fn normalise_module(
         HasFirstError bytes.now (read.BadIndex entry index end) }
     // or that there are too many entries.
     ensures too_many { IsErrOf result TooMany → HasFirstError bytes.now read.TooMany }
-    // What is refused as malformed has a section that is so.
-    ensures malformed { IsErrOf result Malformed → LeavesMalformed options bytes.now }
-    // What is refused for a type names one that its type section does not have.
-    ensures unknown { (k : ℕ) → IsErrOf result (UnknownType k) →
-        NamesUnknownType options k bytes.now }
+    // What is refused as malformed is so there, and nothing is wrong before.
+    ensures malformed { (place : ℕ) → IsErrOf result (Malformed place) →
+        HasFirstFault bytes.now fault.Malformed place }
+    // What is refused for a type names it there, and nothing is wrong before. The module has as
+    // many types as the error says, and not this one.
+    ensures unknown { (k count place : ℕ) → IsErrOf result (UnknownType k count place) →
+        HasFirstFault bytes.now (fault.UnknownType k count) place }
+    // In both cases a section is malformed, or a type has no new index, in what is to be written.
+    ensures stopped_malformed { (place : ℕ) → IsErrOf result (Malformed place) →
+        IsStoppedByFault options bytes.now }
+    ensures stopped_unknown { (k count place : ℕ) → IsErrOf result (UnknownType k count place) →
+        IsStoppedByFault options bytes.now }
     // What is refused as too long becomes so.
     ensures too_long { IsErrOf result TooLong → BecomesTooLong options bytes.now }
     // What is refused for a section has it there, as the first that no longer fits.
     ensures outdated { (k : ℕ) → IsErrOf result (Outdated k) →
         BecomesOutdated options k bytes.now }
+{
+    match new_module(alloc, keys, bytes, options) {
+        Ok(new) => Ok(new),
+        Err(Refusal::Fault) => Err(error_of_fault(alloc, keys, bytes)),
+        Err(Refusal::Other(error)) => Err(error),
+    }
+}
+
+/// The same. Where another section than that of types is wrong, the place is not known yet.
+fn new_module(
+    alloc: Global,
+    keys: HashKeys,
+    bytes: &[u8],
+    options: NormaliseOptions,
+) -> Result<Vec<u8>, Refusal>
+    ensures normal { IfOk result (λ new. IsNormalised options bytes.now new.items) }
+    ensures fits { options.descriptions ≡ descriptions.Kept →
+        IfOk result (λ new. DescriptionsFit bytes.now new.items) }
+    ensures refused { IfErr result (IsRefusal options bytes.now) }
 {
     let (normal, new_indices) = normal_types(alloc, keys, bytes, options.unused)?;
     let types = encode_types(alloc, normal.as_slice())?;
@@ -118,14 +149,14 @@ pub fn normalise_module(
         Descriptions::Kept => {
             let new = rename_module(alloc, bytes, &types, &new_indices, options.widths)?;
             match outdated_section(alloc, bytes, new.as_slice())? {
-                Some(offset) => Err(NormaliseModuleError::Outdated { offset }),
+                Some(offset) => Err(Refusal::Other(NormaliseModuleError::Outdated { offset })),
                 None => Ok(new),
             }
         }
         Descriptions::Stripped => {
             // The bytes are a module, since they have a list of types. So only memory was refused.
             let Ok(left) = strip_descriptions(alloc, bytes) else {
-                return Err(NormaliseModuleError::Memory);
+                return Err(Refusal::Other(NormaliseModuleError::Memory));
             };
             let stripped = rename_module(alloc, &left, &types, &new_indices, options.widths)?;
             Ok(stripped)

@@ -6,4 +6,8 @@
 #![tactic(auto)]
 
 #[cfg(test)]
+mod places;
+#[cfg(test)]
+mod refusals;
+#[cfg(test)]
 mod tests;

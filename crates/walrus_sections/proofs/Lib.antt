@@ -1,4 +1,3 @@
-pub mod Verifying
 pub mod Sections
 pub mod NormalForms
 pub mod Emission

@@ -1,4 +1,5 @@
--- The normal form: there is one, and its own normal form is itself.
+-- The normal form: there is one, and its own normal form is itself. And three sections whose normal
+-- forms are known.
 pub mod Kept
 pub mod Agree
 pub mod Images
@@ -7,3 +8,4 @@ pub mod SameMap
 pub mod Fewer
 pub mod Again
 pub mod Twice
+pub mod WorkedSections

@@ -16,7 +16,6 @@ pub mod NormalForm
 pub mod Moves
 pub mod Emission
 pub mod Refusal
-pub mod Steps
 pub mod Examples
 pub mod FirstError
 pub mod SlotMap

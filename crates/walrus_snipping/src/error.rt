@@ -20,7 +20,7 @@ pub enum SnipError {
         index: u32,
     },
     /// There is no function of an index.
-    #[error("no function {index}: there are {count}")]
+    #[error("no function {index}: the number of functions is {count}")]
     UnknownFunction {
         /// The index.
         index: u32,

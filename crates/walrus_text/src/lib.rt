@@ -43,6 +43,7 @@
 #![tactic(auto)]
 
 mod error;
+mod kept_error;
 pub mod laws;
 mod line_reader;
 mod numbers;

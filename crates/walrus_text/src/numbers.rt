@@ -1,7 +1,8 @@
 //! Numbers below 2^32 as text.
-ghost use Rattle.std.specs.Prelude.{◌≡◌, ◌∷◌, ◌<◌, ◌≤◌, drop, decimal, OnOk};
+ghost use Rattle.std.specs.Prelude.{◌≡◌, ◌∷◌, ◌<◌, ◌≤◌, drop, decimal, OnOk, OnErr, IsSome};
 ghost use Rattle.std.specs.Io.KnownBytes.{Appends};
 
+use crate::kept_error::{Failed, write_bytes};
 use std::io;
 use std::io::Write;
 
@@ -9,23 +10,33 @@ use std::io::Write;
 const ROOM: usize = 11;
 
 /// Writes the number in decimal digits.
-pub fn write_number<W: Write>(out: &mut W, number: u32) -> io::Result<()>
-    ensures { OnOk result (Appends (W.contents out.old) (W.contents out.new) (decimal number)) }
+pub fn write_number<W: Write>(
+    out: &mut W,
+    number: u32,
+    error: &mut Option<io::Error>,
+) -> Result<(), Failed>
+    ensures ok { OnOk result (Appends (W.contents out.old) (W.contents out.new) (decimal number)) }
+    ensures err { OnErr result (IsSome error.new) }
 {
     let mut bytes = [0u8; ROOM];
     let first = put_digits(number, &mut bytes);
-    out.write_all(&bytes[first..])
+    write_bytes(out, &bytes[first..], error)
 }
 
 /// Writes a space and the number in decimal digits.
-pub fn write_spaced_number<W: Write>(out: &mut W, number: u32) -> io::Result<()>
-    ensures { OnOk result (Appends (W.contents out.old) (W.contents out.new)
+pub fn write_spaced_number<W: Write>(
+    out: &mut W,
+    number: u32,
+    error: &mut Option<io::Error>,
+) -> Result<(), Failed>
+    ensures ok { OnOk result (Appends (W.contents out.old) (W.contents out.new)
         (32 ∷ decimal number)) }
+    ensures err { OnErr result (IsSome error.new) }
 {
     let mut bytes = [0u8; ROOM];
     let first = put_digits(number, &mut bytes);
     bytes[first - 1] = b' ';
-    out.write_all(&bytes[first - 1..])
+    write_bytes(out, &bytes[first - 1..], error)
 }
 
 /// Puts the decimal digits of the number at the end of the bytes, and returns the place of the

@@ -1,12 +1,14 @@
 //! A section and the places of its entries as text.
-ghost use Rattle.std.specs.Prelude.{◌≡◌, ◌++◌, ◌∷◌, [], map, codes, decimal, IfSome, OnOk};
+ghost use Rattle.std.specs.Prelude.{◌≡◌, ◌++◌, ◌∷◌, [], map, codes, decimal, if◌then◌else◌, IfOk, IfErr, OnOk, OnErr, IsSome};
 ghost use Rattle.std.specs.List.{flat_map};
 ghost use Rattle.std.specs.Io.KnownBytes.{Appends};
 ghost use Rattle.walrus_ty.specs.declared.records.CompAt.TheVariants as comp;
 ghost use Rattle.walrus_ty.specs.declared.ty.value.Val.TheVariants as val;
+ghost use Rattle.walrus_ty.specs.declared.ty.value.Storage.TheVariants as stored;
 ghost use Rattle.walrus_text.specs.Words.{space_before_each, line_text, text_of};
 ghost use Rattle.walrus_text.specs.Text.{name_word, heap_word, val_word, storage_word, field_word, composite_words, entry_words, rec_lines, group_lines, section_lines, map_words, output_text};
 
+use crate::kept_error::{Failed, kept_error, write_bytes};
 use crate::numbers::{write_number, write_spaced_number};
 use std::io;
 use std::io::Write;
@@ -35,10 +37,11 @@ pub fn write_section<W: Write>(out: &mut W, groups: &[GroupAt]) -> io::Result<()
     ensures { OnOk result (Appends (W.contents out.old) (W.contents out.new)
         (text_of (section_lines groups.now))) }
 {
-    for group in groups {
-        write_group(out, group)?;
+    let mut error = None;
+    match write_groups(out, groups, &mut error) {
+        Ok(()) => Ok(()),
+        Err(Failed) => kept_error(error),
     }
-    Ok(())
 }
 
 /// Writes the lines of the groups, as [`write_section`] does, and then the line `map`. It has an
@@ -58,257 +61,364 @@ pub fn write_output<W: Write>(out: &mut W, groups: &[GroupAt], map: &[u32]) -> i
     ensures { OnOk result (Appends (W.contents out.old) (W.contents out.new)
         (output_text groups.now map.now)) }
 {
-    write_section(out, groups)?;
-    write_map(out, map)
-}
-
-fn write_map<W: Write>(out: &mut W, map: &[u32]) -> io::Result<()>
-    ensures { OnOk result (Appends (W.contents out.old) (W.contents out.new)
-        (line_text (map_words map.now) ++ 10 ∷ [])) }
-{
-    out.write_all(b"map")?;
-    for index in map {
-        write_spaced_number(out, *index)?;
+    let mut error = None;
+    match write_groups_and_map(out, groups, map, &mut error) {
+        Ok(()) => Ok(()),
+        Err(Failed) => kept_error(error),
     }
-    out.write_all(b"\n")
 }
 
-fn write_group<W: Write>(out: &mut W, group: &GroupAt) -> io::Result<()>
-    ensures { OnOk result (Appends (W.contents out.old) (W.contents out.new)
+fn write_groups_and_map<W: Write>(
+    out: &mut W,
+    groups: &[GroupAt],
+    map: &[u32],
+    error: &mut Option<io::Error>,
+) -> Result<(), Failed>
+    ensures ok { OnOk result (Appends (W.contents out.old) (W.contents out.new)
+        (output_text groups.now map.now)) }
+    ensures err { OnErr result (IsSome error.new) }
+{
+    write_groups(out, groups, error)?;
+    write_map(out, map, error)
+}
+
+fn write_groups<W: Write>(
+    out: &mut W,
+    groups: &[GroupAt],
+    error: &mut Option<io::Error>,
+) -> Result<(), Failed>
+    ensures ok { OnOk result (Appends (W.contents out.old) (W.contents out.new)
+        (text_of (section_lines groups.now))) }
+    ensures err { OnErr result (IsSome error.new) }
+{
+    for group in groups {
+        write_group(out, group, error)?;
+    }
+    Ok(())
+}
+
+fn write_map<W: Write>(
+    out: &mut W,
+    map: &[u32],
+    error: &mut Option<io::Error>,
+) -> Result<(), Failed>
+    ensures ok { OnOk result (Appends (W.contents out.old) (W.contents out.new)
+        (line_text (map_words map.now) ++ 10 ∷ [])) }
+    ensures err { OnErr result (IsSome error.new) }
+{
+    write_bytes(out, b"map", error)?;
+    for index in map {
+        write_spaced_number(out, *index, error)?;
+    }
+    write_bytes(out, b"\n", error)
+}
+
+fn write_group<W: Write>(
+    out: &mut W,
+    group: &GroupAt,
+    error: &mut Option<io::Error>,
+) -> Result<(), Failed>
+    ensures ok { OnOk result (Appends (W.contents out.old) (W.contents out.new)
         (text_of (group_lines group.now))) }
+    ensures err { OnErr result (IsSome error.new) }
 {
     match group {
-        GroupAt::Single(entry) => write_entry(out, entry),
-        GroupAt::Rec(entries) => write_rec(out, entries.as_slice()),
+        GroupAt::Single(entry) => write_entry(out, entry, error),
+        GroupAt::Rec(entries) => write_rec(out, entries.as_slice(), error),
     }
 }
 
-fn write_rec<W: Write>(out: &mut W, entries: &[EntryAt]) -> io::Result<()>
-    ensures { OnOk result (Appends (W.contents out.old) (W.contents out.new)
+fn write_rec<W: Write>(
+    out: &mut W,
+    entries: &[EntryAt],
+    error: &mut Option<io::Error>,
+) -> Result<(), Failed>
+    ensures ok { OnOk result (Appends (W.contents out.old) (W.contents out.new)
         (text_of (rec_lines entries.now))) }
+    ensures err { OnErr result (IsSome error.new) }
 {
-    out.write_all(b"rec\n")?;
+    write_bytes(out, b"rec\n", error)?;
     for entry in entries {
-        write_entry(out, entry)?;
+        write_entry(out, entry, error)?;
     }
-    out.write_all(b"end\n")
+    write_bytes(out, b"end\n", error)
 }
 
-fn write_entry<W: Write>(out: &mut W, entry: &EntryAt) -> io::Result<()>
-    ensures { OnOk result (Appends (W.contents out.old) (W.contents out.new)
+fn write_entry<W: Write>(
+    out: &mut W,
+    entry: &EntryAt,
+    error: &mut Option<io::Error>,
+) -> Result<(), Failed>
+    ensures ok { OnOk result (Appends (W.contents out.old) (W.contents out.new)
         (line_text (entry_words entry.now) ++ 10 ∷ [])) }
+    ensures err { OnErr result (IsSome error.new) }
 {
     if !entry.is_final {
-        out.write_all(b"open ")?;
+        write_bytes(out, b"open ", error)?;
     }
     if let Some(number) = entry.supertype {
-        write_supertype(out, number)?;
+        write_supertype(out, number, error)?;
     }
-    write_composite(out, &entry.comp)?;
-    out.write_all(b"\n")
+    write_composite(out, &entry.comp, error)?;
+    write_bytes(out, b"\n", error)
 }
 
 /// Writes the supertype and a space.
-fn write_supertype<W: Write>(out: &mut W, number: u32) -> io::Result<()>
-    ensures { OnOk result (Appends (W.contents out.old) (W.contents out.new)
+fn write_supertype<W: Write>(
+    out: &mut W,
+    number: u32,
+    error: &mut Option<io::Error>,
+) -> Result<(), Failed>
+    ensures ok { OnOk result (Appends (W.contents out.old) (W.contents out.new)
         (codes "sub:" ++ (decimal number ++ 32 ∷ []))) }
+    ensures err { OnErr result (IsSome error.new) }
 {
-    out.write_all(b"sub:")?;
-    write_number(out, number)?;
-    out.write_all(b" ")
+    write_bytes(out, b"sub:", error)?;
+    write_number(out, number, error)?;
+    write_bytes(out, b" ", error)
 }
 
-fn write_composite<W: Write>(out: &mut W, comp: &CompAt) -> io::Result<()>
-    ensures { OnOk result (Appends (W.contents out.old) (W.contents out.new)
+fn write_composite<W: Write>(
+    out: &mut W,
+    comp: &CompAt,
+    error: &mut Option<io::Error>,
+) -> Result<(), Failed>
+    ensures ok { OnOk result (Appends (W.contents out.old) (W.contents out.new)
         (line_text (composite_words comp.now))) }
+    ensures err { OnErr result (IsSome error.new) }
 {
     match comp {
         CompAt::Function { params, results } => {
-            write_function(out, params.as_slice(), results.as_slice())
+            write_function(out, params.as_slice(), results.as_slice(), error)
         }
-        CompAt::Struct { fields } => write_struct(out, fields.as_slice()),
-        CompAt::Array { field } => write_array(out, field),
+        CompAt::Struct { fields } => write_struct(out, fields.as_slice(), error),
+        CompAt::Array { field } => write_array(out, field, error),
     }
 }
 
-fn write_function<W: Write>(out: &mut W, params: &[ValAt], results: &[ValAt]) -> io::Result<()>
-    ensures { OnOk result (Appends (W.contents out.old) (W.contents out.new)
+fn write_function<W: Write>(
+    out: &mut W,
+    params: &[ValAt],
+    results: &[ValAt],
+    error: &mut Option<io::Error>,
+) -> Result<(), Failed>
+    ensures ok { OnOk result (Appends (W.contents out.old) (W.contents out.new)
         (line_text (composite_words (comp.Function params.now results.now)))) }
+    ensures err { OnErr result (IsSome error.new) }
 {
-    out.write_all(b"func")?;
-    write_values(out, params)?;
-    out.write_all(b" ->")?;
-    write_values(out, results)
+    write_bytes(out, b"func", error)?;
+    write_values(out, params, error)?;
+    write_bytes(out, b" ->", error)?;
+    write_values(out, results, error)
 }
 
-fn write_struct<W: Write>(out: &mut W, fields: &[FieldAt]) -> io::Result<()>
-    ensures { OnOk result (Appends (W.contents out.old) (W.contents out.new)
+fn write_struct<W: Write>(
+    out: &mut W,
+    fields: &[FieldAt],
+    error: &mut Option<io::Error>,
+) -> Result<(), Failed>
+    ensures ok { OnOk result (Appends (W.contents out.old) (W.contents out.new)
         (line_text (composite_words (comp.Struct fields.now)))) }
+    ensures err { OnErr result (IsSome error.new) }
 {
-    out.write_all(b"struct")?;
-    write_fields(out, fields)
+    write_bytes(out, b"struct", error)?;
+    write_fields(out, fields, error)
 }
 
-fn write_array<W: Write>(out: &mut W, field: &FieldAt) -> io::Result<()>
-    ensures { OnOk result (Appends (W.contents out.old) (W.contents out.new)
+fn write_array<W: Write>(
+    out: &mut W,
+    field: &FieldAt,
+    error: &mut Option<io::Error>,
+) -> Result<(), Failed>
+    ensures ok { OnOk result (Appends (W.contents out.old) (W.contents out.new)
         (line_text (composite_words (comp.Array field.now)))) }
+    ensures err { OnErr result (IsSome error.new) }
 {
-    out.write_all(b"array")?;
-    write_field(out, field)
+    write_bytes(out, b"array", error)?;
+    write_field(out, field, error)
 }
 
-fn write_values<W: Write>(out: &mut W, values: &[ValAt]) -> io::Result<()>
-    ensures { OnOk result (Appends (W.contents out.old) (W.contents out.new)
+fn write_values<W: Write>(
+    out: &mut W,
+    values: &[ValAt],
+    error: &mut Option<io::Error>,
+) -> Result<(), Failed>
+    ensures ok { OnOk result (Appends (W.contents out.old) (W.contents out.new)
         (space_before_each (map val_word values.now))) }
+    ensures err { OnErr result (IsSome error.new) }
 {
     for value in values {
-        write_spaced_value(out, value)?;
+        write_spaced_value(out, value, error)?;
     }
     Ok(())
 }
 
 /// Writes a space and the value type.
-fn write_spaced_value<W: Write>(out: &mut W, value: &ValAt) -> io::Result<()>
-    ensures { OnOk result (Appends (W.contents out.old) (W.contents out.new)
+#[inline(always)]
+fn write_spaced_value<W: Write>(
+    out: &mut W,
+    value: &ValAt,
+    error: &mut Option<io::Error>,
+) -> Result<(), Failed>
+    ensures ok { OnOk result (Appends (W.contents out.old) (W.contents out.new)
         (32 ∷ val_word value.now)) }
+    ensures err { OnErr result (IsSome error.new) }
 {
-    if let Some(text) = plain_value(value) {
-        return out.write_all(text);
+    match spaced_name(value) {
+        Ok(text) => write_bytes(out, text, error),
+        Err(reference) => {
+            let start = reference_start(false, reference.nullable);
+            write_reference(out, start, &reference.heap_type, error)
+        }
     }
-    out.write_all(b" ")?;
-    write_value(out, value)
 }
 
-/// A space and the value type, where that is no reference. So it is written at once, since each
-/// write has a price.
-fn plain_value(value: &ValAt) -> Option<&'static [u8]>
-    ensures { IfSome result (λ text. text.now ≡ 32 ∷ val_word value.now) }
+/// A space and the name of a value type. A reference has none, and is returned itself.
+fn spaced_name(value: &ValAt) -> Result<&'static [u8], &RefAt>
+    ensures name { IfOk result (λ text. text.now ≡ 32 ∷ val_word value.now) }
+    ensures reference { IfErr result (λ reference. value.now ≡ val.Ref reference.now) }
 {
     match value {
-        ValAt::I32 => Some(b" i32"),
-        ValAt::I64 => Some(b" i64"),
-        ValAt::F32 => Some(b" f32"),
-        ValAt::F64 => Some(b" f64"),
-        ValAt::V128 => Some(b" v128"),
-        ValAt::Ref(_) => None,
+        ValAt::I32 => Ok(b" i32"),
+        ValAt::I64 => Ok(b" i64"),
+        ValAt::F32 => Ok(b" f32"),
+        ValAt::F64 => Ok(b" f64"),
+        ValAt::V128 => Ok(b" v128"),
+        ValAt::Ref(reference) => Err(reference),
     }
 }
 
-fn write_fields<W: Write>(out: &mut W, fields: &[FieldAt]) -> io::Result<()>
-    ensures { OnOk result (Appends (W.contents out.old) (W.contents out.new)
+fn write_fields<W: Write>(
+    out: &mut W,
+    fields: &[FieldAt],
+    error: &mut Option<io::Error>,
+) -> Result<(), Failed>
+    ensures ok { OnOk result (Appends (W.contents out.old) (W.contents out.new)
         (space_before_each (map field_word fields.now))) }
+    ensures err { OnErr result (IsSome error.new) }
 {
     for field in fields {
-        write_field(out, field)?;
+        write_field(out, field, error)?;
     }
     Ok(())
 }
 
 /// Writes a space and the field.
-fn write_field<W: Write>(out: &mut W, field: &FieldAt) -> io::Result<()>
-    ensures { OnOk result (Appends (W.contents out.old) (W.contents out.new)
+#[inline(always)]
+fn write_field<W: Write>(
+    out: &mut W,
+    field: &FieldAt,
+    error: &mut Option<io::Error>,
+) -> Result<(), Failed>
+    ensures ok { OnOk result (Appends (W.contents out.old) (W.contents out.new)
         (32 ∷ field_word field.now)) }
+    ensures err { OnErr result (IsSome error.new) }
 {
-    if let Some(text) = plain_field(field) {
-        return out.write_all(text);
-    }
-    out.write_all(b" ")?;
-    if field.mutable {
-        out.write_all(b"mut:")?;
-    }
-    write_storage(out, &field.element_type)
-}
-
-/// A space and the field, where that is no reference.
-fn plain_field(field: &FieldAt) -> Option<&'static [u8]>
-    ensures { IfSome result (λ text. text.now ≡ 32 ∷ field_word field.now) }
-{
-    if field.mutable {
-        plain_mutable(&field.element_type)
-    } else {
-        plain_constant(&field.element_type)
-    }
-}
-
-fn plain_mutable(storage: &StorageAt) -> Option<&'static [u8]>
-    ensures { IfSome result (λ text. text.now ≡ codes " mut:" ++ storage_word storage.now) }
-{
-    match storage {
-        StorageAt::Val(ValAt::I32) => Some(b" mut:i32"),
-        StorageAt::Val(ValAt::I64) => Some(b" mut:i64"),
-        StorageAt::Val(ValAt::F32) => Some(b" mut:f32"),
-        StorageAt::Val(ValAt::F64) => Some(b" mut:f64"),
-        StorageAt::Val(ValAt::V128) => Some(b" mut:v128"),
-        StorageAt::Val(ValAt::Ref(_)) => None,
-        StorageAt::I8 => Some(b" mut:i8"),
-        StorageAt::I16 => Some(b" mut:i16"),
-    }
-}
-
-fn plain_constant(storage: &StorageAt) -> Option<&'static [u8]>
-    ensures { IfSome result (λ text. text.now ≡ 32 ∷ storage_word storage.now) }
-{
-    match storage {
-        StorageAt::Val(value) => plain_value(value),
-        StorageAt::I8 => Some(b" i8"),
-        StorageAt::I16 => Some(b" i16"),
-    }
-}
-
-fn write_storage<W: Write>(out: &mut W, storage: &StorageAt) -> io::Result<()>
-    ensures { OnOk result (Appends (W.contents out.old) (W.contents out.new)
-        (storage_word storage.now)) }
-{
-    match storage {
-        StorageAt::I8 => out.write_all(b"i8"),
-        StorageAt::I16 => out.write_all(b"i16"),
-        StorageAt::Val(value) => write_value(out, value),
-    }
-}
-
-fn write_value<W: Write>(out: &mut W, value: &ValAt) -> io::Result<()>
-    ensures { OnOk result (Appends (W.contents out.old) (W.contents out.new) (val_word value.now)) }
-{
-    let text: &[u8] = match value {
-        ValAt::I32 => b"i32",
-        ValAt::I64 => b"i64",
-        ValAt::F32 => b"f32",
-        ValAt::F64 => b"f64",
-        ValAt::V128 => b"v128",
-        ValAt::Ref(reference) => return write_reference(out, reference),
-    };
-    out.write_all(text)
-}
-
-fn write_reference<W: Write>(out: &mut W, reference: &RefAt) -> io::Result<()>
-    ensures { OnOk result (Appends (W.contents out.old) (W.contents out.new)
-        (val_word (val.Ref reference.now))) }
-{
-    let kind: &[u8] = if reference.nullable {
-        b"null:"
-    } else {
-        b"ref:"
-    };
-    out.write_all(kind)?;
-    write_heap_type(out, &reference.heap_type)
-}
-
-fn write_heap_type<W: Write>(out: &mut W, heap_type: &HeapAt) -> io::Result<()>
-    ensures { OnOk result (Appends (W.contents out.old) (W.contents out.new)
-        (heap_word heap_type.now)) }
-{
-    match heap_type {
-        HeapAt::Abstract(name) => write_name(out, *name),
-        HeapAt::Concrete(number) => write_number(out, *number),
-        HeapAt::Exact(number) => {
-            out.write_all(b"exact:")?;
-            write_number(out, *number)
+    match spaced_field(field) {
+        Ok(text) => write_bytes(out, text, error),
+        Err(reference) => {
+            let start = reference_start(field.mutable, reference.nullable);
+            write_reference(out, start, &reference.heap_type, error)
         }
     }
 }
 
-fn write_name<W: Write>(out: &mut W, name: AbstractHeapType) -> io::Result<()>
-    ensures { OnOk result (Appends (W.contents out.old) (W.contents out.new) (name_word name)) }
+/// A space and the field if its type has a name. A reference has none, and is returned itself.
+fn spaced_field(field: &FieldAt) -> Result<&'static [u8], &RefAt>
+    ensures name { IfOk result (λ text. text.now ≡ 32 ∷ field_word field.now) }
+    ensures reference { IfErr result (λ reference.
+        field.now.element_type ≡ stored.Val (val.Ref reference.now)) }
+{
+    if field.mutable {
+        spaced_mutable(&field.element_type)
+    } else {
+        spaced_constant(&field.element_type)
+    }
+}
+
+fn spaced_mutable(storage: &StorageAt) -> Result<&'static [u8], &RefAt>
+    ensures name { IfOk result (λ text. text.now ≡ codes " mut:" ++ storage_word storage.now) }
+    ensures reference { IfErr result (λ reference.
+        storage.now ≡ stored.Val (val.Ref reference.now)) }
+{
+    match storage {
+        StorageAt::Val(ValAt::I32) => Ok(b" mut:i32"),
+        StorageAt::Val(ValAt::I64) => Ok(b" mut:i64"),
+        StorageAt::Val(ValAt::F32) => Ok(b" mut:f32"),
+        StorageAt::Val(ValAt::F64) => Ok(b" mut:f64"),
+        StorageAt::Val(ValAt::V128) => Ok(b" mut:v128"),
+        StorageAt::Val(ValAt::Ref(reference)) => Err(reference),
+        StorageAt::I8 => Ok(b" mut:i8"),
+        StorageAt::I16 => Ok(b" mut:i16"),
+    }
+}
+
+fn spaced_constant(storage: &StorageAt) -> Result<&'static [u8], &RefAt>
+    ensures name { IfOk result (λ text. text.now ≡ 32 ∷ storage_word storage.now) }
+    ensures reference { IfErr result (λ reference.
+        storage.now ≡ stored.Val (val.Ref reference.now)) }
+{
+    match storage {
+        StorageAt::Val(value) => spaced_name(value),
+        StorageAt::I8 => Ok(b" i8"),
+        StorageAt::I16 => Ok(b" i16"),
+    }
+}
+
+/// A space, and what the text of a field or value has before the heap type of a reference.
+fn reference_start(mutable: bool, nullable: bool) -> &'static [u8]
+    ensures { result.now ≡ 32 ∷ ((if mutable then codes "mut:" else [])
+        ++ (if nullable then codes "null:" else codes "ref:")) }
+{
+    match (mutable, nullable) {
+        (false, false) => b" ref:",
+        (false, true) => b" null:",
+        (true, false) => b" mut:ref:",
+        (true, true) => b" mut:null:",
+    }
+}
+
+/// Writes the start of a reference and its heap type.
+fn write_reference<W: Write>(
+    out: &mut W,
+    start: &[u8],
+    heap_type: &HeapAt,
+    error: &mut Option<io::Error>,
+) -> Result<(), Failed>
+    ensures ok { OnOk result (Appends (W.contents out.old) (W.contents out.new)
+        (start.now ++ heap_word heap_type.now)) }
+    ensures err { OnErr result (IsSome error.new) }
+{
+    write_bytes(out, start, error)?;
+    write_heap_type(out, heap_type, error)
+}
+
+fn write_heap_type<W: Write>(
+    out: &mut W,
+    heap_type: &HeapAt,
+    error: &mut Option<io::Error>,
+) -> Result<(), Failed>
+    ensures ok { OnOk result (Appends (W.contents out.old) (W.contents out.new)
+        (heap_word heap_type.now)) }
+    ensures err { OnErr result (IsSome error.new) }
+{
+    match heap_type {
+        HeapAt::Abstract(name) => write_name(out, *name, error),
+        HeapAt::Concrete(number) => write_number(out, *number, error),
+        HeapAt::Exact(number) => {
+            write_bytes(out, b"exact:", error)?;
+            write_number(out, *number, error)
+        }
+    }
+}
+
+fn write_name<W: Write>(
+    out: &mut W,
+    name: AbstractHeapType,
+    error: &mut Option<io::Error>,
+) -> Result<(), Failed>
+    ensures ok { OnOk result (Appends (W.contents out.old) (W.contents out.new) (name_word name)) }
+    ensures err { OnErr result (IsSome error.new) }
 {
     let text: &[u8] = match name {
         AbstractHeapType::Func => b"func",
@@ -324,5 +434,5 @@ fn write_name<W: Write>(out: &mut W, name: AbstractHeapType) -> io::Result<()>
         AbstractHeapType::Exn => b"exn",
         AbstractHeapType::NoExn => b"noexn",
     };
-    out.write_all(text)
+    write_bytes(out, text, error)
 }

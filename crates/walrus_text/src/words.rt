@@ -1,9 +1,8 @@
 //! Lines of bytes, and a line as words, which spaces divide. No other byte divides words.
-ghost use Rattle.std.specs.Prelude.{◌≡◌, ◌==◌, ◌++◌, ◌∷◌, [], ◌<◌, ◌≤◌, length, not, IfSome, IfNone};
+ghost use Rattle.std.specs.Prelude.{◌≡◌, ◌==◌, ◌++◌, ◌∷◌, [], ◌<◌, ◌≤◌, filter, length, not, IfSome, IfNone};
 ghost use Rattle.std.specs.List.{position, position_or_len};
 ghost use Rattle.walrus_text.specs.Words.{has_items, words_of};
 ghost use Rattle.walrus_text.specs.Steps.Bytes.{IsOneLine};
-ghost use Rattle.walrus_text.specs.Steps.Words.{word_count_before};
 
 /// The bytes before the first line feed, and those behind it. `None` says that there is none.
 pub fn next_line(bytes: &[u8]) -> Option<(&[u8], &[u8])>
@@ -48,34 +47,11 @@ pub fn next_word(line: &[u8]) -> Option<(&[u8], &[u8])>
     Some((word, rest))
 }
 
-/// The number of words in the line.
-pub fn word_count(line: &[u8]) -> usize
-    ensures { result ≡ length (words_of line.now) }
+/// The number of spaces in a line: that of its words, where one space is before each.
+pub fn space_count(line: &[u8]) -> usize
+    ensures { result ≡ length (filter (λ b. b == 32) line.now) }
 {
-    let mut count = 0;
-    let mut rest = line;
-    while let Some((_, after)) = next_word(rest) {
-        count += 1;
-        rest = after;
-    }
-    count
-}
-
-/// The number of words before the first that is `end`. Where none is, it is the number of all
-/// words.
-pub fn word_count_before(line: &[u8], end: &[u8]) -> usize
-    ensures { result ≡ word_count_before end.now (words_of line.now) }
-{
-    let mut count = 0;
-    let mut rest = line;
-    while let Some((word, after)) = next_word(rest) {
-        if word == end {
-            break;
-        }
-        count += 1;
-        rest = after;
-    }
-    count
+    line.iter().filter(|byte| **byte == b' ').count()
 }
 
 /// Whether the line has no word.

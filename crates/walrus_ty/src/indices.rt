@@ -6,7 +6,7 @@ mod indices_to_ids;
 use crate::Type;
 pub use ids_to_indices::IdsToIndices;
 pub use indices_to_ids::IndicesToIds;
-use walrus_arena::Id;
+use walrus_id::Id;
 
 /// A function of a module, of which this layer knows only ids.
 pub enum Function {}

@@ -40,4 +40,4 @@ pub use ty::{
     AbstractHeapType, ArrayType, CompositeType, Field, FieldType, FunctionType, Heap, HeapType,
     RefType, Reference, Storage, StorageType, StructType, Type, Val, ValType,
 };
-pub use walrus_arena::Id;
+pub use walrus_id::Id;

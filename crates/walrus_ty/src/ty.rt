@@ -20,7 +20,7 @@ pub use value::{
     AbstractHeapType, Field, FieldType, Heap, HeapType, RefType, Reference, Storage, StorageType,
     Val, ValType,
 };
-use walrus_arena::Tombstone;
+use walrus_id::Tombstone;
 
 /// A type of a module: a composite type, whether it is final, and its supertype.
 ///

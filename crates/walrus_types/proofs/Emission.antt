@@ -1,14 +1,7 @@
 -- Writing a table as a section.
-pub mod RunStarts
-pub mod NeighboursInOrder
-pub mod FreeNames
-pub mod IndexOfId
-pub mod PairsOfGroups
 pub mod WrittenCount
-pub mod FilteredPlaces
 pub mod SortedGroups
 pub mod OrderFromSort
-pub mod SortKeys
 pub mod Decoding
 pub mod DecodedTypes
 pub mod WriteLoop

@@ -6,9 +6,9 @@
 //!   [`IndicesToIds`] and [`IdsToIndices`] lead from one to the other.
 //! - [`SectionReader`] and [`parse_types`] read a section into a table, and [`ModuleTypes::emit`]
 //!   writes a table as a section.
-//! - [`normalise`] does both, which gives the normal form of a section. [`is_normal_form`] judges a
-//!   normal form, and [`same_up_to_moves`] compares two sections. [`first_difference`] shows where
-//!   two normal forms differ.
+//! - [`normalise`] returns the normal form of a section, which it makes of the records alone.
+//!   [`is_normal_form`] judges a normal form, and [`same_up_to_moves`] compares two sections.
+//!   [`first_difference`] shows where two normal forms differ.
 //! - [`laws`] and [`record_laws`] have the theorems.
 //!
 //! For a section `groups`, `wanted` is the normal form, and `map` has the new index of each entry,
@@ -33,18 +33,18 @@ mod emit;
 mod error;
 pub mod laws;
 mod moves;
-mod normal_form;
 mod section_reader;
 mod table;
 
 pub use difference::{entries_before, first_difference};
 pub use error::EmitError;
 pub use moves::same_up_to_moves;
-pub use normal_form::{normalise, normalise_owned};
 pub use section_reader::{SectionReader, parse_types};
 pub use table::{AddRecGroupError, ModuleTypes, RecGroup, RecGroupId, TypesIter};
 pub use walrus_arena::{HashKeys, Id};
-pub use walrus_sections::{ReadError, is_normal_form};
+pub use walrus_normal_form::{normalise, normalise_owned};
+pub use walrus_normal_form_check::is_normal_form;
+pub use walrus_sections::ReadError;
 pub use walrus_ty::{
     AbstractHeapType, ArrayType, CompAt, CompositeType, Data, DataId, Element, ElementId, EntryAt,
     Field, FieldAt, FieldType, FromRecordError, Function, FunctionId, FunctionType, FunctionTypes,

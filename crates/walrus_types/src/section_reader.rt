@@ -247,29 +247,3 @@ pub fn parse_types(
     }
     Ok(reader.finish())
 }
-
-// The same, of groups that are no longer needed. Each is dropped once it was read.
-pub(crate) fn parse_owned_types(
-    alloc: Global,
-    keys: HashKeys,
-    groups: Vec<GroupAt>,
-) -> Result<(ModuleTypes, Vec<TypeId>), ReadError>
-    ensures ok { IfOk result (λ read. IsReadInto (section_of groups.items) read.0 read.1.items) }
-    ensures err { IfErr result
-        (λ e. (e ≡ error.Memory) ⊎ IsFirstError (section_of groups.items) e) }
-{
-    let mut section = SectionReader::with_hash_keys(alloc, keys);
-    for group in groups {
-        push_owned(&mut section, group)?;
-    }
-    Ok(section.finish())
-}
-
-fn push_owned(reader: &mut SectionReader, group: GroupAt) -> Result<(), ReadError>
-    ensures ok { (s : Section) → IsReadInto s reader.old.table reader.old.ids
-        → OnOk result (IsReadInto (s ++ group_of group ∷ []) reader.new.table reader.new.ids) }
-    ensures refusal { IfErr result (λ e. (e ≡ error.Memory) ⊎
-        (group_error (length reader.old.ids) (definitions_of (group_of group)) ≡ Some e)) }
-{
-    reader.push_group(&group)
-}

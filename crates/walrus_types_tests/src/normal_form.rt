@@ -7,7 +7,9 @@ use Piece::{Many, One};
 use Shape::{Bytes, Func, Open, Struct};
 use std::alloc::Global;
 use std::process::Abort;
-use walrus_types::{HashKeys, ReadError, ValAt, is_normal_form, normalise, normalise_owned};
+use walrus_types::{
+    GroupAt, HashKeys, ReadError, ValAt, is_normal_form, normalise, normalise_owned, parse_types,
+};
 
 // The normal form of the section is the one that is wanted, and the slow program agrees.
 fn gives<'x>(
@@ -26,10 +28,28 @@ fn gives<'x>(
     assert!(rt;
         is_normal_form(alloc, groups.as_slice(), wanted.as_slice(), map).expect(rt, "memory")
     );
+    is_written_from_a_table(rt, alloc, groups.as_slice(), wanted.as_slice(), map);
     let owned = normalise_owned(alloc, HashKeys::fixed(), groups);
     let (output, places) = owned.expect(rt, "memory");
     assert!(rt; output == wanted);
     assert_equal(rt, places.as_slice(), map);
+}
+
+// A table that the section is read into is written as its normal form too.
+fn is_written_from_a_table(
+    rt: &impl Abort,
+    alloc: Global,
+    groups: &[GroupAt],
+    wanted: &[GroupAt],
+    map: &[u32],
+) {
+    let (types, ids) = parse_types(alloc, HashKeys::fixed(), groups).expect(rt, "memory");
+    let (output, indices) = types.emit().expect(rt, "memory");
+    assert!(rt; output.as_slice() == wanted);
+    assert_equal(rt, ids.len(), map.len());
+    for (id, place) in ids.iter().zip(map) {
+        assert_equal(rt, indices.get_type_index(*id).ok(), Some(*place));
+    }
 }
 
 // The section is its own normal form.
@@ -40,6 +60,8 @@ fn stays(rt: &impl Abort, alloc: Global, pieces: &[Piece<'_>], map: &[u32]) {
 fn is_refused(rt: &impl Abort, alloc: Global, pieces: &[Piece<'_>], wanted: ReadError) {
     let groups = section(alloc, pieces).expect(rt, "memory");
     let refused = normalise(alloc, HashKeys::fixed(), groups.as_slice()).err();
+    assert_equal(rt, refused, Some(wanted));
+    let refused = parse_types(alloc, HashKeys::fixed(), groups.as_slice()).err();
     assert_equal(rt, refused, Some(wanted));
     let refused = normalise_owned(alloc, HashKeys::fixed(), groups).err();
     assert_equal(rt, refused, Some(wanted));

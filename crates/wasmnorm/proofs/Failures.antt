@@ -1,44 +1,35 @@
 -- The exit status of a failure, and what it says of the bytes.
-use Rattle.std.proofs.Common.{◌≡◌, ◌≤◌, ℕ, List, Option, None, Some, Result, Ok, Err, refl, arith}
+use Rattle.std.proofs.Common.{◌≡◌, ◌≤◌, ℕ, List, Result, Ok, Err, refl, sym, subst, arith}
 use Rattle.std.specs.Prelude.{IfErr, IsErrOf}
 use Rattle.walrus_binary.specs.ModuleSections.{HasBadTypesBy}
 use Rattle.walrus_binary.specs.declared.error.DecodeError.{DecodeError}
-use Rattle.walrus_module.specs.declared.faults.Fault.{Fault}
 use Rattle.walrus_module.specs.declared.faults.FaultKind.{FaultKind}
 use Rattle.walrus_module.specs.declared.faults.FaultKind.TheVariants as kind
-use Rattle.walrus_module.specs.ModuleFaults.{IsModuleFault}
 use Rattle.walrus_normalise.specs.declared.options.NormaliseOptions.{NormaliseOptions}
 use Rattle.walrus_sections.specs.declared.error.ReadError.TheVariants as read
-use Rattle.walrus_normalise.specs.NormalModules.{HasFirstError, LeavesMalformed, NamesUnknownType, BecomesTooLong, BecomesOutdated}
+use Rattle.walrus_normalise.specs.NormalModules.{HasFirstError, HasFirstFault, BecomesTooLong, BecomesOutdated}
+use Rattle.walrus_normalise.specs.Steps.Errors.{fault_failure}
 use Rattle.walrus_normalise.specs.declared.error.NormaliseModuleError.{NormaliseModuleError}
 use Rattle.walrus_normalise.specs.declared.error.NormaliseModuleError.TheVariants as error
 use Rattle.wasmnorm.specs.declared.failure.Failure.{Failure}
 use Rattle.wasmnorm.specs.declared.failure.Failure.TheVariants as failure
-use Rattle.wasmnorm.specs.Runs.{IsRefused, bad_types, malformed, too_long, outdated, IsIllNamed, in_types, elsewhere, before_the_end}
+use Rattle.wasmnorm.specs.Runs.{HasFaultBefore, in_module, before_the_end, IsRefused, bad_types, malformed, too_long, outdated, IsIllNamed, in_types, elsewhere}
 use Rattle.walrus_snipping.specs.declared.error.SnipError.{SnipError}
 use Rattle.walrus_snipping.specs.declared.error.SnipError.TheVariants as snip
 use Rattle.wasmnorm.specs.declared.snip_failure.SnipFailure.{SnipFailure}
 use Rattle.wasmnorm.specs.declared.snip_failure.SnipFailure.TheVariants as snips
 use Rattle.wasmnorm.specs.Steps.Snips.{refusal_status, snip_status}
-use Rattle.wasmnorm.specs.Steps.Failures.{Explains, ExplainsError, IsFaultOf, kind_status, fault_status, refused_status, status_of}
+use Rattle.wasmnorm.specs.Steps.Failures.{Explains, ExplainsError, refused_status, status_of}
 
-kind_range : (k : FaultKind) → kind_status k ≤ 4
-kind_range kind.Malformed = omega arith
-kind_range (kind.UnknownType index count) = omega arith
-
-fault_range : (fault : Option Fault) → fault_status fault ≤ 4
-fault_range (Some f) = kind_range f.kind
-fault_range None = omega arith
-
-error_range : (e : NormaliseModuleError) (fault : Option Fault) → refused_status e fault ≤ 4
-error_range (error.Types e) fault = fault_range fault
-error_range (error.BadIndex entry index end) fault = omega arith
-error_range error.TooMany fault = omega arith
-error_range error.Malformed fault = omega arith
-error_range (error.UnknownType index) fault = omega arith
-error_range error.TooLong fault = omega arith
-error_range (error.Outdated offset) fault = omega arith
-error_range error.Memory fault = omega arith
+error_range : (e : NormaliseModuleError) → refused_status e ≤ 4
+error_range (error.Types e) = omega arith
+error_range (error.BadIndex entry index end) = omega arith
+error_range error.TooMany = omega arith
+error_range (error.Malformed place) = omega arith
+error_range (error.UnknownType index count place) = omega arith
+error_range error.TooLong = omega arith
+error_range (error.Outdated offset) = omega arith
+error_range error.Memory = omega arith
 
 refusal_range : (e : SnipError) → refusal_status e ≤ 4
 refusal_range snip.Malformed = omega arith
@@ -51,12 +42,12 @@ snip_range : (e : SnipFailure) → snip_status e ≤ 4
 snip_range snips.NoNames = omega arith
 snip_range (snips.NotOne name functions) = omega arith
 snip_range (snips.Refused e) = refusal_range e
-snip_range (snips.Outdated offset) = omega arith
+snip_range (snips.Outdated offset context) = omega arith
 snip_range snips.TooLong = omega arith
 snip_range snips.Memory = omega arith
 
 pub status_range : (f : Failure) → status_of f ≤ 4
-status_range (failure.Refused e fault context advice) = error_range e fault
+status_range (failure.Refused e context advice) = error_range e
 status_range (failure.Unsnipped e) = snip_range e
 status_range failure.Memory = omega arith
 status_range failure.Keys = omega arith
@@ -64,50 +55,46 @@ status_range (failure.Input error) = omega arith
 status_range (failure.Output error) = omega arith
 
 error_refused :
-    (options : NormaliseOptions) (bytes : List ℕ) (e : NormaliseModuleError) (fault : Option Fault)
-    → ExplainsError options bytes e → IsFaultOf bytes fault → refused_status e fault ≡ 1 →
-    IsRefused options bytes
-error_refused options bytes (error.Types e) fault why at is = bad_types e why
-error_refused options bytes (error.BadIndex entry index end) fault why at is = absurd (omega (arith, is))
-error_refused options bytes error.TooMany fault why at is = absurd (omega (arith, is))
-error_refused options bytes error.Malformed fault why at is = malformed why
-error_refused options bytes (error.UnknownType index) fault why at is = absurd (omega (arith, is))
-error_refused options bytes error.TooLong fault why at is = too_long why
-error_refused options bytes (error.Outdated offset) fault why at is = outdated offset why
-error_refused options bytes error.Memory fault why at is = absurd (omega (arith, is))
-
-kind_ill_named :
-    (options : NormaliseOptions) (bytes : List ℕ) (k : FaultKind) (count place : ℕ)
-    → IsModuleFault count bytes k place → kind_status k ≡ 2 → IsIllNamed options bytes
-kind_ill_named options bytes kind.Malformed count place f is = absurd (omega (arith, is))
-kind_ill_named options bytes (kind.UnknownType index n) count place f is =
-    before_the_end count n index place f
-
-fault_ill_named :
-    (options : NormaliseOptions) (bytes : List ℕ) (fault : Option Fault) → IsFaultOf bytes fault
-    → fault_status fault ≡ 2 → IsIllNamed options bytes
-fault_ill_named options bytes (Some f) at is = kind_ill_named options bytes f.kind at.0 f.offset at.1 is
-fault_ill_named options bytes None at is = absurd (omega (arith, is))
+    (options : NormaliseOptions) (bytes : List ℕ) (e : NormaliseModuleError)
+    → ExplainsError options bytes e → refused_status e ≡ 1 → IsRefused options bytes
+error_refused options bytes (error.Types e) why is = bad_types e why
+error_refused options bytes (error.BadIndex entry index end) why is = absurd (omega (arith, is))
+error_refused options bytes error.TooMany why is = absurd (omega (arith, is))
+error_refused options bytes (error.Malformed place) why is = malformed place why
+error_refused options bytes (error.UnknownType index count place) why is = absurd (omega (arith, is))
+error_refused options bytes error.TooLong why is = too_long why
+error_refused options bytes (error.Outdated offset) why is = outdated offset why
+error_refused options bytes error.Memory why is = absurd (omega (arith, is))
 
 error_ill_named :
-    (options : NormaliseOptions) (bytes : List ℕ) (e : NormaliseModuleError) (fault : Option Fault)
-    → ExplainsError options bytes e → IsFaultOf bytes fault → refused_status e fault ≡ 2 →
-    IsIllNamed options bytes
-error_ill_named options bytes (error.Types e) fault why at is = fault_ill_named options bytes fault at is
-error_ill_named options bytes (error.BadIndex entry index end) fault why at is =
+    (options : NormaliseOptions) (bytes : List ℕ) (e : NormaliseModuleError)
+    → ExplainsError options bytes e → refused_status e ≡ 2 → IsIllNamed bytes
+error_ill_named options bytes (error.Types e) why is = absurd (omega (arith, is))
+error_ill_named options bytes (error.BadIndex entry index end) why is =
     in_types (read.BadIndex entry index end) why
-error_ill_named options bytes error.TooMany fault why at is = in_types read.TooMany why
-error_ill_named options bytes error.Malformed fault why at is = absurd (omega (arith, is))
-error_ill_named options bytes (error.UnknownType index) fault why at is = elsewhere index why
-error_ill_named options bytes error.TooLong fault why at is = absurd (omega (arith, is))
-error_ill_named options bytes (error.Outdated offset) fault why at is = absurd (omega (arith, is))
-error_ill_named options bytes error.Memory fault why at is = absurd (omega (arith, is))
+error_ill_named options bytes error.TooMany why is = in_types read.TooMany why
+error_ill_named options bytes (error.Malformed place) why is = absurd (omega (arith, is))
+error_ill_named options bytes (error.UnknownType index count place) why is = elsewhere index count place why
+error_ill_named options bytes error.TooLong why is = absurd (omega (arith, is))
+error_ill_named options bytes (error.Outdated offset) why is = absurd (omega (arith, is))
+error_ill_named options bytes error.Memory why is = absurd (omega (arith, is))
+
+-- where a fault comes before the place of an error, its error says what is wrong
+pub explains_fault :
+    (options : NormaliseOptions) (bytes : List ℕ) (e : DecodeError) (what : FaultKind) (place : ℕ)
+    (result : NormaliseModuleError)
+    → result ≡ fault_failure what place → HasBadTypesBy bytes e → HasFaultBefore bytes what place
+    → ExplainsError options bytes result
+explains_fault options bytes e kind.Malformed place result is bad fault =
+    subst (λ x. ExplainsError options bytes x) (sym is) (before_the_end e bad fault)
+explains_fault options bytes e (kind.UnknownType index count) place result is bad fault =
+    subst (λ x. ExplainsError options bytes x) (sym is) (before_the_end e bad fault)
 
 pub explains_refused :
     (options : NormaliseOptions) (bytes : List ℕ) (f : Failure) → Explains options bytes f → status_of f ≡ 1
     → IsRefused options bytes
-explains_refused options bytes (failure.Refused e fault context advice) why is =
-    error_refused options bytes e fault why.0 why.2 is
+explains_refused options bytes (failure.Refused e context advice) why is =
+    error_refused options bytes e why.0 is
 explains_refused options bytes (failure.Unsnipped e) why is = absurd why
 explains_refused options bytes failure.Memory why is = absurd (omega (arith, is))
 explains_refused options bytes failure.Keys why is = absurd (omega (arith, is))
@@ -116,9 +103,9 @@ explains_refused options bytes (failure.Output error) why is = absurd (omega (ar
 
 pub explains_ill_named :
     (options : NormaliseOptions) (bytes : List ℕ) (f : Failure) → Explains options bytes f → status_of f ≡ 2
-    → IsIllNamed options bytes
-explains_ill_named options bytes (failure.Refused e fault context advice) why is =
-    error_ill_named options bytes e fault why.0 why.2 is
+    → IsIllNamed bytes
+explains_ill_named options bytes (failure.Refused e context advice) why is =
+    error_ill_named options bytes e why.0 is
 explains_ill_named options bytes (failure.Unsnipped e) why is = absurd why
 explains_ill_named options bytes failure.Memory why is = absurd (omega (arith, is))
 explains_ill_named options bytes failure.Keys why is = absurd (omega (arith, is))
@@ -132,8 +119,9 @@ pub explains_each :
     → ((entry index end : ℕ) → IsErrOf result (error.BadIndex entry index end)
     → HasFirstError bytes (read.BadIndex entry index end))
     → (IsErrOf result error.TooMany → HasFirstError bytes read.TooMany)
-    → (IsErrOf result error.Malformed → LeavesMalformed options bytes)
-    → ((k : ℕ) → IsErrOf result (error.UnknownType k) → NamesUnknownType options k bytes)
+    → ((place : ℕ) → IsErrOf result (error.Malformed place) → HasFirstFault bytes kind.Malformed place)
+    → ((k count place : ℕ) → IsErrOf result (error.UnknownType k count place)
+    → HasFirstFault bytes (kind.UnknownType k count) place)
     → (IsErrOf result error.TooLong → BecomesTooLong options bytes)
     → ((k : ℕ) → IsErrOf result (error.Outdated k) → BecomesOutdated options k bytes)
     → IfErr result (λ e. ExplainsError options bytes e)
@@ -141,8 +129,9 @@ explains_each options bytes (Ok new) a b c d e f g = tt
 explains_each options bytes (Err (error.Types t)) a b c d e f g = a t refl
 explains_each options bytes (Err (error.BadIndex entry index end)) a b c d e f g = b entry index end refl
 explains_each options bytes (Err error.TooMany) a b c d e f g = c refl
-explains_each options bytes (Err error.Malformed) a b c d e f g = d refl
-explains_each options bytes (Err (error.UnknownType k)) a b c d e f g = e k refl
+explains_each options bytes (Err (error.Malformed place)) a b c d e f g = in_module (d place refl)
+explains_each options bytes (Err (error.UnknownType k count place)) a b c d e f g =
+    in_module (e k count place refl)
 explains_each options bytes (Err error.TooLong) a b c d e f g = f refl
 explains_each options bytes (Err (error.Outdated k)) a b c d e f g = g k refl
 explains_each options bytes (Err error.Memory) a b c d e f g = tt

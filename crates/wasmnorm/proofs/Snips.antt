@@ -1,5 +1,5 @@
 -- What follows where functions are not snipped.
-use Rattle.std.proofs.Common.{◌≡◌, ◌∙◌, true, ℕ, ◌+◌, ◌<◌, List, [], ◌∷◌, ◌++◌, length, take, get_or, slice_index_or, Option, None, Some, Result, Ok, Err, ◌⊎◌, inl, inr, refl, sym, ap, subst, arith}
+use Rattle.std.proofs.Common.{◌≡◌, ◌∙◌, true, false, ℕ, ◌+◌, ◌<◌, List, [], ◌∷◌, ◌++◌, length, take, get_or, slice_index_or, Option, None, Some, Result, Ok, Err, ◌⊎◌, inl, inr, refl, sym, ap, subst, arith}
 use Rattle.std.specs.Prelude.{◌==◌, IfErr, IfOk, IfSome, IsErrOf}
 use Rattle.std.specs.List.{AllZip}
 use Rattle.std.specs.Str.Parse.{digits_value}
@@ -12,7 +12,7 @@ use Rattle.walrus_module.specs.Customs.{HasDescriptionAt}
 use Rattle.walrus_module.specs.declared.renaming.Widths.{Widths}
 use Rattle.walrus_module.specs.declared.scan.ScanError.{ScanError}
 use Rattle.walrus_module.specs.declared.scan.ScanError.TheVariants as scan
-use Rattle.walrus_normalise.specs.NormalModules.{IsNormalised, BecomesTooLong}
+use Rattle.walrus_normalise.specs.NormalModules.{IsNormalised, DescriptionsFit, BecomesTooLong}
 use Rattle.walrus_normalise.specs.declared.error.NormaliseModuleError.{NormaliseModuleError}
 use Rattle.walrus_normalise.specs.declared.error.NormaliseModuleError.TheVariants as error
 use Rattle.walrus_normalise.specs.declared.options.Descriptions.TheVariants as descriptions
@@ -27,7 +27,7 @@ use Rattle.wasmnorm.specs.declared.failure.Failure.TheVariants as failure
 use Rattle.wasmnorm.specs.declared.snip_failure.SnipFailure.{SnipFailure}
 use Rattle.wasmnorm.specs.declared.snip_failure.SnipFailure.TheVariants as snips
 use Rattle.wasmnorm.specs.Runs.{IsRefused, IsIllNamed}
-use Rattle.wasmnorm.specs.Snips.{IsIndex, NamesFunction, NameFunctions, by_index, by_name, SnipsNamed, stays, of_named, SectionsFit, BecomesNormal, HasNoNames, OfNamed, SnippingOutdates, CanNotBeSnipped, no_names as nameless, no_functions, long_code, long_result, outdated, MisnamesFunctions, not_one, imported, unknown}
+use Rattle.wasmnorm.specs.Snips.{IsIndex, NamesFunction, NameFunctions, by_index, by_name, SnipsNamed, stays, of_named, SectionsFit, BecomesNormal, HasNoNames, OfNamed, SnippingOutdates, StopsSnipping, CanNotBeSnipped, no_names as nameless, no_functions, long_code, long_result, outdated, MisnamesFunctions, not_one, imported, unknown}
 use Rattle.wasmnorm.specs.Steps.Failures.{ExplainsRun, IsOfStreams, of_module, of_functions, status_of}
 use Rattle.wasmnorm.specs.Steps.Snips.{ExplainsArgument, ExplainsNames, ExplainsNormal, ExplainsRefusal, ExplainsSnip, refusal_status, snip_status}
 use Rattle.wasmnorm.proofs.Failures.{explains_refused, explains_ill_named}
@@ -36,7 +36,7 @@ use Rattle.wasmnorm.proofs.Failures.{explains_refused, explains_ill_named}
 
 refusal_refused :
     (options : NormaliseOptions) (named : List (String Global)) (bytes : List ℕ) (e : SnipError)
-    → ExplainsRefusal options named bytes e → refusal_status e ≡ 1 → CanNotBeSnipped options named bytes
+    → ExplainsRefusal options named bytes e → refusal_status e ≡ 1 → StopsSnipping options named bytes
 refusal_refused options named bytes snip.Malformed why is = no_functions why
 refusal_refused options named bytes (snip.Imported k) why is = absurd (omega (arith, is))
 refusal_refused options named bytes (snip.UnknownFunction k count) why is = absurd (omega (arith, is))
@@ -45,11 +45,11 @@ refusal_refused options named bytes snip.Memory why is = absurd (omega (arith, i
 
 snip_refused :
     (options : NormaliseOptions) (named : List (String Global)) (bytes : List ℕ) (e : SnipFailure)
-    → ExplainsSnip options named bytes e → snip_status e ≡ 1 → CanNotBeSnipped options named bytes
-snip_refused options named bytes snips.NoNames why is = nameless why
+    → ExplainsSnip options named bytes e → snip_status e ≡ 1 → StopsSnipping options named bytes
+snip_refused options named bytes snips.NoNames why is = nameless why.0 why.1
 snip_refused options named bytes (snips.NotOne name functions) why is = absurd (omega (arith, is))
 snip_refused options named bytes (snips.Refused e) why is = refusal_refused options named bytes e why is
-snip_refused options named bytes (snips.Outdated offset) why is = outdated offset why
+snip_refused options named bytes (snips.Outdated offset context) why is = outdated offset why.0
 snip_refused options named bytes snips.TooLong why is = long_result why
 snip_refused options named bytes snips.Memory why is = absurd (omega (arith, is))
 
@@ -68,7 +68,7 @@ snip_misnamed :
 snip_misnamed options named bytes snips.NoNames why is = absurd (omega (arith, is))
 snip_misnamed options named bytes (snips.NotOne name functions) why is = not_one _ functions.items why
 snip_misnamed options named bytes (snips.Refused e) why is = refusal_misnamed options named bytes e why is
-snip_misnamed options named bytes (snips.Outdated offset) why is = absurd (omega (arith, is))
+snip_misnamed options named bytes (snips.Outdated offset context) why is = absurd (omega (arith, is))
 snip_misnamed options named bytes snips.TooLong why is = absurd (omega (arith, is))
 snip_misnamed options named bytes snips.Memory why is = absurd (omega (arith, is))
 
@@ -77,14 +77,16 @@ run_refused :
     → ExplainsRun options named bytes f → status_of f ≡ 1
     → IsRefused options bytes ⊎ CanNotBeSnipped options named bytes
 run_refused options named bytes f (of_module _ why) is = inl (explains_refused options bytes f why is)
-run_refused options named bytes _ (of_functions e why) is = inr (snip_refused options named bytes e why is)
+run_refused options named bytes _ (of_functions e given why) is =
+    inr record { given = given; why = snip_refused options named bytes e why is }
 
 run_ill_named :
     (options : NormaliseOptions) (named : List (String Global)) (bytes : List ℕ) (f : Failure)
     → ExplainsRun options named bytes f → status_of f ≡ 2
-    → IsIllNamed options bytes ⊎ MisnamesFunctions named bytes
+    → IsIllNamed bytes ⊎ MisnamesFunctions named bytes
 run_ill_named options named bytes f (of_module _ why) is = inl (explains_ill_named options bytes f why is)
-run_ill_named options named bytes _ (of_functions e why) is = inr (snip_misnamed options named bytes e why is)
+run_ill_named options named bytes _ (of_functions e given why) is =
+    inr (snip_misnamed options named bytes e why is)
 
 pub known_refused :
     (options : NormaliseOptions) (named : List (String Global)) (known : Option (List ℕ)) (f : Failure)
@@ -100,7 +102,7 @@ pub known_ill_named :
     (options : NormaliseOptions) (named : List (String Global)) (known : Option (List ℕ)) (f : Failure)
     (result : ℕ) → IfSome known (λ bytes. ExplainsRun options named bytes f)
     → (result ≡ status_of f) ⊎ (result ≡ 4) → result ≡ 2
-    → IfSome known (λ bytes. IsIllNamed options bytes ⊎ MisnamesFunctions named bytes)
+    → IfSome known (λ bytes. IsIllNamed bytes ⊎ MisnamesFunctions named bytes)
 known_ill_named options named None f result why status is = tt
 known_ill_named options named (Some bytes) f result why (inl e) is =
     run_ill_named options named bytes f why (sym e ∙ is)
@@ -110,7 +112,7 @@ known_ill_named options named (Some bytes) f result why (inr e) is = absurd (ome
 stream_explains :
     (options : NormaliseOptions) (named : List (String Global)) (bytes : List ℕ) (f : Failure)
     → IsOfStreams f → ExplainsRun options named bytes f
-stream_explains options named bytes (failure.Refused e fault context advice) h = absurd h
+stream_explains options named bytes (failure.Refused e context advice) h = absurd h
 stream_explains options named bytes (failure.Unsnipped e) h = absurd h
 stream_explains options named bytes failure.Memory h = of_module failure.Memory tt
 stream_explains options named bytes failure.Keys h = of_module failure.Keys tt
@@ -205,15 +207,22 @@ pub becomes_normal :
     → SnipsNamed named options.widths bytes written → lent ≡ written → again ≡ written
     → SectionsFit options.descriptions bytes lent
     → IfOk result (λ new. IsNormalised options again (items new))
+    → (options.descriptions ≡ descriptions.Kept → IfOk result (λ new. DescriptionsFit again (items new)))
     → IfOk result (λ new. BecomesNormal options named bytes (items new))
-becomes_normal {A} {E} options named bytes written lent again (Ok new) items is_snipped a b fit normal =
+becomes_normal {A} {E} options named bytes written lent again (Ok new) items is_snipped a b fit normal still =
     record {
       snipped = written;
       snips_named = is_snipped;
       fit = subst (λ (u : List ℕ). SectionsFit options.descriptions bytes u) a fit;
       is_normalised = subst (λ (u : List ℕ). IsNormalised options u (items new)) b normal;
+      still_fit = λ kept. subst (λ (u : List ℕ). DescriptionsFit u (items new)) b (still kept);
     }
-becomes_normal {A} {E} options named bytes written lent again (Err e) items is_snipped a b fit normal = tt
+becomes_normal {A} {E} options named bytes written lent again (Err e) items is_snipped a b fit normal still = tt
+
+pub some_named : (named : List (String Global)) → (length named == 0) ≡ false → named ≡ [] → ⊥
+some_named named fails e =
+    let k : true ≡ false = ap (λ (u : List (String Global)). length u == 0) (sym e) ∙ fails in
+    cc
 
 no_named : (named : List (String Global)) → (length named == 0) ≡ true → named ≡ []
 no_named [] e = refl
@@ -221,12 +230,15 @@ no_named (s ∷ others) e = absurd (omega (arith, eqb-true (length (s ∷ others
 
 pub normal_without_snips :
     (options : NormaliseOptions) (named : List (String Global)) (bytes new : List ℕ)
-    → (length named == 0) ≡ true → IsNormalised options bytes new → BecomesNormal options named bytes new
-normal_without_snips options named bytes new e normal = record {
+    → (length named == 0) ≡ true → IsNormalised options bytes new
+    → (options.descriptions ≡ descriptions.Kept → DescriptionsFit bytes new)
+    → BecomesNormal options named bytes new
+normal_without_snips options named bytes new e normal fit = record {
   snipped = bytes;
   snips_named = stays (no_named named e);
   fit = λ kept. inl refl;
   is_normalised = normal;
+  still_fit = fit;
 }
 
 pub normal_explained :
@@ -238,7 +250,7 @@ normal_explained {A} options named bytes written lent (Err snips.NoNames) is_sni
 normal_explained {A} options named bytes written lent (Err (snips.NotOne name functions)) is_snipped same why =
     absurd why
 normal_explained {A} options named bytes written lent (Err (snips.Refused e)) is_snipped same why = absurd why
-normal_explained {A} options named bytes written lent (Err (snips.Outdated offset)) is_snipped same why =
+normal_explained {A} options named bytes written lent (Err (snips.Outdated offset context)) is_snipped same why =
     absurd why
 normal_explained {A} options named bytes written lent (Err snips.TooLong) is_snipped same why = record {
   snipped = written;
@@ -279,16 +291,17 @@ one_more_named bytes named functions new i k s text lt is same all names e =
 pub argument_explained :
     (named : List (String Global)) (bytes : List ℕ) (i : ℕ) (s : String Global) (text : List ℕ)
     (e : SnipFailure) → i < length named → s ≡ get_or named i s → text ≡ string_bytes s
-    → ExplainsArgument text bytes e → ExplainsNames named bytes e
-argument_explained named bytes i s text snips.NoNames lt is same why = why
-argument_explained named bytes i s text (snips.NotOne name functions) lt is same why = record {
+    → (IsIndex text → ⊥) → ExplainsArgument text bytes e → ExplainsNames named bytes e
+argument_explained named bytes i s text snips.NoNames lt is same other why =
+    ((i, s, lt, sym is, subst (λ (u : List ℕ). IsIndex u → ⊥) same other), why)
+argument_explained named bytes i s text (snips.NotOne name functions) lt is same other why = record {
   given = (i, s, lt, sym is, sym same ∙ sym why.same);
-  is_name = subst (λ (u : List ℕ). IsIndex u → ⊥) (sym why.same) why.is_name;
+  is_name = subst (λ (u : List ℕ). IsIndex u → ⊥) (sym why.same) other;
   all = subst (λ (u : List ℕ). HaveName u functions.items bytes) (sym why.same) why.all;
   ascending = why.ascending;
   not_one = why.not_one;
 }
-argument_explained named bytes i s text (snips.Refused e) lt is same why = absurd why
-argument_explained named bytes i s text (snips.Outdated offset) lt is same why = absurd why
-argument_explained named bytes i s text snips.TooLong lt is same why = absurd why
-argument_explained named bytes i s text snips.Memory lt is same why = tt
+argument_explained named bytes i s text (snips.Refused e) lt is same other why = absurd why
+argument_explained named bytes i s text (snips.Outdated offset context) lt is same other why = absurd why
+argument_explained named bytes i s text snips.TooLong lt is same other why = absurd why
+argument_explained named bytes i s text snips.Memory lt is same other why = tt

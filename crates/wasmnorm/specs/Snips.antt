@@ -13,7 +13,7 @@ use Rattle.walrus_module.specs.declared.renaming.Widths.{Widths}
 use Rattle.walrus_normalise.specs.declared.options.Descriptions.{Descriptions}
 use Rattle.walrus_normalise.specs.declared.options.Descriptions.TheVariants as descriptions
 use Rattle.walrus_normalise.specs.declared.options.NormaliseOptions.{NormaliseOptions}
-use Rattle.walrus_normalise.specs.NormalModules.{IsNormalised, BecomesTooLong}
+use Rattle.walrus_normalise.specs.NormalModules.{IsNormalised, DescriptionsFit, BecomesTooLong}
 use Rattle.walrus_snipping.specs.Functions.{HasNoFunctions}
 use Rattle.walrus_snipping.specs.SnippedModules.{SnipsModule, NamesImported, NamesUnknown, CodeBecomesTooLong}
 use Rattle.walrus_snipping.specs.WithName.{HaveName}
@@ -51,15 +51,21 @@ abbrev pub SectionsFit : Descriptions → List ℕ → List ℕ → Type 0
 SectionsFit kept bytes snipped =
     kept ≡ descriptions.Kept → (snipped ≡ bytes) ⊎ HasNoDescription bytes
 
--- the functions are snipped first, and what that gives is normalised
+-- The functions are snipped first, and what that gives is normalised. Where sections that describe
+-- other bytes are kept, they fit after both.
 pub record BecomesNormal (options : NormaliseOptions) (snips : List (String Global))
     (bytes new : List ℕ) : Type 0 where
   pub snipped : List ℕ
   pub snips_named : SnipsNamed snips options.widths bytes snipped
   pub fit : SectionsFit options.descriptions bytes snipped
   pub is_normalised : IsNormalised options snipped new
+  pub still_fit : options.descriptions ≡ descriptions.Kept → DescriptionsFit snipped new
 
 -- ---- what is refused
+
+-- a function is given by its name
+abbrev pub GivesName : List (String Global) → Type 0
+GivesName snips = Any (λ s. IsIndex (string_bytes s) → ⊥) snips
 
 -- Nothing says which functions have a name: the bytes are no module, or the exports or the names of
 -- functions are malformed.
@@ -99,19 +105,25 @@ pub record SnippedBecomesTooLong (options : NormaliseOptions) (snips : List (Str
   pub snips_named : SnipsNamed snips options.widths bytes snipped
   pub long : BecomesTooLong options snipped
 
--- The module has no functions or no names of them; or snipping or what follows makes a section too
--- long; or a section describes bytes that snipping changes.
-pub data CanNotBeSnipped (options : NormaliseOptions) (snips : List (String Global))
+-- A function is given by its name, and the module has no names; or it has no functions; or snipping
+-- or what follows makes a section too long; or a section describes bytes that snipping changes.
+pub data StopsSnipping (options : NormaliseOptions) (snips : List (String Global))
     (bytes : List ℕ) : Type 0 where
-  no_names : HasNoNames bytes → CanNotBeSnipped options snips bytes
-  no_functions : HasNoFunctions bytes → CanNotBeSnipped options snips bytes
+  no_names : GivesName snips → HasNoNames bytes → StopsSnipping options snips bytes
+  no_functions : HasNoFunctions bytes → StopsSnipping options snips bytes
   long_code :
       OfNamed (λ functions. CodeBecomesTooLong functions options.widths bytes) snips bytes
-      → CanNotBeSnipped options snips bytes
-  long_result : SnippedBecomesTooLong options snips bytes → CanNotBeSnipped options snips bytes
+      → StopsSnipping options snips bytes
+  long_result : SnippedBecomesTooLong options snips bytes → StopsSnipping options snips bytes
   outdated :
       (offset : ℕ) → SnippingOutdates options snips offset bytes
-      → CanNotBeSnipped options snips bytes
+      → StopsSnipping options snips bytes
+
+-- functions are given, and something stops them from being snipped
+pub record CanNotBeSnipped (options : NormaliseOptions) (snips : List (String Global))
+    (bytes : List ℕ) : Type 0 where
+  pub given : snips ≡ [] → ⊥
+  pub why : StopsSnipping options snips bytes
 
 -- An argument is a name, and not that of one function; or the arguments name an imported function,
 -- or an index that no function has.

@@ -1,15 +1,15 @@
 //! What ends a run without a module: its line on standard error and its exit status.
 ghost use Rattle.std.specs.Prelude.{◌≡◌, ◌≤◌, ◌⊎◌};
-ghost use Rattle.wasmnorm.specs.Steps.Failures.{Explains, ExplainsError, HasContext, IsOfStreams, refused_status, fault_status, kind_status, status_of};
+ghost use Rattle.wasmnorm.specs.Steps.Failures.{Explains, ExplainsError, HasContext, IsOfStreams, refused_status, status_of};
 
-use crate::fault::fault_of;
+use crate::fault::first_error;
+use crate::outdated::write_outdated;
 use crate::snip_failure::{SnipFailure, snip_status};
-use command_line::{Context, NamedSection, context_of, context_of_error};
+use error_context::{Context, context_of, context_of_error};
 use std::alloc::{AllocError, Global};
 use std::fmt;
 use std::fmt::Formatter;
 use std::io::{self, ErrorKind, Write};
-use walrus_module::{Fault, FaultKind};
 use walrus_normalise::{NormaliseModuleError, NormaliseOptions, Widths};
 
 /// What ends a run without a module.
@@ -19,8 +19,6 @@ pub enum Failure {
     Refused {
         /// Why.
         error: NormaliseModuleError,
-        /// Where, if another section than that of types is wrong.
-        fault: Option<Fault>,
         /// What else is known of the input.
         context: Context,
         /// What may help.
@@ -73,56 +71,14 @@ impl fmt::Display for Failure {
             }
             Failure::Refused {
                 error,
-                fault,
                 context,
                 advice,
-            } => {
-                match fault {
-                    Some(fault) => write_fault(f, *fault)?,
-                    None => write!(f, "{error}")?,
-                }
-                write!(f, "{context}{advice}")
-            }
+            } => write!(f, "{error}{context}{advice}"),
             Failure::Unsnipped(failure) => write!(f, "{failure}"),
             Failure::Memory => write!(f, "out of memory"),
             Failure::Keys => write!(f, "no random keys"),
             Failure::Input(error) => write!(f, "input failed: {error}"),
             Failure::Output(error) => write!(f, "output failed: {error}"),
-        }
-    }
-}
-
-/// The error `Outdated`, with the name of the section.
-fn write_outdated<W: fmt::Write>(
-    f: &mut Formatter<W>,
-    offset: usize,
-    context: &Context,
-) -> fmt::Result {
-    write!(f, "the custom section")?;
-    if let Context::Within(
-        NamedSection {
-            name: Some(name),
-            ..
-        },
-    ) = context
-    {
-        write!(f, " {name}")?;
-    }
-    write!(f, " at byte {offset} describes bytes that change")
-}
-
-fn write_fault<W: fmt::Write>(f: &mut Formatter<W>, fault: Fault) -> fmt::Result {
-    let offset = fault.offset;
-    match fault.kind {
-        FaultKind::Malformed => write!(f, "byte {offset}: malformed"),
-        FaultKind::UnknownType { index, count: 1 } => {
-            write!(f, "byte {offset}: no type {index}: the module has 1 type")
-        }
-        FaultKind::UnknownType { index, count } => {
-            write!(
-                f,
-                "byte {offset}: no type {index}: the module has {count} types"
-            )
         }
     }
 }
@@ -147,39 +103,29 @@ pub fn refusal(
 ) -> Failure
     ensures explains { ExplainsError options bytes.now error → Explains options bytes.now result }
 {
-    let fault = fault_of(alloc, bytes, error);
+    let error = first_error(alloc, bytes, error);
     Failure::Refused {
         error,
-        fault,
-        context: context_beside(bytes, error, fault),
+        context: context_beside(bytes, error),
         advice: advice_for(options, error),
     }
 }
 
 /// What is known of the input beside an error.
-fn context_beside(bytes: &[u8], error: NormaliseModuleError, fault: Option<Fault>) -> Context
-    ensures { HasContext bytes.now error fault result }
+fn context_beside(bytes: &[u8], error: NormaliseModuleError) -> Context
+    ensures { HasContext bytes.now error result }
 {
     match error {
-        NormaliseModuleError::Types(error) => match fault {
-            Some(fault) => context_of_fault(bytes, fault),
-            None => context_of_error(bytes, error),
-        },
-        NormaliseModuleError::Malformed | NormaliseModuleError::UnknownType { .. } => match fault {
-            Some(fault) => context_of_fault(bytes, fault),
-            None => Context::Nothing,
-        },
+        NormaliseModuleError::Types(error) => context_of_error(bytes, error),
+        // A fault can be at the end of its section. The byte before it is in the section.
+        NormaliseModuleError::Malformed { offset } => {
+            context_of(bytes, offset.saturating_sub(1)).with_proposal(bytes, offset)
+        }
+        NormaliseModuleError::UnknownType { offset, .. } => {
+            context_of(bytes, offset.saturating_sub(1))
+        }
         NormaliseModuleError::Outdated { offset } => context_of(bytes, offset),
         _ => Context::Nothing,
-    }
-}
-
-fn context_of_fault(bytes: &[u8], fault: Fault) -> Context {
-    // A fault can be at the end of its section. The byte before it is in the section.
-    let context = context_of(bytes, fault.offset.saturating_sub(1));
-    match fault.kind {
-        FaultKind::Malformed => context.with_proposal(bytes, fault.offset),
-        FaultKind::UnknownType { .. } => context,
     }
 }
 
@@ -219,43 +165,24 @@ fn status(failure: &Failure) -> u8
     ensures { result ≡ status_of failure.now }
 {
     match failure {
-        Failure::Refused { error, fault, .. } => refusal_status(*error, *fault),
+        Failure::Refused { error, .. } => refusal_status(*error),
         Failure::Unsnipped(failure) => snip_status(failure),
         Failure::Memory => 3,
         Failure::Keys | Failure::Input(_) | Failure::Output(_) => 4,
     }
 }
 
-/// Where a fault comes before what the types' error says, the fault decides.
-fn refusal_status(error: NormaliseModuleError, fault: Option<Fault>) -> u8
-    ensures { result ≡ refused_status error fault }
+fn refusal_status(error: NormaliseModuleError) -> u8
+    ensures { result ≡ refused_status error }
 {
     match error {
-        NormaliseModuleError::Types(_) => fault_status(fault),
-        NormaliseModuleError::Malformed
+        NormaliseModuleError::Types(_)
+        | NormaliseModuleError::Malformed { .. }
         | NormaliseModuleError::TooLong
         | NormaliseModuleError::Outdated { .. } => 1,
         NormaliseModuleError::BadIndex { .. }
         | NormaliseModuleError::TooMany
         | NormaliseModuleError::UnknownType { .. } => 2,
         NormaliseModuleError::Memory => 3,
-    }
-}
-
-fn fault_status(fault: Option<Fault>) -> u8
-    ensures { result ≡ fault_status fault }
-{
-    match fault {
-        Some(fault) => kind_status(fault.kind),
-        None => 1,
-    }
-}
-
-fn kind_status(kind: FaultKind) -> u8
-    ensures { result ≡ kind_status kind }
-{
-    match kind {
-        FaultKind::Malformed => 1,
-        FaultKind::UnknownType { .. } => 2,
     }
 }

@@ -1,5 +1,8 @@
-//! Where a module is wrong outside its type section.
-ghost use Rattle.wasmnorm.specs.Steps.Failures.{IsFaultOf};
+//! The first fault of bytes that are no module, or whose types can't be read.
+ghost use Rattle.std.specs.Prelude.{IfSome};
+ghost use Rattle.walrus_normalise.specs.declared.options.NormaliseOptions.{NormaliseOptions};
+ghost use Rattle.wasmnorm.specs.Runs.{HasFaultBefore};
+ghost use Rattle.wasmnorm.specs.Steps.Failures.{ExplainsError};
 
 use std::alloc::Global;
 use walrus_binary::{DecodeError, module_types, section_around};
@@ -10,31 +13,40 @@ use walrus_ty::GroupAt;
 /// The id of the type section.
 const TYPES: u8 = 1;
 
-/// The first fault of a module that was refused with this error, if it is what the error says, or
-/// if it comes before what the error says.
-pub fn fault_of(alloc: Global, bytes: &[u8], error: NormaliseModuleError) -> Option<Fault>
-    ensures { IsFaultOf bytes.now result }
+/// The number of types where it is not known.
+const UNKNOWN: u32 = u32::MAX;
+
+/// The error of what is wrong first, where a module was refused with this error. Only where the
+/// bytes stop being a module, or its types can't be read, can another section be at fault before.
+pub fn first_error(alloc: Global, bytes: &[u8], error: NormaliseModuleError) -> NormaliseModuleError
+    ensures { (options : NormaliseOptions) → ExplainsError options bytes.now error →
+        ExplainsError options bytes.now result }
 {
-    let count = count_before(alloc, bytes, error)?;
+    let NormaliseModuleError::Types(DecodeError::Malformed { offset, .. }) = error else {
+        return error;
+    };
+    match fault_before(alloc, bytes, offset) {
+        Some(fault) => NormaliseModuleError::from(fault),
+        None => error,
+    }
+}
+
+/// The first fault of the sections before this place, where the bytes stop being a module.
+fn fault_before(alloc: Global, bytes: &[u8], offset: usize) -> Option<Fault>
+    ensures { IfSome result (λ f. HasFaultBefore bytes.now f.kind f.offset) }
+{
+    let count = count_before(alloc, bytes, offset)?;
     let fault = first_fault(alloc, bytes, count)?;
-    if !agrees(error, fault) {
+    if fault.offset > offset || is_unknown(fault.kind) {
         return None;
     }
     Some(fault)
 }
 
-/// The number of types where it is not known.
-const UNKNOWN: u32 = u32::MAX;
-
-/// How many types the sections before the error may name. Where the type section is what is
+/// How many types the sections before the place may name. Where the type section is what is
 /// malformed, its types are not known, and what names them before it is not judged.
-fn count_before(alloc: Global, bytes: &[u8], error: NormaliseModuleError) -> Option<u32> {
-    let NormaliseModuleError::Types(DecodeError::Malformed { offset, .. }) = error else {
-        return type_count(alloc, bytes);
-    };
-    let Some(section) = section_around(bytes, offset) else {
-        return type_count(alloc, bytes);
-    };
+fn count_before(alloc: Global, bytes: &[u8], offset: usize) -> Option<u32> {
+    let section = section_around(bytes, offset)?;
     if section.id == TYPES {
         return Some(UNKNOWN);
     }
@@ -42,7 +54,7 @@ fn count_before(alloc: Global, bytes: &[u8], error: NormaliseModuleError) -> Opt
 }
 
 fn first_fault(alloc: Global, bytes: &[u8], count: u32) -> Option<Fault>
-    ensures { IsFaultOf bytes.now result }
+    ensures { IfSome result (λ f. HasFaultBefore bytes.now f.kind f.offset) }
 {
     match find_module_fault(alloc, bytes, count) {
         Ok(found) => found,
@@ -50,19 +62,11 @@ fn first_fault(alloc: Global, bytes: &[u8], count: u32) -> Option<Fault>
     }
 }
 
-/// Whether the error says the same as a fault, or something that comes later.
-fn agrees(error: NormaliseModuleError, fault: Fault) -> bool {
-    match (error, fault.kind) {
-        (_, FaultKind::UnknownType { count, .. }) if count == UNKNOWN => false,
-        (NormaliseModuleError::Types(DecodeError::Malformed { offset, .. }), _) => {
-            fault.offset <= offset
-        }
-        (NormaliseModuleError::Malformed, FaultKind::Malformed) => true,
-        (
-            NormaliseModuleError::UnknownType { index },
-            FaultKind::UnknownType { index: named, .. },
-        ) => index == named,
-        _ => false,
+/// Whether the fault is a type that is judged by an unknown number of types.
+fn is_unknown(kind: FaultKind) -> bool {
+    match kind {
+        FaultKind::Malformed => false,
+        FaultKind::UnknownType { count, .. } => count == UNKNOWN,
     }
 }
 

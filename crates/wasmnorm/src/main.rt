@@ -3,13 +3,15 @@
 
 ghost use Rattle.std.specs.Prelude.{◌≡◌, ◌<◌, ◌≤◌, ◌⊎◌, IfErr, IfOk, OnOk, IfSome};
 ghost use Rattle.std.specs.Io.KnownBytes.{Appends, Keeps};
-ghost use Rattle.walrus_normalise.specs.NormalModules.{IsNormalised};
+ghost use Rattle.walrus_normalise.specs.NormalModules.{IsNormalised, DescriptionsFit};
+ghost use Rattle.walrus_normalise.specs.declared.options.Descriptions.TheVariants as descriptions;
 ghost use Rattle.wasmnorm.specs.Runs.{IsWritten, IsRefused, IsIllNamed};
 ghost use Rattle.wasmnorm.specs.Snips.{BecomesNormal, CanNotBeSnipped, MisnamesFunctions};
 ghost use Rattle.wasmnorm.specs.Steps.Failures.{ExplainsError, ExplainsRun, status_of};
 
 mod failure;
 mod fault;
+mod outdated;
 mod snip_failure;
 mod snipping;
 mod texts;
@@ -76,7 +78,7 @@ pub fn run<R: Read, W: Write, E: Write>(
     ensures refused { result ≡ 1 → IfSome (R.remaining reader.old)
         (λ bytes. IsRefused options bytes ⊎ CanNotBeSnipped options snips.now bytes) }
     ensures ill_named { result ≡ 2 → IfSome (R.remaining reader.old)
-        (λ bytes. IsIllNamed options bytes ⊎ MisnamesFunctions snips.now bytes) }
+        (λ bytes. IsIllNamed bytes ⊎ MisnamesFunctions snips.now bytes) }
     ensures range { result ≤ 4 }
     ensures unwritten { 0 < result → result < 4 → Keeps (W.contents out.old) (W.contents out.new) }
 {
@@ -146,6 +148,8 @@ fn normal_module(
     bytes: &[u8],
 ) -> Result<Vec<u8>, NormaliseModuleError>
     ensures normal { IfOk result (λ new. IsNormalised options bytes.now new.items) }
+    ensures fits { options.descriptions ≡ descriptions.Kept →
+        IfOk result (λ new. DescriptionsFit bytes.now new.items) }
     ensures refused { IfErr result (λ e. ExplainsError options bytes.now e) }
 {
     normalise_module(alloc, keys, bytes, options)

@@ -2,6 +2,8 @@
 ghost use Rattle.std.specs.Prelude.{◌≡◌};
 ghost use Rattle.wasmnorm.specs.Steps.Snips.{snip_status, refusal_status};
 
+use crate::outdated::write_outdated;
+use error_context::Context;
 use std::alloc::AllocError;
 use std::fmt;
 use std::fmt::Formatter;
@@ -25,6 +27,8 @@ pub enum SnipFailure {
     Outdated {
         /// The place of the first such section.
         offset: usize,
+        /// The section, with its name.
+        context: Context,
     },
     /// In the result a section or a function body would be too long.
     TooLong,
@@ -45,11 +49,14 @@ impl fmt::Display for SnipFailure {
             SnipFailure::Refused(SnipError::Imported { index }) => {
                 write!(f, "function {index} is imported, so it has no body")
             }
+            SnipFailure::Refused(SnipError::UnknownFunction { index, count }) => {
+                write_unknown(f, *index, *count)
+            }
             SnipFailure::Refused(error) => write!(f, "{error}"),
-            SnipFailure::Outdated { offset } => write!(
-                f,
-                "the custom section at byte {offset} describes bytes that change; --strip may help"
-            ),
+            SnipFailure::Outdated { offset, context } => {
+                write_outdated(f, *offset, context)?;
+                write!(f, "; --strip may help")
+            }
             SnipFailure::TooLong => write!(f, "a function body or a section would be too long"),
             SnipFailure::Memory => write!(f, "out of memory"),
         }
@@ -69,6 +76,13 @@ fn write_not_one<W: fmt::Write>(
         write!(f, ", {function}")?;
     }
     Ok(())
+}
+
+fn write_unknown<W: fmt::Write>(f: &mut Formatter<W>, index: u32, count: u64) -> fmt::Result {
+    match count {
+        1 => write!(f, "no function {index}: the module has 1 function"),
+        _ => write!(f, "no function {index}: the module has {count} functions"),
+    }
 }
 
 impl From<AllocError> for SnipFailure {

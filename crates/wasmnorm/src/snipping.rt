@@ -3,13 +3,14 @@ ghost use Rattle.std.specs.Prelude.{◌≡◌, ◌++◌, ◌∷◌, [], false, I
 ghost use Rattle.std.specs.Str.Parse.{digits_value};
 ghost use Rattle.std.specs.List.Sorted.{IsStrictlyIncreasing};
 ghost use Rattle.walrus_module.specs.Customs.{HasDescriptionAt, HasNoDescription};
-ghost use Rattle.walrus_normalise.specs.NormalModules.{IsNormalised};
+ghost use Rattle.walrus_normalise.specs.NormalModules.{IsNormalised, DescriptionsFit};
 ghost use Rattle.walrus_normalise.specs.declared.options.Descriptions.TheVariants as descriptions;
 ghost use Rattle.walrus_snipping.specs.WithName.{HaveName};
 ghost use Rattle.wasmnorm.specs.Snips.{IsIndex, NamesFunction, NameFunctions, SectionsFit, BecomesNormal};
 ghost use Rattle.wasmnorm.specs.Steps.Snips.{begins_with_plus, ExplainsArgument, ExplainsNames, ExplainsSections, ExplainsNormal, ExplainsSnip};
 
 use crate::snip_failure::SnipFailure;
+use error_context::context_of;
 use std::alloc::{AllocError, Global};
 use walrus_module::find_description;
 use walrus_normalise::{
@@ -33,7 +34,8 @@ pub fn snipped_module(
     let functions = named_functions(alloc, bytes, snips)?;
     let snipped = snip_functions(alloc, bytes, functions.as_slice(), options.widths)?;
     if let Some(offset) = outdated_section(options.descriptions, bytes, snipped.as_slice())? {
-        return Err(SnipFailure::Outdated { offset });
+        let context = context_of(bytes, offset);
+        return Err(SnipFailure::Outdated { offset, context });
     }
     normal_form(alloc, keys, options, snipped.as_slice())
 }
@@ -61,6 +63,7 @@ fn note(index: u32, functions: &mut Vec<u32>) -> Result<(), AllocError>
 /// The function that an argument names.
 fn named_function(alloc: Global, bytes: &[u8], argument: &str) -> Result<u32, SnipFailure>
     ensures named { IfOk result (NamesFunction bytes.now argument.now) }
+    ensures is_name { IfErr result (λ e. IsIndex argument.now → ⊥) }
     ensures refused { IfErr result (ExplainsArgument argument.now bytes.now) }
 {
     if let Some(index) = index_of(argument) {
@@ -160,6 +163,8 @@ fn normal_form(
     snipped: &[u8],
 ) -> Result<Vec<u8>, SnipFailure>
     ensures normal { IfOk result (λ new. IsNormalised options snipped.now new.items) }
+    ensures fits { options.descriptions ≡ descriptions.Kept →
+        IfOk result (λ new. DescriptionsFit snipped.now new.items) }
     ensures refused { IfErr result (ExplainsNormal options snipped.now) }
 {
     match normalise_module(alloc, keys, snipped, options) {

@@ -15,12 +15,6 @@ status_range failure.Memory = inr (inl refl)
 status_range (failure.Input error) = inr (inr refl)
 status_range (failure.Output error) = inr (inr refl)
 
-pub both_known :
-    (known : Option ℕ) (P : Type 0) (Q : ℕ → Type 0) → IfSome known (λ place. P) → IfSome known Q →
-    IfSome known (λ place. P × Q place)
-both_known None P Q p q = tt
-both_known (Some place) P Q p q = (p, q)
-
 explains_bad_types : (f : Failure) (bytes : List ℕ) → Explains f bytes → status_of f ≡ 1 → HasBadTypes bytes
 explains_bad_types (failure.Refused (decode.Malformed offset expected) context) bytes why is = why.0
 explains_bad_types (failure.Refused (decode.NotHeld offset what) context) bytes why is = why.0

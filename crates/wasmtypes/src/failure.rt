@@ -4,7 +4,7 @@ ghost use Rattle.walrus_binary.specs.Faults.{error_offset};
 ghost use Rattle.walrus_binary.specs.ModuleSections.{HasBadTypes};
 ghost use Rattle.wasmtypes.specs.Steps.Failures.{Explains, IsOfStreams, decode_status, status_of};
 
-use command_line::{Context, context_of_error};
+use error_context::{Context, context_of_error};
 use std::alloc::AllocError;
 use std::fmt;
 use std::fmt::Formatter;

@@ -12,6 +12,7 @@ fn ids_go_by_their_index(rt: HostRuntime) {
     assert!(rt; two == Id::from_index(2));
     assert!(rt; two != three);
     assert_equal(&rt, two.max(three).index(), 3);
+    assert_equal(&rt, three.place(), 3);
 }
 
 #[test]

@@ -2,7 +2,7 @@
 use crate::assertions::{assert_equal, prints};
 use std::alloc::Global;
 use std::process::Abort;
-use walrus_arena::Tombstone;
+use walrus_id::Tombstone;
 use walrus_ty::{
     ArrayType, CompositeType, Field, FieldType, FunctionType, Id, Listed, Storage, StructType,
     Type, ValType,

@@ -1,8 +1,11 @@
--- The error that an error of a step becomes.
+-- The error that an error of a step becomes, or a fault.
+use Rattle.std.specs.Prelude.{ℕ}
 use Rattle.walrus_binary.specs.declared.error.DecodeError.{DecodeError}
 use Rattle.walrus_binary.specs.declared.error.DecodeError.TheVariants as decode
 use Rattle.walrus_binary.specs.declared.error.EncodeError.{EncodeError}
 use Rattle.walrus_binary.specs.declared.error.EncodeError.TheVariants as encode
+use Rattle.walrus_module.specs.declared.faults.FaultKind.{FaultKind}
+use Rattle.walrus_module.specs.declared.faults.FaultKind.TheVariants as fault
 use Rattle.walrus_module.specs.declared.renaming.RenameError.{RenameError}
 use Rattle.walrus_module.specs.declared.renaming.RenameError.TheVariants as rename
 use Rattle.walrus_sections.specs.declared.error.ReadError.{ReadError}
@@ -13,6 +16,8 @@ use Rattle.walrus_unused.specs.declared.error.NormaliseUsedError.{NormaliseUsedE
 use Rattle.walrus_unused.specs.declared.error.NormaliseUsedError.TheVariants as used
 use Rattle.walrus_normalise.specs.declared.error.NormaliseModuleError.{NormaliseModuleError}
 use Rattle.walrus_normalise.specs.declared.error.NormaliseModuleError.TheVariants as error
+use Rattle.walrus_normalise.specs.declared.refusal.Refusal.{Refusal}
+use Rattle.walrus_normalise.specs.declared.refusal.Refusal.TheVariants as refusal
 
 abbrev pub types_failure : DecodeError → NormaliseModuleError
 types_failure (decode.Malformed offset expected) = error.Types (decode.Malformed offset expected)
@@ -24,21 +29,36 @@ read_failure (read.BadIndex entry index end) = error.BadIndex entry index end
 read_failure read.TooMany = error.TooMany
 read_failure read.Memory = error.Memory
 
-abbrev pub used_failure : NormaliseUsedError → NormaliseModuleError
-used_failure (used.Section e) = read_failure e
-used_failure (used.UnknownRoot index) = error.UnknownType index
-used_failure used.Memory = error.Memory
-
-abbrev pub scan_failure : ScanError → NormaliseModuleError
-scan_failure scan.Malformed = error.Malformed
-scan_failure scan.Memory = error.Memory
-
 abbrev pub encode_failure : EncodeError → NormaliseModuleError
 encode_failure encode.TooMany = error.TooLong
 encode_failure encode.Memory = error.Memory
 
-abbrev pub rename_failure : RenameError → NormaliseModuleError
-rename_failure rename.Malformed = error.Malformed
-rename_failure (rename.UnknownType index) = error.UnknownType index
-rename_failure rename.TooLong = error.TooLong
-rename_failure rename.Memory = error.Memory
+abbrev pub fault_failure : FaultKind → ℕ → NormaliseModuleError
+fault_failure fault.Malformed place = error.Malformed place
+fault_failure (fault.UnknownType index count) place = error.UnknownType index count place
+
+-- ---- where the place of a fault is not known
+
+abbrev pub types_refusal : DecodeError → Refusal
+types_refusal e = refusal.Other (types_failure e)
+
+abbrev pub read_refusal : ReadError → Refusal
+read_refusal e = refusal.Other (read_failure e)
+
+abbrev pub encode_refusal : EncodeError → Refusal
+encode_refusal e = refusal.Other (encode_failure e)
+
+abbrev pub used_refusal : NormaliseUsedError → Refusal
+used_refusal (used.Section e) = read_refusal e
+used_refusal (used.UnknownRoot index) = refusal.Fault
+used_refusal used.Memory = refusal.Other error.Memory
+
+abbrev pub scan_refusal : ScanError → Refusal
+scan_refusal scan.Malformed = refusal.Fault
+scan_refusal scan.Memory = refusal.Other error.Memory
+
+abbrev pub rename_refusal : RenameError → Refusal
+rename_refusal rename.Malformed = refusal.Fault
+rename_refusal (rename.UnknownType index) = refusal.Fault
+rename_refusal rename.TooLong = refusal.Other error.TooLong
+rename_refusal rename.Memory = refusal.Other error.Memory

@@ -9,7 +9,7 @@ ghost use Rattle.walrus_text.specs.Text.{AreIndices, IsText, val_word, field_wor
 ghost use Rattle.walrus_text.specs.Steps.Parts.{BeginsWith, IsSupertypeWord, IsValWord, IsFieldWord, IsCompositeLine, IsSubtypeLine, IsEntryLine};
 
 use crate::parse::value::{after_prefix, field_type, type_index, value_type};
-use crate::words::{is_blank, next_word, word_count, word_count_before};
+use crate::words::{is_blank, next_word, space_count};
 use std::alloc::{AllocError, Global};
 use walrus_ty::{CompAt, EntryAt, FieldAt, Listed, ValAt};
 
@@ -179,14 +179,22 @@ fn values(alloc: Global, line: &[u8]) -> Result<(Vec<ValAt>, &[u8]), AllocError>
     ensures fits { IfOk result (λ read. AreIndices (flat_map val_names read.0.items)) }
     ensures stops { IfOk result (λ read. ¬ BeginsWith IsValWord (words_of read.1.now)) }
 {
-    // Room for each word that can be a value, so that the list need not grow.
-    let mut values = Vec::with_capacity(alloc, word_count_before(line, b"->"))?;
+    // Room for each word, where one space is before each, so that the list need not grow.
+    let mut values = Vec::with_capacity(alloc, space_count(before_arrow(line)))?;
     let mut rest = line;
     while let Some((value, after)) = next_value(rest) {
         values.push(value)?;
         rest = after;
     }
     Ok((values, rest))
+}
+
+/// The bytes up to the space before the last `->`, or all where there is none.
+fn before_arrow(line: &[u8]) -> &[u8] {
+    match line.iter().rposition(|byte| *byte == b'-') {
+        Some(arrow) => &line[..arrow.saturating_sub(1)],
+        None => line,
+    }
 }
 
 /// The value type that a line begins with, and the rest of the line.
@@ -210,8 +218,8 @@ fn fields(alloc: Global, line: &[u8]) -> Result<(Vec<FieldAt>, &[u8]), AllocErro
     ensures fits { IfOk result (λ read. AreIndices (flat_map field_names read.0.items)) }
     ensures stops { IfOk result (λ read. ¬ BeginsWith IsFieldWord (words_of read.1.now)) }
 {
-    // Room for each word, so that the list need not grow.
-    let mut fields = Vec::with_capacity(alloc, word_count(line))?;
+    // Room for each word, where one space is before each, so that the list need not grow.
+    let mut fields = Vec::with_capacity(alloc, space_count(line))?;
     let mut rest = line;
     while let Some((field, after)) = next_field(rest) {
         fields.push(field)?;

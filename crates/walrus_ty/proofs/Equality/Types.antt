@@ -10,7 +10,7 @@ use denote.Enum.Bare.{same_true}
 use Rattle.std.specs.declared.cmp.PartialEq.{Ghosts}
 use Rattle.std.specs.declared.string.String.{String}
 use Rattle.std.specs.declared.alloc.Global.{Global}
-use Rattle.walrus_arena.specs.contracts.id.Key.{the_row as key_row}
+use Rattle.walrus_id.specs.contracts.id.Key.{the_row as key_row}
 use Rattle.walrus_ty.specs.declared.ty.value.AbstractHeapType.{AbstractHeapType}
 use Rattle.walrus_ty.specs.contracts.ty.value.AbstractHeapType.{the_type as abstract_type}
 use Rattle.walrus_ty.specs.contracts.ty.value.AbstractHeapTypePartialEq.TheImpl.{ghosts as abstract_ghosts}
@@ -35,7 +35,6 @@ use Rattle.walrus_ty.specs.contracts.ty.TypePartialEq.TheImpl.{ghosts as type_gh
 use Rattle.walrus_ty.specs.contracts.ty.TypeEq.TheImpl.Laws.{laws-law}
 use Rattle.walrus_ty.specs.contracts.ty.TypeClone.TheImpl.{ghosts as type_clone}
 use Rattle.std.proofs.lemmas.List.Elements.{same_from_all_zip}
-use Rattle.walrus_arena.specs.Set.{ClonesAreEqual}
 use Rattle.walrus_ty.specs.Signature.{Signature}
 use Rattle.walrus_ty.specs.Types.{ModuleType, function}
 use Rattle.walrus_ty.specs.SameTypes.{type_eq, IsSameType}
@@ -235,7 +234,8 @@ unfolding ref
 heap_itself h = ref_itself (ref true h)
 
 -- a clone is the same in all that counts
-pub clones_equal : ClonesAreEqual type_clone.is_clone type_eq
+pub clones_equal :
+    (source copy : ModuleType) → type_clone.is_clone source copy → type_eq source copy ≡ true
 clones_equal source copy clone = eq_from_same source copy (record {
   kind = search (rules, same_from_all_zip);
   is_final = search rules;

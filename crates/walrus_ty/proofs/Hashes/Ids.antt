@@ -10,10 +10,10 @@ use Rattle.walrus_ty.specs.declared.ty.value.Field.{Field}
 use Rattle.walrus_ty.specs.Value.{heap_name, reference_name, val_name, storage_name, field_name}
 use Rattle.walrus_ty.proofs.Hashes.Values as generic
 use denote.Builtin
-use Rattle.walrus_arena.specs.contracts.id.Key
-use Rattle.walrus_arena.specs.contracts.id.KeyHash.TheImpl as id_hash
-use Rattle.walrus_arena.specs.contracts.id.KeyEq.TheImpl as id_eq
-use Rattle.walrus_arena.specs.contracts.id.KeyPartialEq.TheImpl as id_partial_eq
+use Rattle.walrus_id.specs.contracts.id.Key
+use Rattle.walrus_id.specs.contracts.id.KeyHash.TheImpl as id_hash
+use Rattle.walrus_id.specs.contracts.id.KeyEq.TheImpl as id_eq
+use Rattle.walrus_id.specs.contracts.id.KeyPartialEq.TheImpl as id_partial_eq
 use Rattle.walrus_ty.specs.contracts.ty.composite.FunctionTypeHash.TheImpl as function_hash
 use Rattle.walrus_ty.specs.contracts.ty.composite.StructTypeHash.TheImpl as struct_hash
 use Rattle.walrus_ty.specs.contracts.ty.composite.ArrayTypeHash.TheImpl as array_hash

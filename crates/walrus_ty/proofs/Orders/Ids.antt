@@ -2,11 +2,11 @@
 use Rattle.std.proofs.Common.{◌≡◌, ℕ, refl, ap, ◌∙◌}
 use Rattle.std.specs.Ordering.{ordering_then}
 use denote.Builtin
-use Rattle.walrus_arena.specs.contracts.id.Key
-use Rattle.walrus_arena.specs.contracts.id.KeyOrd.TheImpl as id_order
-use Rattle.walrus_arena.specs.contracts.id.KeyEq.TheImpl as id_eq
-use Rattle.walrus_arena.specs.contracts.id.KeyPartialEq.TheImpl as id_partial_eq
-use Rattle.walrus_arena.specs.contracts.id.KeyPartialOrd.TheImpl as id_partial_order
+use Rattle.walrus_id.specs.contracts.id.Key
+use Rattle.walrus_id.specs.contracts.id.KeyOrd.TheImpl as id_order
+use Rattle.walrus_id.specs.contracts.id.KeyEq.TheImpl as id_eq
+use Rattle.walrus_id.specs.contracts.id.KeyPartialEq.TheImpl as id_partial_eq
+use Rattle.walrus_id.specs.contracts.id.KeyPartialOrd.TheImpl as id_partial_order
 use Rattle.std.specs.contracts.prelude.BoolOrd.TheImpl as bool_order
 use Rattle.walrus_ty.specs.contracts.ty.value.HeapOrd.TheImpl as heap_order
 use Rattle.walrus_ty.specs.contracts.ty.value.ReferenceOrd.TheImpl as reference_order

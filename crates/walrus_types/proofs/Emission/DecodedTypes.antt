@@ -9,8 +9,9 @@ use Rattle.walrus_ty.specs.Types.{ModuleType, type_definition}
 use Rattle.walrus_types.specs.TypesById.{TypeSlots, live_type}
 use Rattle.walrus_types.specs.Steps.FreeGroups.{first_of}
 use Rattle.walrus_types.specs.Steps.LosslessKeys.{IsLosslessKey}
-use Rattle.walrus_types.specs.Steps.SortKeys.{SortKey}
-use Rattle.walrus_types.specs.Steps.WrittenGroups.{DecodesToType, with_indices}
+use Rattle.walrus_normal_form.specs.SortKeys.{SortKey}
+use Rattle.walrus_types.specs.Steps.WrittenGroups.{DecodesToType}
+use Rattle.walrus_normal_form.specs.Steps.WritingOrders.{with_indices}
 use Rattle.walrus_sections.proofs.Moves.Swapped.{nameless}
 use Rattle.walrus_types.proofs.Emission.Decoding.{lossless_names}
 use Rattle.walrus_ty.proofs.Basics.{some_inj}

@@ -19,12 +19,13 @@ use Rattle.walrus_ty.specs.declared.ty.value.Storage.TheVariants as storage
 use Rattle.walrus_ty.specs.declared.ty.value.Field.{Field}
 use Rattle.walrus_ty.specs.Signature.{Signature}
 use Rattle.walrus_ty.specs.Definition.{Composite, Function, Struct, Array, Definition, composite_cmp, composite_names, supertype_names, names_of}
-use Rattle.walrus_types.specs.Steps.LosslessKeys.{is_short, has_lossless_key, ranks_in, is_closed, before, after, IsClosedRank}
-use Rattle.walrus_types.specs.Steps.SortKeys.{SortKey, rank, is_named, is_open, heap_place, val_place, storage_place, val_rank, field_rank, marked_items, item_rank, first_rank, after_first, ranks, kind_sort_key, type_sort_key}
+use Rattle.walrus_types.specs.Steps.LosslessKeys.{is_short, has_lossless_key, ranks_in, is_closed, before, after, IsClosedRank, IsClosedFieldRank, IsClosedValRank}
+use Rattle.walrus_normal_form.specs.SortKeys.{SortKey, rank, is_named, is_open, heap_place, val_place, storage_place, val_rank, field_rank, marked_items, item_rank, first_rank, after_first, ranks}
+use Rattle.walrus_types.specs.Steps.SortKeys.{kind_sort_key, type_sort_key}
 use Rattle.walrus_ty.specs.Types.{ModuleType, kind_composite, type_definition}
 use Rattle.walrus_ty.specs.Value.{abstract_index, bool_index, heap_names, val_names, field_names, storage_names, val_cmp, field_cmp}
 use Rattle.walrus_ty.proofs.Names.Definitions.{definition_exact}
-use Rattle.walrus_types.proofs.Emission.SortKeys.{IsRanking, item_cmp, item_ranking, val_ranking, field_ranking, abstract_small, named_is_open, unnamed}
+use Rattle.walrus_normal_form.proofs.Ordering.SortKeys.{IsRanking, item_cmp, item_ranking, val_ranking, field_ranking, abstract_small, named_is_open, unnamed}
 use Rattle.std.proofs.lemmas.List.Sums.{take_while-cons}
 use Rattle.walrus_ty.proofs.Basics.{and_left, and_right, false_from_not}
 
@@ -310,11 +311,11 @@ module _ (f : Signature) (s : is_short (Function f.params f.results) ≡ true)
       map val_rank f.results
   results_ranks = ap (after 1) signature_ranks ∙ after_mark f.params f.results
 
-  params_closed : All (IsClosedRank val_rank) (map val_rank f.params)
+  params_closed : All IsClosedValRank (map val_rank f.params)
   params_closed = all_closed val_rank val_cmp val_names val_ranking val_closed f.params
       (and_left _ _ no_names)
 
-  results_closed : All (IsClosedRank val_rank) (map val_rank f.results)
+  results_closed : All IsClosedValRank (map val_rank f.results)
   results_closed = all_closed val_rank val_cmp val_names val_ranking val_closed f.results
       (and_right _ _ no_names)
 
@@ -343,8 +344,8 @@ kind_closed (kind.Array a) s = ranks_closed field_rank field_cmp field_names fie
 params_asked :
     (k : CompositeType) → is_short (kind_composite k) ≡ true → nameless k ≡ true →
     (kind_sort_key k).0 ≡ 0 →
-    All (IsClosedRank val_rank) (before 1 (before 0 (ranks_in (kind_sort_key k))))
-params_asked (kind.Function f) s h o = subst (λ (ns : List ℕ). All (IsClosedRank val_rank) ns)
+    All IsClosedValRank (before 1 (before 0 (ranks_in (kind_sort_key k))))
+params_asked (kind.Function f) s h o = subst (λ (ns : List ℕ). All IsClosedValRank ns)
     (sym (params_ranks f s h)) (params_closed f s h)
 params_asked (kind.Struct t) s h o = absurd (omega (arith, o))
 params_asked (kind.Array a) s h o = absurd (omega (arith, o))
@@ -352,8 +353,8 @@ params_asked (kind.Array a) s h o = absurd (omega (arith, o))
 results_asked :
     (k : CompositeType) → is_short (kind_composite k) ≡ true → nameless k ≡ true →
     (kind_sort_key k).0 ≡ 0 →
-    All (IsClosedRank val_rank) (after 1 (before 0 (ranks_in (kind_sort_key k))))
-results_asked (kind.Function f) s h o = subst (λ (ns : List ℕ). All (IsClosedRank val_rank) ns)
+    All IsClosedValRank (after 1 (before 0 (ranks_in (kind_sort_key k))))
+results_asked (kind.Function f) s h o = subst (λ (ns : List ℕ). All IsClosedValRank ns)
     (sym (results_ranks f s h)) (results_closed f s h)
 results_asked (kind.Struct t) s h o = absurd (omega (arith, o))
 results_asked (kind.Array a) s h o = absurd (omega (arith, o))
@@ -371,11 +372,11 @@ signature_decoded (kind.Array a) vs ws s h o d e = absurd (omega (arith, o))
 
 fields_asked :
     (k : CompositeType) → is_short (kind_composite k) ≡ true → nameless k ≡ true →
-    (kind_sort_key k).0 ≡ 1 → All (IsClosedRank field_rank) (before 0 (ranks_in (kind_sort_key k)))
+    (kind_sort_key k).0 ≡ 1 → All IsClosedFieldRank (before 0 (ranks_in (kind_sort_key k)))
 fields_asked (kind.Function f) s h o = absurd (omega (arith, o))
 fields_asked (kind.Struct t) s h o =
     let no_names = sym (empty_all field_names t.fields) ∙ h in
-    subst (λ (ns : List ℕ). All (IsClosedRank field_rank) ns)
+    subst (λ (ns : List ℕ). All IsClosedFieldRank ns)
     (sym (ranks_decoded field_rank field_cmp field_names field_ranking field_closed 1 t.fields
     (leb-true (length t.fields) 5 s) no_names))
     (all_closed field_rank field_cmp field_names field_ranking field_closed t.fields no_names)
@@ -396,7 +397,7 @@ fields_decoded (kind.Array a) fs s h o e = absurd (omega (arith, o))
 
 field_asked :
     (k : CompositeType) → nameless k ≡ true → ¬ ((kind_sort_key k).0 ≡ 0) →
-    ¬ ((kind_sort_key k).0 ≡ 1) → IsClosedRank field_rank (kind_sort_key k).1
+    ¬ ((kind_sort_key k).0 ≡ 1) → IsClosedFieldRank (kind_sort_key k).1
 field_asked (kind.Function f) h o p = absurd (o refl)
 field_asked (kind.Struct t) h o p = absurd (p refl)
 field_asked (kind.Array a) h o p = (
@@ -453,12 +454,12 @@ module _ (t : ModuleType) (w : SortKey) (e : w ≡ type_sort_key t)
   kind_not : (n : ℕ) → ¬ (w.0 ≡ n) → ¬ ((kind_sort_key t.kind).0 ≡ n)
   kind_not n o p = o (ap (λ (v : SortKey). v.0) e ∙ p)
 
-  pub asks_params : w.0 ≡ 0 → All (IsClosedRank val_rank) (before 1 (before 0 (ranks_in w)))
-  asks_params o = subst (λ (v : SortKey). All (IsClosedRank val_rank) (before 1 (before 0 (ranks_in v))))
+  pub asks_params : w.0 ≡ 0 → All IsClosedValRank (before 1 (before 0 (ranks_in w)))
+  asks_params o = subst (λ (v : SortKey). All IsClosedValRank (before 1 (before 0 (ranks_in v))))
       (sym e) (params_asked t.kind (lossless_short t h) (lossless_nameless t h) (kind_at 0 o))
 
-  pub asks_results : w.0 ≡ 0 → All (IsClosedRank val_rank) (after 1 (before 0 (ranks_in w)))
-  asks_results o = subst (λ (v : SortKey). All (IsClosedRank val_rank) (after 1 (before 0 (ranks_in v))))
+  pub asks_results : w.0 ≡ 0 → All IsClosedValRank (after 1 (before 0 (ranks_in w)))
+  asks_results o = subst (λ (v : SortKey). All IsClosedValRank (after 1 (before 0 (ranks_in v))))
       (sym e) (results_asked t.kind (lossless_short t h) (lossless_nameless t h) (kind_at 0 o))
 
   pub signature_of_key : (vs ws : List (Val ℕ)) → w.0 ≡ 0 →
@@ -468,8 +469,8 @@ module _ (t : ModuleType) (w : SortKey) (e : w ≡ type_sort_key t)
       (kind_at 0 o) (m ∙ ap (λ v. before 1 (before 0 (ranks_in v))) e) (n
       ∙ ap (λ v. after 1 (before 0 (ranks_in v))) e)
 
-  pub asks_fields : w.0 ≡ 1 → All (IsClosedRank field_rank) (before 0 (ranks_in w))
-  asks_fields o = subst (λ (v : SortKey). All (IsClosedRank field_rank) (before 0 (ranks_in v))) (sym e)
+  pub asks_fields : w.0 ≡ 1 → All IsClosedFieldRank (before 0 (ranks_in w))
+  asks_fields o = subst (λ (v : SortKey). All IsClosedFieldRank (before 0 (ranks_in v))) (sym e)
       (fields_asked t.kind (lossless_short t h) (lossless_nameless t h) (kind_at 1 o))
 
   pub fields_of_key : (fs : List (Field ℕ)) → w.0 ≡ 1 → map field_rank fs ≡ before 0 (ranks_in w) →
@@ -477,8 +478,8 @@ module _ (t : ModuleType) (w : SortKey) (e : w ≡ type_sort_key t)
   fields_of_key fs o m = fields_decoded t.kind fs (lossless_short t h) (lossless_nameless t h) (kind_at 1 o)
       (m ∙ ap (λ v. before 0 (ranks_in v)) e)
 
-  pub asks_field : ¬ (w.0 ≡ 0) → ¬ (w.0 ≡ 1) → IsClosedRank field_rank w.1
-  asks_field o p = subst (λ (v : SortKey). IsClosedRank field_rank v.1) (sym e)
+  pub asks_field : ¬ (w.0 ≡ 0) → ¬ (w.0 ≡ 1) → IsClosedFieldRank w.1
+  asks_field o p = subst (λ (v : SortKey). IsClosedFieldRank v.1) (sym e)
       (field_asked t.kind (lossless_nameless t h) (kind_not 0 o) (kind_not 1 p))
 
   pub field_of_key : (f : Field ℕ) → ¬ (w.0 ≡ 0) → ¬ (w.0 ≡ 1) → field_rank f ≡ w.1 →

@@ -1,5 +1,5 @@
 -- What is written for a table obeys the rule on pairs of its groups.
-use Rattle.std.proofs.Common.{◌≡◌, ℕ, ◌+◌, ◌<◌, ◌≤◌, List, take, length, refl, sym, ap, subst, ◌∙◌, arith, Some, None, Option, IsSome, true, false, Bool, [], ◌∷◌, nat_eq, length-append, All, get_or}
+use Rattle.std.proofs.Common.{◌≡◌, ℕ, ◌+◌, ◌<◌, ◌≤◌, List, take, length, refl, sym, ap, subst, ◌∙◌, arith, Some, None, Option, IsSome, true, false, Bool, [], ◌∷◌, nat_eq, length-append, All, get_or, unwrap_or}
 use Rattle.std.specs.List.{slice_get, slice_index, list_any}
 use Rattle.std.proofs.lemmas.Map.Steps.{length-le_from_distinct_below}
 use Rattle.walrus_types.proofs.Tables.Places.{any_has, live_below}
@@ -24,10 +24,12 @@ use Rattle.walrus_types.specs.Table.{Table, IsTable}
 use Rattle.walrus_types.specs.TableEmission.{type_groups, definition_at, is_entry_at, table_view, written_types, IfNameMissing, IsWrittenId, IsEmitted, MissesFirst}
 use Rattle.walrus_types.specs.declared.emit.order.PendingGroup.{PendingGroup}
 use Rattle.walrus_types.specs.Steps.PendingGroups.{groups_of, places_of}
-use Rattle.walrus_types.specs.Steps.WrittenGroups.{AreWritten, IsMemoryOrMissing, IsApart, FirstMissingIs, IsWritingOrder, ids_in, in_order, id_count}
+use Rattle.walrus_types.specs.Steps.WrittenGroups.{AreWritten, IsMemoryOrMissing}
+use Rattle.walrus_normal_form.specs.Steps.WritingOrders.{IsApart, IsWritingOrder, ids_in, in_order, id_count}
+use Rattle.walrus_normal_form.specs.Steps.MissingNames.{FirstMissingIs}
 use Rattle.walrus_sections.proofs.Emission.WrittenMembers.{written_member}
-use Rattle.walrus_types.proofs.Emission.IndexOfId.{Home, home, member_at}
-use Rattle.walrus_types.proofs.Emission.PairsOfGroups.{at_member, to_member, emission, none_missing, first_missing, placed_member}
+use Rattle.walrus_normal_form.proofs.Writing.IndexOfId.{Home, home, member_at}
+use Rattle.walrus_normal_form.proofs.Writing.PairsOfGroups.{at_member, to_member, emission, none_missing, first_missing, placed_member}
 use Rattle.walrus_types.proofs.Emission.OrderFromSort.{live_member, single, same_member}
 
 module _ (t : Table) (known : IsTable t) (order : List ℕ)
@@ -76,7 +78,8 @@ module _ (t : Table) (known : IsTable t) (order : List ℕ)
   emitted many out x w = record {
     count = w.indexes.count ∙ many;
     section = subst (λ (n : Section). IsEmission (table_view t) n (value_or_zero x.index)) (sym w.section)
-        (emission (table_view t) order ord (single t known) x w.indexes);
+        (emission (table_view t) order ord (single t known) (value_or_zero x.index) (λ i p h.
+        ap (λ (o : Option ℕ). unwrap_or o 0) ((w.indexes.index i p).1 h)));
     has_index = λ id. (from id, to id);
     complete = none_missing (table_view t) order ord w.complete;
   }

@@ -17,18 +17,19 @@ use Rattle.walrus_sections.specs.SlotMap.{TypeGroup}
 use Rattle.walrus_sections.specs.Emission as emission
 use Rattle.walrus_sections.specs.Emission.{TableView, IsMember, IsGrouped, IsWritten, IsFreeGroup, IsInversion, IsWrittenBefore}
 use Rattle.walrus_types.specs.declared.emit.order.PendingGroup.{PendingGroup}
-use Rattle.walrus_types.specs.Steps.PendingGroups.{IsTurnedRound, StandsBefore, pending_groups, places_of}
+use Rattle.walrus_normal_form.specs.Steps.RunStarts.{IsTurnedRound, StandsBefore}
+use Rattle.walrus_types.specs.Steps.PendingGroups.{pending_groups, places_of}
 use Rattle.walrus_ty.specs.Types.{ModuleType, type_definition}
 use Rattle.walrus_types.specs.Table as table
 use Rattle.walrus_types.specs.Table.{Table, IsTable}
 use Rattle.walrus_types.specs.TableEmission.{type_groups, slot_definition, definition_at, slot_is_entry, is_entry_at, table_view}
 use Rattle.walrus_types.specs.Steps.FreeGroups.{is_own_or_dead, slot_names_none_other, is_free_of, is_free_at, head, is_written_at}
-use Rattle.walrus_types.specs.Steps.WrittenGroups.{IsWritingOrder, id_count}
+use Rattle.walrus_normal_form.specs.Steps.WritingOrders.{IsWritingOrder, id_count}
 use Rattle.walrus_sections.specs.Refusal.{written_count}
 use Rattle.walrus_types.proofs.Emission.SortedGroups.{each_group, each_written, moved, onto_written}
 use Rattle.walrus_types.proofs.Emission.WrittenCount.{count_of_order}
 use Rattle.walrus_ty.proofs.Orders.Types.{type_cmp, type_is}
-use Rattle.walrus_types.proofs.Emission.PairsOfGroups.{at_member, to_member}
+use Rattle.walrus_normal_form.proofs.Writing.PairsOfGroups.{at_member, to_member}
 use Rattle.walrus_ty.proofs.Basics.{some_inj, then_less}
 
 -- tests of all and of some elements

@@ -1,22 +1,19 @@
 -- The groups that are written, when they are sorted.
-use Rattle.std.proofs.Common.{◌≡◌, ◌≢◌, ℕ, ◌<◌, List, [], ◌∷◌, ◌++◌, ◌+◌, cond, map, length, refl, sym, ap, subst, ◌∙◌, arith, Some, Option, Bool, true, false, get_or, eqb, All, Contains}
-use Rattle.std.specs.List.{slice_index, filter, range_with_len}
+use Rattle.std.proofs.Common.{◌≡◌, ℕ, ◌<◌, List, [], ◌∷◌, ◌++◌, ◌+◌, cond, map, length, sym, ap, subst, ◌∙◌, arith, Some, Option, Bool, true, false, refl, get_or, All}
+use Rattle.std.specs.List.{slice_get, slice_index, filter, range_with_len}
 use Rattle.std.specs.List.Sorted.{IsPermutation, IsSorted}
 use Rattle.std.specs.Cmp.{IsTotalOrder}
-use Rattle.std.specs.Ordering.{nat_cmp, ordering_then, is_lt}
+use Rattle.std.specs.Ordering.{nat_cmp, ordering_then}
 use Rattle.std.specs.declared.cmp.Ordering.{Ordering}
-use Rattle.std.proofs.lemmas.Bool.{eqb-false}
-use Rattle.std.proofs.lemmas.Cmp.{nat_eq_equiv}
-use Rattle.std.proofs.lemmas.List.{length-map, get_or-map, get_or_default, map-append}
-use Rattle.std.proofs.lemmas.List.Elements.{filter_passes}
-use Rattle.std.proofs.lemmas.List.Sorted.{IsPermutation-map, All-permutation, Contains-permutation, sorted_far, ranks_by}
-use Rattle.std.proofs.lemmas.Map.Keys.{IsDistinct-IsPermutation, apart_from_distinct}
+use Rattle.std.proofs.lemmas.List.{length-map, get_or-map, map-append}
+use Rattle.std.proofs.lemmas.List.Sorted.{All-permutation}
 use Rattle.std.proofs.lemmas.Option.{slice_get_within, get_or_from_slice_get}
 use Rattle.walrus_ty.specs.Types.{ModuleType}
 use Rattle.walrus_types.specs.declared.emit.order.PendingGroup.{PendingGroup}
-use Rattle.walrus_types.specs.Steps.PendingGroups.{StandsBefore, places_of, run_start, start_of}
-use Rattle.walrus_types.proofs.Emission.FilteredPlaces.{filter_onto, in_range, kept_distinct, kept_more, left_out}
-use Rattle.walrus_types.proofs.Emission.NeighboursInOrder.{NotLess, stands}
+use Rattle.walrus_normal_form.specs.Steps.RunStarts.{StandsBefore, run_start, start_of}
+use Rattle.walrus_types.specs.Steps.PendingGroups.{places_of}
+use Rattle.walrus_normal_form.proofs.Ordering.FilteredPlaces.{kept_more, left_out}
+use Rattle.walrus_normal_form.proofs.Ordering.SortedPlaces as sorted
 
 module _ (free written : ℕ → Bool) (head : ℕ → Option ModuleType) (n : ℕ) where
   abbrev group : ℕ → PendingGroup
@@ -24,6 +21,9 @@ module _ (free written : ℕ → Bool) (head : ℕ → Option ModuleType) (n : �
 
   abbrev kept : List ℕ
   kept = filter written (range_with_len 0 n)
+
+  abbrev place : PendingGroup → ℕ
+  place p = p.place
 
   places_back : (ks : List ℕ) → places_of (map group ks) ≡ ks
   places_back [] = refl
@@ -40,32 +40,29 @@ module _ (free written : ℕ → Bool) (head : ℕ → Option ModuleType) (n : �
     order = places_of ps
 
     pub moved : IsPermutation kept order
-    moved = subst (λ (ns : List ℕ). IsPermutation ns order) (places_back kept)
-        (IsPermutation-map (λ (p : PendingGroup). p.place) (map group kept) ps perm)
+    moved = sorted.moved place written n (map group kept) ps perm (places_back kept)
 
     pub each_group : All (λ (p : PendingGroup). p ≡ group p.place) ps
     each_group = All-permutation (λ (p : PendingGroup). p ≡ group p.place) (map group kept) ps perm (own kept)
 
     pub each_written : (a : ℕ) → a < length order → written (slice_index order a) ≡ true
-    each_written a below = All-permutation (λ (g : ℕ). written g ≡ true) kept order moved
-        (filter_passes written (range_with_len 0 n)) a 0 below
+    each_written = sorted.each_written place written n (map group kept) ps perm (places_back kept)
 
     pub onto_written : (g : ℕ) → g < n → written g ≡ true → (a : ℕ) × (a < length order)
         × (slice_index order a ≡ g)
-    onto_written g below test =
-        let r : _ = filter_onto written (range_with_len 0 n) g g (in_range n g below) test in
-        let among : Contains kept g = (
-          r.0,
-          slice_get_within kept r.0 g r.1,
-          get_or_from_slice_get kept r.0 g g r.1,
-        ) in
-        let k : Contains order g = Contains-permutation kept order g moved among in
-        (k.0, k.1, get_or_default order k.0 0 g k.1 ∙ k.2)
+    onto_written = sorted.onto_written place written n (map group kept) ps perm (places_back kept)
 
-    other : (a b : ℕ) → a < b → b < length order → slice_index order a ≢ slice_index order b
-    other a b less below = eqb-false (slice_index order a) (slice_index order b)
-        (apart_from_distinct eqb order a b 0 (IsDistinct-IsPermutation eqb (λ x y. nat_eq_equiv.symm x y) kept
-        order moved (kept_distinct written n)) less below)
+    place_at : (a : ℕ) (p : PendingGroup) → slice_get ps a ≡ Some p → slice_index order a ≡ p.place
+    place_at = sorted.place_at place written n (map group kept) ps perm (places_back kept)
+
+    head_at : (a : ℕ) (p : PendingGroup) → slice_get ps a ≡ Some p → p.head ≡ head (slice_index order a)
+    head_at a p at =
+        let is : p ≡ group p.place = subst (λ (q : PendingGroup). q ≡ group q.place)
+        (get_or_from_slice_get ps a p p at) (each_group a p (slice_get_within ps a p at)) in
+        ap (λ (q : PendingGroup). q.head) is ∙ ap head (sym (place_at a p at))
+
+    starts : All (λ (p : PendingGroup). p.start ≡ start_of free p.place) (map group kept)
+    starts k d lt = ap (λ (p : PendingGroup). p.start) (own kept k d lt)
 
     module _ (cmp : ModuleType → ModuleType → Ordering) (total : IsTotalOrder cmp) (o : Option ModuleType →
         Option ModuleType → Ordering) (agree : (x y : ModuleType) → o (Some x) (Some y) ≡ cmp x y) where
@@ -77,26 +74,19 @@ module _ (free written : ℕ → Bool) (head : ℕ → Option ModuleType) (n : �
           (x y : ModuleType) → head (slice_index order a) ≡ Some x → head (slice_index order b) ≡ Some y →
           StandsBefore cmp free (slice_index order a) x (slice_index order b) y
       stands_sorted total_key up a b less below x y at_a at_b =
-          let d : PendingGroup = group 0 in
-          let g : ℕ = slice_index order a in
-          let h : ℕ = slice_index order b in
-          let below_b : b < length ps = omega (arith, below, length-map ps (λ (p : PendingGroup). p.place)) in
-          let below_a : a < length ps = omega (arith, less, below_b) in
-          let is_g : get_or ps a d ≡ group g = each_group a d below_a
-          ∙ ap group (sym (get_or-map (λ (p : PendingGroup). p.place) ps a d 0 below_a)) in
-          let is_h : get_or ps b d ≡ group h = each_group b d below_b
-          ∙ ap group (sym (get_or-map (λ (p : PendingGroup). p.place) ps b d 0 below_b)) in
-          let far : is_lt (key_cmp (get_or ps b d) (get_or ps a d)) ≡ false =
-          sorted_far (λ (p q : PendingGroup). is_lt (key_cmp p q)) (ranks_by total_key (λ t. t)) ps up a b
-          d (omega (arith, less)) below_b in
-          let at_g : is_lt (key_cmp (get_or ps b d) (group g)) ≡ false =
-          subst (λ (p : PendingGroup). is_lt (key_cmp (get_or ps b d) p) ≡ false) is_g far in
-          let at_h : is_lt (key_cmp (group h) (group g)) ≡ false =
-          subst (λ (p : PendingGroup). is_lt (key_cmp p (group g)) ≡ false) is_h at_g in
-          let heads : o (head h) (head g) ≡ cmp y x = ap (λ (t : Option ModuleType). o t (head g)) at_b
-          ∙ (ap (o (Some y)) at_a ∙ agree y x) in
-          stands cmp total free g h x y (other a b less below)
-          (subst (λ (r : Ordering). NotLess (start_of free h) (start_of free g) r h g) heads at_h)
+          let many : length order ≡ length ps = length-map ps place in
+          let p = sorted.at_place ps a (omega (arith, less, below, many)) in
+          let q = sorted.at_place ps b (omega (arith, below, many)) in
+          let heads : o q.0.head p.0.head ≡ cmp y x =
+          ap (λ (t : Option ModuleType). o t p.0.head) (head_at b q.0 q.1 ∙ at_b)
+          ∙ (ap (o (Some y)) (head_at a p.0 p.1 ∙ at_a) ∙ agree y x) in
+          let before : StandsBefore cmp free p.0.place x q.0.place y =
+          sorted.stands_sorted place written n (map group kept) ps perm (places_back kept) free
+          (λ (r : PendingGroup). r.start) key_cmp cmp total starts total_key up a b less p.0 q.0 x y p.1 q.1
+          (ap (λ (r : Ordering). ordering_then (nat_cmp q.0.start p.0.start) (ordering_then r
+          (nat_cmp q.0.place p.0.place))) heads) in
+          subst (λ (g : ℕ). StandsBefore cmp free g x (slice_index order b) y) (sym (place_at a p.0 p.1))
+          (subst (λ (h : ℕ). StandsBefore cmp free p.0.place x h y) (sym (place_at b q.0 q.1)) before)
 
 -- the next group, where it is written and where it is not
 

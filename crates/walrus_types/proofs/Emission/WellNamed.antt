@@ -17,7 +17,7 @@ use Rattle.walrus_ty.specs.Records.{section_of}
 use Rattle.walrus_ty.proofs.Names.Definitions.{named_before, names_same}
 use Rattle.walrus_sections.specs.Section.{IndexSpace, index_space, NamesBelowEnds, IsWellNamed}
 use Rattle.walrus_sections.specs.SlotMap.{TypeGroup}
-use Rattle.walrus_sections.specs.Emission.{TableView, no_group, group_at, IsMember, IsWritten, WrittenMember, IsWrittenBefore, IsEmission}
+use Rattle.walrus_sections.specs.Emission.{TableView, no_group, group_at, IsMember, WrittenMember, IsWrittenBefore, IsEmission}
 use Rattle.walrus_sections.specs.Refusal.{NameUse, HasIndexBy, IsMissing, written_count}
 use Rattle.walrus_sections.proofs.Sections.Lying.{IsLaidOut}
 use Rattle.walrus_sections.proofs.Sections.Rows.{laid_out}

@@ -24,13 +24,15 @@ use Rattle.walrus_types.specs.TableEmission.{contents, type_groups}
 use Rattle.walrus_types.specs.Steps.FreeGroups.{head}
 use Rattle.walrus_types.specs.Steps.LosslessKeys.{IsLosslessKey}
 use Rattle.walrus_types.specs.Steps.PendingGroups.{groups_of, places_of}
-use Rattle.walrus_types.specs.Steps.SortKeys.{SortKey}
+use Rattle.walrus_normal_form.specs.SortKeys.{SortKey}
 use Rattle.walrus_types.proofs.Emission.DecodedTypes.{head_key}
 use Rattle.walrus_ty.specs.Records.{group_of, section_of}
 use Rattle.walrus_sections.specs.Refusal.{NameUse}
-use Rattle.walrus_types.specs.Steps.WrittenGroups.{AllIndexed, AreWritten, IsMemoryOrMissing, IsApart, FirstMissingIs, IsFirstUnindexed, IsMissingIn, IndexPrecedes, DecodesToType, ids_in, with_indices, written_group}
+use Rattle.walrus_types.specs.Steps.WrittenGroups.{AllIndexed, AreWritten, IsMemoryOrMissing, IsFirstUnindexed, DecodesToType}
+use Rattle.walrus_normal_form.specs.Steps.WritingOrders.{IsApart, ids_in, with_indices, written_group}
+use Rattle.walrus_normal_form.specs.Steps.MissingNames.{FirstMissingIs, IsMissingIn, IndexPrecedes}
 use Rattle.walrus_ty.proofs.Names.Definitions.{rename_agree}
-use Rattle.walrus_types.proofs.Emission.IndexOfId.{member_at}
+use Rattle.walrus_normal_form.proofs.Writing.IndexOfId.{member_at}
 use Rattle.walrus_ty.proofs.Basics.{some_inj, slice_get-left}
 
 pub IsMemoryOrMissing-weaker :

@@ -1,5 +1,4 @@
 -- What a type of the table is looked for by.
-use Rattle.std.specs.Prelude.{ℕ}
 use Rattle.walrus_ty.specs.Types.{ModuleType}
 use Rattle.walrus_types.specs.Table.{IsNamed, IsPlainFunction, IsEntryType}
 use Rattle.walrus_types.specs.declared.table.find.Wanted.{Wanted}

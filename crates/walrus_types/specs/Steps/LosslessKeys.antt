@@ -6,7 +6,8 @@ use Rattle.std.specs.Prelude.{◌≡◌, ℕ, ◌+◌, ◌==◌, nat_le, Bool, t
 use Rattle.std.specs.List.{list_all, before_first, after_first}
 use Rattle.walrus_ty.specs.Definition.{Composite, Function, Struct, Array, Definition, names_of}
 use Rattle.walrus_ty.specs.Types.{ModuleType, type_definition}
-use Rattle.walrus_types.specs.Steps.SortKeys.{SortKey, is_open, type_sort_key}
+use Rattle.walrus_normal_form.specs.SortKeys.{SortKey, field_rank, is_open, val_rank}
+use Rattle.walrus_types.specs.Steps.SortKeys.{type_sort_key}
 
 -- whether all of it is ranked: at most five fields, or at most four parameters and results and the
 -- mark between them
@@ -38,6 +39,12 @@ after k ns = after_first (λ n. n == k) ns
 -- n is the rank of something that names no type
 abbrev pub IsClosedRank : {A : Type 0} → (A → ℕ) → ℕ → Type 0
 IsClosedRank {A = A} r n = (x : A) × (r x ≡ n) × (is_open n ≡ false)
+
+abbrev pub IsClosedValRank : ℕ → Type 0
+IsClosedValRank n = IsClosedRank (val_rank {A = ℕ}) n
+
+abbrev pub IsClosedFieldRank : ℕ → Type 0
+IsClosedFieldRank n = IsClosedRank (field_rank {A = ℕ}) n
 
 -- the key is that of this type, and has all of it
 pub record IsLosslessKey (w : SortKey) (ty : ModuleType) : Type 0 where

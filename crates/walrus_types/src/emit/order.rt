@@ -9,12 +9,13 @@ ghost use Rattle.walrus_types.specs.declared.emit.order.PendingGroup.{PendingGro
 ghost use Rattle.walrus_types.specs.Steps.FreeGroups.{head};
 ghost use Rattle.walrus_types.specs.Steps.LosslessKeys.{IsLosslessKey};
 ghost use Rattle.walrus_types.specs.Steps.PendingGroups.{pending_groups, places_of};
-ghost use Rattle.walrus_types.specs.Steps.WrittenGroups.{IsWritingOrder, id_count};
+ghost use Rattle.walrus_normal_form.specs.Steps.WritingOrders.{IsWritingOrder, id_count};
 
 use super::free::{head_of, is_free_group, is_written_group};
-use super::sort_key::{KeyedType, SortKey};
+use super::sort_key::KeyedType;
 use crate::{ModuleTypes, RecGroup};
 use std::alloc::{AllocError, Global};
+use walrus_normal_form::sort_key::SortKey;
 
 // A group that is to be written: where its run begins, its first type, and its place. They are
 // sorted by these in turn: each run of free groups by their first types. All others stay.

@@ -1,5 +1,4 @@
-//! Sort keys of types: a few small numbers, by which most types differ before their lists are
-//! compared.
+//! Types with their sort keys.
 //!
 //! Of two types the one with the lesser key is less. A lossless key has all of its type: `decode`
 //! makes the type's record from the key alone.
@@ -18,10 +17,7 @@ pub(super) use decoding::decode;
 use encoding::{encode, has_lossless_key};
 use std::cmp::Ordering;
 use std::marker::Model;
-
-// The kind of a type, and a rank for each of its first five fields, or of its parameters, a mark
-// and its results: less for a lesser one. Behind one that names a type all are 0.
-pub(super) type SortKey = (u8, u8, u8, u8, u8, u8);
+use walrus_normal_form::sort_key::SortKey;
 
 // A type with its key, and whether this is lossless. It compares as the type does.
 #[derive(Drop)]

@@ -13,15 +13,18 @@ ghost use Rattle.walrus_ty.specs.Indices.{IsEmpty, type_index, type_indices, fun
 ghost use Rattle.walrus_ty.specs.Lookups.{first_missing};
 ghost use Rattle.walrus_sections.specs.SlotMap.{TypeGroup};
 ghost use Rattle.walrus_ty.specs.Records.{entry_definition, group_of};
-ghost use Rattle.walrus_types.specs.Steps.WrittenGroups.{AllIndexed, AreWritten, IsMemoryOrMissing, IsApart, FirstMissingIs, IsFirstUnindexed, IsLone, RefusesType, DecodesToType, ids_in, with_indices, emit_error, written_group};
+ghost use Rattle.walrus_types.specs.Steps.WrittenGroups.{AllIndexed, AreWritten, IsMemoryOrMissing, IsFirstUnindexed, IsLone, RefusesType, DecodesToType, emit_error};
+ghost use Rattle.walrus_normal_form.specs.Steps.WritingOrders.{IsApart, ids_in, with_indices, written_group};
+ghost use Rattle.walrus_normal_form.specs.Steps.MissingNames.{FirstMissingIs};
 
 use super::order::PendingGroup;
-use super::sort_key::{SortKey, decode};
+use super::sort_key::decode;
 use crate::{
     EmitError, EntryAt, GroupAt, IdsToIndices, Listed, ModuleTypes, NoIndex, RecGroup,
     ToRecordError, TypeId,
 };
 use std::alloc::{AllocError, Global};
+use walrus_normal_form::sort_key::SortKey;
 
 // The records of these groups in order. Each type of a group has its index before the group is
 // written.

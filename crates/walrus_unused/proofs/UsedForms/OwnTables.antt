@@ -5,7 +5,7 @@ use Rattle.std.specs.Map.{lookup}
 use Rattle.std.proofs.lemmas.Bool.{cases_lt}
 use Rattle.std.proofs.lemmas.List.{get_or-map, length-map}
 use Rattle.std.proofs.lemmas.List.FromFn.{length-range_with_len, get_or-range_with_len}
-use Rattle.walrus_arena.specs.HashKeys.{fixed_hasher}
+use Rattle.walrus_id.specs.HashKeys.{fixed_hasher}
 use Rattle.walrus_ty.proofs.Basics.{some_inj}
 use Rattle.walrus_ty.specs.Groups.{Section}
 use Rattle.walrus_ty.specs.SameTypes.{type_eq}

@@ -1,6 +1,6 @@
 use Rattle.std.proofs.Common.{sym}
 use Rattle.wasmnorm.specs.Steps.Failures.{of_module, of_functions}
-use Rattle.wasmnorm.proofs.Snips.{normal_without_snips}
+use Rattle.wasmnorm.proofs.Snips.{normal_without_snips, some_named}
 use Rattle.wasmnorm.proofs.new_module.Goals as goal
 
 pub returns-in-Err-clause-refused : goal.returns-in-Err-clause-refused
@@ -10,8 +10,9 @@ returns-in-Err-clause-refused c =
 pub returns-then-is_empty-clause-normal : goal.returns-then-is_empty-clause-normal
 returns-then-is_empty-clause-normal c =
     normal_without_snips c.args.options c.args.snips.now c.args.bytes.now c.in-Ok.module.items
-    (sym c.if-is_empty.ensures) c.in-Ok.ensures.normal
+    (sym c.if-is_empty.ensures) c.in-Ok.ensures.normal c.in-Ok.ensures.fits
 
 pub returns-in-Err-snipped_module-clause-refused : goal.returns-in-Err-snipped_module-clause-refused
 returns-in-Err-snipped_module-clause-refused c =
-    of_functions c.in-Err-snipped_module.failure c.in-Err-snipped_module.ensures.refused
+    of_functions c.in-Err-snipped_module.failure (some_named c.args.snips.now (sym c.if-is_empty.ensures))
+    c.in-Err-snipped_module.ensures.refused

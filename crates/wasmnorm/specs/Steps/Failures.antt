@@ -1,20 +1,17 @@
 -- What a failure says of the bytes, `Explains`, and the exit status that it has.
-use Rattle.std.specs.Prelude.{ℕ, List, Option, Some, None, IfSome}
+use Rattle.std.specs.Prelude.{◌≡◌, ℕ, ◌-◌, List, []}
 use Rattle.std.specs.declared.alloc.Global.{Global}
 use Rattle.std.specs.declared.string.String.{String}
-use Rattle.walrus_binary.specs.Faults.{error_offset}
 use Rattle.walrus_binary.specs.ModuleSections.{HasBadTypesBy}
-use Rattle.walrus_module.specs.declared.faults.Fault.{Fault}
-use Rattle.walrus_module.specs.declared.faults.FaultKind.{FaultKind}
-use Rattle.walrus_module.specs.declared.faults.FaultKind.TheVariants as kind
-use Rattle.walrus_module.specs.ModuleFaults.{IsModuleFault}
+use Rattle.walrus_module.specs.declared.faults.FaultKind.TheVariants as fault
 use Rattle.walrus_normalise.specs.declared.options.NormaliseOptions.{NormaliseOptions}
 use Rattle.walrus_sections.specs.declared.error.ReadError.TheVariants as read
-use Rattle.walrus_normalise.specs.NormalModules.{HasFirstError, LeavesMalformed, NamesUnknownType, BecomesTooLong, BecomesOutdated}
+use Rattle.walrus_normalise.specs.NormalModules.{HasFirstError, BecomesTooLong, BecomesOutdated}
 use Rattle.walrus_normalise.specs.declared.error.NormaliseModuleError.{NormaliseModuleError}
 use Rattle.walrus_normalise.specs.declared.error.NormaliseModuleError.TheVariants as error
-use Rattle.command_line.specs.declared.context.Context.{Context}
-use Rattle.command_line.specs.Contexts.{IsContext, IsErrorContext}
+use Rattle.error_context.specs.declared.context.Context.{Context}
+use Rattle.error_context.specs.Contexts.{IsContext, IsErrorContext}
+use Rattle.wasmnorm.specs.Runs.{IsAtFault}
 use Rattle.wasmnorm.specs.Steps.Snips.{ExplainsSnip, snip_status}
 use Rattle.wasmnorm.specs.declared.snip_failure.SnipFailure.{SnipFailure}
 use Rattle.wasmnorm.specs.declared.failure.Failure.{Failure}
@@ -26,33 +23,29 @@ ExplainsError options bytes (error.Types e) = HasBadTypesBy bytes e
 ExplainsError options bytes (error.BadIndex entry index end) =
     HasFirstError bytes (read.BadIndex entry index end)
 ExplainsError options bytes error.TooMany = HasFirstError bytes read.TooMany
-ExplainsError options bytes error.Malformed = LeavesMalformed options bytes
-ExplainsError options bytes (error.UnknownType index) = NamesUnknownType options index bytes
+ExplainsError options bytes (error.Malformed place) = IsAtFault bytes fault.Malformed place
+ExplainsError options bytes (error.UnknownType index count place) =
+    IsAtFault bytes (fault.UnknownType index count) place
 ExplainsError options bytes error.TooLong = BecomesTooLong options bytes
 ExplainsError options bytes (error.Outdated offset) = BecomesOutdated options offset bytes
 ExplainsError options bytes error.Memory = Unit {0}
 
--- the context that it is reported with, where no fault comes before it
-abbrev pub HasContext : List ℕ → NormaliseModuleError → Option Fault → Context → Type 0
-HasContext bytes (error.Types e) (Some f) context = Unit {0}
-HasContext bytes (error.Types e) None context =
-    IfSome (error_offset e) (λ place. IsErrorContext context bytes place)
-HasContext bytes (error.BadIndex entry index end) fault context = Unit {0}
-HasContext bytes error.TooMany fault context = Unit {0}
-HasContext bytes error.Malformed fault context = Unit {0}
-HasContext bytes (error.UnknownType index) fault context = Unit {0}
-HasContext bytes error.TooLong fault context = Unit {0}
-HasContext bytes (error.Outdated offset) fault context = IsContext context bytes offset
-HasContext bytes error.Memory fault context = Unit {0}
-
--- where another section than that of types is wrong, for some number of types
-abbrev pub IsFaultOf : List ℕ → Option Fault → Type 0
-IsFaultOf bytes fault = IfSome fault (λ f. (count : ℕ) × IsModuleFault count bytes f.kind f.offset)
+-- the context that it is reported with
+abbrev pub HasContext : List ℕ → NormaliseModuleError → Context → Type 0
+HasContext bytes (error.Types e) context = IsErrorContext context bytes e
+HasContext bytes (error.BadIndex entry index end) context = Unit {0}
+HasContext bytes error.TooMany context = Unit {0}
+HasContext bytes (error.Malformed place) context = Unit {0}
+HasContext bytes (error.UnknownType index count place) context =
+    IsContext context bytes (place - 1)
+HasContext bytes error.TooLong context = Unit {0}
+HasContext bytes (error.Outdated offset) context = IsContext context bytes offset
+HasContext bytes error.Memory context = Unit {0}
 
 -- what a failure says of the bytes, before anything is snipped
 abbrev pub Explains : NormaliseOptions → List ℕ → Failure → Type 0
-Explains options bytes (failure.Refused e fault context advice) =
-    ExplainsError options bytes e × HasContext bytes e fault context × IsFaultOf bytes fault
+Explains options bytes (failure.Refused e context advice) =
+    ExplainsError options bytes e × HasContext bytes e context
 Explains options bytes (failure.Unsnipped e) = ⊥
 Explains options bytes failure.Memory = Unit {0}
 Explains options bytes failure.Keys = Unit {0}
@@ -64,30 +57,21 @@ pub data ExplainsRun (options : NormaliseOptions) (snips : List (String Global))
     Failure → Type 0 where
   of_module : (f : Failure) → Explains options bytes f → ExplainsRun options snips bytes f
   of_functions :
-      (e : SnipFailure) → ExplainsSnip options snips bytes e
+      (e : SnipFailure) → (snips ≡ [] → ⊥) → ExplainsSnip options snips bytes e
       → ExplainsRun options snips bytes (failure.Unsnipped e)
 
-abbrev pub kind_status : FaultKind → ℕ
-kind_status kind.Malformed = 1
-kind_status (kind.UnknownType index count) = 2
-
-abbrev pub fault_status : Option Fault → ℕ
-fault_status (Some f) = kind_status f.kind
-fault_status None = 1
-
--- of an error, and of a fault that comes before what the types' error says
-abbrev pub refused_status : NormaliseModuleError → Option Fault → ℕ
-refused_status (error.Types e) fault = fault_status fault
-refused_status (error.BadIndex entry index end) fault = 2
-refused_status error.TooMany fault = 2
-refused_status error.Malformed fault = 1
-refused_status (error.UnknownType index) fault = 2
-refused_status error.TooLong fault = 1
-refused_status (error.Outdated offset) fault = 1
-refused_status error.Memory fault = 3
+abbrev pub refused_status : NormaliseModuleError → ℕ
+refused_status (error.Types e) = 1
+refused_status (error.BadIndex entry index end) = 2
+refused_status error.TooMany = 2
+refused_status (error.Malformed place) = 1
+refused_status (error.UnknownType index count place) = 2
+refused_status error.TooLong = 1
+refused_status (error.Outdated offset) = 1
+refused_status error.Memory = 3
 
 abbrev pub status_of : Failure → ℕ
-status_of (failure.Refused e fault context advice) = refused_status e fault
+status_of (failure.Refused e context advice) = refused_status e
 status_of (failure.Unsnipped e) = snip_status e
 status_of failure.Memory = 3
 status_of failure.Keys = 4
@@ -96,7 +80,7 @@ status_of (failure.Output error) = 4
 
 -- it says nothing of the bytes: a stream failed, or memory was refused
 abbrev pub IsOfStreams : Failure → Type 0
-IsOfStreams (failure.Refused e fault context advice) = ⊥
+IsOfStreams (failure.Refused e context advice) = ⊥
 IsOfStreams (failure.Unsnipped e) = ⊥
 IsOfStreams failure.Memory = Unit {0}
 IsOfStreams failure.Keys = Unit {0}

@@ -11,7 +11,8 @@ use Rattle.walrus_snipping.specs.SnippedModules.{NamesImported, NamesUnknown, Co
 use Rattle.walrus_snipping.specs.declared.error.SnipError.{SnipError}
 use Rattle.walrus_snipping.specs.declared.error.SnipError.TheVariants as snip
 use Rattle.walrus_snipping.specs.WithName.{HaveName}
-use Rattle.wasmnorm.specs.Snips.{IsIndex, HasNoNames, NamesNotOne, OfNamed, SnippingOutdates, SnippedBecomesTooLong}
+use Rattle.error_context.specs.Contexts.{IsContext}
+use Rattle.wasmnorm.specs.Snips.{GivesName, HasNoNames, NamesNotOne, OfNamed, SnippingOutdates, SnippedBecomesTooLong}
 use Rattle.wasmnorm.specs.declared.snip_failure.SnipFailure.{SnipFailure}
 use Rattle.wasmnorm.specs.declared.snip_failure.SnipFailure.TheVariants as failure
 
@@ -22,7 +23,6 @@ begins_with_plus argument = slice_index argument 0 == 43
 -- the argument is the name of these functions, which are none or several
 pub record IsNotOne (argument name functions bytes : List ℕ) : Type 0 where
   pub same : name ≡ argument
-  pub is_name : IsIndex argument → ⊥
   pub all : HaveName argument functions bytes
   pub ascending : IsStrictlyIncreasing functions
   pub not_one : length functions ≡ 1 → ⊥
@@ -33,17 +33,17 @@ ExplainsArgument argument bytes failure.NoNames = HasNoNames bytes
 ExplainsArgument argument bytes (failure.NotOne name functions) =
     IsNotOne argument (string_bytes name) functions.items bytes
 ExplainsArgument argument bytes (failure.Refused e) = ⊥
-ExplainsArgument argument bytes (failure.Outdated offset) = ⊥
+ExplainsArgument argument bytes (failure.Outdated offset context) = ⊥
 ExplainsArgument argument bytes failure.TooLong = ⊥
 ExplainsArgument argument bytes failure.Memory = Unit {0}
 
 -- one of the arguments names no function
 abbrev pub ExplainsNames : List (String Global) → List ℕ → SnipFailure → Type 0
-ExplainsNames snips bytes failure.NoNames = HasNoNames bytes
+ExplainsNames snips bytes failure.NoNames = GivesName snips × HasNoNames bytes
 ExplainsNames snips bytes (failure.NotOne name functions) =
     NamesNotOne (string_bytes name) functions.items snips bytes
 ExplainsNames snips bytes (failure.Refused e) = ⊥
-ExplainsNames snips bytes (failure.Outdated offset) = ⊥
+ExplainsNames snips bytes (failure.Outdated offset context) = ⊥
 ExplainsNames snips bytes failure.TooLong = ⊥
 ExplainsNames snips bytes failure.Memory = Unit {0}
 
@@ -52,7 +52,7 @@ abbrev pub ExplainsSections : List ℕ → SnipFailure → Type 0
 ExplainsSections bytes failure.NoNames = ⊥
 ExplainsSections bytes (failure.NotOne name functions) = ⊥
 ExplainsSections bytes (failure.Refused e) = (e ≡ snip.Malformed) × HasNoFunctions bytes
-ExplainsSections bytes (failure.Outdated offset) = ⊥
+ExplainsSections bytes (failure.Outdated offset context) = ⊥
 ExplainsSections bytes failure.TooLong = ⊥
 ExplainsSections bytes failure.Memory = ⊥
 
@@ -61,7 +61,7 @@ abbrev pub ExplainsNormal : NormaliseOptions → List ℕ → SnipFailure → Ty
 ExplainsNormal options snipped failure.NoNames = ⊥
 ExplainsNormal options snipped (failure.NotOne name functions) = ⊥
 ExplainsNormal options snipped (failure.Refused e) = ⊥
-ExplainsNormal options snipped (failure.Outdated offset) = ⊥
+ExplainsNormal options snipped (failure.Outdated offset context) = ⊥
 ExplainsNormal options snipped failure.TooLong = BecomesTooLong options snipped
 ExplainsNormal options snipped failure.Memory = Unit {0}
 
@@ -80,12 +80,12 @@ ExplainsRefusal options snips bytes snip.Memory = Unit {0}
 -- what a failure says of the bytes
 abbrev pub ExplainsSnip :
     NormaliseOptions → List (String Global) → List ℕ → SnipFailure → Type 0
-ExplainsSnip options snips bytes failure.NoNames = HasNoNames bytes
+ExplainsSnip options snips bytes failure.NoNames = GivesName snips × HasNoNames bytes
 ExplainsSnip options snips bytes (failure.NotOne name functions) =
     NamesNotOne (string_bytes name) functions.items snips bytes
 ExplainsSnip options snips bytes (failure.Refused e) = ExplainsRefusal options snips bytes e
-ExplainsSnip options snips bytes (failure.Outdated offset) =
-    SnippingOutdates options snips offset bytes
+ExplainsSnip options snips bytes (failure.Outdated offset context) =
+    SnippingOutdates options snips offset bytes × IsContext context bytes offset
 ExplainsSnip options snips bytes failure.TooLong = SnippedBecomesTooLong options snips bytes
 ExplainsSnip options snips bytes failure.Memory = Unit {0}
 
@@ -102,6 +102,6 @@ abbrev pub snip_status : SnipFailure → ℕ
 snip_status failure.NoNames = 1
 snip_status (failure.NotOne name functions) = 2
 snip_status (failure.Refused e) = refusal_status e
-snip_status (failure.Outdated offset) = 1
+snip_status (failure.Outdated offset context) = 1
 snip_status failure.TooLong = 1
 snip_status failure.Memory = 3

@@ -6,12 +6,12 @@ use Rattle.walrus_binary.specs.Faults.{error_offset}
 use Rattle.wasmtypes.specs.declared.failure.Failure.{Failure}
 use Rattle.wasmtypes.specs.declared.failure.Failure.TheVariants as failure
 use Rattle.walrus_binary.specs.ModuleSections.{HasBadTypes}
-use Rattle.command_line.specs.Contexts.{IsErrorContext}
+use Rattle.error_context.specs.Contexts.{IsErrorContext}
 
 -- what a failure says of the bytes
 abbrev pub Explains : Failure → List ℕ → Type 0
 Explains (failure.Refused e context) bytes =
-    IfSome (error_offset e) (λ place. HasBadTypes bytes × IsErrorContext context bytes place)
+    IfSome (error_offset e) (λ place. HasBadTypes bytes) × IsErrorContext context bytes e
 Explains failure.Memory bytes = Unit {0}
 Explains (failure.Input error) bytes = Unit {0}
 Explains (failure.Output error) bytes = Unit {0}

@@ -28,7 +28,7 @@ pub mod prelude {
     pub use crate::collections::{MapExt, SetExt};
     pub use crate::rt::{AllocGlobal, HostRuntime};
     pub use crate::string::{DisplayExt, StringExt};
-    pub use crate::vec::{SliceExt, VecExt};
+    pub use crate::vec::{IteratorExt, SliceExt, VecExt};
     pub use std::fmt::Write as _;
 }
 

@@ -105,6 +105,45 @@ impl<K, V, S> HashMap<K, V, S> {
     }
 }
 
+/// The entries, in the order in which they came.
+impl<K, V, S> IntoIterator for HashMap<K, V, S> {
+    type Item = (K, V);
+    type IntoIter = std::vec::IntoIter<(K, V)>;
+
+    fn into_iter(self) -> Self::IntoIter {
+        self.entries.into_iter()
+    }
+}
+
+/// The place of a key in a map, with memory for it.
+pub struct Entry<'a, K, V, S> {
+    map: &'a mut HashMap<K, V, S>,
+    key: K,
+    half: u64,
+    place: Option<usize>,
+}
+
+impl<'a, K, V, S> Entry<'a, K, V, S> {
+    /// The value of the key. If there is none, it is mapped to this one.
+    pub fn or_insert(self, value: V) -> &'a mut V {
+        let Entry {
+            map,
+            key,
+            half,
+            place,
+        } = self;
+        let place = match place {
+            Some(place) => place,
+            None => {
+                map.entries.push((key, value));
+                map.put_slot(half | map.entries.len() as u64);
+                map.entries.len() - 1
+            }
+        };
+        &mut map.entries[place].1
+    }
+}
+
 /// Where an entry is: its slot, and its place.
 struct Found {
     slot: usize,
@@ -131,6 +170,21 @@ impl<K: Eq + Hash, V, S: BuildHasher> HashMap<K, V, S> {
         self.entries.push((key, value));
         self.put_slot(half | self.entries.len() as u64);
         Ok(None)
+    }
+
+    /// The place of the key. After an error the map is as it was.
+    pub fn entry(&mut self, key: K) -> Result<Entry<'_, K, V, S>, AllocError> {
+        let half = self.half(&key);
+        let place = self.find(half, &key).map(|found| found.place);
+        if place.is_none() {
+            self.try_reserve(1)?;
+        }
+        Ok(Entry {
+            map: self,
+            key,
+            half,
+            place,
+        })
     }
 
     /// Takes the entry of the key out, and returns its value.
@@ -208,17 +262,21 @@ mod tests {
                 .wrapping_mul(6364136223846793005)
                 .wrapping_add(1442695040888963407);
             let key = (random >> 33) % keys;
-            if (random >> 60) < 9 {
-                assert_eq!(
+            match random >> 60 {
+                0..6 => assert_eq!(
                     map.try_put(key, step).expect("memory"),
                     other.insert(key, step)
-                );
-            } else {
-                assert_eq!(map.remove(&key), other.remove(&key));
+                ),
+                6..9 => assert_eq!(
+                    map.entry(key).expect("memory").or_insert(step),
+                    other.entry(key).or_insert(step)
+                ),
+                _ => assert_eq!(map.remove(&key), other.remove(&key)),
             }
             assert_eq!(map.len(), other.len());
             assert!((0..keys).all(|it| map.get(&it) == other.get(&it)));
         }
+        assert_eq!(map.into_iter().collect::<BTreeMap<_, _>>(), other);
     }
 
     #[test]

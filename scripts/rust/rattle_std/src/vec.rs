@@ -33,6 +33,23 @@ pub fn repeated<T: TryClone>(item: T, count: usize) -> Result<Vec<T>, AllocError
     Ok(items)
 }
 
+/// Calls of iterators that return an error where memory is refused.
+pub trait IteratorExt: Iterator {
+    /// The list of all items.
+    fn try_collect_vec(self) -> Result<Vec<Self::Item>, AllocError>
+    where
+        Self: Sized,
+    {
+        let mut items = with_capacity(self.size_hint().0)?;
+        for item in self {
+            items.try_push(item)?;
+        }
+        Ok(items)
+    }
+}
+
+impl<I: Iterator> IteratorExt for I {}
+
 /// Calls of `Vec` that return an error where memory is refused. Then the list is as it was.
 pub trait VecExt<T> {
     /// Puts an item at the end.

@@ -34,16 +34,25 @@ fn with_fields(message: &str) -> String {
     let (text, arguments) = message.split_at(end);
     format!(
         "{}{}",
-        text_with_fields(text),
+        text_with_fields(text, &names_of(arguments)),
         arguments_with_fields(arguments)
     )
 }
 
-fn text_with_fields(text: &str) -> String {
+/// The names that the arguments have: `count` in `count = .0`.
+fn names_of(arguments: &str) -> Vec<&str> {
+    let before = arguments.split(',').filter_map(|it| it.split_once('='));
+    before.map(|(name, _)| name.trim()).collect()
+}
+
+/// A name in braces is the name of a field, or else of an argument.
+fn text_with_fields(text: &str, arguments: &[&str]) -> String {
     let mut parts = text.split('{');
     let mut new = parts.next().unwrap_or("").to_string();
     for part in parts {
-        let is_field = part.starts_with(|it: char| it.is_alphanumeric());
+        let name = part.split(['}', ':']).next().unwrap_or("");
+        let is_name = name.starts_with(|it: char| it.is_alphanumeric());
+        let is_field = is_name && !arguments.contains(&name);
         new.push_str(if is_field { "{f_" } else { "{" });
         new.push_str(part);
     }

@@ -1,152 +1,35 @@
-use Rattle.walrus_normalise.specs.NormalModules.{NamesUnknownType, no_text, renamed}
-use Rattle.walrus_normalise.specs.NormalModules.LeavesMalformed.{unwritten as malformed_left}
-use Rattle.walrus_normalise.specs.NormalModules.NamesUnknownType.{unwritten as unknown_left}
-use Rattle.walrus_normalise.proofs.Errors.{encode_too_long, rename_malformed, rename_unknown, rename_too_long, offset_is}
-use Rattle.walrus_normalise.proofs.NormalForms.{lent_normal_form, has_normal_types, all_left, stripped_left, is_normalised, becomes_outdated}
+use Rattle.walrus_normalise.specs.declared.error.NormaliseModuleError.TheVariants as error
+use Rattle.walrus_normalise.specs.Steps.Faults.{IsFirstFaultBy}
+use Rattle.walrus_normalise.specs.Steps.NormalModules.{IsOtherError}
+use Rattle.walrus_normalise.proofs.Errors.{error_says}
+use Rattle.walrus_normalise.proofs.FaultyModules.{stopped_by_fault}
 use Rattle.walrus_normalise.proofs.normal_module.normalise_module.Goals as goal
 
-pub returns-in_err-types-clause-too_long : goal.returns-in_err-types-clause-too_long
-returns-in_err-types-clause-too_long c =
-    let form = lent_normal_form c.args.options.unused c.args.bytes.now c.in_ok-normal.normal.items
-    c.as_slice.result.now c.in_ok-normal.new_indices.items c.in_ok-normal.ensures.normal
-    c.as_slice.ensures.value in
-    encode_too_long c.from_residual-in_err-types.result c.in_err-types.field-0.0
-    c.from_residual-in_err-types.ensures.1 (λ is. no_text c.as_slice.result.now
-    c.in_ok-normal.new_indices.items form (c.in_err-types.ensures.too_many is))
+pub error_of_fault-requires : goal.error_of_fault-requires
+error_of_fault-requires c =
+    stopped_by_fault c.args.options c.args.bytes.now (rw c.in-Err-Fault.field-0-is at c.in-Err-Fault.ensures.refused)
 
-pub returns-in_err-new-in-Kept-clause-malformed : goal.returns-in_err-new-in-Kept-clause-malformed
-returns-in_err-new-in-Kept-clause-malformed c =
-    rename_malformed c.from_residual-in_err-new-in-Kept.result c.in_err-new-in-Kept.field-0.0
-    c.from_residual-in_err-new-in-Kept.ensures.1 (λ is. malformed_left c.args.bytes.now
-    (all_left c.args.options.descriptions c.args.bytes.now c.in-Kept.is)
-    (c.in_err-new-in-Kept.ensures.malformed is))
+pub returns-in-Err-Fault : goal.returns-in-Err-Fault
+returns-in-Err-Fault c =
+    let e = c.error_of_fault.result in
+    let says = error_says (IsFirstFaultBy c.args.bytes.now) e in
+    let is = c.error_of_fault.ensures in
+    let stopped = rw c.in-Err-Fault.field-0-is at c.in-Err-Fault.ensures.refused in
+    record {
+      normal = tt;
+      fits = λ k. tt;
+      bad_types = λ t k. says (error.Types t) is k;
+      bad_index = λ entry index end k. says (error.BadIndex entry index end) is k;
+      too_many = λ k. says error.TooMany is k;
+      malformed = λ place k. says (error.Malformed place) is k;
+      unknown = λ index count place k. says (error.UnknownType index count place) is k;
+      stopped_malformed = λ place k. stopped;
+      stopped_unknown = λ index count place k. stopped;
+      too_long = λ k. absurd (says error.TooLong is k);
+      outdated = λ offset k. absurd (says (error.Outdated offset) is k);
+    }
 
-pub returns-in_err-new-in-Kept-clause-unknown : goal.returns-in_err-new-in-Kept-clause-unknown
-returns-in_err-new-in-Kept-clause-unknown c =
-    let form = lent_normal_form c.args.options.unused c.args.bytes.now c.in_ok-normal.normal.items
-    c.as_slice.result.now c.in_ok-normal.new_indices.items c.in_ok-normal.ensures.normal
-    c.as_slice.ensures.value in
-    let types = has_normal_types c.args.options.unused c.args.bytes.now c.as_slice.result.now
-    c.in_ok-normal.new_indices.items c.deref-in-Kept.result.now
-    c.in_ok-types.types.items c.deref.result.now form
-    c.deref-in-Kept.ensures.value c.in_ok-types.ensures.text c.in_ok-types.ensures.shortest
-    c.deref.ensures.value in
-    rename_unknown (λ k. NamesUnknownType c.args.options k c.args.bytes.now)
-    c.from_residual-in_err-new-in-Kept.result c.in_err-new-in-Kept.field-0.0
-    c.from_residual-in_err-new-in-Kept.ensures.1 (λ k is. unknown_left c.deref.result.now
-    c.args.bytes.now c.deref-in-Kept.result.now types
-    (all_left c.args.options.descriptions c.args.bytes.now c.in-Kept.is)
-    (c.in_err-new-in-Kept.ensures.unknown k is))
-
-pub returns-in_err-new-in-Kept-clause-too_long : goal.returns-in_err-new-in-Kept-clause-too_long
-returns-in_err-new-in-Kept-clause-too_long c =
-    let form = lent_normal_form c.args.options.unused c.args.bytes.now c.in_ok-normal.normal.items
-    c.as_slice.result.now c.in_ok-normal.new_indices.items c.in_ok-normal.ensures.normal
-    c.as_slice.ensures.value in
-    let types = has_normal_types c.args.options.unused c.args.bytes.now c.as_slice.result.now
-    c.in_ok-normal.new_indices.items c.deref-in-Kept.result.now
-    c.in_ok-types.types.items c.deref.result.now form
-    c.deref-in-Kept.ensures.value c.in_ok-types.ensures.text c.in_ok-types.ensures.shortest
-    c.deref.ensures.value in
-    let all = all_left c.args.options.descriptions c.args.bytes.now c.in-Kept.is in
-    rename_too_long c.from_residual-in_err-new-in-Kept.result c.in_err-new-in-Kept.field-0.0
-    c.from_residual-in_err-new-in-Kept.ensures.1 (λ is. renamed c.deref.result.now
-    c.args.bytes.now c.deref-in-Kept.result.now types all
-    (c.in_err-new-in-Kept.ensures.too_long is))
-
-pub returns-in_err-stripped-in-Stripped-clause-malformed :
-    goal.returns-in_err-stripped-in-Stripped-clause-malformed
-returns-in_err-stripped-in-Stripped-clause-malformed c =
-    let left = stripped_left c.args.options.descriptions c.args.bytes.now c.in-Ok.left.items
-    c.deref-in-Stripped.result.now c.in-Stripped.is c.in-Ok.ensures.stripped
-    c.deref-in-Stripped.ensures.value in
-    rename_malformed c.from_residual-in_err-stripped-in-Stripped.result
-    c.in_err-stripped-in-Stripped.field-0.0 c.from_residual-in_err-stripped-in-Stripped.ensures.1
-    (λ is. malformed_left c.deref-in-Stripped.result.now left
-    (c.in_err-stripped-in-Stripped.ensures.malformed is))
-
-pub returns-in_err-stripped-in-Stripped-clause-too_long :
-    goal.returns-in_err-stripped-in-Stripped-clause-too_long
-returns-in_err-stripped-in-Stripped-clause-too_long c =
-    let form = lent_normal_form c.args.options.unused c.args.bytes.now c.in_ok-normal.normal.items
-    c.as_slice.result.now c.in_ok-normal.new_indices.items c.in_ok-normal.ensures.normal
-    c.as_slice.ensures.value in
-    let types = has_normal_types c.args.options.unused c.args.bytes.now c.as_slice.result.now
-    c.in_ok-normal.new_indices.items c.deref-in-Stripped-3.result.now
-    c.in_ok-types.types.items c.deref-in-Stripped-2.result.now form
-    c.deref-in-Stripped-3.ensures.value c.in_ok-types.ensures.text c.in_ok-types.ensures.shortest
-    c.deref-in-Stripped-2.ensures.value in
-    let left = stripped_left c.args.options.descriptions c.args.bytes.now c.in-Ok.left.items
-    c.deref-in-Stripped.result.now c.in-Stripped.is c.in-Ok.ensures.stripped
-    c.deref-in-Stripped.ensures.value in
-    rename_too_long c.from_residual-in_err-stripped-in-Stripped.result
-    c.in_err-stripped-in-Stripped.field-0.0 c.from_residual-in_err-stripped-in-Stripped.ensures.1
-    (λ is. renamed c.deref-in-Stripped-2.result.now c.deref-in-Stripped.result.now
-    c.deref-in-Stripped-3.result.now types left (c.in_err-stripped-in-Stripped.ensures.too_long is))
-
-pub returns-in_err-stripped-in-Stripped-clause-unknown :
-    goal.returns-in_err-stripped-in-Stripped-clause-unknown
-returns-in_err-stripped-in-Stripped-clause-unknown c =
-    let form = lent_normal_form c.args.options.unused c.args.bytes.now c.in_ok-normal.normal.items
-    c.as_slice.result.now c.in_ok-normal.new_indices.items c.in_ok-normal.ensures.normal
-    c.as_slice.ensures.value in
-    let types = has_normal_types c.args.options.unused c.args.bytes.now c.as_slice.result.now
-    c.in_ok-normal.new_indices.items c.deref-in-Stripped-3.result.now c.in_ok-types.types.items
-    c.deref-in-Stripped-2.result.now form c.deref-in-Stripped-3.ensures.value c.in_ok-types.ensures.text
-    c.in_ok-types.ensures.shortest c.deref-in-Stripped-2.ensures.value in
-    let left = stripped_left c.args.options.descriptions c.args.bytes.now c.in-Ok.left.items
-    c.deref-in-Stripped.result.now c.in-Stripped.is c.in-Ok.ensures.stripped
-    c.deref-in-Stripped.ensures.value in
-    rename_unknown (λ k. NamesUnknownType c.args.options k c.args.bytes.now)
-    c.from_residual-in_err-stripped-in-Stripped.result c.in_err-stripped-in-Stripped.field-0.0
-    c.from_residual-in_err-stripped-in-Stripped.ensures.1 (λ k is. unknown_left
-    c.deref-in-Stripped-2.result.now c.deref-in-Stripped.result.now c.deref-in-Stripped-3.result.now types
-    left (c.in_err-stripped-in-Stripped.ensures.unknown k is))
-
-pub returns-clause-normal : goal.returns-clause-normal
-returns-clause-normal c =
-    let form = lent_normal_form c.args.options.unused c.args.bytes.now c.in_ok-normal.normal.items
-    c.as_slice.result.now c.in_ok-normal.new_indices.items c.in_ok-normal.ensures.normal
-    c.as_slice.ensures.value in
-    let types = has_normal_types c.args.options.unused c.args.bytes.now c.as_slice.result.now
-    c.in_ok-normal.new_indices.items c.deref-in-Stripped-3.result.now c.in_ok-types.types.items
-    c.deref-in-Stripped-2.result.now form c.deref-in-Stripped-3.ensures.value c.in_ok-types.ensures.text
-    c.in_ok-types.ensures.shortest c.deref-in-Stripped-2.ensures.value in
-    let left = stripped_left c.args.options.descriptions c.args.bytes.now c.in-Ok.left.items
-    c.deref-in-Stripped.result.now c.in-Stripped.is c.in-Ok.ensures.stripped
-    c.deref-in-Stripped.ensures.value in
-    is_normalised c.args.options c.args.bytes.now c.deref-in-Stripped-2.result.now
-    c.deref-in-Stripped-3.result.now c.deref-in-Stripped.result.now
-    c.in_ok-stripped-in-Stripped.stripped.items types left c.in_ok-stripped-in-Stripped.ensures.renamed
-
-pub returns-in-Kept-clause-normal : goal.returns-in-Kept-clause-normal
-returns-in-Kept-clause-normal c =
-    let form = lent_normal_form c.args.options.unused c.args.bytes.now c.in_ok-normal.normal.items
-    c.as_slice.result.now c.in_ok-normal.new_indices.items c.in_ok-normal.ensures.normal
-    c.as_slice.ensures.value in
-    let types = has_normal_types c.args.options.unused c.args.bytes.now c.as_slice.result.now
-    c.in_ok-normal.new_indices.items c.deref-in-Kept.result.now c.in_ok-types.types.items
-    c.deref.result.now form c.deref-in-Kept.ensures.value c.in_ok-types.ensures.text
-    c.in_ok-types.ensures.shortest c.deref.ensures.value in
-    is_normalised c.args.options c.args.bytes.now c.deref.result.now c.deref-in-Kept.result.now
-    c.args.bytes.now c.in_ok-new-in-Kept.new.items types
-    (all_left c.args.options.descriptions c.args.bytes.now c.in-Kept.is)
-    c.in_ok-new-in-Kept.ensures.renamed
-
-pub returns-in-Some-clause-outdated : goal.returns-in-Some-clause-outdated
-returns-in-Some-clause-outdated c = λ k e.
-    let form = lent_normal_form c.args.options.unused c.args.bytes.now c.in_ok-normal.normal.items
-    c.as_slice.result.now c.in_ok-normal.new_indices.items c.in_ok-normal.ensures.normal
-    c.as_slice.ensures.value in
-    let types = has_normal_types c.args.options.unused c.args.bytes.now c.as_slice.result.now
-    c.in_ok-normal.new_indices.items c.deref-in-Kept.result.now c.in_ok-types.types.items
-    c.deref.result.now form c.deref-in-Kept.ensures.value c.in_ok-types.ensures.text
-    c.in_ok-types.ensures.shortest c.deref.ensures.value in
-    let normal = is_normalised c.args.options c.args.bytes.now c.deref.result.now c.deref-in-Kept.result.now
-    c.args.bytes.now c.in_ok-new-in-Kept.new.items types
-    (all_left c.args.options.descriptions c.args.bytes.now c.in-Kept.is)
-    c.in_ok-new-in-Kept.ensures.renamed in
-    becomes_outdated c.args.options c.args.bytes.now c.in_ok-new-in-Kept.new.items
-    c.as_slice-in-Kept.result.now c.in-Some.offset k normal c.in-Kept.is c.as_slice-in-Kept.ensures.value
-    (rw c.in-Some.is at c.in_ok-offset-in-Kept.ensures.differs)
-    (rw c.in-Some.is at c.in_ok-offset-in-Kept.ensures.found) (offset_is c.in-Some.offset k e)
+pub returns-in-Err-Other-clause-too_long : goal.returns-in-Err-Other-clause-too_long
+returns-in-Err-Other-clause-too_long c =
+    error_says (IsOtherError c.args.options c.args.bytes.now) c.in-Err-Other.error error.TooLong
+    (rw c.in-Err-Other.field-0-is at c.in-Err-Other.ensures.refused)

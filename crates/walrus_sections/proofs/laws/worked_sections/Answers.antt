@@ -1,5 +1,5 @@
 use Rattle.walrus_sections.proofs.laws.worked_sections.Goals as goal
-use Rattle.walrus_sections.proofs.Verifying.Worked as worked
+use Rattle.walrus_sections.proofs.NormalForms.WorkedSections as worked
 
 pub returns-clause-turned : goal.returns-clause-turned
 returns-clause-turned c = worked.turned

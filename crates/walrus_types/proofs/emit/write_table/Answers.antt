@@ -9,7 +9,9 @@ use Rattle.walrus_types.specs.TableEmission.{definition_at}
 use Rattle.walrus_ty.specs.Indices.{type_indices}
 use Rattle.walrus_types.specs.Steps.FreeGroups.{head}
 use Rattle.walrus_types.specs.Steps.PendingGroups.{places_of}
-use Rattle.walrus_types.specs.Steps.WrittenGroups.{AreWritten, IsMemoryOrMissing, IsApart, FirstMissingIs, ids_in}
+use Rattle.walrus_types.specs.Steps.WrittenGroups.{AreWritten, IsMemoryOrMissing}
+use Rattle.walrus_normal_form.specs.Steps.WritingOrders.{IsApart, ids_in}
+use Rattle.walrus_normal_form.specs.Steps.MissingNames.{FirstMissingIs}
 use Rattle.walrus_types.proofs.Emission.EmittedTables.{within, singles, places_within, carried, apart, emitted, misses, as_ordered, live_groups, filled_in_order}
 use Rattle.walrus_types.proofs.emit.write_table.Goals as goal
 

@@ -3,18 +3,17 @@
 // types lie all over the memory.
 ghost use Rattle.std.specs.Prelude.{◌≡◌, ◌≤◌, ◌==◌, IfOk, All, map, position, false};
 ghost use Rattle.walrus_ty.specs.Records.{comp_composite, entry_definition};
-ghost use Rattle.walrus_types.specs.Steps.LosslessKeys.{IsClosedRank, IsLosslessKey, before, after};
-ghost use Rattle.walrus_types.specs.Steps.SortKeys.{is_named, val_place, storage_place, val_rank, field_rank};
+ghost use Rattle.walrus_types.specs.Steps.LosslessKeys.{IsClosedFieldRank, IsClosedValRank, IsLosslessKey, before, after};
+ghost use Rattle.walrus_normal_form.specs.SortKeys.{is_named, val_place, storage_place, val_rank, field_rank};
 ghost use Rattle.walrus_ty.specs.Types.{ModuleType, kind_composite, type_definition};
 ghost use Rattle.walrus_ty.specs.Value.{abstract_index};
 
-use super::SortKey;
-use super::encoding::{FIRST_NULLABLE, FIRST_PACKED, FIRST_REFERENCE, MARK};
 use crate::{
     AbstractHeapType, CompAt, EntryAt, Field, FieldAt, Heap, Listed, Reference, Storage, StorageAt,
     Val, ValAt,
 };
 use std::alloc::{AllocError, Global};
+use walrus_normal_form::sort_key::{FIRST_NULLABLE, FIRST_PACKED, FIRST_REFERENCE, MARK, SortKey};
 
 // The record of the types of which this is a lossless key.
 pub(crate) fn decode(alloc: Global, key: SortKey) -> Result<EntryAt, AllocError>
@@ -83,7 +82,7 @@ fn first_of(rank: u8, ranks: &[u8]) -> Option<usize>
 }
 
 fn vals_of(alloc: Global, ranks: &[u8]) -> Result<Vec<ValAt>, AllocError>
-    requires { All (IsClosedRank val_rank) ranks.now }
+    requires { All IsClosedValRank ranks.now }
     ensures { IfOk result (λ v. map val_rank v.items ≡ ranks.now) }
 {
     let mut vals = Vec::with_capacity(alloc, ranks.len())?;
@@ -94,7 +93,7 @@ fn vals_of(alloc: Global, ranks: &[u8]) -> Result<Vec<ValAt>, AllocError>
 }
 
 fn fields_of(alloc: Global, ranks: &[u8]) -> Result<Vec<FieldAt>, AllocError>
-    requires { All (IsClosedRank field_rank) ranks.now }
+    requires { All IsClosedFieldRank ranks.now }
     ensures { IfOk result (λ v. map field_rank v.items ≡ ranks.now) }
 {
     let mut fields = Vec::with_capacity(alloc, ranks.len())?;
@@ -105,14 +104,14 @@ fn fields_of(alloc: Global, ranks: &[u8]) -> Result<Vec<FieldAt>, AllocError>
 }
 
 fn val_of(rank: u8) -> ValAt
-    requires { IsClosedRank val_rank rank }
+    requires { IsClosedValRank rank }
     ensures { val_rank result ≡ rank }
 {
     val_at(rank / 2 - 1)
 }
 
 fn field_of(rank: u8) -> FieldAt
-    requires { IsClosedRank field_rank rank }
+    requires { IsClosedFieldRank rank }
     ensures { field_rank result ≡ rank }
 {
     Field {

@@ -7,7 +7,7 @@ returns-in_err-index-clause-refused c =
     let p = err_from_is_err_and c.from_residual.result c.from_residual.ensures.1 in
     rw (p.1, p.2) (argument_explained c.args.snips.now c.args.bytes.now c.loop-snip.snip-index
     c.snip-item.result c.as_str.result.now c.in_err-index.field-0.0 c.loop-snip-test.true c.snip-item.is
-    c.as_str.ensures.value c.in_err-index.ensures.refused)
+    c.as_str.ensures.value c.in_err-index.ensures.is_name c.in_err-index.ensures.refused)
 
 pub loop-snip-preserved : goal.loop-snip-preserved
 loop-snip-preserved c =

@@ -1,14 +1,28 @@
-use Rattle.std.proofs.Common.{◌∙◌, ap}
+use Rattle.std.proofs.Common.{◌∙◌, ap, sym}
+use Rattle.std.specs.Ordering.{ordering_then}
+use Rattle.walrus_ty.specs.Types.{type_definition}
+use Rattle.walrus_ty.specs.Value.{bool_cmp}
+use Rattle.walrus_ty.proofs.Orders.Types.{type_is}
 use Rattle.walrus_types.specs.Steps.SortKeys.{type_sort_key}
-use Rattle.walrus_types.proofs.Emission.SortKeys.{less_by_key, greater_by_key}
+use Rattle.walrus_normal_form.proofs.Ordering.SortKeys.{less_by_key, greater_by_key}
 use Rattle.walrus_types.proofs.emit.sort_key.KeyedTypeOrd.cmp.Goals as goal
 
 pub returns-in-Less : goal.returns-in-Less
-returns-in-Less c = less_by_key c.self.inside.key c.other.inside.key c.args.self.now c.args.other.now
+returns-in-Less c =
+    let t = c.args.self.now in
+    let u = c.args.other.now in
+    let less = less_by_key c.self.inside.key c.other.inside.key (type_definition t) (type_definition u)
     c.cmp.result (c.self.invariant.0 ∙ ap type_sort_key c.self.view_is) (c.other.invariant.0
-    ∙ ap type_sort_key c.other.view_is) c.cmp.ensures c.in-Less.is
+    ∙ ap type_sort_key c.other.view_is) c.cmp.ensures c.in-Less.is in
+    ap (λ o. ordering_then o (bool_cmp t.is_for_function_entry u.is_for_function_entry)) less
+    ∙ sym (type_is t u)
 
 pub returns-in-Greater : goal.returns-in-Greater
-returns-in-Greater c = greater_by_key c.self.inside.key c.other.inside.key c.args.self.now c.args.other.now
+returns-in-Greater c =
+    let t = c.args.self.now in
+    let u = c.args.other.now in
+    let greater = greater_by_key c.self.inside.key c.other.inside.key (type_definition t) (type_definition u)
     c.cmp.result (c.self.invariant.0 ∙ ap type_sort_key c.self.view_is) (c.other.invariant.0
-    ∙ ap type_sort_key c.other.view_is) c.cmp.ensures c.in-Greater.is
+    ∙ ap type_sort_key c.other.view_is) c.cmp.ensures c.in-Greater.is in
+    ap (λ o. ordering_then o (bool_cmp t.is_for_function_entry u.is_for_function_entry)) greater
+    ∙ sym (type_is t u)

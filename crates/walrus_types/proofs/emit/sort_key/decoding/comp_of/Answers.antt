@@ -1,25 +1,24 @@
 use Rattle.std.proofs.Common.{arith, All, List, ℕ, ◌∙◌, ap, sym, subst}
 use Rattle.walrus_ty.specs.Definition.{Function, Struct}
-use Rattle.walrus_types.specs.Steps.LosslessKeys.{IsClosedRank, before, after}
-use Rattle.walrus_types.specs.Steps.SortKeys.{val_rank, field_rank}
+use Rattle.walrus_types.specs.Steps.LosslessKeys.{IsClosedFieldRank, IsClosedValRank, before, after}
 use Rattle.walrus_types.proofs.Emission.Decoding.{asks_params, asks_results, signature_of_key, asks_fields, fields_of_key, asks_field, field_of_key}
 use Rattle.walrus_types.proofs.emit.sort_key.decoding.comp_of.Goals as goal
 
 pub vals_of-requires : goal.vals_of-requires
 vals_of-requires c =
-    subst (λ (ns : List ℕ). All (IsClosedRank val_rank) ns)
+    subst (λ (ns : List ℕ). All IsClosedValRank ns)
     (sym (c.before-in-0.ensures ∙ ap (before 1) c.before-ranks.ensures))
     (asks_params c.requires.0 c.args.key c.requires.1.key c.requires.1.lossless_key c.in-0.is)
 
 pub vals_of-requires-in-0 : goal.vals_of-requires-in-0
 vals_of-requires-in-0 c =
-    subst (λ (ns : List ℕ). All (IsClosedRank val_rank) ns)
+    subst (λ (ns : List ℕ). All IsClosedValRank ns)
     (sym (c.after.ensures ∙ ap (after 1) c.before-ranks.ensures))
     (asks_results c.requires.0 c.args.key c.requires.1.key c.requires.1.lossless_key c.in-0.is)
 
 pub fields_of-requires : goal.fields_of-requires
 fields_of-requires c =
-    subst (λ (ns : List ℕ). All (IsClosedRank field_rank) ns) (sym c.before-ranks.ensures)
+    subst (λ (ns : List ℕ). All IsClosedFieldRank ns) (sym c.before-ranks.ensures)
     (asks_fields c.requires.0 c.args.key c.requires.1.key c.requires.1.lossless_key c.in-1.is)
 
 pub field_of-requires : goal.field_of-requires

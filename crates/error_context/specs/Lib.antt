@@ -1,0 +1,4 @@
+pub mod Lookalikes
+pub mod ShownNames
+pub mod Proposals
+pub mod Contexts

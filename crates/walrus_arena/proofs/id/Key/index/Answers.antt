@@ -1,4 +1,0 @@
-use Rattle.walrus_arena.proofs.id.Key.index.Goals as goal
-
-pub returns : goal.returns
-returns g c = c.place.ensures

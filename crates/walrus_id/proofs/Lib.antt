@@ -1,0 +1,3 @@
+-- In folders the answers to the goals of functions. An answer `search rules` names the tactic that
+-- closes its goal, so that a wrong body is refused at once: without it each tactic would be tried
+-- in turn.

@@ -1,0 +1,69 @@
+//! The keys of a set's hash.
+ghost use Rattle.std.specs.Prelude.{◌≡◌};
+ghost use Rattle.walrus_id.specs.HashKeys.{fixed_hasher, hasher_with_keys};
+
+use std::hash::{BuildHasher, FoldHasher, Hasher};
+use std::marker::Model;
+
+/// What the hash of an `ArenaSet` of `walrus_arena` begins with. The keys change how long a call
+/// takes, and no result.
+///
+/// An attacker who knows the keys can make values whose hashes collide, and a set of such values
+/// takes time quadratic in their number. So fixed keys are safe only where the values are trusted.
+/// For values from elsewhere take two secret random numbers:
+///
+/// ```
+/// let random = RandomState::new(&rt)?;
+/// let keys = HashKeys::new(random.hash_one(0u64), random.hash_one(1u64));
+/// let mut set = ArenaSet::with_hash_keys(rt.alloc(), keys);
+/// ```
+///
+/// The hash is std's `FoldHasher`, which is fast and not cryptographic. Random keys help where
+/// `Hash` feeds at most eight bytes at once, as it does for ids, types and all that is made of
+/// numbers. Some long strings collide whatever the keys are.
+#[derive(Clone, Copy)]
+pub struct HashKeys {
+    // Has been fed the keys, once for all hashes.
+    initial: FoldHasher,
+}
+
+impl Model for HashKeys {
+    ghost use Rattle.walrus_id.specs.HashKeys.{InitialHasher};
+
+    ghost Value = { InitialHasher };
+
+    ghost view = { λ k. k.initial };
+
+    ghost inverse = { λ h. record { initial = h } };
+}
+
+impl HashKeys {
+    /// The same keys in every run of every program.
+    pub fn fixed() -> HashKeys
+        ensures { result ≡ fixed_hasher }
+    {
+        HashKeys {
+            initial: FoldHasher::default(),
+        }
+    }
+
+    /// Keys of the caller's choice.
+    pub fn new(first: u64, second: u64) -> HashKeys
+        ensures { result ≡ hasher_with_keys first second }
+    {
+        let mut initial = FoldHasher::default();
+        initial.write_u64(first);
+        initial.write_u64(second);
+        HashKeys { initial }
+    }
+}
+
+impl BuildHasher for HashKeys {
+    type Hasher = FoldHasher;
+
+    ghost build_hasher = { λ keys. keys };
+
+    fn build_hasher(&self) -> FoldHasher {
+        self.initial
+    }
+}

@@ -1,0 +1,10 @@
+pub mod RenamedItems
+pub mod NextSlots
+pub mod ReadGroups
+pub mod NextGroups
+pub mod Places
+pub mod NextStates
+pub mod ReaderCalls
+pub mod PutRecords
+pub mod OwnedGroups
+pub mod NamelessValues

@@ -1,0 +1,9 @@
+use Rattle.std.proofs.Common.{ℕ, ◌<◌}
+use Rattle.walrus_normal_form_check.specs.Steps.Pairs.{OrdersFree}
+use Rattle.walrus_sections.specs.NormalForm.{image}
+use Rattle.walrus_sections.specs.Section.{index_space_of_places}
+use Rattle.walrus_normal_form_check.proofs.pairs.orders_free.Given as goal
+
+abbrev pub invariant-loop-later : goal.invariant-loop-later
+invariant-loop-later l = (i j : ℕ) → i < j → j < l.later →
+    OrdersFree (index_space_of_places l.section) (image l.map) i j

@@ -1,3 +1,0 @@
--- What the slow program tells, and three sections whose normal forms are known.
-pub mod Decisions
-pub mod Worked

@@ -1,9 +1,0 @@
-use Rattle.std.proofs.Common.{ℕ, ◌<◌}
-use Rattle.walrus_sections.specs.Steps.Pairs.{OrdersFree}
-use Rattle.walrus_sections.specs.NormalForm.{image}
-use Rattle.walrus_sections.specs.Section.{index_space_of_places}
-use Rattle.walrus_sections.proofs.verify.pairs.orders_free_before.Given as goal
-
-abbrev pub invariant-loop-earlier : goal.invariant-loop-earlier
-invariant-loop-earlier l = (i : ℕ) → i < l.earlier →
-    OrdersFree (index_space_of_places l.section) (image l.map) i l.later

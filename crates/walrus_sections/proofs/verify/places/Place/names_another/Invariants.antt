@@ -1,6 +1,0 @@
-use Rattle.std.proofs.Common.{◌≡◌, ℕ, ◌<◌}
-use Rattle.std.specs.List.{slice_index}
-use Rattle.walrus_sections.proofs.verify.places.Place.names_another.Given as goal
-
-abbrev pub invariant-loop-name : goal.invariant-loop-name
-invariant-loop-name l = (j : ℕ) → j < l.name-index → slice_index l.names j ≡ l.index
