@@ -3,8 +3,8 @@
    prints as many that are as far apart, and takes each 2^BITS-th struct whatever its hash is.
 
    A type is hashed by std's FoldHasher. `fed` is what the hasher does with a number of this many bytes. The numbers are the
-   ones that the derived `Hash` of `walrus_ty::Type` feeds: for an enum the place of its variant in 8 bytes, for a list its
-   length in 8 bytes before its items, and for a bool one byte. */
+   ones that the derived `Hash` of `walrus_module_types::Type` feeds: for an enum the place of its variant in 8 bytes, for
+   a list its length in 8 bytes before its items, and for a bool one byte. */
 #include <stdint.h>
 #include <stdio.h>
 #include <stdlib.h>

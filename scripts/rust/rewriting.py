@@ -61,6 +61,7 @@ RULES = [
     (r'^use thiserror::Error;\n', f'use {CRATE}::Error;\n'),
     # Printing.
     (r'<W: (?:std::)?fmt::Write>\(', '('),
+    (r', W: (?:std::)?fmt::Write>\(', '>('),
     (r'\bfmt::Formatter<W>', "fmt::Formatter<'_>"),
     (r'\bFormatter<W>', "Formatter<'_>"),
     # A map that users name is Rust's.

@@ -4,7 +4,7 @@ use Rattle.std.specs.List.{flat_map, find}
 use Rattle.std.specs.Option.{option_map, option_or, is_none}
 use Rattle.std.proofs.lemmas.List.{drop_more}
 use Rattle.std.proofs.lemmas.List.Folds.{find-append}
-use Rattle.walrus_ty.specs.declared.error.NoIndex.{NoIndex}
+use Rattle.walrus_module_types.specs.declared.error.NoIndex.{NoIndex}
 use Rattle.walrus_ty.specs.declared.ty.value.Heap.{Heap}
 use Rattle.walrus_ty.specs.declared.ty.value.Heap.TheVariants as heap
 use Rattle.walrus_ty.specs.Value.{rename_heap}

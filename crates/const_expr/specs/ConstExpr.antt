@@ -3,14 +3,14 @@
 -- WebAssembly core specification, "Instructions": constant expressions.
 use Rattle.std.specs.List.{flat_map}
 use Rattle.std.specs.Prelude.{ℕ, List, [], ◌∷◌, map, find, is_none, Option, Some, None, true, unwrap_or, slice_get}
-use Rattle.walrus_ty.specs.declared.error.NoIndex.{NoIndex}
-use Rattle.walrus_ty.specs.declared.error.NoIndex.TheVariants.{OfType, OfFunc, OfGlobal}
-use Rattle.walrus_ty.specs.declared.indices.ids_to_indices.IdsToIndices.{IdsToIndices}
+use Rattle.walrus_module_types.specs.declared.error.NoIndex.{NoIndex}
+use Rattle.walrus_module_types.specs.declared.error.NoIndex.TheVariants.{OfType, OfFunc, OfGlobal}
+use Rattle.walrus_module_types.specs.declared.indices.ids_to_indices.IdsToIndices.{IdsToIndices}
 use Rattle.walrus_ty.specs.declared.ty.value.Heap.{Heap}
 use Rattle.walrus_ty.specs.declared.ty.value.Reference.{Reference}
-use Rattle.walrus_ty.specs.IdLists.{IdLists}
-use Rattle.walrus_ty.specs.Indices.{type_indices, func_indices, global_indices}
-use Rattle.walrus_ty.specs.Lookups.{value_or_zero}
+use Rattle.walrus_module_types.specs.IdLists.{IdLists}
+use Rattle.walrus_module_types.specs.Indices.{type_indices, func_indices, global_indices}
+use Rattle.walrus_module_types.specs.Lookups.{value_or_zero}
 use Rattle.walrus_ty.specs.Value.{heap_names, rename_heap}
 use Rattle.operators.specs.declared.value.Value.{Value}
 use Rattle.operators.specs.declared.value.Value.TheVariants as value

@@ -2,8 +2,8 @@
 //! WebAssembly core specification, "Validation", constant expressions.
 ghost use Rattle.std.specs.Prelude.{◌≡◌, Some, None, IfOk, IfErr, OnOk, map, option_map};
 ghost use Rattle.std.specs.List.{flat_map};
-ghost use Rattle.walrus_ty.specs.Lookups.{IfUnknownIndex, IfNoIndex};
-ghost use Rattle.walrus_ty.specs.declared.error.FromRecordError.TheVariants as from_record;
+ghost use Rattle.walrus_module_types.specs.Lookups.{IfUnknownIndex, IfNoIndex};
+ghost use Rattle.walrus_module_types.specs.declared.error.FromRecordError.TheVariants as from_record;
 ghost use Rattle.const_expr.specs.ConstExpr.{expr_of, ops_of, constant, IsExtended, op_read, op_written, op_names, op_at_names, ids_at, indices_of, renaming_of, first_missing, number_of, no_index};
 
 mod convert;
@@ -12,10 +12,11 @@ mod referenced;
 use convert::{ops_from, ops_to, plain_form};
 use operators::Value;
 use std::alloc::Global;
-use walrus_ty::{
-    FromRecordError, FunctionId, GlobalId, HeapAt, IdsToIndices, IndicesToIds, Listed, RefType,
-    ToRecordError, TypeId,
+use walrus_module_types::{
+    FromRecordError, FunctionId, GlobalId, IdsToIndices, IndicesToIds, RefType, ToRecordError,
+    TypeId,
 };
+use walrus_ty::{HeapAt, Listed};
 
 /// A constant expression, as it gives a global its first value or says where a segment begins: one
 /// value or name, or a list of operations.

@@ -6,7 +6,7 @@ use Rattle.std.specs.declared.string.String.{String}
 use Rattle.std.specs.declared.alloc.Global.{Global}
 use Rattle.walrus_ty.specs.declared.ty.value.Val.{Val}
 use Rattle.walrus_ty.proofs.Basics.{and_left, and_right}
-use Rattle.walrus_ty.proofs.Equality.Values.{val_same}
+use Rattle.walrus_module_types.proofs.Equality.Values.{val_same}
 use Rattle.instr.specs.contracts.locals.LocalPartialEq.TheImpl as local_equality
 use Rattle.instr.specs.LocalParts.{LocalParts, local_parts}
 use Rattle.instr.specs.Locals.{LocalVariable}

@@ -5,10 +5,10 @@ use Rattle.std.specs.Hash as fed
 use Rattle.std.specs.declared.string.String.{String}
 use Rattle.std.specs.declared.alloc.Global.{Global}
 use Rattle.walrus_ty.specs.declared.ty.value.Val.{Val}
-use Rattle.walrus_ty.specs.HashInput.{HashesBy, Fits}
+use Rattle.walrus_module_types.specs.HashInput.{HashesBy, Fits}
 use Rattle.walrus_ty.specs.Value.{val_name}
-use Rattle.walrus_ty.proofs.Hashes.Ids.{val_input, val_read, val_back}
-use Rattle.walrus_ty.proofs.Hashes.Parts.{Read, Got, bind, rest, ReadsBack, apart, option_read, option_back, id_read, id_back}
+use Rattle.walrus_module_types.proofs.Hashes.Ids.{val_input, val_read, val_back}
+use Rattle.walrus_module_types.proofs.Hashes.Parts.{Read, Got, bind, rest, ReadsBack, apart, option_read, option_back, id_read, id_back}
 use Rattle.instr.specs.contracts.locals.LocalHash.TheImpl as local_hash
 use Rattle.instr.specs.LocalParts.{LocalParts, local_parts}
 use Rattle.instr.specs.Locals.{LocalVariable}

@@ -4,7 +4,7 @@ ghost use Rattle.std.specs.Prelude.{◌≡◌};
 ghost use Rattle.instr.specs.declared.instr.Instr.TheVariants as instr;
 
 use crate::Instr;
-use walrus_ty::{DataId, ElementId, TypeId};
+use walrus_module_types::{DataId, ElementId, TypeId};
 
 /// `struct.new`: a new struct of the values taken.
 #[derive(Clone, Copy, Debug)]

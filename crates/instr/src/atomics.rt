@@ -5,7 +5,7 @@ ghost use Rattle.instr.specs.declared.instr.Instr.TheVariants as instr;
 
 use crate::{Instr, MemArg};
 use operators::{AtomicOp, AtomicWidth};
-use walrus_ty::MemoryId;
+use walrus_module_types::MemoryId;
 
 /// `i32.atomic.rmw.add` and similar instructions: changes a value in memory and gives the old one.
 #[derive(Clone, Copy, Debug)]

@@ -4,7 +4,7 @@ ghost use Rattle.std.specs.Prelude.{◌≡◌};
 ghost use Rattle.instr.specs.declared.instr.Instr.TheVariants as instr;
 
 use crate::Instr;
-use walrus_ty::{FunctionId, TableId, TypeId};
+use walrus_module_types::{FunctionId, TableId, TypeId};
 
 /// `call`: calls a function.
 #[derive(Clone, Copy, Debug)]

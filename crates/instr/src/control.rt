@@ -4,7 +4,8 @@ ghost use Rattle.std.specs.Prelude.{◌≡◌};
 ghost use Rattle.instr.specs.declared.instr.Instr.TheVariants as instr;
 
 use crate::{Instr, InstrSeqId};
-use walrus_ty::{HeapType, Listed};
+use walrus_module_types::HeapType;
+use walrus_ty::Listed;
 
 /// `block`: runs a sequence. A branch to it goes on after it.
 #[derive(Clone, Copy, Debug)]

@@ -5,7 +5,8 @@ ghost use Rattle.std.specs.Prelude.{◌≡◌};
 ghost use Rattle.instr.specs.declared.instr.Instr.TheVariants as instr;
 
 use crate::{Instr, InstrSeqId};
-use walrus_ty::{Listed, TagId};
+use walrus_module_types::TagId;
+use walrus_ty::Listed;
 
 /// A clause of `try_table`: for which exceptions it branches, where to, and with what.
 #[derive(Clone, Copy, Debug)]

@@ -4,7 +4,7 @@ ghost use Rattle.instr.specs.BlockTypes.{block_type_name, simple_result, IsMulti
 ghost use Rattle.instr.specs.declared.instr_seq_type.InstrSeqType.TheVariants.{Simple, MultiValue};
 
 use std::alloc::AllocError;
-use walrus_ty::{FunctionTypes, TypeId, ValType};
+use walrus_module_types::{FunctionTypes, TypeId, ValType};
 
 /// The type of an instruction sequence: what it takes from the stack, and what it leaves there.
 /// `blocktype` in the WebAssembly core specification.

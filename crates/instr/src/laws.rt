@@ -4,7 +4,7 @@ ghost use Rattle.std.specs.Prelude.{◌≡◌, ◌<◌, ◌^◌, ◌↔◌, IsTr
 ghost use Rattle.instr.specs.declared.instr_seq_type.InstrSeqType.{InstrSeqType as BlockType};
 ghost use Rattle.instr.specs.LocalParts.{local_parts};
 ghost use Rattle.instr.specs.Locals.{LocalVariable};
-ghost use Rattle.walrus_ty.specs.HashInput.{Fits, HashesBy};
+ghost use Rattle.walrus_module_types.specs.HashInput.{Fits, HashesBy};
 ghost use Rattle.walrus_ty.specs.Value.{val_name};
 
 use crate::{InstrSeqType, Local};

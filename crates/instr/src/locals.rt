@@ -9,7 +9,8 @@ mod iter;
 pub use iter::LocalsIter;
 use std::alloc::{AllocError, Global};
 use std::marker::Model;
-use walrus_ty::{Id, ValType};
+use walrus_module_types::ValType;
+use walrus_ty::Id;
 
 /// A local of a function: a parameter, or a variable that it declares.
 #[derive(Clone, PartialEq, Eq, Hash, Debug, Drop)]

@@ -5,7 +5,7 @@ ghost use Rattle.instr.specs.declared.instr.Instr.TheVariants as instr;
 
 use crate::Instr;
 use operators::{LoadKind, LoadSimdKind, StoreKind};
-use walrus_ty::{DataId, MemoryId};
+use walrus_module_types::{DataId, MemoryId};
 
 /// Where an instruction reaches into a memory, in addition to the address that it takes.
 #[derive(Clone, Copy, Debug)]

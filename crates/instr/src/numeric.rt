@@ -6,7 +6,7 @@ ghost use Rattle.instr.specs.declared.instr.Instr.TheVariants as instr;
 
 use crate::Instr;
 use operators::{BinaryOp, TernaryOp, UnaryOp, Value};
-use walrus_ty::ValType;
+use walrus_module_types::ValType;
 
 /// `i32.const`, `i64.const`, `f32.const`, `f64.const` or `v128.const`: gives a value.
 #[derive(Clone, Copy, Debug)]

@@ -4,7 +4,7 @@ ghost use Rattle.std.specs.Prelude.{◌≡◌};
 ghost use Rattle.instr.specs.declared.instr.Instr.TheVariants as instr;
 
 use crate::Instr;
-use walrus_ty::{FunctionId, HeapType, RefType};
+use walrus_module_types::{FunctionId, HeapType, RefType};
 
 /// `ref.null`: the null reference.
 #[derive(Clone, Copy, Debug)]

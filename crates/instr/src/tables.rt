@@ -4,7 +4,7 @@ ghost use Rattle.std.specs.Prelude.{◌≡◌};
 ghost use Rattle.instr.specs.declared.instr.Instr.TheVariants as instr;
 
 use crate::Instr;
-use walrus_ty::{ElementId, TableId};
+use walrus_module_types::{ElementId, TableId};
 
 /// `table.get`: reads an element of a table.
 #[derive(Clone, Copy, Debug)]

@@ -4,7 +4,7 @@ ghost use Rattle.std.specs.Prelude.{◌≡◌};
 ghost use Rattle.instr.specs.declared.instr.Instr.TheVariants as instr;
 
 use crate::{Instr, LocalId};
-use walrus_ty::GlobalId;
+use walrus_module_types::GlobalId;
 
 /// `local.get`: reads a local.
 #[derive(Clone, Copy, Debug)]

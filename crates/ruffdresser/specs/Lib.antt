@@ -10,20 +10,20 @@ pub use Rattle.walrus_arena.specs.Slot
 -- Types and sections.
 pub use Rattle.walrus_ty.specs.Value
 pub use Rattle.walrus_ty.specs.Definition
-pub use Rattle.walrus_ty.specs.Signature
-pub use Rattle.walrus_ty.specs.Types
+pub use Rattle.walrus_module_types.specs.Signature
+pub use Rattle.walrus_module_types.specs.Types
 pub use Rattle.walrus_ty.specs.Records
-pub use Rattle.walrus_ty.specs.IdLists
-pub use Rattle.walrus_ty.specs.Indices
+pub use Rattle.walrus_module_types.specs.IdLists
+pub use Rattle.walrus_module_types.specs.Indices
 pub use Rattle.walrus_ty.specs.Text as TypeText
-pub use Rattle.walrus_ty.specs.Views
-pub use Rattle.walrus_ty.specs.SubTypes
-pub use Rattle.walrus_ty.specs.SameTypes
-pub use Rattle.walrus_ty.specs.Comparison
-pub use Rattle.walrus_ty.specs.HashInput
+pub use Rattle.walrus_module_types.specs.Views
+pub use Rattle.walrus_module_types.specs.SubTypes
+pub use Rattle.walrus_module_types.specs.SameTypes
+pub use Rattle.walrus_module_types.specs.Comparison
+pub use Rattle.walrus_module_types.specs.HashInput
 pub use Rattle.walrus_ty.specs.Groups
 pub use Rattle.walrus_ty.specs.Lists
-pub use Rattle.walrus_ty.specs.Lookups
+pub use Rattle.walrus_module_types.specs.Lookups
 pub use Rattle.walrus_sections.specs.Section
 pub use Rattle.walrus_sections.specs.NormalForm
 pub use Rattle.walrus_sections.specs.Moves
@@ -41,12 +41,12 @@ pub use Rattle.walrus_types.specs.TableCalls
 pub use Rattle.walrus_types.specs.FunctionTypes
 pub use Rattle.walrus_types.specs.ReadResult
 pub use Rattle.walrus_types.specs.ReaderState
-pub use Rattle.walrus_ty.specs.declared.error.NoIndex
-pub use Rattle.walrus_ty.specs.declared.error.FromRecordError
-pub use Rattle.walrus_ty.specs.declared.error.ToRecordError
+pub use Rattle.walrus_module_types.specs.declared.error.NoIndex
+pub use Rattle.walrus_module_types.specs.declared.error.FromRecordError
+pub use Rattle.walrus_module_types.specs.declared.error.ToRecordError
 pub use Rattle.walrus_ty.specs.declared.records.CompAt
 pub use Rattle.walrus_ty.specs.declared.records.GroupAt
-pub use Rattle.walrus_ty.specs.declared.ty.composite.CompositeType
+pub use Rattle.walrus_module_types.specs.declared.ty.composite.CompositeType
 pub use Rattle.walrus_ty.specs.declared.ty.value.AbstractHeapType
 pub use Rattle.walrus_ty.specs.declared.ty.value.Heap
 pub use Rattle.walrus_ty.specs.declared.ty.value.Val

@@ -38,23 +38,24 @@ pub use walrus_arena::{ArenaSet, IdHashMap, IdHashSet, Iter, TombstoneArena, law
 pub use walrus_id::{HashKeys, Id, Key, Tombstone};
 
 // Types, and the table of a module's types.
-pub use walrus_ty::{
-    AbstractHeapType, ArrayType, CompositeType, Data, DataId, Element, ElementId, Field, FieldType,
-    Function, FunctionId, FunctionType, FunctionTypes, Global, GlobalId, Heap, HeapType, Listed,
-    Memory, MemoryId, RefType, Reference, Storage, StorageType, StructType, SubType, Table,
-    TableId, Tag, TagId, Type, TypeId, Val, ValType, laws as type_laws,
+pub use walrus_module_types::{
+    ArrayType, CompositeType, Data, DataId, Element, ElementId, FieldType, Function, FunctionId,
+    FunctionType, FunctionTypes, Global, GlobalId, HeapType, Memory, MemoryId, NamedReferenceTypes,
+    RefType, StorageType, StructType, SubType, Table, TableId, Tag, TagId, Type, TypeId, ValType,
+    laws as type_laws,
 };
+pub use walrus_ty::{AbstractHeapType, Field, Heap, Listed, Reference, Storage, Val};
 pub use walrus_types::{
     AddRecGroupError, ModuleTypes, RecGroup, RecGroupId, TypesIter, laws as table_laws,
 };
 
 // Sections: the records of a type section, and its normal form.
+pub use walrus_module_types::{
+    FromRecordError, IdsToIndices, IndicesToIds, NoIndex, ToRecordError, UnknownIndex, record_laws,
+};
 pub use walrus_normal_form_check::is_normal_form;
 pub use walrus_sections::{ReadError, first_error, laws as section_laws};
-pub use walrus_ty::{
-    CompAt, EntryAt, FieldAt, FromRecordError, GroupAt, HeapAt, IdsToIndices, IndicesToIds,
-    NoIndex, RefAt, StorageAt, ToRecordError, UnknownIndex, ValAt, record_laws,
-};
+pub use walrus_ty::{CompAt, EntryAt, FieldAt, GroupAt, HeapAt, RefAt, StorageAt, ValAt};
 pub use walrus_types::{
     EmitError, SectionReader, entries_before, first_difference, normalise, normalise_owned,
     parse_types, same_up_to_moves,

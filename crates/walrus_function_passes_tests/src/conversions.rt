@@ -8,7 +8,7 @@ use std::process::Abort;
 use walrus_functions::{BuildError, InstrSeqBuilder, LocalFunction};
 use walrus_ir::{InstrSeqType, LocalId, ModuleLocals, TableGet, UnaryOp};
 use walrus_passes::{adapter, adapter_between};
-use walrus_types::{Id, ModuleTypes, RefType, TypeId, ValType};
+use walrus_types::{Id, ModuleTypes, NamedReferenceTypes, RefType, TypeId, ValType};
 
 // The types of a function that takes and returns a reference, and of one with handles instead.
 pub(crate) fn handle_types(alloc: Global) -> Result<ModuleTypes, AllocError> {

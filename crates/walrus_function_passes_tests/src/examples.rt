@@ -10,7 +10,7 @@ use walrus_passes::{
     adapter, adapter_between, delete_unused_types, map_instrs, redirect_calls, replace_with, snip,
     snip_calls, unreachable_function, used_types,
 };
-use walrus_types::{ModuleTypes, RefType, ValType};
+use walrus_types::{ModuleTypes, NamedReferenceTypes, RefType, ValType};
 
 #[test]
 fn a_function_that_must_not_be_run_is_snipped(rt: HostRuntime) {

@@ -1,12 +1,12 @@
-//! The keys of a set's hash.
+//! The keys of hashes.
 ghost use Rattle.std.specs.Prelude.{◌≡◌};
 ghost use Rattle.walrus_id.specs.HashKeys.{fixed_hasher, hasher_with_keys};
 
 use std::hash::{BuildHasher, FoldHasher, Hasher};
 use std::marker::Model;
 
-/// What the hash of an `ArenaSet` of `walrus_arena` begins with. The keys change how long a call
-/// takes, and no result.
+/// What the hashes of an `ArenaSet` of `walrus_arena` begin with, and the hashes by which a normal
+/// form finds equal types. The keys change how long a call takes, and no result.
 ///
 /// An attacker who knows the keys can make values whose hashes collide, and a set of such values
 /// takes time quadratic in their number. So fixed keys are safe only where the values are trusted.

@@ -1,8 +1,7 @@
 //! A simple and slow program that judges a normal form of a type section.
 //!
 //! [`is_normal_form`] decides by the definition whether a section is the normal form of another. It
-//! is there to try the definition on examples, and to judge other programs, so no program that makes
-//! a normal form needs this crate.
+//! is there to try the definition on examples, and to judge other programs.
 //!
 //! An array type and a function type that name no index change places, and the map says so:
 //!

@@ -32,7 +32,7 @@ use Rattle.walrus_normalise.specs.declared.options.Descriptions.{Descriptions}
 use Rattle.walrus_normalise.specs.declared.options.Descriptions.TheVariants as descriptions
 use Rattle.walrus_normalise.specs.declared.options.NormaliseOptions.{NormaliseOptions}
 use Rattle.walrus_normalise.specs.declared.options.UnusedTypes.TheVariants as kinds
-use Rattle.walrus_ty.specs.Lookups.{value_or_zero}
+use Rattle.walrus_module_types.specs.Lookups.{value_or_zero}
 use Rattle.walrus_ty.proofs.Equality.Contents.{same_section}
 use Rattle.walrus_unused.specs.UsedSections.{IsUsedNormal}
 use Rattle.walrus_unused.proofs.UsedForms.Roots.{has_place}

@@ -4,7 +4,7 @@ use Rattle.std.specs.List.{range_with_len}
 use Rattle.std.specs.Option.{IsSomeAnd}
 use Rattle.std.proofs.lemmas.List.{set-set, take_all, map_more}
 use Rattle.walrus_ty.specs.declared.ty.value.Val.{Val}
-use Rattle.walrus_ty.specs.Signature.{Signature}
+use Rattle.walrus_module_types.specs.Signature.{Signature}
 use Rattle.instr.specs.Locals.{unnamed_locals}
 use Rattle.instr.specs.Locations.{no_location}
 use Rattle.instr.specs.Sequence.{Sequence, empty_sequence}

@@ -4,7 +4,7 @@ use Rattle.std.specs.List.{range_with_len}
 use Rattle.std.proofs.lemmas.List.FromFn.{length-range_with_len}
 use Rattle.std.specs.Option.{IsSomeAnd, option_map_or}
 use Rattle.walrus_ty.specs.declared.ty.value.Val.{Val}
-use Rattle.walrus_ty.specs.Signature.{Signature}
+use Rattle.walrus_module_types.specs.Signature.{Signature}
 use Rattle.instr.specs.Locals.{LocalVariable, unnamed_local, unnamed_locals}
 use Rattle.walrus_passes.specs.ConvertingAdapters.{new_params, new_results}
 use Rattle.walrus_passes.proofs.Calling.{new_ids}

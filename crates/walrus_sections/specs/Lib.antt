@@ -1,15 +1,7 @@
 pub use Rattle.walrus_ty.specs.Value
 pub use Rattle.walrus_ty.specs.Definition
-pub use Rattle.walrus_ty.specs.Signature
-pub use Rattle.walrus_ty.specs.Types
 pub use Rattle.walrus_ty.specs.Records
-pub use Rattle.walrus_ty.specs.IdLists
-pub use Rattle.walrus_ty.specs.Indices
-pub use Rattle.walrus_ty.specs.Lookups
 pub use Rattle.walrus_ty.specs.Text
-pub use Rattle.walrus_ty.specs.Views
-pub use Rattle.walrus_ty.specs.SubTypes
-pub use Rattle.walrus_ty.specs.SameTypes
 pub use Rattle.walrus_ty.specs.Groups
 pub mod Section
 pub mod NormalForm

@@ -1,6 +1,7 @@
 //! Writes with a small result. An `io::Result` has about a hundred bytes, and each function that
-//! passes one on copies it. So the error of a write that fails is kept in one place.
-ghost use Rattle.std.specs.Prelude.{OnOk, OnErr, IsSome, IsErr};
+//! passes one on copies it. So the error of the first write that fails is kept in one place.
+//! Nothing is written after it.
+ghost use Rattle.std.specs.Prelude.{◌≡◌, Err, OnOk, OnErr, IfSome, IfNone, IsSome, IsOk};
 ghost use Rattle.std.specs.Io.KnownBytes.{Appends};
 
 use std::io;
@@ -28,9 +29,10 @@ pub fn write_bytes<W: Write>(
     }
 }
 
-/// The error that was kept, as a result.
+/// The result of the writes: the error that was kept, if one was.
 pub fn kept_error(error: Option<io::Error>) -> io::Result<()>
-    ensures { IsSome error → IsErr result }
+    ensures kept { IfSome error (λ reason. result ≡ Err reason) }
+    ensures none { IfNone error (IsOk result) }
 {
     match error {
         None => Ok(()),

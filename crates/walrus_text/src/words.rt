@@ -1,5 +1,5 @@
 //! Lines of bytes, and a line as words, which spaces divide. No other byte divides words.
-ghost use Rattle.std.specs.Prelude.{◌≡◌, ◌==◌, ◌++◌, ◌∷◌, [], ◌<◌, ◌≤◌, filter, length, not, IfSome, IfNone};
+ghost use Rattle.std.specs.Prelude.{◌≡◌, ◌==◌, ◌++◌, ◌∷◌, [], ◌<◌, ◌≤◌, length, not, IfSome, IfNone};
 ghost use Rattle.std.specs.List.{position, position_or_len};
 ghost use Rattle.walrus_text.specs.Words.{has_items, words_of};
 ghost use Rattle.walrus_text.specs.Steps.Bytes.{IsOneLine};
@@ -45,13 +45,6 @@ pub fn next_word(line: &[u8]) -> Option<(&[u8], &[u8])>
         return None;
     }
     Some((word, rest))
-}
-
-/// The number of spaces in a line: that of its words, where one space is before each.
-pub fn space_count(line: &[u8]) -> usize
-    ensures { result ≡ length (filter (λ b. b == 32) line.now) }
-{
-    line.iter().filter(|byte| **byte == b' ').count()
 }
 
 /// Whether the line has no word.

@@ -3,7 +3,7 @@ use Rattle.std.proofs.Common.{◌≡◌, ℕ, zero, suc, ◌+◌, ◌-◌, ◌�
 use Rattle.std.specs.declared.cmp.Ordering.{Ordering}
 use Rattle.std.specs.declared.cmp.Ordering.TheVariants.{Less, Equal}
 use Rattle.std.specs.Ordering.{nat_cmp, ordering_then}
-use Rattle.std.specs.List.{slice_get}
+use Rattle.std.specs.List.{slice_get, range_with_len}
 use Rattle.std.proofs.lemmas.Bool.Decides.{nat_tests}
 
 pub some_inj : {A : Type 0} {x y : A} → Some x ≡ Some y → x ≡ y
@@ -59,3 +59,10 @@ slice_get-parts (y ∷ xs) ys (suc k) x h = elim (slice_get-parts xs ys k x h) [
   | inr w ↦
       inr (w.0, omega (arith, w.1), w.2)
 ]
+
+-- one more number at the end of a range
+pub range_push : (a n k : ℕ) → k ≡ a + n → range_with_len a n ++ k ∷ [] ≡ range_with_len a (n + 1)
+range_push a zero k e = let h : k ≡ a = omega arith in ap (λ (i : ℕ). i ∷ []) h
+range_push a (suc n) k e =
+    let more : suc (n + 1) ≡ suc n + 1 = omega arith in
+    ap (λ (xs : List ℕ). a ∷ xs) (range_push (a + 1) n k (omega arith)) ∙ ap (range_with_len a) more

@@ -1,5 +1,3 @@
--- `==` of types and of records is sameness.
+-- `==` of records is sameness.
 pub mod Contents
 pub mod Records
-pub mod Types
-pub mod Values

@@ -1,5 +1,3 @@
 -- What types and definitions name, and how names are replaced.
 pub mod Definitions
 pub mod InLists
-pub mod Lookups
-pub mod Renaming

@@ -1,7 +1,4 @@
--- The derived orders are total, and their ties are the same.
+-- The derived orders of values and records, and their ties.
 pub mod Bare
 pub mod Indices
-pub mod Ids
 pub mod Records
-pub mod Types
-pub mod Ties

@@ -1,16 +1,6 @@
 pub mod Value
 pub mod Definition
-pub mod Signature
-pub mod Types
 pub mod Records
-pub mod IdLists
-pub mod Indices
 pub mod Text
-pub mod Views
-pub mod SubTypes
-pub mod SameTypes
-pub mod Comparison
-pub mod HashInput
 pub mod Groups
 pub mod Lists
-pub mod Lookups

@@ -1,7 +1,7 @@
 -- Value types and what they are made of, over numbers that stand for types: what they name, how
 -- they are renamed, and their order.
 -- WebAssembly core specification, "Types": abstract heap types, heap types, reference types, value
--- types, storage types, field types.
+-- types, storage types and what they unpack to, field types.
 -- `Exact` is of the custom descriptors proposal.
 use Rattle.std.specs.Prelude.{ℕ, Bool, true, false, List, [], ◌∷◌, Option, Some, None}
 use Rattle.std.specs.declared.cmp.Ordering.{Ordering}
@@ -43,6 +43,12 @@ storage_name storage.I16 = None
 
 abbrev pub field_name : {A : Type 0} → Field A → Option A
 field_name f = storage_name f.element_type
+
+-- the type of the values that such a field is read and written with
+abbrev pub unpacked_type : {A : Type 0} → Storage A → Val A
+unpacked_type (storage.Val v) = v
+unpacked_type storage.I8 = val.I32
+unpacked_type storage.I16 = val.I32
 
 -- the numbers that stand for types, from left to right
 

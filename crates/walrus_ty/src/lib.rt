@@ -1,43 +1,21 @@
-//! Types of WebAssembly modules as data, and the records of a type section.
+//! Value types of WebAssembly as data, and the records of a type section.
 //!
-//! - [`Type`] is a type of a module, which names others by id.
+//! - [`Val`], [`Heap`] and their like are generic in what names a type: an index in a section, an
+//!   id in a module.
 //! - [`GroupAt`] and [`EntryAt`] are the records of a type section, which name types by index.
-//!   [`IndicesToIds`] and [`IdsToIndices`] lead from one to the other.
-//! - [`laws`] and [`record_laws`] have the theorems: how types and records compare, and that two
-//!   with the same text or the same contents are equal.
+//! - [`Listed`] is a list that contracts see as a list.
+//! - [`laws`] has the theorems that other crates need of records.
 //!
-//! A record is read as a type through a map from indices to ids, and written again through a map
-//! from ids to indices:
-//!
-//! ```
-//! fn both_ways(alloc: Global, comp: &CompAt) -> Result<CompAt, Fail> {
-//!     let read = CompositeType::from_record(alloc, comp, &ids(alloc)?)?;
-//!     Ok(read.to_record(alloc, &indices(alloc)?)?)
-//! }
-//! ```
+//! `walrus_module_types` has the types of a module, which name others by id, and leads from records
+//! to them and back.
 #![tactic(auto)]
 
-mod convert;
-mod error;
-mod function_types;
-mod indices;
 pub mod laws;
 mod listed;
-pub mod record_laws;
 mod records;
 mod ty;
 
-pub use convert::SubType;
-pub use error::{FromRecordError, NoIndex, ToRecordError, UnknownIndex};
-pub use function_types::FunctionTypes;
-pub use indices::{
-    Data, DataId, Element, ElementId, Function, FunctionId, Global, GlobalId, IdsToIndices,
-    IndicesToIds, Memory, MemoryId, Table, TableId, Tag, TagId, TypeId,
-};
 pub use listed::Listed;
 pub use records::{CompAt, EntryAt, FieldAt, GroupAt, HeapAt, RefAt, StorageAt, ValAt};
-pub use ty::{
-    AbstractHeapType, ArrayType, CompositeType, Field, FieldType, FunctionType, Heap, HeapType,
-    RefType, Reference, Storage, StorageType, StructType, Type, Val, ValType,
-};
+pub use ty::{AbstractHeapType, Field, Heap, Reference, Storage, Val};
 pub use walrus_id::Id;

@@ -11,7 +11,6 @@ ghost use Rattle.std.specs.Slice.Iter.{iter_rest, iter_steps};
 ghost use Rattle.std.specs.Vec.Iter.{into_iter_items, into_iter_len, into_iter_steps};
 ghost use Rattle.std.specs.Borrow.{sem};
 
-use crate::TypeId;
 use std::alloc::{AllocError, Global};
 use std::cmp::Ordering;
 use std::fmt;
@@ -20,6 +19,7 @@ use std::marker::Model;
 use std::ops::{Index, IndexMut};
 use std::slice::Iter;
 use std::vec::IntoIter;
+use walrus_id::Id;
 
 /// A `Vec` whose contracts speak of its items alone: two lists are the same where their items are.
 ///
@@ -138,7 +138,8 @@ impl<T> Listed<T> {
         self.items.pop()
     }
 
-    pub(crate) fn allocator(&self) -> Global {
+    /// Where its memory comes from.
+    pub fn allocator(&self) -> Global {
         *self.items.allocator()
     }
 }
@@ -211,13 +212,13 @@ impl<'a, T> IntoIterator for &'a Listed<T> {
     }
 }
 
-impl Listed<TypeId> {
+impl<T> Listed<Id<T>> {
     /// Takes this id out, wherever it is in the list.
-    pub fn remove_id(&mut self, id: TypeId)
+    pub fn remove_id(&mut self, id: Id<T>)
         ensures { self.new ≡ filter (λ i. not (nat_eq i id)) self.old }
     {
         let at = id.index();
-        self.items.retain(|i| i.index() != at);
+        self.items.retain(|i| i.place() != at);
     }
 }
 

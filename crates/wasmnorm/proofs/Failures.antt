@@ -1,25 +1,24 @@
 -- The exit status of a failure, and what it says of the bytes.
-use Rattle.std.proofs.Common.{◌≡◌, ◌≤◌, ℕ, List, Result, Ok, Err, refl, sym, subst, arith}
+use Rattle.std.proofs.Common.{◌≡◌, ◌≤◌, ℕ, true, List, Result, Ok, Err, refl, arith}
 use Rattle.std.specs.Prelude.{IfErr, IsErrOf}
 use Rattle.walrus_binary.specs.ModuleSections.{HasBadTypesBy}
 use Rattle.walrus_binary.specs.declared.error.DecodeError.{DecodeError}
-use Rattle.walrus_module.specs.declared.faults.FaultKind.{FaultKind}
 use Rattle.walrus_module.specs.declared.faults.FaultKind.TheVariants as kind
 use Rattle.walrus_normalise.specs.declared.options.NormaliseOptions.{NormaliseOptions}
 use Rattle.walrus_sections.specs.declared.error.ReadError.TheVariants as read
 use Rattle.walrus_normalise.specs.NormalModules.{HasFirstError, HasFirstFault, BecomesTooLong, BecomesOutdated}
-use Rattle.walrus_normalise.specs.Steps.Errors.{fault_failure}
 use Rattle.walrus_normalise.specs.declared.error.NormaliseModuleError.{NormaliseModuleError}
 use Rattle.walrus_normalise.specs.declared.error.NormaliseModuleError.TheVariants as error
 use Rattle.wasmnorm.specs.declared.failure.Failure.{Failure}
 use Rattle.wasmnorm.specs.declared.failure.Failure.TheVariants as failure
-use Rattle.wasmnorm.specs.Runs.{HasFaultBefore, in_module, before_the_end, IsRefused, bad_types, malformed, too_long, outdated, IsIllNamed, in_types, elsewhere}
+use Rattle.wasmnorm.specs.Judged.{BreaksBehind, whole, before_break, OfJudged, HasWrongTypes, unread, ill_named, IsMalformedAt, first}
+use Rattle.wasmnorm.specs.Runs.{IsRefused, bad_types, malformed, too_long, outdated, IsIllNamed, in_types, elsewhere}
 use Rattle.walrus_snipping.specs.declared.error.SnipError.{SnipError}
 use Rattle.walrus_snipping.specs.declared.error.SnipError.TheVariants as snip
 use Rattle.wasmnorm.specs.declared.snip_failure.SnipFailure.{SnipFailure}
 use Rattle.wasmnorm.specs.declared.snip_failure.SnipFailure.TheVariants as snips
 use Rattle.wasmnorm.specs.Steps.Snips.{refusal_status, snip_status}
-use Rattle.wasmnorm.specs.Steps.Failures.{Explains, ExplainsError, refused_status, status_of}
+use Rattle.wasmnorm.specs.Steps.Failures.{Explains, ExplainsError, ExplainsModule, is_of_types, is_of_sections, refused_status, status_of}
 
 error_range : (e : NormaliseModuleError) → refused_status e ≤ 4
 error_range (error.Types e) = omega arith
@@ -79,16 +78,61 @@ error_ill_named options bytes error.TooLong why is = absurd (omega (arith, is))
 error_ill_named options bytes (error.Outdated offset) why is = absurd (omega (arith, is))
 error_ill_named options bytes error.Memory why is = absurd (omega (arith, is))
 
--- where a fault comes before the place of an error, its error says what is wrong
-pub explains_fault :
-    (options : NormaliseOptions) (bytes : List ℕ) (e : DecodeError) (what : FaultKind) (place : ℕ)
-    (result : NormaliseModuleError)
-    → result ≡ fault_failure what place → HasBadTypesBy bytes e → HasFaultBefore bytes what place
-    → ExplainsError options bytes result
-explains_fault options bytes e kind.Malformed place result is bad fault =
-    subst (λ x. ExplainsError options bytes x) (sym is) (before_the_end e bad fault)
-explains_fault options bytes e (kind.UnknownType index count) place result is bad fault =
-    subst (λ x. ExplainsError options bytes x) (sym is) (before_the_end e bad fault)
+judged_whole : (F : List ℕ → Type 0) (bytes : List ℕ) → F bytes → OfJudged F bytes
+judged_whole F bytes why = record { judged = bytes; are_judged = whole; is_so = why }
+
+judged_front : (F : List ℕ → Type 0) (front bytes : List ℕ) → BreaksBehind front bytes → F front →
+    OfJudged F bytes
+judged_front F front bytes breaks why =
+    record { judged = front; are_judged = before_break front breaks; is_so = why }
+
+pub explains_whole :
+    (options : NormaliseOptions) (bytes : List ℕ) (e : NormaliseModuleError)
+    → ExplainsModule options bytes e → ExplainsError options bytes e
+explains_whole options bytes (error.Types e) why = judged_whole (λ judged. HasBadTypesBy judged e) bytes why
+explains_whole options bytes (error.BadIndex entry index end) why =
+    judged_whole (λ judged. HasFirstError judged (read.BadIndex entry index end)) bytes why
+explains_whole options bytes error.TooMany why =
+    judged_whole (λ judged. HasFirstError judged read.TooMany) bytes why
+explains_whole options bytes (error.Malformed place) why =
+    judged_whole (λ judged. IsMalformedAt judged place) bytes why
+explains_whole options bytes (error.UnknownType k count place) why =
+    judged_whole (λ judged. HasFirstFault judged (kind.UnknownType k count) place) bytes why
+explains_whole options bytes error.TooLong why = why
+explains_whole options bytes (error.Outdated offset) why = why
+explains_whole options bytes error.Memory why = tt
+
+-- what an error says of the sections before the one that breaks the framing, it says of the bytes
+pub explains_front :
+    (options : NormaliseOptions) (front bytes : List ℕ) (e : NormaliseModuleError)
+    → BreaksBehind front bytes → is_of_sections e ≡ true → ExplainsModule options front e
+    → ExplainsError options bytes e
+explains_front options front bytes (error.Types e) breaks is why =
+    judged_front (λ judged. HasBadTypesBy judged e) front bytes breaks why
+explains_front options front bytes (error.BadIndex entry index end) breaks is why =
+    judged_front (λ judged. HasFirstError judged (read.BadIndex entry index end)) front bytes breaks why
+explains_front options front bytes error.TooMany breaks is why =
+    judged_front (λ judged. HasFirstError judged read.TooMany) front bytes breaks why
+explains_front options front bytes (error.Malformed place) breaks is why =
+    judged_front (λ judged. IsMalformedAt judged place) front bytes breaks why
+explains_front options front bytes (error.UnknownType k count place) breaks is why =
+    judged_front (λ judged. HasFirstFault judged (kind.UnknownType k count) place) front bytes breaks why
+explains_front options front bytes error.TooLong breaks is why = absurd cc
+explains_front options front bytes (error.Outdated offset) breaks is why = absurd cc
+explains_front options front bytes error.Memory breaks is why = tt
+
+pub wrong_types :
+    (options : NormaliseOptions) (bytes : List ℕ) (e : NormaliseModuleError)
+    → is_of_types e ≡ true → ExplainsModule options bytes e → HasWrongTypes bytes
+wrong_types options bytes (error.Types e) is why = unread e why
+wrong_types options bytes (error.BadIndex entry index end) is why =
+    ill_named (read.BadIndex entry index end) why
+wrong_types options bytes error.TooMany is why = ill_named read.TooMany why
+wrong_types options bytes (error.Malformed place) is why = absurd cc
+wrong_types options bytes (error.UnknownType k count place) is why = absurd cc
+wrong_types options bytes error.TooLong is why = absurd cc
+wrong_types options bytes (error.Outdated offset) is why = absurd cc
+wrong_types options bytes error.Memory is why = absurd cc
 
 pub explains_refused :
     (options : NormaliseOptions) (bytes : List ℕ) (f : Failure) → Explains options bytes f → status_of f ≡ 1
@@ -124,14 +168,13 @@ pub explains_each :
     → HasFirstFault bytes (kind.UnknownType k count) place)
     → (IsErrOf result error.TooLong → BecomesTooLong options bytes)
     → ((k : ℕ) → IsErrOf result (error.Outdated k) → BecomesOutdated options k bytes)
-    → IfErr result (λ e. ExplainsError options bytes e)
+    → IfErr result (λ e. ExplainsModule options bytes e)
 explains_each options bytes (Ok new) a b c d e f g = tt
 explains_each options bytes (Err (error.Types t)) a b c d e f g = a t refl
 explains_each options bytes (Err (error.BadIndex entry index end)) a b c d e f g = b entry index end refl
 explains_each options bytes (Err error.TooMany) a b c d e f g = c refl
-explains_each options bytes (Err (error.Malformed place)) a b c d e f g = in_module (d place refl)
-explains_each options bytes (Err (error.UnknownType k count place)) a b c d e f g =
-    in_module (e k count place refl)
+explains_each options bytes (Err (error.Malformed place)) a b c d e f g = first (d place refl)
+explains_each options bytes (Err (error.UnknownType k count place)) a b c d e f g = e k count place refl
 explains_each options bytes (Err error.TooLong) a b c d e f g = f refl
 explains_each options bytes (Err (error.Outdated k)) a b c d e f g = g k refl
 explains_each options bytes (Err error.Memory) a b c d e f g = tt

@@ -1,3 +1,4 @@
 pub mod Snips
+pub mod Judged
 pub mod Runs
 pub mod Steps

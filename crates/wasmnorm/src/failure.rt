@@ -1,6 +1,6 @@
 //! What ends a run without a module: its line on standard error and its exit status.
 ghost use Rattle.std.specs.Prelude.{◌≡◌, ◌≤◌, ◌⊎◌};
-ghost use Rattle.wasmnorm.specs.Steps.Failures.{Explains, ExplainsError, HasContext, IsOfStreams, refused_status, status_of};
+ghost use Rattle.wasmnorm.specs.Steps.Failures.{Explains, ExplainsModule, HasContext, IsOfStreams, refused_status, status_of};
 
 use crate::fault::first_error;
 use crate::outdated::write_outdated;
@@ -10,7 +10,7 @@ use std::alloc::{AllocError, Global};
 use std::fmt;
 use std::fmt::Formatter;
 use std::io::{self, ErrorKind, Write};
-use walrus_normalise::{NormaliseModuleError, NormaliseOptions, Widths};
+use walrus_normalise::{HashKeys, NormaliseModuleError, NormaliseOptions, Widths};
 
 /// What ends a run without a module.
 #[derive(Debug, Drop)]
@@ -97,13 +97,15 @@ impl From<AllocError> for Failure {
 /// The failure of a module that was not normalised with these options.
 pub fn refusal(
     alloc: Global,
+    keys: HashKeys,
     bytes: &[u8],
     options: NormaliseOptions,
     error: NormaliseModuleError,
 ) -> Failure
-    ensures explains { ExplainsError options bytes.now error → Explains options bytes.now result }
+    ensures explains { ExplainsModule options bytes.now error →
+        Explains options bytes.now result }
 {
-    let error = first_error(alloc, bytes, error);
+    let error = first_error(alloc, keys, options, bytes, error);
     Failure::Refused {
         error,
         context: context_beside(bytes, error),

@@ -1,88 +1,113 @@
-//! The first fault of bytes that are no module, or whose types can't be read.
-ghost use Rattle.std.specs.Prelude.{IfSome};
-ghost use Rattle.walrus_normalise.specs.declared.options.NormaliseOptions.{NormaliseOptions};
-ghost use Rattle.wasmnorm.specs.Runs.{HasFaultBefore};
-ghost use Rattle.wasmnorm.specs.Steps.Failures.{ExplainsError};
+//! What is wrong first, where the types of bytes can't be used or the bytes are no module.
+ghost use Rattle.std.specs.Prelude.{◌≡◌, true, IfSome};
+ghost use Rattle.wasmnorm.specs.Judged.{HasMalformedBeforeTypes};
+ghost use Rattle.wasmnorm.specs.Steps.Failures.{ExplainsError, ExplainsModule, is_of_sections, is_of_types};
 
+use crate::front::{sections_before_break, sections_before_types};
+use crate::module::normal_module;
 use std::alloc::Global;
-use walrus_binary::{DecodeError, module_types, section_around};
-use walrus_module::{Fault, FaultKind, find_module_fault};
-use walrus_normalise::NormaliseModuleError;
-use walrus_ty::GroupAt;
+use walrus_module::{FaultKind, find_module_fault};
+use walrus_normalise::{HashKeys, NormaliseModuleError, NormaliseOptions};
 
-/// The id of the type section.
-const TYPES: u8 = 1;
+/// The most types that a module can have. With this number, a name of a type is wrong only where no
+/// module has that type.
+const ENOUGH_TYPES: u32 = u32::MAX;
 
-/// The number of types where it is not known.
-const UNKNOWN: u32 = u32::MAX;
-
-/// The error of what is wrong first, where a module was refused with this error. Only where the
-/// bytes stop being a module, or its types can't be read, can another section be at fault before.
-pub fn first_error(alloc: Global, bytes: &[u8], error: NormaliseModuleError) -> NormaliseModuleError
-    ensures { (options : NormaliseOptions) → ExplainsError options bytes.now error →
-        ExplainsError options bytes.now result }
+/// The error of what is wrong first, where a module was refused with this error. Where the framing
+/// of the bytes breaks, the sections before are judged as a module is.
+pub fn first_error(
+    alloc: Global,
+    keys: HashKeys,
+    options: NormaliseOptions,
+    bytes: &[u8],
+    error: NormaliseModuleError,
+) -> NormaliseModuleError
+    ensures { ExplainsModule options bytes.now error → ExplainsError options bytes.now result }
 {
-    let NormaliseModuleError::Types(DecodeError::Malformed { offset, .. }) = error else {
-        return error;
+    let Some(front) = sections_before_break(bytes) else {
+        return first_of_module(alloc, bytes, error);
     };
-    match fault_before(alloc, bytes, offset) {
-        Some(fault) => NormaliseModuleError::from(fault),
+    match error_of_sections(alloc, keys, options, front) {
+        Some(found) => first_of_module(alloc, front, found),
         None => error,
     }
 }
 
-/// The first fault of the sections before this place, where the bytes stop being a module.
-fn fault_before(alloc: Global, bytes: &[u8], offset: usize) -> Option<Fault>
-    ensures { IfSome result (λ f. HasFaultBefore bytes.now f.kind f.offset) }
+/// The error of these sections, where one is wrong. There is none where memory is refused.
+fn error_of_sections(
+    alloc: Global,
+    keys: HashKeys,
+    options: NormaliseOptions,
+    front: &[u8],
+) -> Option<NormaliseModuleError>
+    ensures explains { IfSome result (ExplainsModule options front.now) }
+    ensures of_sections { IfSome result (λ e. is_of_sections e ≡ true) }
 {
-    let count = count_before(alloc, bytes, offset)?;
-    let fault = first_fault(alloc, bytes, count)?;
-    if fault.offset > offset || is_unknown(fault.kind) {
+    match normal_module(alloc, keys, options, front) {
+        Err(error) if is_of_sections(error) => Some(error),
+        _ => None,
+    }
+}
+
+/// The error of what is wrong first in a module, which was refused with this error. Where that is
+/// one of the type section, another section can be malformed before it.
+fn first_of_module(alloc: Global, bytes: &[u8], error: NormaliseModuleError) -> NormaliseModuleError
+    ensures explains { (options : NormaliseOptions) → ExplainsModule options bytes.now error →
+        ExplainsModule options bytes.now result }
+    ensures of_sections { is_of_sections error ≡ true → is_of_sections result ≡ true }
+{
+    if !is_of_types(error) {
+        return error;
+    }
+    match malformed_before_types(alloc, bytes) {
+        Some(offset) => NormaliseModuleError::Malformed { offset },
+        None => error,
+    }
+}
+
+/// Where a section before the type section is malformed, if memory suffices to find it. The types
+/// are not known, so what names them is not judged.
+fn malformed_before_types(alloc: Global, bytes: &[u8]) -> Option<usize>
+    ensures { IfSome result (HasMalformedBeforeTypes bytes.now) }
+{
+    let before = sections_before_types(bytes)?;
+    let Ok(Some(fault)) = find_module_fault(alloc, before, ENOUGH_TYPES) else {
         return None;
+    };
+    match fault.kind {
+        FaultKind::Malformed => Some(fault.offset),
+        FaultKind::UnknownType { .. } => None,
     }
-    Some(fault)
 }
 
-/// How many types the sections before the place may name. Where the type section is what is
-/// malformed, its types are not known, and what names them before it is not judged.
-fn count_before(alloc: Global, bytes: &[u8], offset: usize) -> Option<u32> {
-    let section = section_around(bytes, offset)?;
-    if section.id == TYPES {
-        return Some(UNKNOWN);
-    }
-    type_count(alloc, bytes.get(..section.offset)?)
-}
-
-fn first_fault(alloc: Global, bytes: &[u8], count: u32) -> Option<Fault>
-    ensures { IfSome result (λ f. HasFaultBefore bytes.now f.kind f.offset) }
+/// Whether it is an error of the type section, or the bytes are no module.
+fn is_of_types(error: NormaliseModuleError) -> bool
+    ensures { result ≡ is_of_types error }
 {
-    match find_module_fault(alloc, bytes, count) {
-        Ok(found) => found,
-        Err(_) => None,
+    match error {
+        NormaliseModuleError::Types(_)
+        | NormaliseModuleError::BadIndex { .. }
+        | NormaliseModuleError::TooMany => true,
+        NormaliseModuleError::Malformed { .. }
+        | NormaliseModuleError::UnknownType { .. }
+        | NormaliseModuleError::TooLong
+        | NormaliseModuleError::Outdated { .. }
+        | NormaliseModuleError::Memory => false,
     }
 }
 
-/// Whether the fault is a type that is judged by an unknown number of types.
-fn is_unknown(kind: FaultKind) -> bool {
-    match kind {
-        FaultKind::Malformed => false,
-        FaultKind::UnknownType { count, .. } => count == UNKNOWN,
-    }
-}
-
-/// How many types the module has, if they can be read.
-fn type_count(alloc: Global, bytes: &[u8]) -> Option<u32> {
-    let groups = module_types(alloc, bytes).ok()?;
-    let mut count: u32 = 0;
-    for group in groups.as_slice() {
-        count = count.checked_add(entry_count(group)?)?;
-    }
-    Some(count)
-}
-
-fn entry_count(group: &GroupAt) -> Option<u32> {
-    match group {
-        GroupAt::Single(_) => Some(1),
-        GroupAt::Rec(entries) => u32::try_from(entries.len()).ok(),
+/// Whether it says that a section is wrong, whatever is done with the module.
+fn is_of_sections(error: NormaliseModuleError) -> bool
+    ensures { result ≡ is_of_sections error }
+{
+    match error {
+        NormaliseModuleError::Types(_)
+        | NormaliseModuleError::BadIndex { .. }
+        | NormaliseModuleError::TooMany
+        | NormaliseModuleError::Malformed { .. }
+        | NormaliseModuleError::UnknownType { .. } => true,
+        NormaliseModuleError::TooLong
+        | NormaliseModuleError::Outdated { .. }
+        | NormaliseModuleError::Memory => false,
     }
 }

@@ -3,14 +3,14 @@
 
 ghost use Rattle.std.specs.Prelude.{◌≡◌, ◌<◌, ◌≤◌, ◌⊎◌, IfErr, IfOk, OnOk, IfSome};
 ghost use Rattle.std.specs.Io.KnownBytes.{Appends, Keeps};
-ghost use Rattle.walrus_normalise.specs.NormalModules.{IsNormalised, DescriptionsFit};
-ghost use Rattle.walrus_normalise.specs.declared.options.Descriptions.TheVariants as descriptions;
 ghost use Rattle.wasmnorm.specs.Runs.{IsWritten, IsRefused, IsIllNamed};
 ghost use Rattle.wasmnorm.specs.Snips.{BecomesNormal, CanNotBeSnipped, MisnamesFunctions};
-ghost use Rattle.wasmnorm.specs.Steps.Failures.{ExplainsError, ExplainsRun, status_of};
+ghost use Rattle.wasmnorm.specs.Steps.Failures.{ExplainsRun, status_of};
 
 mod failure;
 mod fault;
+mod front;
+mod module;
 mod outdated;
 mod snip_failure;
 mod snipping;
@@ -21,15 +21,13 @@ use command_line::{
     write_version,
 };
 use failure::{Failure, failed_input, refusal, report};
+use module::normal_module;
 use snipping::snipped_module;
 use std::alloc::{AllocError, Global};
 use std::io::{self, BufWriter, Read, Write};
 use std::process::ExitCode;
 use texts::{HELP, KEEP_WIDTHS, PRUNE, SNIP, STRIP, USAGE};
-use walrus_normalise::{
-    Descriptions, HashKeys, NormaliseModuleError, NormaliseOptions, UnusedTypes, Widths,
-    normalise_module,
-};
+use walrus_normalise::{Descriptions, HashKeys, NormaliseOptions, UnusedTypes, Widths};
 
 /// Reads a module from `reader`, and writes the same module to `out`, with its type section in
 /// normal form and every other index of a type written again.
@@ -57,6 +55,9 @@ use walrus_normalise::{
 ///   function or of several, or the index of an imported function or of none.
 /// - 3: memory was refused.
 /// - 4: a read or a write failed.
+///
+/// What is wrong first is reported. Where the bytes are no module, since a section breaks the
+/// framing, the sections before it are judged first.
 ///
 /// `out` gains nothing at 1 to 3, since the whole module is there before it is written. At 4 it may
 /// have gained the module or a part of it.
@@ -128,7 +129,7 @@ fn new_module(
 {
     let normal = match normal_module(alloc, keys, options, bytes) {
         Ok(module) => module,
-        Err(error) => return Err(refusal(alloc, bytes, options, error)),
+        Err(error) => return Err(refusal(alloc, keys, bytes, options, error)),
     };
     if snips.is_empty() {
         return Ok(normal);
@@ -138,21 +139,6 @@ fn new_module(
         Ok(module) => Ok(module),
         Err(failure) => Err(Failure::Unsnipped(failure)),
     }
-}
-
-/// The module with its type section in normal form.
-fn normal_module(
-    alloc: Global,
-    keys: HashKeys,
-    options: NormaliseOptions,
-    bytes: &[u8],
-) -> Result<Vec<u8>, NormaliseModuleError>
-    ensures normal { IfOk result (λ new. IsNormalised options bytes.now new.items) }
-    ensures fits { options.descriptions ≡ descriptions.Kept →
-        IfOk result (λ new. DescriptionsFit bytes.now new.items) }
-    ensures refused { IfErr result (λ e. ExplainsError options bytes.now e) }
-{
-    normalise_module(alloc, keys, bytes, options)
 }
 
 /// Writes the whole module, and flushes the writer.

@@ -1,8 +1,8 @@
 //! Constant operations read with an id for each index, and written with an index for each id.
 ghost use Rattle.std.specs.Prelude.{◌≡◌, Some, None, IfOk, IfErr, OnOk, OnSome, map, option_map, [], ◌∷◌, ◌++◌};
 ghost use Rattle.std.specs.List.{flat_map};
-ghost use Rattle.walrus_ty.specs.IdLists.{type_at};
-ghost use Rattle.walrus_ty.specs.Lookups.{value_or_zero, IfUnknownIndex, IfNoIndex};
+ghost use Rattle.walrus_module_types.specs.IdLists.{type_at};
+ghost use Rattle.walrus_module_types.specs.Lookups.{value_or_zero, IfUnknownIndex, IfNoIndex};
 ghost use Rattle.walrus_ty.specs.Value.{heap_names};
 ghost use Rattle.const_expr.specs.ConstExpr.{OfTypes, null_of, plain_form, op_read, op_written, op_names, op_at_names, ids_at, indices_of, renaming_of, first_missing, number_of, no_index};
 
@@ -10,10 +10,10 @@ use super::{ConstExpr, ConstOp, ConstOpAt};
 use operators::Value;
 use std::alloc::Global;
 use std::marker::Model;
-use walrus_ty::{
-    FromRecordError, HeapAt, HeapType, IdsToIndices, IndicesToIds, NoIndex, RefType, Reference,
-    ToRecordError, UnknownIndex,
+use walrus_module_types::{
+    FromRecordError, IdsToIndices, IndicesToIds, NoIndex, RefType, ToRecordError, UnknownIndex,
 };
+use walrus_ty::{HeapAt, Reference};
 
 // The operations of these records, in order.
 pub(super) fn ops_from(
@@ -132,7 +132,7 @@ fn null_type(heap_type: &HeapAt, ids: &IndicesToIds) -> Result<RefType, UnknownI
 {
     Ok(Reference {
         nullable: true,
-        heap_type: HeapType::from_record(heap_type, ids)?,
+        heap_type: ids.heap_type(heap_type)?,
     })
 }
 
@@ -175,7 +175,7 @@ impl ConstOp {
             ConstOp::F64Const(bits) => ConstOpAt::F64Const(*bits),
             ConstOp::V128Const(bits) => ConstOpAt::V128Const(*bits),
             ConstOp::GlobalGet(id) => ConstOpAt::GlobalGet(indices.get_global_index(*id)?),
-            ConstOp::RefNull(ty) => ConstOpAt::RefNull(ty.heap_type.to_record(indices)?),
+            ConstOp::RefNull(ty) => ConstOpAt::RefNull(indices.heap_record(&ty.heap_type)?),
             ConstOp::RefFunc(id) => ConstOpAt::RefFunc(indices.get_func_index(*id)?),
             ConstOp::I32Add => ConstOpAt::I32Add,
             ConstOp::I32Sub => ConstOpAt::I32Sub,

@@ -6,7 +6,7 @@ ghost use Rattle.const_expr.specs.ConstExpr.{op_types, ops_of, referenced_ids};
 
 use super::{ConstExpr, ConstOp};
 use std::alloc::AllocError;
-use walrus_ty::TypeId;
+use walrus_module_types::TypeId;
 
 impl ConstExpr {
     /// Puts the types that it names at the end of the list, from left to right, each as often as it

@@ -1,8 +1,9 @@
 //! That the maps can be filled, and what they return then.
 use crate::assertions::assert_equal;
-use walrus_ty::{
-    FunctionId, GlobalId, Id, IdsToIndices, IndicesToIds, NoIndex, TypeId, UnknownIndex,
+use walrus_module_types::{
+    FunctionId, GlobalId, IdsToIndices, IndicesToIds, NoIndex, TypeId, UnknownIndex,
 };
+use walrus_ty::Id;
 
 #[test]
 fn an_index_stands_for_the_id_that_was_pushed_then(rt: HostRuntime) {

@@ -2,10 +2,10 @@
 use crate::assertions::assert_equal;
 use std::alloc::{AllocError, Global};
 use std::process::Abort;
-use walrus_ty::{
-    ArrayType, CompositeType, Field, FieldType, FunctionType, Heap, HeapType, Id, Listed,
-    Reference, Storage, StructType, Type, TypeId, Val, ValType,
+use walrus_module_types::{
+    ArrayType, CompositeType, FieldType, FunctionType, HeapType, StructType, Type, TypeId, ValType,
 };
+use walrus_ty::{Field, Heap, Id, Listed, Reference, Storage, Val};
 
 fn concrete(index: usize) -> ValType {
     reference(Heap::Concrete(Id::from_index(index)))

@@ -8,7 +8,7 @@ use Rattle.std.proofs.lemmas.Map.Keys.{IsDistinct-from_apart}
 use Rattle.std.proofs.lemmas.Option.{slice_get_within, slice_get-get_or, get_or_from_slice_get}
 use Rattle.std.proofs.lemmas.Bool.Decides.{nat_tests}
 use Rattle.walrus_ty.proofs.Basics.{some_inj}
-use Rattle.walrus_ty.proofs.IndexMaps.NextIndex.{range_push}
+use Rattle.walrus_ty.proofs.Basics.{range_push}
 
 filter_at :
     (p : ℕ → Bool) (xs : List ℕ) (a x : ℕ) → slice_get (filter p xs) a ≡ Some x →

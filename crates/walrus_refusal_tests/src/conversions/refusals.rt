@@ -2,7 +2,7 @@
 use crate::assertions::assert_equal;
 use crate::fixtures::{field, list, reference, to};
 use std::alloc::{AllocError, Global};
-use walrus_ty::SubType;
+use walrus_module_types::SubType;
 use walrus_types::{
     CompAt, CompositeType, EntryAt, FieldAt, FromRecordError, IdsToIndices, IndicesToIds, Listed,
     NoIndex, StorageAt, ToRecordError, Type, TypeId, Val, ValAt,

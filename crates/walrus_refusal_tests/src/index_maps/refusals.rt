@@ -1,12 +1,12 @@
 //! Calls that give the next index.
 ghost use Rattle.std.specs.Prelude.{◌≡◌, ◌<◌, ◌+◌, ◌^◌, None, OnOk};
-ghost use Rattle.walrus_ty.specs.Indices.{GivesNext, type_indices, func_indices, global_indices};
+ghost use Rattle.walrus_module_types.specs.Indices.{GivesNext, type_indices, func_indices, global_indices};
 
 use crate::assertions::assert_equal;
 use std::alloc::AllocError;
 use std::process::Abort;
 use std::test::Fail;
-use walrus_ty::{FunctionId, GlobalId};
+use walrus_module_types::{FunctionId, GlobalId};
 use walrus_types::{IdsToIndices, IndicesToIds, NoIndex, TypeId, UnknownIndex};
 
 // The id of an index.

@@ -87,20 +87,39 @@ open_rest false s c rest e = ap rest_of e
 open_rest true s c rest e = absurd (not_open s c rest e)
 
 pub after_open :
-    (ws rest : List (List ℕ)) → ws ≡ codes "open" ∷ rest → IsEntryLine ws → IsSubtypeLine rest
-after_open ws rest h (e, fits, k) = subtype_line e rest fits
-    (open_rest e.is_final e.supertype e.comp rest (sym h ∙ k))
+    (word : List ℕ) (rest next : List (List ℕ)) → word ≡ codes "open" → rest ≡ next →
+    IsEntryLine (word ∷ rest) → IsSubtypeLine next
+after_open word rest next named same (e, fits, k) = subtype_line e next fits
+    (sym same ∙ open_rest e.is_final e.supertype e.comp rest (ap (λ w. w ∷ rest) (sym named) ∙ k))
 
 no_open_rest :
-    (b : Bool) (ws tail : List (List ℕ)) → ((rest : List (List ℕ)) → ws ≢ codes "open" ∷ rest) →
-    ws ≡ open_words b ++ tail → ws ≡ tail
-no_open_rest false ws tail none e = absurd (none tail e)
-no_open_rest true ws tail none e = e
+    (b : Bool) (word : List ℕ) (rest tail : List (List ℕ)) → word ≢ codes "open" →
+    word ∷ rest ≡ open_words b ++ tail → word ∷ rest ≡ tail
+no_open_rest false word rest tail other e = absurd (other (ap (first_of []) e))
+no_open_rest true word rest tail other e = e
 
 pub without_open :
-    (ws : List (List ℕ)) → ((rest : List (List ℕ)) → ws ≢ codes "open" ∷ rest) → IsEntryLine ws →
-    IsSubtypeLine ws
-without_open ws none (e, fits, k) = subtype_line e ws fits (no_open_rest e.is_final ws _ none k)
+    (word : List ℕ) (rest : List (List ℕ)) → word ≢ codes "open" → IsEntryLine (word ∷ rest) →
+    IsSubtypeLine (word ∷ rest)
+without_open word rest other (e, fits, k) = subtype_line e (word ∷ rest) fits
+    (no_open_rest e.is_final word rest _ other k)
+
+-- a composite type has words, and so has what follows `open`
+some_words : (c : CompAt) → [] ≢ composite_words c
+some_words (comp.Function ps rs) e =
+    let d : 0 ≡ 1 + length (map val_word ps ++ codes "->" ∷ map val_word rs) = ap count e in omega (arith, d)
+some_words (comp.Struct fs) e = let d : 0 ≡ 1 + length (map field_word fs) = ap count e in omega (arith, d)
+some_words (comp.Array f) e = let d : 0 ≡ 2 = ap count e in omega (arith, d)
+
+some_more_words : (s : Option ℕ) (c : CompAt) → [] ≢ supertype_words s ++ composite_words c
+some_more_words None c e = some_words c e
+some_more_words (Some k) c e = let d : 0 ≡ 1 + length (composite_words c) = ap count e in omega (arith, d)
+
+pub only_open :
+    (word : List ℕ) (rest : List (List ℕ)) → word ≡ codes "open" → rest ≡ [] →
+    ¬ IsEntryLine (word ∷ rest)
+only_open word rest named none (e, fits, k) = some_more_words e.supertype e.comp
+    (sym none ∙ open_rest e.is_final e.supertype e.comp rest (ap (λ w. w ∷ rest) (sym named) ∙ k))
 
 not_sub :
     (c : CompAt) (k : ℕ) (rest : List (List ℕ)) →
@@ -110,18 +129,26 @@ not_sub (comp.Struct fs) k rest e = let d : 117 ≡ 116 = ap next_byte_of e in o
 not_sub (comp.Array f) k rest e = let d : 115 ≡ 97 = ap byte_of e in omega (arith, d)
 
 pub after_supertype :
-    (k : ℕ) (ws rest : List (List ℕ)) → ws ≡ (codes "sub:" ++ decimal k) ∷ rest → IsSubtypeLine ws →
-    IsCompositeLine rest
-after_supertype k ws rest h (Some j, fits, more, line, e) =
-    subst IsCompositeLine (sym (ap rest_of (sym h ∙ e))) line
-after_supertype k ws rest h (None, fits, more, (c, small, spelled), e) =
-    absurd (not_sub c k rest (sym h ∙ (e ∙ spelled)))
+    (k : ℕ) (word : List ℕ) (rest next : List (List ℕ)) → word ≡ codes "sub:" ++ decimal k → rest ≡ next →
+    IsSubtypeLine (word ∷ rest) → IsCompositeLine next
+after_supertype k word rest next named same (Some j, fits, more, line, e) =
+    subst IsCompositeLine (sym (ap rest_of e) ∙ same) line
+after_supertype k word rest next named same (None, fits, more, (c, small, spelled), e) =
+    absurd (not_sub c k rest (ap (λ w. w ∷ rest) (sym named) ∙ (e ∙ spelled)))
+
+pub only_supertype :
+    (k : ℕ) (word : List ℕ) (rest : List (List ℕ)) → word ≡ codes "sub:" ++ decimal k → rest ≡ [] →
+    ¬ IsSubtypeLine (word ∷ rest)
+only_supertype k word rest named none line =
+    let (c, fits, e) = after_supertype k word rest rest named refl line in
+    some_words c (sym none ∙ e)
 
 pub without_supertype :
-    (ws : List (List ℕ)) → ¬ BeginsWith IsSupertypeWord ws → IsSubtypeLine ws → IsCompositeLine ws
-without_supertype ws none (Some j, fits, more, line, e) =
-    absurd (none (subst (BeginsWith IsSupertypeWord) (sym e) (j, fits.0, refl)))
-without_supertype ws none (None, fits, more, line, e) = subst IsCompositeLine (sym e) line
+    (word : List ℕ) (rest : List (List ℕ)) → ¬ IsSupertypeWord word → IsSubtypeLine (word ∷ rest) →
+    IsCompositeLine (word ∷ rest)
+without_supertype word rest none (Some j, fits, more, line, e) =
+    absurd (none (j, fits.0, ap (first_of []) e))
+without_supertype word rest none (None, fits, more, line, e) = subst IsCompositeLine (sym e) line
 
 -- the words of some values up to one that is none: what is left of any other reading is the same
 pub span_rest :
@@ -203,21 +230,13 @@ more_after_fields ws left vs e stops some (comp.Function ps rs, fits, k) = let d
 more_after_fields ws left vs e stops some (comp.Array g, fits, k) = let d : 115 ≡ 97 = ap byte_of k in
     omega (arith, d)
 
--- a line without words, and one that begins as none of the three begin, are no composite type
-pub no_words : (ws : List (List ℕ)) → ws ≡ [] → ¬ IsCompositeLine ws
-no_words ws e (comp.Function ps rs, fits, k) =
-    let d : 0 ≡ 1 + length (map val_word ps ++ codes "->" ∷ map val_word rs) = ap count (sym e ∙ k) in
-    omega (arith, d)
-no_words ws e (comp.Struct fs, fits, k) = let d : 0 ≡ 1 + length (map field_word fs) = ap count (sym e ∙ k) in
-    omega (arith, d)
-no_words ws e (comp.Array f, fits, k) = let d : 0 ≡ 2 = ap count (sym e ∙ k) in omega (arith, d)
-
+-- words that begin as none of the three begin are no composite type
 pub no_composite :
-    (ws others : List (List ℕ)) (w : List ℕ) → ws ≡ w ∷ others → w ≢ codes "func" → w ≢ codes "struct" →
-    w ≢ codes "array" → ¬ IsCompositeLine ws
-no_composite ws others w e func struct array (comp.Function ps rs, fits, k) = func (ap (first_of []) (sym e ∙ k))
-no_composite ws others w e func struct array (comp.Struct fs, fits, k) = struct (ap (first_of []) (sym e ∙ k))
-no_composite ws others w e func struct array (comp.Array f, fits, k) = array (ap (first_of []) (sym e ∙ k))
+    (others : List (List ℕ)) (w : List ℕ) → w ≢ codes "func" → w ≢ codes "struct" → w ≢ codes "array" →
+    ¬ IsCompositeLine (w ∷ others)
+no_composite others w func struct array (comp.Function ps rs, fits, k) = func (ap (first_of []) k)
+no_composite others w func struct array (comp.Struct fs, fits, k) = struct (ap (first_of []) k)
+no_composite others w func struct array (comp.Array f, fits, k) = array (ap (first_of []) k)
 
 -- what follows `array` is not one field
 pub no_array :

@@ -9,22 +9,28 @@ ghost use Rattle.walrus_text.specs.Text.{AreIndices, IsText, val_word, field_wor
 ghost use Rattle.walrus_text.specs.Steps.Parts.{BeginsWith, IsSupertypeWord, IsValWord, IsFieldWord, IsCompositeLine, IsSubtypeLine, IsEntryLine};
 
 use crate::parse::value::{after_prefix, field_type, type_index, value_type};
-use crate::words::{is_blank, next_word, space_count};
+use crate::words::{is_blank, next_word};
 use std::alloc::{AllocError, Global};
 use walrus_ty::{CompAt, EntryAt, FieldAt, Listed, ValAt};
 
-/// A definition: `open` where it is not final, `sub:` and its supertype where it has one, then what
-/// it is made of.
+/// A definition, from its first word on: `open` where it is not final, `sub:` and its supertype
+/// where it has one, then what it is made of.
 #[tactic(auto, using(crate::proofs::Parsing::Entries::fits_both))]
-pub fn entry(alloc: Global, line: &[u8]) -> Result<Option<EntryAt>, AllocError>
-    ensures found { IfOk result (λ found. IfSome found (λ e. words_of line.now ≡ entry_words e)) }
+pub fn entry(alloc: Global, word: &[u8], rest: &[u8]) -> Result<Option<EntryAt>, AllocError>
+    ensures found { IfOk result (λ found.
+        IfSome found (λ e. word.now ∷ words_of rest.now ≡ entry_words e)) }
     ensures fits { IfOk result (λ found. IfSome found
         (λ e. AreIndices (names_of (entry_definition e)))) }
-    ensures none { IfOk result (λ found. IfNone found (¬ IsEntryLine (words_of line.now))) }
+    ensures none { IfOk result (λ found.
+        IfNone found (¬ IsEntryLine (word.now ∷ words_of rest.now))) }
 {
-    let (is_final, rest) = finality(line);
-    let (supertype, rest) = supertype(rest);
-    let Some(comp) = composite(alloc, rest)? else {
+    let Some((is_final, word, rest)) = finality(word, rest) else {
+        return Ok(None);
+    };
+    let Some((supertype, word, rest)) = supertype(word, rest) else {
+        return Ok(None);
+    };
+    let Some(comp) = composite(alloc, word, rest)? else {
         return Ok(None);
     };
     Ok(Some(EntryAt {
@@ -34,43 +40,43 @@ pub fn entry(alloc: Global, line: &[u8]) -> Result<Option<EntryAt>, AllocError>
     }))
 }
 
-/// Whether a definition is final, and the words that follow.
-#[tactic(auto, using(crate::proofs::Parsing::Entries::after_open, crate::proofs::Parsing::Entries::without_open))]
-pub fn finality(line: &[u8]) -> (bool, &[u8])
-    ensures value { words_of line.now ≡ open_words result.0 ++ words_of result.1.now }
-    ensures only { IsEntryLine (words_of line.now) → IsSubtypeLine (words_of result.1.now) }
+/// Whether a definition is final, the first word of what follows, and the rest of the line. `None`
+/// says that no word follows.
+#[tactic(auto, using(crate::proofs::Parsing::Entries::without_open, crate::proofs::Parsing::Entries::only_open))]
+fn finality<'a>(word: &'a [u8], rest: &'a [u8]) -> Option<(bool, &'a [u8], &'a [u8])>
+    ensures value { IfSome result (λ found. word.now ∷ words_of rest.now ≡
+        open_words found.0 ++ found.1.now ∷ words_of found.2.now) }
+    ensures only { IfSome result (λ found. IsEntryLine (word.now ∷ words_of rest.now) →
+        IsSubtypeLine (found.1.now ∷ words_of found.2.now)) }
+    ensures none { IfNone result (¬ IsEntryLine (word.now ∷ words_of rest.now)) }
 {
-    match after_word(line, b"open") {
-        Some(rest) => (false, rest),
-        None => (true, line),
+    if word != b"open".as_slice() {
+        return Some((true, word, rest));
     }
+    let (word, rest) = next_word(rest)?;
+    Some((false, word, rest))
 }
 
-/// The supertype of a definition, and the words that follow.
-#[tactic(auto, using(crate::proofs::Parsing::Entries::after_supertype, crate::proofs::Parsing::Entries::without_supertype))]
-pub fn supertype(line: &[u8]) -> (Option<u32>, &[u8])
-    ensures value { words_of line.now ≡ supertype_words result.0 ++ words_of result.1.now }
-    ensures fits { AreIndices (supertype_names result.0) }
-    ensures only { IsSubtypeLine (words_of line.now) → IsCompositeLine (words_of result.1.now) }
+/// The supertype of a definition, the first word of what follows, and the rest of the line. `None`
+/// says that no word follows.
+#[tactic(auto, using(crate::proofs::Parsing::Entries::after_supertype, crate::proofs::Parsing::Entries::without_supertype, crate::proofs::Parsing::Entries::only_supertype))]
+fn supertype<'a>(word: &'a [u8], rest: &'a [u8]) -> Option<(Option<u32>, &'a [u8], &'a [u8])>
+    ensures value { IfSome result (λ found. word.now ∷ words_of rest.now ≡
+        supertype_words found.0 ++ found.1.now ∷ words_of found.2.now) }
+    ensures fits { IfSome result (λ found. AreIndices (supertype_names found.0)) }
+    ensures only { IfSome result (λ found. IsSubtypeLine (word.now ∷ words_of rest.now) →
+        IsCompositeLine (found.1.now ∷ words_of found.2.now)) }
+    ensures none { IfNone result (¬ IsSubtypeLine (word.now ∷ words_of rest.now)) }
 {
-    match first_supertype(line) {
-        Some((number, rest)) => (Some(number), rest),
-        None => (None, line),
-    }
+    let Some(number) = supertype_index(word) else {
+        return Some((None, word, rest));
+    };
+    let (word, rest) = next_word(rest)?;
+    Some((Some(number), word, rest))
 }
 
-fn first_supertype(line: &[u8]) -> Option<(u32, &[u8])>
-    ensures found { IfSome result (λ found. words_of line.now ≡ (codes "sub:" ++ decimal found.0) ∷
-        words_of found.1.now) }
-    ensures fits { IfSome result (λ found. found.0 < 2 ^ 32) }
-    ensures none { IfNone result (¬ BeginsWith IsSupertypeWord (words_of line.now)) }
-{
-    let (word, rest) = next_word(line)?;
-    let number = supertype_index(word)?;
-    Some((number, rest))
-}
-
-fn supertype_index(word: &[u8]) -> Option<u32>
+/// The supertype that a word names.
+pub fn supertype_index(word: &[u8]) -> Option<u32>
     ensures found { IfSome result (λ k. word.now ≡ codes "sub:" ++ decimal k) }
     ensures fits { IfSome result (λ k. k < 2 ^ 32) }
     ensures none { IfNone result (¬ IsSupertypeWord word.now) }
@@ -87,17 +93,15 @@ pub fn after_word<'a>(line: &'a [u8], wanted: &[u8]) -> Option<&'a [u8]>
     if word == wanted { Some(rest) } else { None }
 }
 
-#[tactic(auto, using(crate::proofs::Parsing::Entries::no_composite, crate::proofs::Parsing::Entries::no_words))]
-fn composite(alloc: Global, line: &[u8]) -> Result<Option<CompAt>, AllocError>
+#[tactic(auto, using(crate::proofs::Parsing::Entries::no_composite))]
+fn composite(alloc: Global, word: &[u8], rest: &[u8]) -> Result<Option<CompAt>, AllocError>
     ensures found { IfOk result (λ found.
-        IfSome found (λ c. words_of line.now ≡ composite_words c)) }
+        IfSome found (λ c. word.now ∷ words_of rest.now ≡ composite_words c)) }
     ensures fits { IfOk result (λ found. IfSome found
         (λ c. AreIndices (composite_names (comp_composite c)))) }
-    ensures none { IfOk result (λ found. IfNone found (¬ IsCompositeLine (words_of line.now))) }
+    ensures none { IfOk result (λ found.
+        IfNone found (¬ IsCompositeLine (word.now ∷ words_of rest.now))) }
 {
-    let Some((word, rest)) = next_word(line) else {
-        return Ok(None);
-    };
     match word {
         b"func" => function(alloc, rest),
         b"struct" => structure(alloc, rest),
@@ -179,14 +183,18 @@ fn values(alloc: Global, line: &[u8]) -> Result<(Vec<ValAt>, &[u8]), AllocError>
     ensures fits { IfOk result (λ read. AreIndices (flat_map val_names read.0.items)) }
     ensures stops { IfOk result (λ read. ¬ BeginsWith IsValWord (words_of read.1.now)) }
 {
-    // Room for each word, where one space is before each, so that the list need not grow.
-    let mut values = Vec::with_capacity(alloc, space_count(before_arrow(line)))?;
+    let mut values = Vec::with_capacity(alloc, initial_capacity(before_arrow(line)))?;
     let mut rest = line;
     while let Some((value, after)) = next_value(rest) {
         values.push(value)?;
         rest = after;
     }
     Ok((values, rest))
+}
+
+/// The room to begin with for the words of a line. Few are shorter than `i32` with its space.
+fn initial_capacity(line: &[u8]) -> usize {
+    line.len() / 4
 }
 
 /// The bytes up to the space before the last `->`, or all where there is none.
@@ -218,8 +226,7 @@ fn fields(alloc: Global, line: &[u8]) -> Result<(Vec<FieldAt>, &[u8]), AllocErro
     ensures fits { IfOk result (λ read. AreIndices (flat_map field_names read.0.items)) }
     ensures stops { IfOk result (λ read. ¬ BeginsWith IsFieldWord (words_of read.1.now)) }
 {
-    // Room for each word, where one space is before each, so that the list need not grow.
-    let mut fields = Vec::with_capacity(alloc, space_count(line))?;
+    let mut fields = Vec::with_capacity(alloc, initial_capacity(line))?;
     let mut rest = line;
     while let Some((field, after)) = next_field(rest) {
         fields.push(field)?;

@@ -4,7 +4,7 @@ ghost use Rattle.walrus_text.specs.Words.{words_of};
 ghost use Rattle.walrus_text.specs.Steps.Parts.{BeginsWith, PassesOver, IsFieldWord, IsValWord};
 
 use crate::error::Expected;
-use crate::parse::entry::{after_word, finality, next_field, next_value, supertype};
+use crate::parse::entry::{after_word, next_field, next_value, supertype_index};
 use crate::words::{is_blank, next_word};
 
 /// What has to be where a bad line goes wrong, and the column of that place, counted from 1. A line
@@ -40,8 +40,10 @@ fn wrong_rest(line: &[u8], is_in_group: bool) -> (Expected, &[u8]) {
     if let Some(rest) = after_word(line, b"end") {
         return after_bracket(line, rest, is_in_group);
     }
-    let (is_final, after_open) = finality(line);
-    let (number, rest) = supertype(after_open);
+    let after_open = after_word(line, b"open");
+    let subtype = after_open.unwrap_or(line);
+    let composite = after_supertype(subtype);
+    let rest = composite.unwrap_or(subtype);
     if let Some(params) = after_word(rest, b"func") {
         return in_function(params);
     }
@@ -51,14 +53,20 @@ fn wrong_rest(line: &[u8], is_in_group: bool) -> (Expected, &[u8]) {
     if let Some(field) = after_word(rest, b"array") {
         return in_array(field);
     }
-    if number.is_some() {
+    if composite.is_some() {
         return (Expected::Composite, rest);
     }
-    if is_final {
-        (beginning(is_in_group), rest)
-    } else {
-        (Expected::SupertypeOrComposite, rest)
+    if after_open.is_some() {
+        return (Expected::SupertypeOrComposite, rest);
     }
+    (beginning(is_in_group), rest)
+}
+
+/// The rest of a line after the supertype that it begins with.
+fn after_supertype(line: &[u8]) -> Option<&[u8]> {
+    let (word, rest) = next_word(line)?;
+    supertype_index(word)?;
+    Some(rest)
 }
 
 /// What a line has to begin with.

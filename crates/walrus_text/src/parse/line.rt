@@ -37,7 +37,7 @@ pub fn read_line(alloc: Global, line: &[u8]) -> Result<Option<Line>, AllocError>
     if is_alone(word, rest, b"end") {
         return Ok(Some(Line::End));
     }
-    let Some(entry) = entry(alloc, line)? else {
+    let Some(entry) = entry(alloc, word, rest)? else {
         return Ok(None);
     };
     Ok(Some(Line::Entry(entry)))

@@ -10,7 +10,16 @@ use Rattle.walrus_ty.specs.declared.records.GroupAt.TheVariants as group
 use Rattle.walrus_ty.specs.Records.{section_of}
 use Rattle.walrus_ty.proofs.Equality.Contents.{same_entry, same_section}
 use Rattle.walrus_ty.proofs.Orders.Records.{entry_equal}
-use Rattle.walrus_ty.proofs.Equality.Types.{pointwise_exact}
+use Rattle.walrus_ty.proofs.Basics.{and_left, and_right}
+
+pub pointwise_exact :
+    {A : Type 0} (E : A → A → Bool) → ((x y : A) → E x y ≡ true → x ≡ y) → (xs ys : List A) →
+    pointwise E xs ys ≡ true → xs ≡ ys
+pointwise_exact E e [] [] h = refl
+pointwise_exact E e [] (y ∷ ys) h = cc
+pointwise_exact E e (x ∷ xs) [] h = cc
+pointwise_exact E e (x ∷ xs) (y ∷ ys) h = let same : x ≡ y = e x y (and_left (E x y) (pointwise E xs ys) h) in
+    let rest : xs ≡ ys = pointwise_exact E e xs ys (and_right (E x y) (pointwise E xs ys) h) in cc
 
 pointwise_same :
     {A : Type 0} (E : A → A → Bool) → ((x : A) → E x x ≡ true) → (xs : List A) →

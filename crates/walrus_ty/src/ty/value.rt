@@ -5,7 +5,7 @@ ghost use Rattle.walrus_ty.specs.Definition.{supertype_names};
 ghost use Rattle.walrus_ty.specs.Value.{heap_name, reference_name, val_name, storage_name, field_name};
 ghost use Rattle.walrus_ty.specs.Value.{heap_names, reference_names, val_names, storage_names, field_names};
 
-use crate::TypeId;
+use walrus_id::Id;
 
 /// A heap type of the WebAssembly core specification that no module defines.
 #[derive(Clone, Copy, PartialEq, Eq, PartialOrd, Ord, Hash, Debug)]
@@ -72,21 +72,6 @@ pub struct Field<N> {
     pub mutable: bool,
 }
 
-/// A heap type of a module.
-pub type HeapType = Heap<TypeId>;
-
-/// A reference type of a module.
-pub type RefType = Reference<TypeId>;
-
-/// A value type of a module.
-pub type ValType = Val<TypeId>;
-
-/// A storage type of a module.
-pub type StorageType = Storage<TypeId>;
-
-/// A field type of a module.
-pub type FieldType = Field<TypeId>;
-
 impl<N: Copy> Heap<N> {
     /// The name in it, an index or an id; `None` for an abstract heap type.
     pub fn name(&self) -> Option<N>
@@ -147,16 +132,17 @@ impl<N: Copy> Field<N> {
     }
 }
 
-impl HeapType {
+impl<T> Heap<Id<T>> {
     /// The type of the module that it names; `None` for an abstract heap type.
     ///
     /// ```
-    /// let id = TypeId::from_index(3);
-    /// assert_eq!(rt; HeapType::Exact(id).type_id(), Some(id));
-    /// assert_eq!(rt; HeapType::Abstract(AbstractHeapType::Func).type_id(), None);
+    /// let id: Id<bool> = Id::from_index(3);
+    /// assert_eq!(rt; Heap::Exact(id).type_id(), Some(id));
+    /// let func: Heap<Id<bool>> = Heap::Abstract(AbstractHeapType::Func);
+    /// assert_eq!(rt; func.type_id(), None);
     /// ```
     #[tactic(auto, using(crate::proofs::Names::InLists::heap_named))]
-    pub fn type_id(&self) -> Option<TypeId>
+    pub fn type_id(&self) -> Option<Id<T>>
         ensures name { result ≡ heap_name self.now }
         ensures all { supertype_names result ≡ heap_names self.now }
     {
@@ -164,10 +150,10 @@ impl HeapType {
     }
 }
 
-impl RefType {
+impl<T> Reference<Id<T>> {
     /// The type of the module that it points at; `None` where that is an abstract heap type.
     #[tactic(auto, using(crate::proofs::Names::InLists::reference_named))]
-    pub fn type_id(&self) -> Option<TypeId>
+    pub fn type_id(&self) -> Option<Id<T>>
         ensures name { result ≡ reference_name self.now }
         ensures all { supertype_names result ≡ reference_names self.now }
     {
@@ -175,11 +161,11 @@ impl RefType {
     }
 }
 
-impl ValType {
+impl<T> Val<Id<T>> {
     /// The type of the module that it names: what a reference points at, where that is no
     /// abstract heap type.
     #[tactic(auto, using(crate::proofs::Names::InLists::val_named))]
-    pub fn type_id(&self) -> Option<TypeId>
+    pub fn type_id(&self) -> Option<Id<T>>
         ensures name { result ≡ val_name self.now }
         ensures all { supertype_names result ≡ val_names self.now }
     {
@@ -187,10 +173,10 @@ impl ValType {
     }
 }
 
-impl StorageType {
+impl<T> Storage<Id<T>> {
     /// The type of the module that its value type names; `None` where it is packed.
     #[tactic(auto, using(crate::proofs::Names::InLists::storage_named))]
-    pub fn type_id(&self) -> Option<TypeId>
+    pub fn type_id(&self) -> Option<Id<T>>
         ensures name { result ≡ storage_name self.now }
         ensures all { supertype_names result ≡ storage_names self.now }
     {
@@ -198,10 +184,10 @@ impl StorageType {
     }
 }
 
-impl FieldType {
+impl<T> Field<Id<T>> {
     /// The type of the module that is named in what it holds.
     #[tactic(auto, using(crate::proofs::Names::InLists::field_named))]
-    pub fn type_id(&self) -> Option<TypeId>
+    pub fn type_id(&self) -> Option<Id<T>>
         ensures name { result ≡ field_name self.now }
         ensures all { supertype_names result ≡ field_names self.now }
     {

@@ -4,8 +4,8 @@ use Rattle.std.specs.List.{slice_index}
 use Rattle.std.specs.Option.{option_and_then}
 use Rattle.walrus_ty.specs.Definition.{Definition, names_of}
 use Rattle.walrus_types.specs.TableEmission.{definition_at, slot_definition}
-use Rattle.walrus_ty.specs.Lookups.{first_missing}
-use Rattle.walrus_ty.specs.Types.{ModuleType, type_definition}
+use Rattle.walrus_module_types.specs.Lookups.{first_missing}
+use Rattle.walrus_module_types.specs.Types.{ModuleType, type_definition}
 use Rattle.walrus_types.specs.TypesById.{TypeSlots, live_type}
 use Rattle.walrus_types.specs.Steps.FreeGroups.{first_of}
 use Rattle.walrus_types.specs.Steps.LosslessKeys.{IsLosslessKey}

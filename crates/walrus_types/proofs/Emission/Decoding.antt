@@ -8,8 +8,8 @@ use Rattle.std.specs.Ordering.{ordering_then}
 use Rattle.std.specs.Cmp.Lexicographic.{slice_cmp}
 use Rattle.std.proofs.lemmas.Bool.Decides.{nat_tests}
 use Rattle.std.proofs.lemmas.Bool.{leb-true}
-use Rattle.walrus_ty.specs.declared.ty.composite.CompositeType.{CompositeType}
-use Rattle.walrus_ty.specs.declared.ty.composite.CompositeType.TheVariants as kind
+use Rattle.walrus_module_types.specs.declared.ty.composite.CompositeType.{CompositeType}
+use Rattle.walrus_module_types.specs.declared.ty.composite.CompositeType.TheVariants as kind
 use Rattle.walrus_ty.specs.declared.ty.value.Heap.{Heap}
 use Rattle.walrus_ty.specs.declared.ty.value.Heap.TheVariants as heap
 use Rattle.walrus_ty.specs.declared.ty.value.Val.{Val}
@@ -17,12 +17,12 @@ use Rattle.walrus_ty.specs.declared.ty.value.Val.TheVariants as val
 use Rattle.walrus_ty.specs.declared.ty.value.Storage.{Storage}
 use Rattle.walrus_ty.specs.declared.ty.value.Storage.TheVariants as storage
 use Rattle.walrus_ty.specs.declared.ty.value.Field.{Field}
-use Rattle.walrus_ty.specs.Signature.{Signature}
+use Rattle.walrus_module_types.specs.Signature.{Signature}
 use Rattle.walrus_ty.specs.Definition.{Composite, Function, Struct, Array, Definition, composite_cmp, composite_names, supertype_names, names_of}
 use Rattle.walrus_types.specs.Steps.LosslessKeys.{is_short, has_lossless_key, ranks_in, is_closed, before, after, IsClosedRank, IsClosedFieldRank, IsClosedValRank}
 use Rattle.walrus_normal_form.specs.SortKeys.{SortKey, rank, is_named, is_open, heap_place, val_place, storage_place, val_rank, field_rank, marked_items, item_rank, first_rank, after_first, ranks}
 use Rattle.walrus_types.specs.Steps.SortKeys.{kind_sort_key, type_sort_key}
-use Rattle.walrus_ty.specs.Types.{ModuleType, kind_composite, type_definition}
+use Rattle.walrus_module_types.specs.Types.{ModuleType, kind_composite, type_definition}
 use Rattle.walrus_ty.specs.Value.{abstract_index, bool_index, heap_names, val_names, field_names, storage_names, val_cmp, field_cmp}
 use Rattle.walrus_ty.proofs.Names.Definitions.{definition_exact}
 use Rattle.walrus_normal_form.proofs.Ordering.SortKeys.{IsRanking, item_cmp, item_ranking, val_ranking, field_ranking, abstract_small, named_is_open, unnamed}

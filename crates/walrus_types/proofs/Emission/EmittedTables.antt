@@ -17,8 +17,8 @@ use Rattle.walrus_ty.specs.Definition.{Definition}
 use Rattle.walrus_ty.specs.Groups.{Section}
 use Rattle.walrus_sections.specs.SlotMap.{TypeGroup}
 use Rattle.walrus_sections.specs.Emission.{no_group, group_at, IsMember, WrittenMember, IsEmission}
-use Rattle.walrus_ty.specs.Indices.{IndexMap}
-use Rattle.walrus_ty.specs.Lookups.{value_or_zero}
+use Rattle.walrus_module_types.specs.Indices.{IndexMap}
+use Rattle.walrus_module_types.specs.Lookups.{value_or_zero}
 use Rattle.walrus_types.specs.Table as table
 use Rattle.walrus_types.specs.Table.{Table, IsTable}
 use Rattle.walrus_types.specs.TableEmission.{type_groups, definition_at, is_entry_at, table_view, written_types, IfNameMissing, IsWrittenId, IsEmitted, MissesFirst}

@@ -19,7 +19,7 @@ use Rattle.walrus_sections.specs.Emission.{TableView, IsMember, IsGrouped, IsWri
 use Rattle.walrus_types.specs.declared.emit.order.PendingGroup.{PendingGroup}
 use Rattle.walrus_normal_form.specs.Steps.RunStarts.{IsTurnedRound, StandsBefore}
 use Rattle.walrus_types.specs.Steps.PendingGroups.{pending_groups, places_of}
-use Rattle.walrus_ty.specs.Types.{ModuleType, type_definition}
+use Rattle.walrus_module_types.specs.Types.{ModuleType, type_definition}
 use Rattle.walrus_types.specs.Table as table
 use Rattle.walrus_types.specs.Table.{Table, IsTable}
 use Rattle.walrus_types.specs.TableEmission.{type_groups, slot_definition, definition_at, slot_is_entry, is_entry_at, table_view}
@@ -28,7 +28,7 @@ use Rattle.walrus_normal_form.specs.Steps.WritingOrders.{IsWritingOrder, id_coun
 use Rattle.walrus_sections.specs.Refusal.{written_count}
 use Rattle.walrus_types.proofs.Emission.SortedGroups.{each_group, each_written, moved, onto_written}
 use Rattle.walrus_types.proofs.Emission.WrittenCount.{count_of_order}
-use Rattle.walrus_ty.proofs.Orders.Types.{type_cmp, type_is}
+use Rattle.walrus_module_types.proofs.Orders.Types.{type_cmp, type_is}
 use Rattle.walrus_normal_form.proofs.Writing.PairsOfGroups.{at_member, to_member}
 use Rattle.walrus_ty.proofs.Basics.{some_inj, then_less}
 

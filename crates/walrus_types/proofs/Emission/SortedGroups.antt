@@ -8,7 +8,7 @@ use Rattle.std.specs.declared.cmp.Ordering.{Ordering}
 use Rattle.std.proofs.lemmas.List.{length-map, get_or-map, map-append}
 use Rattle.std.proofs.lemmas.List.Sorted.{All-permutation}
 use Rattle.std.proofs.lemmas.Option.{slice_get_within, get_or_from_slice_get}
-use Rattle.walrus_ty.specs.Types.{ModuleType}
+use Rattle.walrus_module_types.specs.Types.{ModuleType}
 use Rattle.walrus_types.specs.declared.emit.order.PendingGroup.{PendingGroup}
 use Rattle.walrus_normal_form.specs.Steps.RunStarts.{StandsBefore, run_start, start_of}
 use Rattle.walrus_types.specs.Steps.PendingGroups.{places_of}

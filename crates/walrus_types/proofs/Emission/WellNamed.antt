@@ -11,8 +11,8 @@ use Rattle.std.proofs.lemmas.Option.{slice_get-get_or}
 use Rattle.walrus_ty.specs.declared.records.GroupAt.{GroupAt}
 use Rattle.walrus_ty.specs.Definition.{Definition, Names, names_of}
 use Rattle.walrus_ty.specs.Groups.{Section}
-use Rattle.walrus_ty.specs.Indices.{IndexMap}
-use Rattle.walrus_ty.specs.Lookups.{value_or_zero}
+use Rattle.walrus_module_types.specs.Indices.{IndexMap}
+use Rattle.walrus_module_types.specs.Lookups.{value_or_zero}
 use Rattle.walrus_ty.specs.Records.{section_of}
 use Rattle.walrus_ty.proofs.Names.Definitions.{named_before, names_same}
 use Rattle.walrus_sections.specs.Section.{IndexSpace, index_space, NamesBelowEnds, IsWellNamed}

@@ -14,10 +14,10 @@ use Rattle.walrus_ty.specs.Definition.{Definition, Names, names_of}
 use Rattle.walrus_ty.specs.Groups.{Section, Group, Single, Rec}
 use Rattle.walrus_sections.specs.SlotMap.{TypeGroup}
 use Rattle.walrus_sections.specs.Emission.{no_group, group_at}
-use Rattle.walrus_ty.specs.Indices.{IndexMap, Indexes, IsEmpty, IsSame}
+use Rattle.walrus_module_types.specs.Indices.{IndexMap, Indexes, IsEmpty, IsSame}
 use Rattle.walrus_types.specs.declared.table.rec_group.RecGroup.{RecGroup}
 use Rattle.walrus_types.specs.declared.emit.order.PendingGroup.{PendingGroup}
-use Rattle.walrus_ty.specs.Types.{ModuleType}
+use Rattle.walrus_module_types.specs.Types.{ModuleType}
 use Rattle.walrus_types.specs.TypesById.{TypeSlots}
 use Rattle.walrus_types.specs.Table.{no_rec_group, rec_group_at}
 use Rattle.walrus_types.specs.TableEmission.{contents, type_groups}

@@ -10,8 +10,8 @@ use Rattle.walrus_sections.specs.NormalForm.{image, IsNormalForm}
 use Rattle.walrus_sections.specs.SlotMap.{TypeGroup, read_definition, read_groups}
 use Rattle.walrus_sections.specs.Emission.{TableView, IsMember, IsEmission}
 use Rattle.walrus_types.specs.TableEmission.{definition_at, slot_definition, is_entry_at, table_view, IsEmitted}
-use Rattle.walrus_ty.specs.Indices.{IndexMap}
-use Rattle.walrus_ty.specs.Lookups.{value_or_zero}
+use Rattle.walrus_module_types.specs.Indices.{IndexMap}
+use Rattle.walrus_module_types.specs.Lookups.{value_or_zero}
 use Rattle.walrus_sections.specs.Refusal.{NameUse, HasIndexBy, IsMissing}
 use Rattle.walrus_types.specs.ReadResult.{type_of_definition}
 use Rattle.walrus_types.specs.ReaderState.{IsReadInto}

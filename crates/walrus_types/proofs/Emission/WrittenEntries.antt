@@ -4,11 +4,11 @@ use Rattle.std.specs.List.{slice_get}
 use Rattle.std.proofs.lemmas.List.{take_more, map-append}
 use Rattle.std.proofs.lemmas.Option.{get_or_from_slice_get}
 use Rattle.std.proofs.lemmas.Bool.{cases_lt}
-use Rattle.walrus_ty.specs.declared.error.ToRecordError.{ToRecordError}
-use Rattle.walrus_ty.specs.declared.error.ToRecordError.TheVariants as to_record
-use Rattle.walrus_ty.specs.declared.error.NoIndex.TheVariants.{OfType, OfFunc, OfGlobal}
+use Rattle.walrus_module_types.specs.declared.error.ToRecordError.{ToRecordError}
+use Rattle.walrus_module_types.specs.declared.error.ToRecordError.TheVariants as to_record
+use Rattle.walrus_module_types.specs.declared.error.NoIndex.TheVariants.{OfType, OfFunc, OfGlobal}
 use Rattle.walrus_ty.specs.Definition.{Definition}
-use Rattle.walrus_ty.specs.Lookups.{IfNoIndex}
+use Rattle.walrus_module_types.specs.Lookups.{IfNoIndex}
 use Rattle.walrus_types.specs.Steps.WrittenGroups.{IsMemoryOrMissing, RefusesType, emit_error}
 
 pub done_more :

@@ -11,7 +11,7 @@ use Rattle.walrus_ty.specs.Groups.{Section, Group, Single, Rec}
 use Rattle.walrus_sections.specs.Section.{IndexSpace, index_space, IsSingle, IsWellNamed}
 use Rattle.walrus_sections.specs.NormalForm.{image}
 use Rattle.walrus_sections.specs.SlotMap.{TypeGroup, read_definition, read_groups}
-use Rattle.walrus_ty.specs.Types.{ModuleType}
+use Rattle.walrus_module_types.specs.Types.{ModuleType}
 use Rattle.walrus_sections.specs.FirstError.{group_error, definitions_of}
 use Rattle.walrus_types.specs.ReadResult.{IsReadResult, IsCandidateFor, type_of_definition}
 use Rattle.walrus_types.specs.Steps.ReadSlots.{types_of_definitions, live_slots}

@@ -4,17 +4,17 @@ use Rattle.std.specs.List.{range_with_len}
 use Rattle.std.specs.Cmp.{IsEquivalence}
 use Rattle.std.proofs.lemmas.List.{map-append, length-map}
 use Rattle.walrus_arena.specs.Arena.{Slots, get}
-use Rattle.walrus_ty.specs.declared.ty.composite.CompositeType.{CompositeType}
-use Rattle.walrus_ty.specs.declared.ty.composite.CompositeType.TheVariants as kind
+use Rattle.walrus_module_types.specs.declared.ty.composite.CompositeType.{CompositeType}
+use Rattle.walrus_module_types.specs.declared.ty.composite.CompositeType.TheVariants as kind
 use Rattle.walrus_ty.specs.Definition.{Definition, rename}
 use Rattle.walrus_ty.specs.Groups.{Section, Single, Rec}
 use Rattle.walrus_sections.specs.Section.{index_space}
 use Rattle.walrus_sections.specs.NormalForm.{image}
 use Rattle.walrus_sections.specs.SlotMap.{TypeGroup}
-use Rattle.walrus_ty.specs.contracts.ty.TypeEq.TheImpl.Laws.{laws-law}
-use Rattle.walrus_ty.specs.Types.{ModuleType, kind_composite, unnamed_type}
+use Rattle.walrus_module_types.specs.contracts.ty.TypeEq.TheImpl.Laws.{laws-law}
+use Rattle.walrus_module_types.specs.Types.{ModuleType, kind_composite, unnamed_type}
 use Rattle.walrus_types.specs.TypesById.{TypesById, passes, known_id, found_id}
-use Rattle.walrus_ty.specs.SameTypes.{type_eq}
+use Rattle.walrus_module_types.specs.SameTypes.{type_eq}
 use Rattle.walrus_types.specs.Table.{Table, AddsType, AddsGroup, Member, member_types, IsSameTable, next_id}
 use Rattle.walrus_types.specs.Steps.TableReads.{ReadsSingle, UsesUpId, member_definition}
 use Rattle.walrus_sections.specs.FirstError.{group_error}
@@ -22,7 +22,7 @@ use Rattle.walrus_types.specs.ReadResult.{IsReadResult, type_of_definition, comp
 use Rattle.walrus_types.specs.Steps.ReadSlots.{types_of_definitions, live_slots}
 use Rattle.walrus_types.specs.TableEmission.{contents}
 use Rattle.walrus_types.specs.ReaderState.{IsReadInto}
-use Rattle.walrus_ty.proofs.Equality.Types.{same_from_eq, eq_from_same}
+use Rattle.walrus_module_types.proofs.Equality.Types.{same_from_eq, eq_from_same}
 use Rattle.walrus_types.proofs.Reading.Section.{TellsTypes, stored_definition}
 use Rattle.walrus_types.proofs.Reading.NextGroup.{reads_found, reads_new, reads_rec}
 

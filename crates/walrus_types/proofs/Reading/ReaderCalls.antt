@@ -4,24 +4,24 @@ use Rattle.std.specs.List.{range_with_len}
 use Rattle.std.proofs.Math.Seq.{set-append_seam}
 use Rattle.std.proofs.lemmas.List.{take_more, take-append-drop, map-append}
 use Rattle.std.proofs.lemmas.Option.{unwrap_or-slice_get}
-use Rattle.walrus_ty.specs.declared.convert.SubType.{SubType}
+use Rattle.walrus_module_types.specs.declared.convert.SubType.{SubType}
 use Rattle.walrus_sections.specs.declared.error.ReadError.{ReadError}
 use Rattle.walrus_sections.specs.declared.error.ReadError.TheVariants.{Memory}
 use Rattle.walrus_ty.specs.declared.records.EntryAt.{EntryAt}
 use Rattle.walrus_ty.specs.declared.records.GroupAt.{GroupAt}
 use Rattle.walrus_ty.specs.Definition.{Definition, rename}
 use Rattle.walrus_sections.specs.FirstError.{group_error, definitions_of, IsFirstError}
-use Rattle.walrus_ty.specs.Lookups.{value_or_zero}
+use Rattle.walrus_module_types.specs.Lookups.{value_or_zero}
 use Rattle.walrus_sections.specs.NormalForm.{image}
 use Rattle.walrus_types.specs.ReaderState.{IsReadInto, ReaderState, IsSameState}
 use Rattle.walrus_types.specs.ReadResult.{type_of_definition}
 use Rattle.walrus_ty.specs.Records.{entry_definition, group_of, section_of}
 use Rattle.walrus_ty.specs.Groups.{Section, Single, Rec}
 use Rattle.walrus_sections.specs.Section.{index_space}
-use Rattle.walrus_ty.specs.SubTypes.{sub_type_definition}
+use Rattle.walrus_module_types.specs.SubTypes.{sub_type_definition}
 use Rattle.walrus_types.specs.Table.{Table, Member}
 use Rattle.walrus_types.specs.Steps.TableReads.{ReadsSingle, ReadsRec, member_definition}
-use Rattle.walrus_ty.specs.Types.{ModuleType, unnamed_type}
+use Rattle.walrus_module_types.specs.Types.{ModuleType, unnamed_type}
 use Rattle.walrus_ty.proofs.Names.Definitions.{rename_agree}
 use Rattle.walrus_types.proofs.Reading.Reader.{read_still, single_read, rec_read, member_stored}
 

@@ -9,7 +9,7 @@ use Rattle.walrus_ty.specs.Groups.{Section}
 use Rattle.walrus_sections.specs.Section.{IndexSpace, index_space, IsSingle, IsWellNamed}
 use Rattle.walrus_sections.specs.NormalForm.{image}
 use Rattle.walrus_sections.specs.SlotMap.{IsSlotMap, IsCandidate, TypeGroup, read_definition, read_groups}
-use Rattle.walrus_ty.specs.Types.{ModuleType, kind_composite, type_definition}
+use Rattle.walrus_module_types.specs.Types.{ModuleType, kind_composite, type_definition}
 use Rattle.walrus_types.specs.ReadResult.{IsReadResult, composite_kind, type_of_definition}
 use Rattle.walrus_ty.proofs.Names.Definitions.{Names-rename, named_before}
 use Rattle.walrus_sections.proofs.Sections.Lying.{in_or_out}

@@ -6,7 +6,7 @@ use Rattle.std.proofs.lemmas.List.{length_push, get_or_append_left, get_or-appen
 use Rattle.walrus_arena.specs.Arena.{Slots, get, IsLive}
 use Rattle.walrus_arena.specs.Set.{Set}
 use Rattle.walrus_types.specs.declared.table.rec_group.RecGroup.{RecGroup}
-use Rattle.walrus_ty.specs.Types.{ModuleType}
+use Rattle.walrus_module_types.specs.Types.{ModuleType}
 use Rattle.walrus_types.specs.TypesById.{known_id}
 use Rattle.walrus_types.specs.Table.{Table, IsIdAt, rec_group_at}
 use Rattle.walrus_types.specs.Steps.TableIndex.{IsIndexed}

@@ -7,7 +7,7 @@ use Rattle.std.proofs.lemmas.List.{length-set, length_push}
 use Rattle.walrus_arena.specs.Arena.{Slots, get, IsLive}
 use Rattle.walrus_arena.specs.HashKeys.{InitialHasher}
 use Rattle.walrus_types.specs.declared.table.rec_group.RecGroup.{RecGroup}
-use Rattle.walrus_ty.specs.Types.{ModuleType}
+use Rattle.walrus_module_types.specs.Types.{ModuleType}
 use Rattle.walrus_types.specs.TypesById.{LosesAll, found_id, known_id}
 use Rattle.walrus_types.specs.Table.{Table, empty_table, IsTable, IsIdAt, IsSameTable, AddsType, rec_group_at, next_id, Deletes, DeletesAll, DeletesGroup, member_types}
 use Rattle.walrus_types.specs.ReaderState.{IsReadInto}

@@ -6,7 +6,7 @@ use Rattle.std.proofs.lemmas.List.{length-set}
 use Rattle.std.proofs.lemmas.Option.{slice_get-get_or}
 use Rattle.walrus_arena.specs.Arena.{Slots, get, IsLive}
 use Rattle.walrus_types.specs.declared.table.rec_group.RecGroup.{RecGroup}
-use Rattle.walrus_ty.specs.Types.{ModuleType}
+use Rattle.walrus_module_types.specs.Types.{ModuleType}
 use Rattle.walrus_types.specs.TypesById.{TypesById, known_id, is_known_as, LosesAll}
 use Rattle.walrus_types.specs.Table.{Table, rec_group_at, IsIdAt, DeletesGroup, group_ended}
 use Rattle.walrus_types.specs.Steps.TableIndex.{IsIndexed}

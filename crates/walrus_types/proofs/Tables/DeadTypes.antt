@@ -5,7 +5,7 @@ use Rattle.std.proofs.lemmas.List.{length-set}
 use Rattle.std.specs.List.{slice_get, slice_index, IsDistinct, AllByRecursion}
 use Rattle.walrus_arena.specs.Arena.{Slots, get, IsLive}
 use Rattle.walrus_types.specs.declared.table.rec_group.RecGroup.{RecGroup}
-use Rattle.walrus_ty.specs.Types.{ModuleType}
+use Rattle.walrus_module_types.specs.Types.{ModuleType}
 use Rattle.walrus_types.specs.TypesById.{TypesById, known_id, is_known_as, Loses}
 use Rattle.walrus_types.specs.Table.{Table, rec_group_at, IsIdAt, Deletes, group_without}
 use Rattle.walrus_types.specs.Steps.TableIndex.{IsIndexed}

@@ -4,7 +4,7 @@ use Rattle.std.specs.List.{range_with_len, IsDistinct, AllByRecursion}
 use Rattle.std.proofs.Math.Seq.{drop-cons, drop-length}
 use Rattle.std.proofs.lemmas.Bool.{eqb-false}
 use Rattle.walrus_arena.specs.Arena.{Slots, get, IsLive, items_from}
-use Rattle.walrus_ty.specs.Types.{ModuleType}
+use Rattle.walrus_module_types.specs.Types.{ModuleType}
 use Rattle.walrus_types.specs.Table.{Table, Deletes, DeletesAll}
 
 -- another id stays live

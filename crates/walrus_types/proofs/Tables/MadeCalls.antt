@@ -4,7 +4,7 @@ use Rattle.std.specs.List.{range_with_len, IsDistinct}
 use Rattle.std.specs.declared.alloc.Global.{Global}
 use Rattle.std.specs.declared.alloc.AllocError.{AllocError}
 use Rattle.std.specs.declared.vec.Vec.{Vec}
-use Rattle.walrus_ty.specs.Types.{ModuleType}
+use Rattle.walrus_module_types.specs.Types.{ModuleType}
 use Rattle.walrus_types.specs.TypesById.{IsLive}
 use Rattle.walrus_types.specs.Table.{Table, Member, next_id, IsSameTable, FindsOrAdds, AddsGroup, Builds, Deletes, DeletesAll, DeletesGroup}
 use Rattle.walrus_types.specs.TableCalls.{Adds, AddFails, AddsRec, AddRecFails, DeletesOne, DeletesMany, TriesToDelete, DeletesWhole, IsCall, IsAddition}

@@ -7,9 +7,9 @@ use Rattle.std.proofs.lemmas.Option.{slice_get_within, slice_get_read}
 use Rattle.std.proofs.lemmas.Bool.Decides.{nat_tests}
 use Rattle.walrus_arena.specs.Arena.{get}
 use Rattle.walrus_types.specs.declared.table.rec_group.RecGroup.{RecGroup}
-use Rattle.walrus_ty.specs.Types.{ModuleType}
+use Rattle.walrus_module_types.specs.Types.{ModuleType}
 use Rattle.walrus_types.specs.Table.{Table, IsOtherNamer, IsNamedInGroup}
-use Rattle.walrus_ty.specs.Views.{names}
+use Rattle.walrus_module_types.specs.Views.{names}
 use Rattle.walrus_types.proofs.Tables.Places.{IsHome, group_answer}
 use Rattle.walrus_types.proofs.Tables.Search.{not_both}
 

@@ -5,12 +5,12 @@ use Rattle.std.specs.Option.{IsSomeAnd}
 use Rattle.std.proofs.lemmas.List.{length_push, get_or_append_left, get_or_at, get_or_default}
 use Rattle.walrus_arena.specs.Arena.{Slots, get}
 use Rattle.walrus_types.specs.declared.table.rec_group.RecGroup.{RecGroup}
-use Rattle.walrus_ty.specs.Types.{ModuleType}
-use Rattle.walrus_ty.specs.SameTypes.{type_eq, IsSameType}
+use Rattle.walrus_module_types.specs.Types.{ModuleType}
+use Rattle.walrus_module_types.specs.SameTypes.{type_eq, IsSameType}
 use Rattle.walrus_types.specs.TypesById.{passes, known_id, found_id}
 use Rattle.walrus_types.specs.Table.{Table, rec_group_at, no_rec_group, own_group, IsIdAt, AddsType, HoldsAlone}
 use Rattle.walrus_types.specs.Steps.TableIndex.{IsIndexed}
-use Rattle.walrus_ty.proofs.Equality.Types.{same_from_eq}
+use Rattle.walrus_module_types.proofs.Equality.Types.{same_from_eq}
 use Rattle.walrus_types.proofs.Tables.Places.{Grows, Extends, table_grown, member_below, none_some}
 use Rattle.walrus_ty.proofs.Basics.{some_inj}
 

@@ -8,7 +8,7 @@ use Rattle.std.proofs.lemmas.Bool.{cases_lt}
 use Rattle.std.proofs.lemmas.Bool.Decides.{nat_tests}
 use Rattle.walrus_arena.specs.Arena.{Slots, get, IsLive}
 use Rattle.walrus_types.specs.declared.table.rec_group.RecGroup.{RecGroup}
-use Rattle.walrus_ty.specs.Types.{ModuleType}
+use Rattle.walrus_module_types.specs.Types.{ModuleType}
 use Rattle.walrus_types.specs.TypesById.{known_id}
 use Rattle.walrus_types.specs.Table.{Table, rec_group_at, no_rec_group, group_with, IsIdAt, IsTable, IsSameTable}
 use Rattle.walrus_types.specs.Steps.TableIndex.{IsIndexed}

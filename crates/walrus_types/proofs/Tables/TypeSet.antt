@@ -5,9 +5,9 @@ use Rattle.std.specs.Map.{lookup}
 use Rattle.walrus_arena.specs.Arena.{Slots, get, items_from, range}
 use Rattle.walrus_arena.specs.Set as arena
 use Rattle.walrus_arena.specs.Set.{Set, IsSame, Adds, Removes, RemovesAll}
-use Rattle.walrus_ty.specs.Types.{ModuleType}
+use Rattle.walrus_module_types.specs.Types.{ModuleType}
 use Rattle.walrus_types.specs.TypesById.{TypesById, passes, known_id, found_id, is_known_as, IsUnchanged, Gains, Loses, LosesAll}
-use Rattle.walrus_ty.specs.SameTypes.{type_eq}
+use Rattle.walrus_module_types.specs.SameTypes.{type_eq}
 
 -- the types of a set
 abbrev pub seen : Set ModuleType → TypesById

@@ -5,7 +5,7 @@
 use Rattle.std.specs.Prelude.{◌≡◌, ℕ, ◌+◌, ◌==◌, nat_le, Bool, true, false, not, ◌&&◌, List, [], ◌∷◌, length, is_none}
 use Rattle.std.specs.List.{list_all, before_first, after_first}
 use Rattle.walrus_ty.specs.Definition.{Composite, Function, Struct, Array, Definition, names_of}
-use Rattle.walrus_ty.specs.Types.{ModuleType, type_definition}
+use Rattle.walrus_module_types.specs.Types.{ModuleType, type_definition}
 use Rattle.walrus_normal_form.specs.SortKeys.{SortKey, field_rank, is_open, val_rank}
 use Rattle.walrus_types.specs.Steps.SortKeys.{type_sort_key}
 

@@ -3,10 +3,10 @@
 //! Of two types the one with the lesser key is less. A lossless key has all of its type: `decode`
 //! makes the type's record from the key alone.
 ghost use Rattle.std.specs.Prelude.{◌≡◌, IfSome};
-ghost use Rattle.walrus_ty.specs.contracts.ty.TypeEq.TheImpl.Laws as type_eq;
-ghost use Rattle.walrus_ty.specs.contracts.ty.TypeOrd.TheImpl.Laws as type_ord;
-ghost use Rattle.walrus_ty.specs.contracts.ty.TypePartialEq.TheImpl.Laws as type_partial_eq;
-ghost use Rattle.walrus_ty.specs.contracts.ty.TypePartialOrd.TheImpl.Laws as type_partial_ord;
+ghost use Rattle.walrus_module_types.specs.contracts.ty.TypeEq.TheImpl.Laws as type_eq;
+ghost use Rattle.walrus_module_types.specs.contracts.ty.TypeOrd.TheImpl.Laws as type_ord;
+ghost use Rattle.walrus_module_types.specs.contracts.ty.TypePartialEq.TheImpl.Laws as type_partial_eq;
+ghost use Rattle.walrus_module_types.specs.contracts.ty.TypePartialOrd.TheImpl.Laws as type_partial_ord;
 ghost use Rattle.walrus_types.specs.Steps.LosslessKeys.{IsLosslessKey};
 
 mod decoding;
@@ -31,7 +31,7 @@ impl<'a> Model for KeyedType<'a> {
     ghost use Rattle.std.specs.Prelude.{◌≡◌};
     ghost use Rattle.walrus_types.specs.Steps.LosslessKeys.{has_lossless_key};
     ghost use Rattle.walrus_types.specs.Steps.SortKeys.{type_sort_key};
-    ghost use Rattle.walrus_ty.specs.Types.{ModuleType, type_definition};
+    ghost use Rattle.walrus_module_types.specs.Types.{ModuleType, type_definition};
 
     ghost Value = { ModuleType };
 

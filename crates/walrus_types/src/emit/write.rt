@@ -5,12 +5,12 @@ ghost use Rattle.walrus_types.specs.declared.table.rec_group.RecGroup.{RecGroup}
 ghost use Rattle.walrus_types.specs.declared.emit.order.PendingGroup.{PendingGroup};
 ghost use Rattle.walrus_types.specs.Steps.FreeGroups.{head};
 ghost use Rattle.walrus_types.specs.Steps.PendingGroups.{groups_of};
-ghost use Rattle.walrus_ty.specs.declared.error.ToRecordError.TheVariants as to_record;
+ghost use Rattle.walrus_module_types.specs.declared.error.ToRecordError.TheVariants as to_record;
 ghost use Rattle.walrus_ty.specs.Definition.{names_of};
 ghost use Rattle.walrus_types.specs.Table.{rec_group_at};
 ghost use Rattle.walrus_types.specs.TableEmission.{contents, definition_at};
-ghost use Rattle.walrus_ty.specs.Indices.{IsEmpty, type_index, type_indices, func_indices, global_indices};
-ghost use Rattle.walrus_ty.specs.Lookups.{first_missing};
+ghost use Rattle.walrus_module_types.specs.Indices.{IsEmpty, type_index, type_indices, func_indices, global_indices};
+ghost use Rattle.walrus_module_types.specs.Lookups.{first_missing};
 ghost use Rattle.walrus_sections.specs.SlotMap.{TypeGroup};
 ghost use Rattle.walrus_ty.specs.Records.{entry_definition, group_of};
 ghost use Rattle.walrus_types.specs.Steps.WrittenGroups.{AllIndexed, AreWritten, IsMemoryOrMissing, IsFirstUnindexed, IsLone, RefusesType, DecodesToType, emit_error};

@@ -4,7 +4,7 @@ use Rattle.std.proofs.lemmas.Bool.{cases_lt, cases_eq}
 use Rattle.std.proofs.lemmas.List.{get_or-map, length-map}
 use Rattle.walrus_ty.specs.Definition.{rename}
 use Rattle.walrus_ty.specs.Groups.{Section}
-use Rattle.walrus_ty.specs.Lookups.{value_or_zero}
+use Rattle.walrus_module_types.specs.Lookups.{value_or_zero}
 use Rattle.walrus_sections.specs.Moves.{exchange, skip, DropsEmptyRec, DropsRepeat, SwapsNeighbours}
 use Rattle.walrus_sections.specs.NormalForm.{image}
 use Rattle.walrus_sections.specs.Section.{IndexSpace, index_space, index_space_of_places, IsSingle, IsWellNamed}

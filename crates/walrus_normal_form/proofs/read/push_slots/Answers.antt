@@ -1,6 +1,6 @@
 use Rattle.std.proofs.Common.{ℕ, List, ◌∙◌, ap, ◌++◌, ◌+◌, ◌∷◌, [], append_assoc, refl}
 use Rattle.std.specs.List.{range_with_len}
-use Rattle.walrus_ty.proofs.IndexMaps.NextIndex.{range_push}
+use Rattle.walrus_ty.proofs.Basics.{range_push}
 use Rattle.walrus_normal_form.proofs.read.push_slots.Goals as goal
 
 pub loop-k-preserved : goal.loop-k-preserved

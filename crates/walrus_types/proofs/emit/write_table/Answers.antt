@@ -6,7 +6,7 @@ use Rattle.walrus_types.specs.declared.table.rec_group.RecGroup.{RecGroup}
 use Rattle.walrus_sections.specs.SlotMap.{TypeGroup}
 use Rattle.walrus_types.specs.Table.{rec_group_at}
 use Rattle.walrus_types.specs.TableEmission.{definition_at}
-use Rattle.walrus_ty.specs.Indices.{type_indices}
+use Rattle.walrus_module_types.specs.Indices.{type_indices}
 use Rattle.walrus_types.specs.Steps.FreeGroups.{head}
 use Rattle.walrus_types.specs.Steps.PendingGroups.{places_of}
 use Rattle.walrus_types.specs.Steps.WrittenGroups.{AreWritten, IsMemoryOrMissing}

@@ -4,7 +4,7 @@ use Rattle.walrus_sections.specs.NormalForm.{image}
 use Rattle.walrus_types.specs.ReadResult.{type_of_definition}
 use Rattle.walrus_ty.specs.Records.{entry_definition}
 use Rattle.walrus_types.specs.Steps.TableReads.{ReadsSingle}
-use Rattle.walrus_ty.specs.Types.{ModuleType, unnamed_type}
+use Rattle.walrus_module_types.specs.Types.{ModuleType, unnamed_type}
 use Rattle.walrus_types.proofs.Reading.ReaderCalls.{sub_type_stored}
 use Rattle.walrus_types.proofs.section_reader.read_single.Goals as goal
 

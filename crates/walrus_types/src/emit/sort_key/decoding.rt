@@ -5,7 +5,7 @@ ghost use Rattle.std.specs.Prelude.{◌≡◌, ◌≤◌, ◌==◌, IfOk, All, m
 ghost use Rattle.walrus_ty.specs.Records.{comp_composite, entry_definition};
 ghost use Rattle.walrus_types.specs.Steps.LosslessKeys.{IsClosedFieldRank, IsClosedValRank, IsLosslessKey, before, after};
 ghost use Rattle.walrus_normal_form.specs.SortKeys.{is_named, val_place, storage_place, val_rank, field_rank};
-ghost use Rattle.walrus_ty.specs.Types.{ModuleType, kind_composite, type_definition};
+ghost use Rattle.walrus_module_types.specs.Types.{ModuleType, kind_composite, type_definition};
 ghost use Rattle.walrus_ty.specs.Value.{abstract_index};
 
 use crate::{

@@ -2,7 +2,7 @@
 ghost use Rattle.std.specs.Prelude.{◌≡◌};
 ghost use Rattle.walrus_types.specs.Steps.LosslessKeys.{is_short, is_closed, has_lossless_key};
 ghost use Rattle.walrus_types.specs.Steps.SortKeys.{type_sort_key};
-ghost use Rattle.walrus_ty.specs.Types.{kind_composite, type_definition};
+ghost use Rattle.walrus_module_types.specs.Types.{kind_composite, type_definition};
 
 use crate::{CompositeType, Type};
 use walrus_normal_form::sort_key::{

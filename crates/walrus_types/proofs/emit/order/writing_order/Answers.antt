@@ -1,5 +1,5 @@
 use Rattle.std.proofs.Common.{length, refl}
-use Rattle.walrus_ty.specs.contracts.ty.TypeOrd.TheImpl.Laws as type_ord
+use Rattle.walrus_module_types.specs.contracts.ty.TypeOrd.TheImpl.Laws as type_ord
 use Rattle.walrus_types.specs.contracts.emit.order.PendingGroupOrd.TheImpl.Laws as pending_ord
 use Rattle.walrus_types.specs.Table.{rec_group_at}
 use Rattle.walrus_types.specs.Steps.FreeGroups.{head, is_free_at, is_written_at}

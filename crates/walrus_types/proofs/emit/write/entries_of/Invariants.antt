@@ -2,8 +2,8 @@ use Rattle.std.proofs.Common.{◌≡◌, ℕ, ◌<◌, take, map, Some, None}
 use Rattle.std.specs.List.{slice_get}
 use Rattle.walrus_ty.specs.Definition.{names_of}
 use Rattle.walrus_types.specs.TableEmission.{definition_at}
-use Rattle.walrus_ty.specs.Indices.{type_index}
-use Rattle.walrus_ty.specs.Lookups.{first_missing}
+use Rattle.walrus_module_types.specs.Indices.{type_index}
+use Rattle.walrus_module_types.specs.Lookups.{first_missing}
 use Rattle.walrus_ty.specs.Records.{entry_definition}
 use Rattle.walrus_normal_form.specs.Steps.WritingOrders.{with_indices}
 use Rattle.walrus_types.proofs.emit.write.entries_of.Given as goal

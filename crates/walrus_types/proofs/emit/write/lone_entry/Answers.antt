@@ -1,4 +1,4 @@
-use Rattle.walrus_ty.specs.Indices.{type_index}
+use Rattle.walrus_module_types.specs.Indices.{type_index}
 use Rattle.walrus_types.proofs.Emission.DecodedTypes.{keyed_type, decoded_complete, decoded_indexed}
 use Rattle.walrus_types.proofs.emit.write.lone_entry.Goals as goal
 

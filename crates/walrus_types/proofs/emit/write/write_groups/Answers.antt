@@ -3,8 +3,8 @@ use Rattle.std.specs.List.{IsDistinct}
 use Rattle.std.proofs.lemmas.Result.{err_from_is_err_and}
 use Rattle.walrus_types.specs.TableEmission.{contents, definition_at}
 use Rattle.walrus_types.specs.TypesById.{IsLive}
-use Rattle.walrus_ty.specs.Indices.{Indexes, GivesAll, type_indices, func_indices, global_indices}
-use Rattle.walrus_ty.proofs.IndexMaps.NextIndex.{indexes_all}
+use Rattle.walrus_module_types.specs.Indices.{Indexes, GivesAll, type_indices, func_indices, global_indices}
+use Rattle.walrus_module_types.proofs.IndexMaps.NextIndex.{indexes_all}
 use Rattle.walrus_types.specs.declared.table.rec_group.RecGroup.{RecGroup}
 use Rattle.walrus_types.specs.Steps.PendingGroups.{groups_of}
 use Rattle.walrus_types.proofs.Emission.WriteLoop.{all_of, filled_of, groups_count, key_of, picked, IsMemoryOrMissing-weaker, advances, distinct, empty_same, filled_at, finishes, fresh, room, stops}

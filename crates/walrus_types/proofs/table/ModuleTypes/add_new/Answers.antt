@@ -1,8 +1,8 @@
 use Rattle.std.proofs.Common.{◌≡◌, ℕ, [], ◌∷◌, ◌∙◌, length, refl, sym, ap, arith}
 use Rattle.walrus_types.specs.Table.{Table, AddsType, IsSameTable}
-use Rattle.walrus_ty.specs.SameTypes.{type_eq}
+use Rattle.walrus_module_types.specs.SameTypes.{type_eq}
 use Rattle.walrus_types.proofs.Tables.NewType.{table_added, answer_new, on_err_holds}
-use Rattle.walrus_ty.proofs.Equality.Types.{clones_equal}
+use Rattle.walrus_module_types.proofs.Equality.Types.{clones_equal}
 use Rattle.walrus_types.proofs.Tables.Places.{indexed_same}
 use Rattle.walrus_types.proofs.Tables.TypeSet.{seen, same_seen, adds_seen}
 use Rattle.walrus_types.proofs.table.ModuleTypes.add_new.Goals as goal

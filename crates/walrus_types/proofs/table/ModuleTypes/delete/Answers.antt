@@ -1,7 +1,7 @@
 use Rattle.std.proofs.lemmas.Result.{on_ok_weaker}
 use Rattle.walrus_arena.specs.Set.{Removes}
 use Rattle.walrus_types.specs.Table.{Table}
-use Rattle.walrus_ty.specs.SameTypes.{type_eq}
+use Rattle.walrus_module_types.specs.SameTypes.{type_eq}
 use Rattle.walrus_types.proofs.Tables.Places.{home_of}
 use Rattle.walrus_types.proofs.Tables.DeadTypes.{table_deleted, deletes_from, ok_holds}
 use Rattle.walrus_types.proofs.Tables.DeadGroup.{members_once, distinct_from_once}

@@ -4,7 +4,7 @@ use Rattle.std.proofs.lemmas.Result.{on_ok_weaker}
 use Rattle.walrus_arena.specs.Arena.{IsLive}
 use Rattle.walrus_arena.specs.Set.{RemovesAll}
 use Rattle.walrus_types.specs.Table.{Table}
-use Rattle.walrus_ty.specs.SameTypes.{type_eq}
+use Rattle.walrus_module_types.specs.SameTypes.{type_eq}
 use Rattle.walrus_types.proofs.Tables.Places.{home_of}
 use Rattle.walrus_types.proofs.Tables.DeadTypes.{ok_holds}
 use Rattle.walrus_types.proofs.Tables.DeadGroup.{all_live, members_once, distinct_from_once, ended_indexed, ended_deletes}

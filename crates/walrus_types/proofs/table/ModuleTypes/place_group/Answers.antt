@@ -2,7 +2,7 @@ use Rattle.std.proofs.Common.{◌≡◌, ℕ, List, ◌++◌, ◌∷◌, [], ◌
 use Rattle.std.specs.List.{range_with_len}
 use Rattle.walrus_arena.specs.Set.{Set}
 use Rattle.walrus_types.specs.declared.table.rec_group.RecGroup.{RecGroup}
-use Rattle.walrus_ty.specs.Types.{ModuleType}
+use Rattle.walrus_module_types.specs.Types.{ModuleType}
 use Rattle.walrus_types.specs.Table.{Table, AddsGroup, member_types}
 use Rattle.walrus_types.proofs.Tables.NewGroup.{table_grouped, length-placed}
 use Rattle.walrus_types.proofs.Tables.TypeSet.{seen, range_seen}

@@ -1,0 +1,10 @@
+pub mod Signature
+pub mod Types
+pub mod IdLists
+pub mod Indices
+pub mod Views
+pub mod SubTypes
+pub mod SameTypes
+pub mod Comparison
+pub mod HashInput
+pub mod Lookups
