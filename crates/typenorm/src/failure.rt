@@ -10,7 +10,7 @@ use std::io::{self, Write};
 use walrus_text::{BadLine, TextError};
 
 /// What ends a run without a normal form.
-#[derive(Debug, Drop)]
+#[derive(Drop)]
 pub enum Failure {
     /// A line is not part of a section.
     BadText(BadLine),

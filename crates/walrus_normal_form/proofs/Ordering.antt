@@ -7,5 +7,6 @@ pub mod SortedPlaces
 pub mod PendingGroups
 pub mod SlotGroups
 pub mod OrderFromSort
+pub mod FirstRanks
 pub mod SortKeys
 pub mod KeyNumbers

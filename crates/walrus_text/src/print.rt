@@ -403,7 +403,7 @@ fn write_heap_type<W: Write>(
     ensures err { OnErr result (IsSome error.new) }
 {
     match heap_type {
-        HeapAt::Abstract(name) => write_name(out, *name, error),
+        HeapAt::Abstract(name) => write_bytes(out, name_text(*name), error),
         HeapAt::Concrete(number) => write_number(out, *number, error),
         HeapAt::Exact(number) => {
             write_bytes(out, b"exact:", error)?;
@@ -412,15 +412,11 @@ fn write_heap_type<W: Write>(
     }
 }
 
-fn write_name<W: Write>(
-    out: &mut W,
-    name: AbstractHeapType,
-    error: &mut Option<io::Error>,
-) -> Result<(), Failed>
-    ensures ok { OnOk result (Appends (W.contents out.old) (W.contents out.new) (name_word name)) }
-    ensures err { OnErr result (IsSome error.new) }
+/// The name of an abstract heap type.
+fn name_text(name: AbstractHeapType) -> &'static [u8]
+    ensures { result.now ≡ name_word name }
 {
-    let text: &[u8] = match name {
+    match name {
         AbstractHeapType::Func => b"func",
         AbstractHeapType::Extern => b"extern",
         AbstractHeapType::Any => b"any",
@@ -433,6 +429,5 @@ fn write_name<W: Write>(
         AbstractHeapType::I31 => b"i31",
         AbstractHeapType::Exn => b"exn",
         AbstractHeapType::NoExn => b"noexn",
-    };
-    write_bytes(out, text, error)
+    }
 }

@@ -1,5 +1,5 @@
 //! Lines of bytes, and a line as words, which spaces divide. No other byte divides words.
-ghost use Rattle.std.specs.Prelude.{◌≡◌, ◌==◌, ◌++◌, ◌∷◌, [], ◌<◌, ◌≤◌, length, not, IfSome, IfNone};
+ghost use Rattle.std.specs.Prelude.{◌≡◌, ◌≢◌, ◌==◌, ◌++◌, ◌∷◌, [], ◌<◌, ◌≤◌, length, not, false, IsTrue, IfSome, IfNone};
 ghost use Rattle.std.specs.List.{position, position_or_len};
 ghost use Rattle.walrus_text.specs.Words.{has_items, words_of};
 ghost use Rattle.walrus_text.specs.Steps.Bytes.{IsOneLine};
@@ -11,24 +11,9 @@ pub fn next_line(bytes: &[u8]) -> Option<(&[u8], &[u8])>
     ensures shorter { IfSome result (λ found. length found.1.now < length bytes.now) }
     ensures none { IfNone result (IsOneLine bytes.now) }
 {
-    let (line, from_feed) = bytes.split_at(line_len(bytes));
+    let (line, from_feed) = bytes.split_at(len_before(bytes, b'\n'));
     let (_, after) = from_feed.split_first()?;
     Some((line, after))
-}
-
-/// The number of bytes before the first line feed, or of all bytes where there is none.
-#[tactic(auto, using(crate::proofs::Lexing::FirstWord::place_or_end))]
-fn line_len(bytes: &[u8]) -> usize
-    ensures within { result ≤ length bytes.now }
-    ensures value { result ≡ position_or_len (λ b. b == 10) bytes.now }
-{
-    first_line_feed(bytes).unwrap_or(bytes.len())
-}
-
-fn first_line_feed(bytes: &[u8]) -> Option<usize>
-    ensures { result ≡ position (λ b. b == 10) bytes.now }
-{
-    bytes.iter().position(|byte| *byte == b'\n')
 }
 
 /// The first word of a line, and the rest of the line. `None` says that the line has no word.
@@ -40,11 +25,19 @@ pub fn next_word(line: &[u8]) -> Option<(&[u8], &[u8])>
     ensures none { IfNone result (words_of line.now ≡ []) }
 {
     let from_word = &line[spaces_len(line)..];
-    let (word, rest) = from_word.split_at(word_len(from_word));
+    let (word, rest) = from_word.split_at(len_before(from_word, b' '));
     if word.is_empty() {
         return None;
     }
     Some((word, rest))
+}
+
+/// Whether the word is this one.
+pub fn is_word(word: &[u8], wanted: &[u8]) -> bool
+    ensures yes { IsTrue result → word.now ≡ wanted.now }
+    ensures no { result ≡ false → word.now ≢ wanted.now }
+{
+    word == wanted
 }
 
 /// Whether the line has no word.
@@ -69,17 +62,18 @@ fn word_start(line: &[u8]) -> Option<usize>
     line.iter().position(|byte| *byte != b' ')
 }
 
-/// The number of bytes before the first space, or of all bytes where there is none.
+/// The number of bytes before the first that is `wanted`, or of all bytes where none is.
 #[tactic(auto, using(crate::proofs::Lexing::FirstWord::place_or_end))]
-fn word_len(line: &[u8]) -> usize
-    ensures within { result ≤ length line.now }
-    ensures value { result ≡ position_or_len (λ b. b == 32) line.now }
+fn len_before(bytes: &[u8], wanted: u8) -> usize
+    ensures within { result ≤ length bytes.now }
+    ensures value { result ≡ position_or_len (λ b. b == wanted) bytes.now }
 {
-    first_space(line).unwrap_or(line.len())
+    first_index(bytes, wanted).unwrap_or(bytes.len())
 }
 
-fn first_space(line: &[u8]) -> Option<usize>
-    ensures { result ≡ position (λ b. b == 32) line.now }
+/// The index of the first byte that is `wanted`.
+pub fn first_index(bytes: &[u8], wanted: u8) -> Option<usize>
+    ensures { result ≡ position (λ b. b == wanted) bytes.now }
 {
-    line.iter().position(|byte| *byte == b' ')
+    bytes.iter().position(|byte| *byte == wanted)
 }

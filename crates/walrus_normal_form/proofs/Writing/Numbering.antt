@@ -4,7 +4,7 @@ use Rattle.std.specs.List.{range_with_len, slice_index}
 use Rattle.std.proofs.Math.Seq.{get_or-take, length-take-le}
 use Rattle.std.proofs.lemmas.Bool.{cases_lt}
 use Rattle.std.proofs.lemmas.Grind.{flat_map-append}
-use Rattle.std.proofs.lemmas.List.{append-nil, get_or-map, length-map, map-append, take_more}
+use Rattle.std.proofs.lemmas.List.{append-nil, get_or-map, length-map, map-append, take_all, take_more}
 use Rattle.std.proofs.lemmas.List.Elements.{Contains-append_left}
 use Rattle.std.proofs.lemmas.List.FromFn.{get_or-range_with_len, length-range_with_len}
 use Rattle.std.proofs.lemmas.Option.{get_or_from_slice_get, slice_get-get_or, slice_get_within}
@@ -170,6 +170,13 @@ module _ (gs : List SlotGroup) (i : ℕ) (g : SlotGroup) (below : i < length gs)
           ∙ (ap (λ x. map (renamed new) (take i gs) ++ x ∷ []) is
           ∙ (sym (map-append (renamed new) (take i gs) (g ∷ []))
           ∙ ap (map (renamed new)) (sym more))))
+
+-- the first i groups are all of them
+pub all_groups :
+    (groups : List SlotGroup) (places : List ℕ) (i : ℕ) → length places ≤ i →
+    take i (groups_at groups places) ≡ groups_at groups places
+all_groups groups places i le =
+    take_all i (groups_at groups places) (omega (arith, le, length-map places (slot_group_at groups)))
 
 -- groups at places of a list, where the groups before the i-th of them were taken out
 module _ (groups left : List SlotGroup) (places : List ℕ) (i : ℕ) (below : i < length places)

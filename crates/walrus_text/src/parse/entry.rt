@@ -9,7 +9,7 @@ ghost use Rattle.walrus_text.specs.Text.{AreIndices, IsText, val_word, field_wor
 ghost use Rattle.walrus_text.specs.Steps.Parts.{BeginsWith, IsSupertypeWord, IsValWord, IsFieldWord, IsCompositeLine, IsSubtypeLine, IsEntryLine};
 
 use crate::parse::value::{after_prefix, field_type, type_index, value_type};
-use crate::words::{is_blank, next_word};
+use crate::words::{first_index, is_blank, is_word, next_word};
 use std::alloc::{AllocError, Global};
 use walrus_ty::{CompAt, EntryAt, FieldAt, Listed, ValAt};
 
@@ -50,7 +50,7 @@ fn finality<'a>(word: &'a [u8], rest: &'a [u8]) -> Option<(bool, &'a [u8], &'a [
         IsSubtypeLine (found.1.now ∷ words_of found.2.now)) }
     ensures none { IfNone result (¬ IsEntryLine (word.now ∷ words_of rest.now)) }
 {
-    if word != b"open".as_slice() {
+    if !is_word(word, b"open") {
         return Some((true, word, rest));
     }
     let (word, rest) = next_word(rest)?;
@@ -102,12 +102,16 @@ fn composite(alloc: Global, word: &[u8], rest: &[u8]) -> Result<Option<CompAt>, 
     ensures none { IfOk result (λ found.
         IfNone found (¬ IsCompositeLine (word.now ∷ words_of rest.now))) }
 {
-    match word {
-        b"func" => function(alloc, rest),
-        b"struct" => structure(alloc, rest),
-        b"array" => Ok(array(rest)),
-        _ => Ok(None),
+    if is_word(word, b"func") {
+        return function(alloc, rest);
     }
+    if is_word(word, b"struct") {
+        return structure(alloc, rest);
+    }
+    if is_word(word, b"array") {
+        return Ok(array(rest));
+    }
+    Ok(None)
 }
 
 /// A function type, from the word after `func` on.
@@ -197,9 +201,9 @@ fn initial_capacity(line: &[u8]) -> usize {
     line.len() / 4
 }
 
-/// The bytes up to the space before the last `->`, or all where there is none.
+/// The bytes up to the space before the first `->`, or all where there is none.
 fn before_arrow(line: &[u8]) -> &[u8] {
-    match line.iter().rposition(|byte| *byte == b'-') {
+    match first_index(line, b'-') {
         Some(arrow) => &line[..arrow.saturating_sub(1)],
         None => line,
     }

@@ -40,18 +40,17 @@ fn wrong_rest(line: &[u8], is_in_group: bool) -> (Expected, &[u8]) {
     if let Some(rest) = after_word(line, b"end") {
         return after_bracket(line, rest, is_in_group);
     }
+    in_definition(line, is_in_group)
+}
+
+/// The fault of a line that should be a definition.
+fn in_definition(line: &[u8], is_in_group: bool) -> (Expected, &[u8]) {
     let after_open = after_word(line, b"open");
     let subtype = after_open.unwrap_or(line);
     let composite = after_supertype(subtype);
     let rest = composite.unwrap_or(subtype);
-    if let Some(params) = after_word(rest, b"func") {
-        return in_function(params);
-    }
-    if let Some(fields) = after_word(rest, b"struct") {
-        return (Expected::FieldOrLineEnd, after_fields(fields));
-    }
-    if let Some(field) = after_word(rest, b"array") {
-        return in_array(field);
+    if let Some(fault) = in_composite(rest) {
+        return fault;
     }
     if composite.is_some() {
         return (Expected::Composite, rest);
@@ -60,6 +59,18 @@ fn wrong_rest(line: &[u8], is_in_group: bool) -> (Expected, &[u8]) {
         return (Expected::SupertypeOrComposite, rest);
     }
     (beginning(is_in_group), rest)
+}
+
+/// The fault of a composite type. `None` says that none begins here.
+fn in_composite(line: &[u8]) -> Option<(Expected, &[u8])> {
+    if let Some(params) = after_word(line, b"func") {
+        return Some(in_function(params));
+    }
+    if let Some(fields) = after_word(line, b"struct") {
+        return Some((Expected::FieldOrLineEnd, after_fields(fields)));
+    }
+    let field = after_word(line, b"array")?;
+    Some(in_array(field))
 }
 
 /// The rest of a line after the supertype that it begins with.

@@ -9,7 +9,7 @@ use std::alloc::{AllocError, Global};
 use walrus_ty::EntryAt;
 
 /// A line of a section.
-#[derive(Debug, Drop)]
+#[derive(Drop)]
 pub enum Line {
     /// No words.
     Blank,

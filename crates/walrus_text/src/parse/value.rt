@@ -1,9 +1,10 @@
 //! Heap types, value types and fields, each one word.
-ghost use Rattle.std.specs.Prelude.{◌≡◌, ◌≢◌, ◌<◌, ◌^◌, ◌++◌, ℕ, List, codes, decimal, IfSome, IfNone};
+ghost use Rattle.std.specs.Prelude.{◌≡◌, ◌≢◌, ◌<◌, ◌≤◌, ◌^◌, ◌++◌, ℕ, List, codes, decimal, length, IfSome, IfNone};
 ghost use Rattle.walrus_ty.specs.Value.{heap_names, val_names, storage_names, field_names};
 ghost use Rattle.walrus_text.specs.Text.{AreIndices, IsText, name_word, heap_word, val_word, storage_word, field_word};
 ghost use Rattle.walrus_text.specs.Steps.Parts.{IsIndexWord, IsNameWord, IsPlainWord, IsPackedWord, has_sign_or_leading_zero, IsHeapWord, IsValWord, IsStorageWord, IsFieldWord};
 
+use crate::words::is_word;
 use walrus_ty::{AbstractHeapType, FieldAt, HeapAt, RefAt, StorageAt, ValAt};
 
 /// The number of a type: decimal, below 2^32, without a sign and without leading zeros.
@@ -39,21 +40,64 @@ pub fn abstract_heap_type(word: &[u8]) -> Option<AbstractHeapType>
     ensures found { IfSome result (λ name. word.now ≡ name_word name) }
     ensures none { IfNone result (¬ IsNameWord word.now) }
 {
-    match word {
-        b"func" => Some(AbstractHeapType::Func),
-        b"extern" => Some(AbstractHeapType::Extern),
-        b"any" => Some(AbstractHeapType::Any),
-        b"none" => Some(AbstractHeapType::None),
-        b"noextern" => Some(AbstractHeapType::NoExtern),
-        b"nofunc" => Some(AbstractHeapType::NoFunc),
-        b"eq" => Some(AbstractHeapType::Eq),
-        b"struct" => Some(AbstractHeapType::Struct),
-        b"array" => Some(AbstractHeapType::Array),
-        b"i31" => Some(AbstractHeapType::I31),
-        b"exn" => Some(AbstractHeapType::Exn),
-        b"noexn" => Some(AbstractHeapType::NoExn),
-        _ => None,
+    if word.len() < 5 {
+        short_name(word)
+    } else {
+        long_name(word)
     }
+}
+
+/// A heap type whose name has less than five bytes.
+// A `match` on byte strings tests byte by byte, and its proof takes five times as long.
+fn short_name(word: &[u8]) -> Option<AbstractHeapType>
+    ensures found { IfSome result (λ name. word.now ≡ name_word name) }
+    ensures none { IfNone result (length word.now < 5 → ¬ IsNameWord word.now) }
+{
+    if is_word(word, b"func") {
+        return Some(AbstractHeapType::Func);
+    }
+    if is_word(word, b"any") {
+        return Some(AbstractHeapType::Any);
+    }
+    if is_word(word, b"none") {
+        return Some(AbstractHeapType::None);
+    }
+    if is_word(word, b"eq") {
+        return Some(AbstractHeapType::Eq);
+    }
+    if is_word(word, b"i31") {
+        return Some(AbstractHeapType::I31);
+    }
+    if is_word(word, b"exn") {
+        return Some(AbstractHeapType::Exn);
+    }
+    None
+}
+
+/// A heap type whose name has five bytes or more.
+fn long_name(word: &[u8]) -> Option<AbstractHeapType>
+    ensures found { IfSome result (λ name. word.now ≡ name_word name) }
+    ensures none { IfNone result (5 ≤ length word.now → ¬ IsNameWord word.now) }
+{
+    if is_word(word, b"extern") {
+        return Some(AbstractHeapType::Extern);
+    }
+    if is_word(word, b"noextern") {
+        return Some(AbstractHeapType::NoExtern);
+    }
+    if is_word(word, b"nofunc") {
+        return Some(AbstractHeapType::NoFunc);
+    }
+    if is_word(word, b"struct") {
+        return Some(AbstractHeapType::Struct);
+    }
+    if is_word(word, b"array") {
+        return Some(AbstractHeapType::Array);
+    }
+    if is_word(word, b"noexn") {
+        return Some(AbstractHeapType::NoExn);
+    }
+    None
 }
 
 /// A heap type: the name of an abstract one, or the number of a type, after `exact:` where no
@@ -118,14 +162,22 @@ fn plain_value_type(word: &[u8]) -> Option<ValAt>
     ensures fits { IfSome result (λ v. AreIndices (val_names v)) }
     ensures none { IfNone result (¬ IsPlainWord word.now) }
 {
-    match word {
-        b"i32" => Some(ValAt::I32),
-        b"i64" => Some(ValAt::I64),
-        b"f32" => Some(ValAt::F32),
-        b"f64" => Some(ValAt::F64),
-        b"v128" => Some(ValAt::V128),
-        _ => None,
+    if is_word(word, b"i32") {
+        return Some(ValAt::I32);
     }
+    if is_word(word, b"i64") {
+        return Some(ValAt::I64);
+    }
+    if is_word(word, b"f32") {
+        return Some(ValAt::F32);
+    }
+    if is_word(word, b"f64") {
+        return Some(ValAt::F64);
+    }
+    if is_word(word, b"v128") {
+        return Some(ValAt::V128);
+    }
+    None
 }
 
 fn after_null(word: &[u8]) -> Option<HeapAt>
@@ -191,9 +243,11 @@ fn packed_type(word: &[u8]) -> Option<StorageAt>
     ensures fits { IfSome result (λ s. AreIndices (storage_names s)) }
     ensures none { IfNone result (¬ IsPackedWord word.now) }
 {
-    match word {
-        b"i8" => Some(StorageAt::I8),
-        b"i16" => Some(StorageAt::I16),
-        _ => None,
+    if is_word(word, b"i8") {
+        return Some(StorageAt::I8);
     }
+    if is_word(word, b"i16") {
+        return Some(StorageAt::I16);
+    }
+    None
 }

@@ -61,18 +61,18 @@ bool_of false true h = cc
 bool_of true false h = cc
 bool_of true true h = refl
 
+same_reference :
+    (r q : Reference ℕ) → r.nullable ≡ q.nullable → r.heap_type ≡ q.heap_type → r ≡ q
+same_reference r q a b = ap (λ x. record { nullable = x; heap_type = r.heap_type }) a
+    ∙ ap (λ x. record { nullable = q.nullable; heap_type = x }) b
+
 reference_told :
     (r q : Reference ℕ) (ts us : Spelling) → reference_spelled r ts ≡ reference_spelled q us →
     (r ≡ q) × (ts ≡ us)
 reference_told r q ts us e =
     let a : bool_index r.nullable ≡ bool_index q.nullable = cc in
     let h = heap_told r.heap_type q.heap_type ts us cc in
-    let b : r.nullable ≡ q.nullable = bool_of r.nullable q.nullable a in
-    let c : r.heap_type ≡ q.heap_type = h.0 in (
-      ap (λ x. record { nullable = x; heap_type = r.heap_type }) b
-          ∙ ap (λ x. record { nullable = q.nullable; heap_type = x }) c,
-      h.1,
-    )
+    (same_reference r q (bool_of r.nullable q.nullable a) h.0, h.1)
 
 val_told :
     (v w : Val ℕ) (ts us : Spelling) → val_spelled v ts ≡ val_spelled w us → (v ≡ w) × (ts ≡ us)
@@ -153,13 +153,16 @@ list_told f h (x ∷ xs) (y ∷ ys) ts us e =
     let b = list_told f h xs ys ts us a.1 in
     let a0 = a.0 in let b0 = b.0 in (cc, b.1)
 
+same_function :
+    (ps qs rs ss : List (Val ℕ)) → ps ≡ qs → rs ≡ ss → Function ps rs ≡ Function qs ss
+same_function ps qs rs ss a b = cc
+
 composite_told :
     (c d : Composite) (ts us : Spelling) → composite_spelled c ts ≡ composite_spelled d us →
     (c ≡ d) × (ts ≡ us)
 composite_told (Function ps rs) (Function qs ss) ts us e =
     let a = list_told val_spelled val_told ps qs _ _ cc in
-    let b = list_told val_spelled val_told rs ss ts us a.1 in
-    let a0 = a.0 in let b0 = b.0 in (cc, b.1)
+    let b = list_told val_spelled val_told rs ss ts us a.1 in (same_function ps qs rs ss a.0 b.0, b.1)
 composite_told (Function ps rs) (Struct gs) ts us e = cc
 composite_told (Function ps rs) (Array g) ts us e = cc
 composite_told (Struct fs) (Function qs ss) ts us e = cc

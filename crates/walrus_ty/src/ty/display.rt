@@ -62,8 +62,7 @@ fn write_nullable<P, W: fmt::Write>(
 {
     match heap_type {
         Heap::Abstract(name) => f.write_str(nullable_name(*name)),
-        Heap::Concrete(id) => write!(f, "(ref null {})", id.place()),
-        Heap::Exact(id) => write!(f, "(ref null exact {})", id.place()),
+        Heap::Concrete(_) | Heap::Exact(_) => write!(f, "(ref null {heap_type})"),
     }
 }
 
@@ -97,7 +96,7 @@ impl<P> fmt::Display for Val<Key<P>> {
             Val::F32 => f.write_str("f32"),
             Val::F64 => f.write_str("f64"),
             Val::V128 => f.write_str("v128"),
-            Val::Ref(reference) => write!(f, "{reference}"),
+            Val::Ref(reference) => fmt::Display::fmt(reference, f),
         }
     }
 }
@@ -108,7 +107,7 @@ impl<P> fmt::Display for Storage<Key<P>> {
 
     fn fmt<W: fmt::Write>(&self, f: &mut fmt::Formatter<W>) -> fmt::Result {
         match self {
-            Storage::Val(value) => write!(f, "{value}"),
+            Storage::Val(value) => fmt::Display::fmt(value, f),
             Storage::I8 => f.write_str("i8"),
             Storage::I16 => f.write_str("i16"),
         }
@@ -123,7 +122,7 @@ impl<P> fmt::Display for Field<Key<P>> {
         if self.mutable {
             write!(f, "(mut {})", self.element_type)
         } else {
-            write!(f, "{}", self.element_type)
+            fmt::Display::fmt(&self.element_type, f)
         }
     }
 }

@@ -1,9 +1,10 @@
-use Rattle.std.proofs.Common.{◌≡◌, ℕ, ◌+◌, ◌<◌, ◌≤◌, ◌⊎◌, ◌∙◌, List, Some, length, slice_get, sym, ap, subst, arith, take}
+use Rattle.std.proofs.Common.{◌≡◌, ℕ, ◌+◌, ◌<◌, ◌≤◌, ◌⊎◌, ◌∙◌, List, Some, length, map, get_or, slice_get, sym, ap, subst, arith, take}
+use Rattle.std.proofs.lemmas.List.Elements.{All-get_or}
 use Rattle.walrus_ty.specs.Records.{group_of}
 use Rattle.walrus_sections.specs.FirstError.{definitions_of}
 use Rattle.walrus_sections.specs.NormalForm.{image}
-use Rattle.walrus_normal_form.specs.Steps.WrittenRecords.{groups_at, rename_group, slots_in}
-use Rattle.walrus_normal_form.proofs.Writing.Numbering.{all_within, few_more, group_taken, left_more, next_is, numbered_more, place_below, renamed_more}
+use Rattle.walrus_normal_form.specs.Steps.WrittenRecords.{AreNumbered, groups_at, rename_group, slots_in}
+use Rattle.walrus_normal_form.proofs.Writing.Numbering.{all_groups, all_within, few_more, group_taken, left_more, next_is, numbered_more, place_below, renamed, renamed_more}
 use Rattle.walrus_normal_form.proofs.write.write_groups.Goals as goal
 
 pub give_indices-next-requires-clause-within : goal.give_indices-next-requires-clause-within
@@ -68,3 +69,20 @@ loop-place-preserved c =
           ∙ ap (λ (numbers : List ℕ). rename_group (image numbers) (group_of g.group))
           c.as_slice.ensures.value));
     }
+
+pub take_group-first-requires : goal.take_group-first-requires
+take_group-first-requires c =
+    subst (λ (n : ℕ). get_or c.args.order.now c.loop-place.place-index 0 < n)
+    (sym c.loop-place.invariant.places) (All-get_or (λ place. place < length c.args.groups.items)
+    c.args.order.now c.loop-place.place-index 0 c.loop-place-test.true c.requires.within)
+
+pub returns-clause-numbered : goal.returns-clause-numbered
+returns-clause-numbered c =
+    subst (λ gs. AreNumbered (slots_in gs) c.loop-place.new_index.items)
+    (all_groups c.args.groups.items c.args.order.now c.loop-place.place-index c.loop-place-test.false)
+    c.loop-place.invariant.numbered
+
+pub returns-clause-renamed : goal.returns-clause-renamed
+returns-clause-renamed c = c.loop-place.invariant.renamed
+    ∙ ap (map (renamed c.loop-place.new_index.items))
+    (all_groups c.args.groups.items c.args.order.now c.loop-place.place-index c.loop-place-test.false)

@@ -21,8 +21,8 @@ returns-clause-found c =
     let cut : rest ≡ drop (spaces line) line = take_rest line c.spaces_len.result
     ∙ ap (λ n. drop n line) c.spaces_len.ensures.value in
     let front : first ≡ take (word rest) rest = c.split_at.ensures.front
-    ∙ ap (λ n. take n rest) c.word_len.ensures.value in
+    ∙ ap (λ n. take n rest) c.len_before.ensures.value in
     let back : others ≡ drop (word rest) rest = c.split_at.ensures.back
-    ∙ ap (λ n. drop n rest) c.word_len.ensures.value in
+    ∙ ap (λ n. drop n rest) c.len_before.ensures.value in
     let some : 0 < length first = grind arith in
     words_from_word line rest first others cut front back some
