@@ -48,7 +48,7 @@ pub fn abstract_heap_type(word: &[u8]) -> Option<AbstractHeapType>
 }
 
 /// A heap type whose name has less than five bytes.
-// A `match` on byte strings tests byte by byte, and its proof takes five times as long.
+// A `match` on byte strings tests byte by byte, so its proof would take longer.
 fn short_name(word: &[u8]) -> Option<AbstractHeapType>
     ensures found { IfSome result (λ name. word.now ≡ name_word name) }
     ensures none { IfNone result (length word.now < 5 → ¬ IsNameWord word.now) }
