@@ -19,9 +19,10 @@ use std::alloc::{AllocError, Global};
 use thiserror::Error;
 
 /// How many bytes an index has that is written again.
-#[derive(Clone, Copy, PartialEq, Eq, Debug)]
+#[derive(Clone, Copy, PartialEq, Eq, Debug, Default)]
 pub enum Widths {
     /// As few as its number needs.
+    #[default]
     Shortest,
     /// As many as were there, or more where the new number needs more.
     Kept,

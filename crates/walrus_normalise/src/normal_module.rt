@@ -77,11 +77,7 @@ use walrus_module::{find_outdated, rename_module, strip_descriptions};
 /// let module = [
 ///     0, 0x61, 0x73, 0x6D, 1, 0, 0, 0, 1, 6, 2, 0x5F, 0, 0x60, 0, 0, 3, 2, 1, 1,
 /// ];
-/// let options = NormaliseOptions {
-///     widths: Widths::Shortest,
-///     descriptions: Descriptions::Kept,
-///     unused: UnusedTypes::Kept,
-/// };
+/// let options = NormaliseOptions::default();
 /// let new = normalise_module(alloc, HashKeys::fixed(), &module, options)?;
 /// assert_eq!(rt; new[8..], [1, 6, 2, 0x60, 0, 0, 0x5F, 0, 3, 2, 1, 0]);
 /// ```

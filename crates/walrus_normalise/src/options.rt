@@ -2,9 +2,10 @@
 use walrus_module::Widths;
 
 /// What becomes of custom sections that describe other bytes of their module, such as debug data.
-#[derive(Clone, Copy, PartialEq, Eq, Debug)]
+#[derive(Clone, Copy, PartialEq, Eq, Debug, Default)]
 pub enum Descriptions {
     /// They stay as they are. A module with one that would no longer fit is refused.
+    #[default]
     Kept,
     /// They are left out. [`strip_descriptions`](walrus_module::strip_descriptions) lists their
     /// names.
@@ -12,9 +13,10 @@ pub enum Descriptions {
 }
 
 /// What becomes of types that nothing uses.
-#[derive(Clone, Copy, PartialEq, Eq, Debug)]
+#[derive(Clone, Copy, PartialEq, Eq, Debug, Default)]
 pub enum UnusedTypes {
     /// They stay.
+    #[default]
     Kept,
     /// They are deleted. The roots are the types that a module names outside its type section, and
     /// not in the custom section `name`. [`normalise_used`](walrus_unused::normalise_used) says
@@ -22,8 +24,9 @@ pub enum UnusedTypes {
     Deleted,
 }
 
-/// How a module is normalised.
-#[derive(Clone, Copy, PartialEq, Eq, Debug)]
+/// How a module is normalised. The default is the shortest indices, and everything else kept, as
+/// `wasmnorm` does without options.
+#[derive(Clone, Copy, PartialEq, Eq, Debug, Default)]
 pub struct NormaliseOptions {
     /// How many bytes an index has that is written again.
     pub widths: Widths,

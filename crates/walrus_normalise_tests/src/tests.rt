@@ -35,6 +35,16 @@ fn becomes(alloc: Global, bytes: &[u8], widths: Widths, expected: &[u8]) -> bool
 }
 
 #[test]
+fn by_default_indices_are_shortest_and_all_else_is_kept(rt: HostRuntime) {
+    let wanted = NormaliseOptions {
+        widths: Widths::Shortest,
+        descriptions: Descriptions::Kept,
+        unused: UnusedTypes::Kept,
+    };
+    assert_eq!(rt; NormaliseOptions::default(), wanted);
+}
+
+#[test]
 fn a_second_round_changes_nothing(rt: HostRuntime) {
     assert!(rt; becomes(rt.alloc(), &MODULE, Widths::Shortest, &NORMAL));
     assert!(rt; becomes(rt.alloc(), &NORMAL, Widths::Shortest, &NORMAL));
