@@ -1,7 +1,7 @@
 //! A table whose unused types are deleted before it is written, and the examples in the
 //! documentation of `walrus_unused` and `walrus_passes` that are about types: their lines are the
-//! same as in the tests here. Where an example hands an error on, all tests but the first stop instead, which is
-//! proved sooner. Where it compares by `assert_eq!`, they call `assert_equal`.
+//! same as in the tests here. Where an example hands an error on, all tests but the first stop
+//! instead, which is proved sooner. Where it compares by `assert_eq!`, they call `assert_equal`.
 use crate::assertions::assert_equal;
 use crate::index_maps::section;
 use crate::unused_types::{are, table};
