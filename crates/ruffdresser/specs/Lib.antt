@@ -152,11 +152,13 @@ pub use Rattle.walrus_module.specs.NameSections
 pub use Rattle.walrus_module.specs.RenamedModules
 pub use Rattle.walrus_module.specs.Customs
 pub use Rattle.walrus_module.specs.Composition as IndicesInTurn
+pub use Rattle.walrus_module.specs.CustomNames
 pub use Rattle.walrus_module.specs.Imports
 pub use Rattle.walrus_snipping.specs.Functions as ModuleFunctions
 pub use Rattle.walrus_snipping.specs.SnippedModules
 pub use Rattle.walrus_module.specs.RenamedNames
 pub use Rattle.walrus_module.specs.Lengths
+pub use Rattle.walrus_module.specs.UnknownCustoms
 pub use Rattle.walrus_module.specs.Outdated
 pub use Rattle.walrus_module.specs.IntegerFaults
 pub use Rattle.walrus_module.specs.ContentFaults
@@ -167,6 +169,7 @@ pub use Rattle.walrus_snipping.specs.FunctionNames
 pub use Rattle.walrus_snipping.specs.WithName as FunctionsWithName
 pub use Rattle.walrus_normalise.specs.NormalModules
 pub use Rattle.walrus_normalise.specs.Moved as MovedModules
+pub use Rattle.walrus_normalise.specs.Relisted
 pub use Rattle.walrus_binary.specs.declared.error.Expected
 pub use Rattle.walrus_binary.specs.declared.error.NotHeld
 pub use Rattle.walrus_binary.specs.declared.error.DecodeError

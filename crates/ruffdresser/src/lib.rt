@@ -220,9 +220,9 @@ pub use walrus_binary::{
 pub use walrus_module::{
     DescriptionKind, Fault, FaultKind, RenameError, ScanError, Section, SectionIter, Widths,
     body_types, description_kind, expression_types, find_content_fault, find_description,
-    find_module_fault, find_outdated, laws as module_laws, named_types, rename_body,
-    rename_custom_section, rename_expression, rename_module, rename_section, section_types,
-    sections, skip_import, strip_descriptions,
+    find_module_fault, find_outdated, find_unknown_custom, laws as module_laws, named_types,
+    rename_body, rename_custom_section, rename_expression, rename_module, rename_section,
+    section_types, sections, skip_import, strip_descriptions,
 };
 pub use walrus_normalise::{
     Descriptions, NormaliseModuleError, NormaliseOptions, UnusedTypes, laws as normal_module_laws,

@@ -54,7 +54,7 @@ ComposeInFront R S T =
     (text mid other new names more rest after : List ℕ) → R text mid names → S other new more
     → mid ++ rest ≡ other ++ after → Joined T text new names more × (rest ≡ after)
 
-nothing_named : NoneNamed [] []
+pub nothing_named : NoneNamed [] []
 nothing_named = ((λ e. e), (λ e. e))
 
 pub more_named : (a b x y : List ℕ) → NoneNamed a b → NoneNamed x y → NoneNamed (a ++ x) (b ++ y)
@@ -125,34 +125,43 @@ all_compose R S T c _ _ _ _ _ _ _ r s (next_change count text texts mid mids nam
 
 -- ---- pieces
 
-same_type_name : (k : Kind) (text : List ℕ) (p q : Piece) (more inner : List Kind) → Begins k text p more →
-    Begins k text q inner → type_name p ≡ type_name q
+pub same_type_name : (k : Kind) (text : List ℕ) (p q : Piece) (more inner : List Kind) →
+    Begins k text p more → Begins k text q inner → type_name p ≡ type_name q
 same_type_name k text p q more inner h g =
     let read : done (beginning (type_name p) more) [] ≡ done (beginning (type_name q) inner) [] =
     sym (begin_again k text p more [] h) ∙ begin_again k text q inner [] g in
     ap (λ u. u.named) (value_is (beginning (type_name p) more) (beginning (type_name q) inner) [] [] read)
 
+-- a text that begins with an index of a type begins with no other piece
+pub same_index : (k : Kind) (text : List ℕ) (p q : Piece) (more inner : List Kind) (i : ℕ) →
+    type_name p ≡ Some i → Begins k text p more → Begins k text q inner → q ≡ p
+same_index k text p q more inner i named h g =
+    piece_is k text q inner i g (sym (same_type_name k text p q more inner h g) ∙ named)
+    ∙ sym (piece_is k text p more i h named)
+
+-- where an index leads, in the shortest text
+pub record LeadsOn (new_indices : NewIndices) (end k : ℕ) (new : List ℕ) : Type 0 where
+  pub n : ℕ
+  pub mapped : new_index new_indices k ≡ Some n
+  pub is_text : IsTextOf end 0 new n
+
+pub u32_on : (new_indices : NewIndices) (text new : List ℕ) (k : ℕ) →
+    Becomes (type_maps new_indices) (least_width widths.Shortest) new (unsigned space.Type text k) →
+    LeadsOn new_indices 0x80 k new
+u32_on new_indices _ _ k (piece_stays _ e) = absurd cc
+u32_on new_indices _ _ k (u32 _ m text new _ n ms mk t) =
+    record { n = n; mapped = ap (λ f. f k) (same_map (new_index new_indices) m ms) ∙ mk; is_text = t }
+
+pub s33_on : (new_indices : NewIndices) (text new : List ℕ) (k : ℕ) →
+    Becomes (type_maps new_indices) (least_width widths.Shortest) new (signed space.Type text k) →
+    LeadsOn new_indices 0x40 k new
+s33_on new_indices _ _ k (piece_stays _ e) = absurd cc
+s33_on new_indices _ _ k (s33 _ m text new _ n ms mk t) =
+    record { n = n; mapped = ap (λ f. f k) (same_map (new_index new_indices) m ms) ∙ mk; is_text = t }
+
 module _ (first second both : NewIndices) (turn : AreInTurn first second both) (w : Widths) where
   abbrev Shortest : ℕ → ℕ
   Shortest = least_width widths.Shortest
-
-  -- where an index leads next
-  record LeadsOn (end : ℕ) (n : ℕ) (new : List ℕ) : Type 0 where
-    p : ℕ
-    mapped : new_index second n ≡ Some p
-    is_text : IsTextOf end 0 new p
-
-  u32_on : (text new : List ℕ) (n : ℕ) →
-      Becomes (type_maps second) Shortest new (unsigned space.Type text n) → LeadsOn 0x80 n new
-  u32_on _ _ n (piece_stays _ e) = absurd cc
-  u32_on _ _ n (u32 _ m text new _ p ms mk t) =
-      record { p = p; mapped = ap (λ f. f n) (same_map (new_index second) m ms) ∙ mk; is_text = t }
-
-  s33_on : (text new : List ℕ) (n : ℕ) →
-      Becomes (type_maps second) Shortest new (signed space.Type text n) → LeadsOn 0x40 n new
-  s33_on _ _ n (piece_stays _ e) = absurd cc
-  s33_on _ _ n (s33 _ m text new _ p ms mk t) =
-      record { p = p; mapped = ap (λ f. f n) (same_map (new_index second) m ms) ∙ mk; is_text = t }
 
   record PieceJoined (k : Kind) (p q : Piece) (more : List Kind) (mid new : List ℕ) : Type 0 where
     piece : Piece
@@ -167,8 +176,7 @@ module _ (first second both : NewIndices) (turn : AreInTurn first second both) (
       Becomes (type_maps second) Shortest new q → PieceJoined k p q more mid new
   index_joined k p q found more inner mid new i n named mapped h g on b =
       let q-named : type_name q ≡ Some n = sym (same_type_name k mid found q more inner h g) ∙ mapped in
-      let same : q ≡ found = piece_is k mid q inner n g q-named ∙ sym (piece_is k mid found more n h mapped)
-      in
+      let same : q ≡ found = same_index k mid found q more inner n mapped h g in
       let is-named : names_of (type_name p) ≡ [] → ⊥ = λ e. some_type i (type_name p) named e in
       let is-named-on : names_of (type_name q) ≡ [] → ⊥ = λ e. some_type n (type_name q) q-named e in
       record {
@@ -207,15 +215,15 @@ module _ (first second both : NewIndices) (turn : AreInTurn first second both) (
       let mapped : new_index first k ≡ Some n = ap (λ f. f k) (same_map (new_index first) m ms) ∙ mk in
       index_joined (kind.Index s) (unsigned s text k) q (unsigned s mid n) [] inner mid new k n refl refl
       (index s mid n t.is_text) g
-      (λ b. let o = u32_on mid new n b in
-      u32 s (new_index both) text new k o.p refl (turn.lead k n mapped ∙ o.mapped) o.is_text) c
+      (λ b. let o = u32_on second mid new n b in
+      u32 s (new_index both) text new k o.n refl (turn.lead k n mapped ∙ o.mapped) o.is_text) c
   piece_joined _ _ _ _ _ q inner new (s33_type _ _) (signed_index k text j may h)
       (s33 _ m _ mid _ n ms mk t) g c =
       let mapped : new_index first j ≡ Some n = ap (λ f. f j) (same_map (new_index first) m ms) ∙ mk in
       index_joined k (signed space.Type text j) q (signed space.Type mid n) [] inner mid new j n refl refl
       (signed_index k mid n may t.is_text) g
-      (λ b. let o = s33_on mid new n b in
-      s33 space.Type (new_index both) text new j o.p refl (turn.lead j n mapped ∙ o.mapped) o.is_text) c
+      (λ b. let o = s33_on second mid new n b in
+      s33 space.Type (new_index both) text new j o.n refl (turn.lead j n mapped ∙ o.mapped) o.is_text) c
   piece_joined k text _ more _ q inner new (nameless_piece _ unnamed maps) h (u32 s m _ mid j n ms mk t) g c =
       let kept = maps first in absurd cc
   piece_joined k text _ more _ q inner new (nameless_piece _ unnamed maps) h (s33 s m _ mid j n ms mk t) g c =

@@ -5,6 +5,7 @@ use Rattle.std.proofs.lemmas.List.{append_cancel_right}
 use Rattle.std.proofs.lemmas.List.Elements.{All-contains, Contains-append_right, Contains-append_cases}
 use Rattle.std.proofs.lemmas.List.Kept.{AllPairs-from_increasing}
 use Rattle.walrus_binary.specs.Grammar.{AreItems, none, next}
+use Rattle.walrus_binary.specs.Leb128.{IsU32}
 use Rattle.walrus_binary.specs.Steps.Reading.{u32_at}
 use Rattle.walrus_module.specs.declared.renaming.Widths.{Widths}
 use Rattle.walrus_module.specs.NameSections.{TypeEntry, type_entry, IsEntry, entry, IsLeast, AreKept, IsNewEntry, renumbered, RenamesMap, empty, entries}
@@ -111,8 +112,9 @@ splits (x ∷ b) e a (y ∷ c) f d h =
       | inr (inr k) ↦ inr (inr (later_in x f b k.0, k.1))
     ]
 
-least_once : (new_indices : NewIndices) (all : List TypeEntry) (e f : TypeEntry) → IsLeast new_indices all e →
-    IsLeast new_indices all f → new_index new_indices e.index ≡ new_index new_indices f.index → e ≡ f
+pub least_once : (new_indices : NewIndices) (all : List TypeEntry) (e f : TypeEntry) →
+    IsLeast new_indices all e → IsLeast new_indices all f →
+    new_index new_indices e.index ≡ new_index new_indices f.index → e ≡ f
 least_once new_indices all e f l m same =
     elim (splits l.before e l.after m.before f m.after (sym l.parts ∙ m.parts)) [
       | inl is ↦ is
@@ -200,7 +202,8 @@ entry_once Follows free _ _ _ _ r s (entry text follows index h g) (entry text' 
     )
 
 pub entries_once : (Follows : List ℕ → Type 0) → IsPrefixFree Follows →
-    (a b : List ℕ) (es fs : List TypeEntry) (r s : List ℕ) → AreItems (IsEntry Follows) a es → AreItems (IsEntry Follows) b fs → a ++ r ≡ b ++ s →
+    (a b : List ℕ) (es fs : List TypeEntry) (r s : List ℕ) → AreItems (IsEntry Follows) a es →
+    AreItems (IsEntry Follows) b fs → a ++ r ≡ b ++ s →
     length es ≡ length fs → es ≡ fs
 entries_once Follows free _ _ _ _ r s none none e many = refl
 entries_once Follows free _ _ _ _ r s none (next text others f fs g gs) e many = absurd (omega (arith, many))
@@ -227,30 +230,43 @@ pub nothing : (es : List TypeEntry) → length es ≡ 0 → es ≡ []
 nothing [] h = refl
 nothing (x ∷ xs) h = absurd (omega (arith, h))
 
+-- where the number of entries is none, there are none
+pub no_entries_counted : (count other texts : List ℕ) (es : List TypeEntry) → IsU32 count 0 →
+    IsU32 other (length es) → count ≡ other ++ texts → es ≡ []
+no_entries_counted count other texts es h g e =
+    let n = same_number (u32_at count) 0 (length es) [] texts
+    (number_read count count 0 [] h (sym (append-nil count)))
+    (number_read count other (length es) texts g e) in
+    nothing es (sym n.0)
+
+-- the entries behind their number
+pub entries_counted_once : (Follows : List ℕ → Type 0) → IsPrefixFree Follows →
+    (count texts other behind : List ℕ) (es fs : List TypeEntry) → IsU32 count (length es) →
+    IsU32 other (length fs) → AreItems (IsEntry Follows) texts es → AreItems (IsEntry Follows) behind fs →
+    count ++ texts ≡ other ++ behind → (es ≡ fs) × (texts ≡ behind)
+entries_counted_once Follows free count texts other behind es fs h g are its e =
+    let n = same_number (u32_at (count ++ texts)) (length es) (length fs) texts behind
+    (number_read (count ++ texts) count (length es) texts h refl)
+    (number_read (count ++ texts) other (length fs) behind g e) in (
+      entries_once Follows free texts behind es fs [] [] are its (ap (λ (u : List ℕ). u ++ []) n.1) n.0,
+      n.1,
+    )
+
 map_same : (Follows : List ℕ → Type 0) → IsPrefixFree Follows → (new_indices : NewIndices) (w : Widths)
     (text other a b x y : List ℕ) → RenamesMap Follows new_indices w text a x →
     RenamesMap Follows new_indices w other b y → text ≡ other → (a ≡ b) × (x ≡ y)
 map_same Follows free new_indices w _ _ _ _ _ _ (empty count h) (empty count' h') e = (e, refl)
 map_same Follows free new_indices w _ _ _ _ _ _ (empty count h)
     (entries count' texts new_count new_texts es kept h' are some is t news) e =
-    let n = same_number (u32_at count) 0 (length es) [] texts
-    (number_read count count 0 [] h (sym (append-nil count)))
-    (number_read count count' (length es) texts h' e) in
-    absurd (some (nothing es (sym n.0)))
+    absurd (some (no_entries_counted count count' texts es h h' e))
 map_same Follows free new_indices w _ _ _ _ _ _
     (entries count texts new_count new_texts es kept h are some is t news) (empty count' h') e =
-    let n = same_number (u32_at count') 0 (length es) [] texts
-    (number_read count' count' 0 [] h' (sym (append-nil count')))
-    (number_read count' count (length es) texts h (sym e)) in
-    absurd (some (nothing es (sym n.0)))
+    absurd (some (no_entries_counted count' count texts es h' h (sym e)))
 map_same Follows free new_indices w _ _ _ _ _ _
     (entries count texts new_count new_texts es kept h are some is t news)
     (entries count' texts' new_count' new_texts' es' kept' h' are' some' is' t' news') e =
-    let n = same_number (u32_at (count ++ texts)) (length es) (length es') texts texts'
-    (number_read (count ++ texts) count (length es) texts h refl)
-    (number_read (count ++ texts) count' (length es') texts' h' e) in
-    let all : es ≡ es' = entries_once Follows free texts texts' es es' [] [] are are'
-    (ap (λ (u : List ℕ). u ++ []) n.1) n.0 in
+    let n = entries_counted_once Follows free count texts count' texts' es es' h h' are are' e in
+    let all : es ≡ es' = n.0 in
     let same : kept ≡ kept' = kept_once new_indices es' kept kept'
     (subst (λ (u : List TypeEntry). AreKept new_indices u kept) all is) is' in
     let front : count ≡ count' = append_cancel_right count count' texts

@@ -51,6 +51,13 @@ pub no_entries : (es : List TypeEntry) → indices_of es ≡ [] → es ≡ []
 no_entries [] e = refl
 no_entries (x ∷ es) e = absurd cc
 
+-- as many are kept as were found
+pub found_long : (found : List TypeEntry) (kept : Kept) → indices_of found ≡ keys kept →
+    length found ≡ length kept
+found_long found kept e =
+    sym (length-map found (λ (f : TypeEntry). f.index)) ∙ ap (λ (u : List ℕ). length u) e
+    ∙ length-map kept (λ (p : ℕ × TypeEntry). p.0)
+
 -- the entries behind their own indices
 abbrev pub numbered : List TypeEntry → Kept
 numbered es = map (λ (e : TypeEntry). (e.index, e)) es
@@ -89,35 +96,37 @@ before_less (x ∷ before) e after up f h =
       | inr later ↦ before_less before e after (tail_ascends x.index (indices_of rest) up) f later
     ]
 
--- where each index is its own, all entries are kept
-pub least_of_own : (indices : NewIndices) (es : List TypeEntry) → Ascend (indices_of es) →
-    ((f : TypeEntry) → Contains es f → new_index indices f.index ≡ Some f.index) → (e : TypeEntry) →
-    Contains es e → IsLeast indices es e
-least_of_own indices es up its e h =
+-- of ascending entries one that is not above any with the same new index is the least
+pub lowest_is_least : (indices : NewIndices) (es : List TypeEntry) → Ascend (indices_of es) →
+    (e : TypeEntry) → Contains es e →
+    ((f : TypeEntry) → Contains es f → new_index indices f.index ≡ new_index indices e.index →
+    e.index ≤ f.index) → IsLeast indices es e
+lowest_is_least indices es up e h low =
     let a = around e es h in
-    let in-front : (f : TypeEntry) → Contains a.before f → Contains es f =
-    λ f k. subst (λ (u : List TypeEntry). Contains u f) (sym a.parts)
-    (Contains-append_left a.before (e ∷ a.after) f k) in
-    let behind : (f : TypeEntry) → Contains a.after f → Contains es f =
-    λ f k. subst (λ (u : List TypeEntry). Contains u f) (sym a.parts)
-    (Contains-append_right a.before (e ∷ a.after) f (later_in e f a.after k)) in
-    let same : (f : TypeEntry) → Contains es f → new_index indices f.index ≡ new_index indices e.index
-    → f.index ≡ e.index =
-    λ f k same. same_number f.index e.index (sym (its f k) ∙ same ∙ its e h) in
     record {
       before = a.before;
       after = a.after;
       parts = a.parts;
       less = all_from (λ f. new_index indices f.index ≡ new_index indices e.index → e.index < f.index)
           a.before
-          (λ f k both. let one = same f (in-front f k) both in
+          (λ f k same. let le = low f (subst (λ (u : List TypeEntry). Contains u f) (sym a.parts)
+          (Contains-append_left a.before (e ∷ a.after) f k)) same in
           let less = before_less a.before e a.after
           (subst (λ (u : List TypeEntry). Ascend (indices_of u)) a.parts up) f k in
-          absurd (omega (arith, one, less)));
+          absurd (omega (arith, le, less)));
       least = all_from (λ f. new_index indices f.index ≡ new_index indices e.index → e.index ≤ f.index)
           a.after
-          (λ f k both. let one = same f (behind f k) both in omega (arith, one));
+          (λ f k same. low f (subst (λ (u : List TypeEntry). Contains u f) (sym a.parts)
+          (Contains-append_right a.before (e ∷ a.after) f (later_in e f a.after k))) same);
     }
+
+-- where each index is its own, all entries are kept
+pub least_of_own : (indices : NewIndices) (es : List TypeEntry) → Ascend (indices_of es) →
+    ((f : TypeEntry) → Contains es f → new_index indices f.index ≡ Some f.index) → (e : TypeEntry) →
+    Contains es e → IsLeast indices es e
+least_of_own indices es up its e h =
+    lowest_is_least indices es up e h (λ f k same.
+    let one = same_number f.index e.index (sym (its f k) ∙ same ∙ its e h) in omega (arith, one))
 
 -- an index that has a new one is below the number of indices
 pub has_new_one : (indices : NewIndices) (k n : ℕ) → new_index indices k ≡ Some n → k < length indices
@@ -242,9 +251,7 @@ module _ (Follows : List ℕ → Type 0) where
       in own o.0.index f.index (is.are_least f.index o.0 o.1).0 in
       let up : IsStrictlyIncreasing (indices_of r.found) =
       subst (λ (u : List ℕ). IsStrictlyIncreasing u) (sym r.indices) is.ascending in
-      let many : length kept ≡ length r.found = sym (length-map kept (λ (p : ℕ × TypeEntry). p.0))
-      ∙ ap (λ (u : List ℕ). length u) (sym r.indices)
-      ∙ length-map r.found (λ (k : TypeEntry). k.index) in
+      let many : length kept ≡ length r.found = sym (found_long r.found kept r.indices) in
       let s = found_stay again w new_count new_texts r.found (length count)
       (subst (λ n. IsTextOf 0x80 (least_width w (length count)) new_count n) many t) r.are r.news
       (own_kept again r.found up its) in

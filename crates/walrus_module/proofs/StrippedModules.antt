@@ -41,13 +41,15 @@ others_in_order : (last id : ℕ) (all some : List ℕ) → ((n : ℕ) → AreIn
 others_in_order _ _ _ some f (custom last all h) = custom last some (f last h)
 others_in_order _ _ _ some f (later last id place all p lt h) = later last id place some p lt (f place h)
 
-record AreLeft (texts new : List ℕ) : Type 0 where
-  all : List Section
-  others : List Section
-  before : AreItems IsSection texts all
-  after : AreItems IsSection new others
-  order : (last : ℕ) → AreInOrder last (ids all) → AreInOrder last (ids others)
-  undescribed : All (λ s. IsDescription s → ⊥) others
+-- the sections of these texts, and those of them that are left
+pub record AreLeft (texts new : List ℕ) : Type 1 where
+  pub all : List Section
+  pub others : List Section
+  pub before : AreItems IsSection texts all
+  pub after : AreItems IsSection new others
+  pub order : (last : ℕ) → AreInOrder last (ids all) → AreInOrder last (ids others)
+  pub others_are : (P : Section → Type 0) → All P all → All P others
+  pub undescribed : All (λ s. IsDescription s → ⊥) others
 
 one_left : (text new texts new_texts : List ℕ) → IsStrippedSection text new → AreLeft texts new_texts →
     AreLeft (text ++ texts) (new ++ new_texts)
@@ -58,6 +60,7 @@ one_left _ _ texts new_texts (left_out text s is d) l =
       before = next_item text texts s l.all is l.before;
       after = l.after;
       order = λ last h. l.order last (custom_passed last s.id (ids l.all) d.is_custom h);
+      others_are = λ P h. l.others_are P (All-tail P s l.all h);
       undescribed = l.undescribed;
     }
 one_left _ _ texts new_texts (kept text s is fails) l =
@@ -67,10 +70,12 @@ one_left _ _ texts new_texts (kept text s is fails) l =
       before = next_item text texts s l.all is l.before;
       after = next_item text new_texts s l.others is l.after;
       order = λ last h. others_in_order last s.id (ids l.all) (ids l.others) l.order h;
+      others_are = λ P h. All-cons P s l.others (All-head P s l.all h)
+          (l.others_are P (All-tail P s l.all h));
       undescribed = All-cons (λ (k : Section). IsDescription k → ⊥) s l.others fails l.undescribed;
     }
 
-are_left : (texts new : List ℕ) → AreStripped texts new → AreLeft texts new
+pub are_left : (texts new : List ℕ) → AreStripped texts new → AreLeft texts new
 are_left _ _ none =
     record {
       all = [];
@@ -78,6 +83,7 @@ are_left _ _ none =
       before = no_items;
       after = no_items;
       order = λ last h. h;
+      others_are = λ P h. h;
       undescribed = All-nil (λ (k : Section). IsDescription k → ⊥);
     }
 are_left _ _ (next text new texts new_texts h hs) =

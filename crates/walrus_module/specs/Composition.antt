@@ -1,5 +1,6 @@
 -- New indices in turn: where the first ones and then the second ones lead.
-use Rattle.std.specs.Prelude.{◌≡◌, ℕ, ◌<◌, ◌≤◌, length, Some}
+use Rattle.std.specs.Prelude.{◌≡◌, ℕ, ◌<◌, ◌≤◌, List, length, Some}
+use Rattle.std.specs.List.{Contains}
 use Rattle.walrus_module.specs.Renaming.{NewIndices, new_index}
 
 -- `both` has for each type the index to which the first ones and then the second ones lead. There
@@ -20,7 +21,18 @@ KeepOrder first second =
     (j k m n p : ℕ) → j < k → new_index first j ≡ Some m → new_index first k ≡ Some n
     → new_index second m ≡ Some p → new_index second n ≡ Some p → m ≤ n
 
+-- the same, where only these types count
+abbrev pub KeepOrderAmong : List ℕ → NewIndices → NewIndices → Type 0
+KeepOrderAmong names first second =
+    (j k m n p : ℕ) → Contains names j → Contains names k → j < k → new_index first j ≡ Some m
+    → new_index first k ≡ Some n → new_index second m ≡ Some p → new_index second n ≡ Some p
+    → m ≤ n
+
 -- each new index of the first ones is its own new index
 abbrev pub AreOwn : NewIndices → NewIndices → Type 0
 AreOwn first again =
     (k n : ℕ) → new_index first k ≡ Some n → new_index again n ≡ Some n
+
+-- each new index of the first ones has a place in the second ones
+abbrev pub AreWithin : NewIndices → NewIndices → Type 0
+AreWithin first second = (k n : ℕ) → new_index first k ≡ Some n → n < length second

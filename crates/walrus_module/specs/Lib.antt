@@ -9,10 +9,12 @@ pub mod Steps
 pub mod Changes
 pub mod RenamedSections
 pub mod NameSections
+pub mod CustomNames
 pub mod RenamedModules
 pub mod Customs
 pub mod Lengths
 pub mod Outdated
+pub mod UnknownCustoms
 pub mod Composition
 pub mod IntegerFaults
 pub mod CustomFaults

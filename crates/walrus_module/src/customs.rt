@@ -121,7 +121,7 @@ pub fn is_description(id: u8, content: &[u8]) -> bool
 
 /// Whether custom sections of a name describe other bytes of their module.
 #[tactic(auto, using(crate::proofs::Descriptions::no_description_name))]
-fn is_description_name(name: &[u8]) -> bool
+pub fn is_description_name(name: &[u8]) -> bool
     ensures yes { IsTrue result → IsDescriptionName name.now }
     ensures no { result ≡ false → ¬ IsDescriptionName name.now }
 {

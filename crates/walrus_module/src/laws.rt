@@ -5,7 +5,8 @@ ghost use Rattle.walrus_binary.specs.Modules.{Section, IsModule, HasNoTypeSectio
 ghost use Rattle.walrus_module.specs.declared.kind.Kind.{Kind};
 ghost use Rattle.walrus_module.specs.declared.renaming.Widths.{Widths};
 ghost use Rattle.walrus_module.specs.declared.renaming.Widths.TheVariants.{Kept, Shortest};
-ghost use Rattle.walrus_module.specs.Composition.{AreInTurn, AreOwn, DeleteNone, KeepOrder};
+ghost use Rattle.walrus_module.specs.Composition.{AreInTurn, AreOwn, AreWithin, DeleteNone, KeepOrder, KeepOrderAmong};
+ghost use Rattle.walrus_module.specs.CustomNames.{NamesInCustoms};
 ghost use Rattle.walrus_module.specs.Customs.{IsStripped, HasNoDescription};
 ghost use Rattle.walrus_module.specs.ModuleFaults.{HasKnownContents};
 ghost use Rattle.walrus_module.specs.RenamedModules.{RenamesModule, HaveSameIds, CanNotBeRenamed, ModuleNamesUnknown};
@@ -41,15 +42,34 @@ pub fn renamings_compose()
 /// one writes the shortest texts. The module gets the types of the second one.
 ///
 /// Where several types become one in turn, the name section keeps the name of the first of them. So
-/// the first renaming must not turn their order around. It must not delete a type either: a map
-/// that loses all its names keeps its count, which may be padded.
+/// the first renaming must not turn their order around. Only the order of types that one custom
+/// section names matters. The first renaming must not delete a type either: a map that loses all
+/// its names keeps its count, which may be padded.
+///
+/// The converse holds too (`leads_on`): if the renaming by both and the first one exist, then the
+/// second one leads on from where the first one leads. It needs an item for each new index of the
+/// first one.
 pub fn module_renamings_compose()
-    ensures { (types others : List ℕ) (first second both : NewIndices) (widths : Widths)
+    ensures in_order { (types others : List ℕ) (first second both : NewIndices) (widths : Widths)
         (bytes mid new : List ℕ) → AreInTurn first second both →
         DeleteNone first → KeepOrder first second →
         RenamesModule types first widths bytes mid →
         RenamesModule others second Shortest mid new →
         RenamesModule others both Shortest bytes new }
+    ensures among_names { (types others : List ℕ) (first second both : NewIndices)
+        (widths : Widths) (bytes mid new : List ℕ) → AreInTurn first second both →
+        DeleteNone first →
+        NamesInCustoms (λ names. KeepOrderAmong names first second) bytes →
+        RenamesModule types first widths bytes mid →
+        RenamesModule others second Shortest mid new →
+        RenamesModule others both Shortest bytes new }
+    ensures leads_on { (types others : List ℕ) (first second both : NewIndices)
+        (widths : Widths) (bytes mid new : List ℕ) → AreInTurn first second both →
+        DeleteNone first → AreWithin first second →
+        NamesInCustoms (λ names. KeepOrderAmong names first second) bytes →
+        RenamesModule types first widths bytes mid →
+        RenamesModule others both Shortest bytes new →
+        RenamesModule others second Shortest mid new }
 {}
 
 /// What was renamed stays where each new index is its own.
@@ -100,7 +120,8 @@ pub fn module_names_become_the_new_ones()
 /// What is left of a module without the sections that describe other bytes is determined. It stays
 /// as it is when they are left out once more, also where its indices were written again. It has no
 /// type section only if the module has none. And it makes no difference whether they are left out
-/// before or after indices are written again.
+/// before or after indices are written again: if they can be left out of one of these two modules,
+/// they can be left out of the other.
 pub fn one_stripped_module()
     ensures determined { (bytes a b : List ℕ) → IsStripped bytes a → IsStripped bytes b → a ≡ b }
     ensures stays { (types : List ℕ) (new_indices : NewIndices) (widths : Widths)
@@ -113,6 +134,16 @@ pub fn one_stripped_module()
         RenamesModule types new_indices widths left new_left }
     ensures types { (bytes left : List ℕ) → IsStripped bytes left → HasNoTypeSection left →
         HasNoTypeSection bytes }
+    ensures before { (types : List ℕ) (new_indices : NewIndices) (widths : Widths)
+        (bytes new new_left : List ℕ) → RenamesModule types new_indices widths bytes new →
+        IsStripped new new_left →
+        (left : List ℕ) × IsStripped bytes left ×
+        RenamesModule types new_indices widths left new_left }
+    ensures after { (types : List ℕ) (new_indices : NewIndices) (widths : Widths)
+        (bytes new left : List ℕ) → RenamesModule types new_indices widths bytes new →
+        IsStripped bytes left →
+        (new_left : List ℕ) × IsStripped new new_left ×
+        RenamesModule types new_indices widths left new_left }
 {}
 
 /// A module without the custom sections that describe other bytes of it has no more of them.

@@ -14,6 +14,7 @@
 //!   bytes, such as debug data, and [`find_description`] the place of the first one.
 //! - [`find_outdated`] returns the place of the first of these sections that no longer fits where
 //!   the module is written again. [`description_kind`] says what a section describes.
+//! - [`find_unknown_custom`] returns the place of the first custom section of an unknown kind.
 //! - [`skip_import`] passes over an import, and [`parts`] has the readers and writers of integers
 //!   and sizes.
 #![tactic(auto)]
@@ -52,6 +53,7 @@ mod sized;
 mod stack;
 mod text_faults;
 mod texts;
+mod unknown_customs;
 
 pub use bodies::{body_types, expression_types};
 pub use customs::{find_description, strip_descriptions};
@@ -67,3 +69,4 @@ pub use renamed_content::rename_section;
 pub use renamed_module::rename_module;
 pub use renaming::{RenameError, Widths, rename_body, rename_expression};
 pub use scan::ScanError;
+pub use unknown_customs::find_unknown_custom;

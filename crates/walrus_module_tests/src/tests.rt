@@ -14,6 +14,7 @@ mod renamed_modules;
 mod renaming;
 mod snipping;
 mod speed;
+mod unknown_customs;
 
 use crate::assertions::assert_equal;
 use std::test::*;

@@ -8,3 +8,9 @@ pub mod SecondNormal
 pub mod FaultyModules
 pub mod MovedUsed
 pub mod MovedModules
+pub mod RisingTypes
+pub mod SimpleForms
+pub mod SimpleUsed
+pub mod RelistedForms
+pub mod RelistedRoots
+pub mod RelistedModules

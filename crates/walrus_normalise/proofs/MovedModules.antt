@@ -161,7 +161,7 @@ in_turn s r n p indices m w cor c d =
           here ∙ sym (item_is w q (image m k) bound same));
     }
 
-none_deleted : (indices : List ℕ) → DeleteNone (all_kept indices)
+pub none_deleted : (indices : List ℕ) → DeleteNone (all_kept indices)
 none_deleted indices k h = (
   image indices k,
   item_is indices k (image indices k) (subst (λ u. k < u) (length-map indices (λ n. Some

@@ -52,7 +52,7 @@ same_images count f g same (k ∷ roots) known =
     (same_images count f g same roots (all_rest (λ k. k < count) k roots known))
 
 -- what roots become that are sent by a list
-sent_roots : (indices roots new : List ℕ) →
+pub sent_roots : (indices roots new : List ℕ) →
     map (λ k. new_index (all_kept indices) k) roots ≡ map (λ k. Some k) new → new ≡ map (image indices) roots
 sent_roots indices [] [] e = refl
 sent_roots indices [] (n ∷ new) e = absurd cc

@@ -1,3 +1,4 @@
 pub mod NormalModules
 pub mod Steps
 pub mod Moved
+pub mod Relisted

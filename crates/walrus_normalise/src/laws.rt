@@ -6,6 +6,7 @@ ghost use Rattle.walrus_module.specs.Renaming.{NewIndices};
 ghost use Rattle.walrus_module.specs.declared.renaming.Widths.TheVariants.{Shortest};
 ghost use Rattle.walrus_normalise.specs.Moved.{IsMoved, KeepsOrderOfEqual, MoveChainTo};
 ghost use Rattle.walrus_normalise.specs.NormalModules.{HasNormalForm, IsShortest, IsNormalised};
+ghost use Rattle.walrus_normalise.specs.Relisted.{DiffersInList};
 ghost use Rattle.walrus_normalise.specs.declared.options.NormaliseOptions.{NormaliseOptions};
 ghost use Rattle.walrus_normalise.specs.declared.options.UnusedTypes.{UnusedTypes};
 ghost use Rattle.walrus_normalise.specs.declared.options.UnusedTypes.TheVariants as kinds;
@@ -83,5 +84,16 @@ pub fn moved_module_has_the_same_result()
 pub fn joined_modules_have_the_same_result()
     ensures { (options : NormaliseOptions) (bytes last a b : List ℕ) →
         options.widths ≡ Shortest → MoveChainTo options last bytes →
+        IsNormalised options bytes a → IsNormalised options last b → a ≡ b }
+{}
+
+/// Two modules that differ only in the order and repetition of simple types have the same result,
+/// with the shortest widths. A type is simple if it refers to no type and is in no recursion group.
+///
+/// The modules between the two need no result. Of equal types, the section `name` of a module may
+/// have a name for one at most.
+pub fn relisted_modules_have_the_same_result()
+    ensures { (options : NormaliseOptions) (bytes last a b : List ℕ) →
+        options.widths ≡ Shortest → DiffersInList last bytes →
         IsNormalised options bytes a → IsNormalised options last b → a ≡ b }
 {}

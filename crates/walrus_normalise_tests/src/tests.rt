@@ -69,4 +69,5 @@ fn the_laws_hold() {
     laws::second_round();
     laws::moved_module_has_the_same_result();
     laws::joined_modules_have_the_same_result();
+    laws::relisted_modules_have_the_same_result();
 }

@@ -47,6 +47,7 @@ snip_range snips.Memory = omega arith
 
 pub status_range : (f : Failure) → status_of f ≤ 4
 status_range (failure.Refused e context advice) = error_range e
+status_range (failure.UnknownSection offset context) = omega arith
 status_range (failure.Unsnipped e) = snip_range e
 status_range failure.Memory = omega arith
 status_range failure.Keys = omega arith
@@ -139,6 +140,7 @@ pub explains_refused :
     → IsRefused options bytes
 explains_refused options bytes (failure.Refused e context advice) why is =
     error_refused options bytes e why.0 is
+explains_refused options bytes (failure.UnknownSection offset context) why is = absurd why
 explains_refused options bytes (failure.Unsnipped e) why is = absurd why
 explains_refused options bytes failure.Memory why is = absurd (omega (arith, is))
 explains_refused options bytes failure.Keys why is = absurd (omega (arith, is))
@@ -150,6 +152,7 @@ pub explains_ill_named :
     → IsIllNamed bytes
 explains_ill_named options bytes (failure.Refused e context advice) why is =
     error_ill_named options bytes e why.0 is
+explains_ill_named options bytes (failure.UnknownSection offset context) why is = absurd why
 explains_ill_named options bytes (failure.Unsnipped e) why is = absurd why
 explains_ill_named options bytes failure.Memory why is = absurd (omega (arith, is))
 explains_ill_named options bytes failure.Keys why is = absurd (omega (arith, is))

@@ -24,11 +24,12 @@ use Rattle.walrus_snipping.specs.declared.error.SnipError.TheVariants as snip
 use Rattle.walrus_snipping.specs.WithName.{HaveName, HaveNoNamesBy}
 use Rattle.wasmnorm.specs.declared.failure.Failure.{Failure}
 use Rattle.wasmnorm.specs.declared.failure.Failure.TheVariants as failure
+use Rattle.wasmnorm.specs.declared.options.RunOptions.{RunOptions}
 use Rattle.wasmnorm.specs.declared.snip_failure.SnipFailure.{SnipFailure}
 use Rattle.wasmnorm.specs.declared.snip_failure.SnipFailure.TheVariants as snips
-use Rattle.wasmnorm.specs.Runs.{IsRefused, IsIllNamed}
+use Rattle.wasmnorm.specs.Runs.{IsRefused, IsIllNamed, HasRejectedSection}
 use Rattle.wasmnorm.specs.Snips.{IsIndex, NamesFunction, NameFunctions, by_index, by_name, SnipsNamed, stays, of_named, SectionsFit, BecomesNormal, HasNoNames, OfNamed, SnippingOutdates, StopsSnipping, CanNotBeSnipped, no_names as nameless, no_functions, long_code, long_result, outdated, MisnamesFunctions, not_one, imported, unknown}
-use Rattle.wasmnorm.specs.Steps.Failures.{ExplainsRun, IsOfStreams, of_module, of_functions, status_of}
+use Rattle.wasmnorm.specs.Steps.Failures.{ExplainsRun, IsOfStreams, of_module, of_section, of_functions, status_of}
 use Rattle.wasmnorm.specs.Steps.Snips.{ExplainsArgument, ExplainsNames, ExplainsNormal, ExplainsRefusal, ExplainsSnip, refusal_status, snip_status}
 use Rattle.wasmnorm.proofs.Failures.{explains_refused, explains_ill_named}
 
@@ -73,33 +74,40 @@ snip_misnamed options named bytes snips.TooLong why is = absurd (omega (arith, i
 snip_misnamed options named bytes snips.Memory why is = absurd (omega (arith, is))
 
 run_refused :
-    (options : NormaliseOptions) (named : List (String Global)) (bytes : List ℕ) (f : Failure)
+    (options : RunOptions) (named : List (String Global)) (bytes : List ℕ) (f : Failure)
     → ExplainsRun options named bytes f → status_of f ≡ 1
-    → IsRefused options bytes ⊎ CanNotBeSnipped options named bytes
-run_refused options named bytes f (of_module _ why) is = inl (explains_refused options bytes f why is)
+    → IsRefused options.normalise bytes ⊎ CanNotBeSnipped options.normalise named bytes
+    ⊎ HasRejectedSection options.unknown bytes
+run_refused options named bytes f (of_module _ why) is =
+    inl (explains_refused options.normalise bytes f why is)
+run_refused options named bytes _ (of_section offset context are has shown) is =
+    inr (inr record { are_rejected = are; offset = offset; has = has })
 run_refused options named bytes _ (of_functions e given why) is =
-    inr record { given = given; why = snip_refused options named bytes e why is }
+    inr (inl record { given = given; why = snip_refused options.normalise named bytes e why is })
 
 run_ill_named :
-    (options : NormaliseOptions) (named : List (String Global)) (bytes : List ℕ) (f : Failure)
+    (options : RunOptions) (named : List (String Global)) (bytes : List ℕ) (f : Failure)
     → ExplainsRun options named bytes f → status_of f ≡ 2
     → IsIllNamed bytes ⊎ MisnamesFunctions named bytes
-run_ill_named options named bytes f (of_module _ why) is = inl (explains_ill_named options bytes f why is)
+run_ill_named options named bytes f (of_module _ why) is =
+    inl (explains_ill_named options.normalise bytes f why is)
+run_ill_named options named bytes _ (of_section offset context are has shown) is = absurd (omega (arith, is))
 run_ill_named options named bytes _ (of_functions e given why) is =
-    inr (snip_misnamed options named bytes e why is)
+    inr (snip_misnamed options.normalise named bytes e why is)
 
 pub known_refused :
-    (options : NormaliseOptions) (named : List (String Global)) (known : Option (List ℕ)) (f : Failure)
+    (options : RunOptions) (named : List (String Global)) (known : Option (List ℕ)) (f : Failure)
     (result : ℕ) → IfSome known (λ bytes. ExplainsRun options named bytes f)
     → (result ≡ status_of f) ⊎ (result ≡ 4) → result ≡ 1
-    → IfSome known (λ bytes. IsRefused options bytes ⊎ CanNotBeSnipped options named bytes)
+    → IfSome known (λ bytes. IsRefused options.normalise bytes
+    ⊎ CanNotBeSnipped options.normalise named bytes ⊎ HasRejectedSection options.unknown bytes)
 known_refused options named None f result why status is = tt
 known_refused options named (Some bytes) f result why (inl e) is =
     run_refused options named bytes f why (sym e ∙ is)
 known_refused options named (Some bytes) f result why (inr e) is = absurd (omega (arith, sym e ∙ is))
 
 pub known_ill_named :
-    (options : NormaliseOptions) (named : List (String Global)) (known : Option (List ℕ)) (f : Failure)
+    (options : RunOptions) (named : List (String Global)) (known : Option (List ℕ)) (f : Failure)
     (result : ℕ) → IfSome known (λ bytes. ExplainsRun options named bytes f)
     → (result ≡ status_of f) ⊎ (result ≡ 4) → result ≡ 2
     → IfSome known (λ bytes. IsIllNamed bytes ⊎ MisnamesFunctions named bytes)
@@ -110,9 +118,10 @@ known_ill_named options named (Some bytes) f result why (inr e) is = absurd (ome
 
 -- a stream failed, or memory was refused, which says nothing of the bytes
 stream_explains :
-    (options : NormaliseOptions) (named : List (String Global)) (bytes : List ℕ) (f : Failure)
+    (options : RunOptions) (named : List (String Global)) (bytes : List ℕ) (f : Failure)
     → IsOfStreams f → ExplainsRun options named bytes f
 stream_explains options named bytes (failure.Refused e context advice) h = absurd h
+stream_explains options named bytes (failure.UnknownSection offset context) h = absurd h
 stream_explains options named bytes (failure.Unsnipped e) h = absurd h
 stream_explains options named bytes failure.Memory h = of_module failure.Memory tt
 stream_explains options named bytes failure.Keys h = of_module failure.Keys tt
@@ -120,7 +129,7 @@ stream_explains options named bytes (failure.Input e) h = of_module (failure.Inp
 stream_explains options named bytes (failure.Output e) h = of_module (failure.Output e) tt
 
 pub known_of_streams :
-    (options : NormaliseOptions) (named : List (String Global)) (known : Option (List ℕ)) (f : Failure)
+    (options : RunOptions) (named : List (String Global)) (known : Option (List ℕ)) (f : Failure)
     → IsOfStreams f → IfSome known (λ bytes. ExplainsRun options named bytes f)
 known_of_streams options named None f h = tt
 known_of_streams options named (Some bytes) f h = stream_explains options named bytes f h

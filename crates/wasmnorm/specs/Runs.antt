@@ -1,17 +1,21 @@
--- What a run does: `IsWritten` where its bytes are a module that is normalised, `IsRefused` and
--- `IsIllNamed` where not. What stops functions from being snipped is in `Snips`.
-use Rattle.std.specs.Prelude.{ℕ, List, Option}
+-- What a run does: `IsWritten` where its bytes are a module that is normalised, `IsRefused`,
+-- `IsIllNamed` and `HasRejectedSection` where not. What stops functions from being snipped is in
+-- `Snips`.
+use Rattle.std.specs.Prelude.{◌≡◌, ℕ, List, Option}
 use Rattle.std.specs.Io.KnownBytes.{Appends}
 use Rattle.std.specs.declared.alloc.Global.{Global}
 use Rattle.std.specs.declared.string.String.{String}
 use Rattle.walrus_binary.specs.ModuleSections.{HasBadTypesBy}
 use Rattle.walrus_binary.specs.declared.error.DecodeError.{DecodeError}
 use Rattle.walrus_module.specs.declared.faults.FaultKind.TheVariants.{UnknownType}
+use Rattle.walrus_module.specs.UnknownCustoms.{HasUnknownCustomAt}
 use Rattle.walrus_normalise.specs.declared.options.NormaliseOptions.{NormaliseOptions}
 use Rattle.walrus_normalise.specs.NormalModules.{HasFirstError, HasFirstFault, BecomesTooLong, BecomesOutdated}
 use Rattle.walrus_sections.specs.declared.error.ReadError.{ReadError}
 use Rattle.wasmnorm.specs.Judged.{OfJudged, IsMalformedAt}
 use Rattle.wasmnorm.specs.Snips.{BecomesNormal}
+use Rattle.wasmnorm.specs.declared.unknown.UnknownSections.{UnknownSections}
+use Rattle.wasmnorm.specs.declared.unknown.UnknownSections.TheVariants.{Rejected}
 
 -- The bytes are a module, and a writer gained the same module with its type section in normal form.
 -- The functions that the arguments name were snipped before.
@@ -42,3 +46,9 @@ pub data IsIllNamed (bytes : List ℕ) : Type 0 where
       (k count place : ℕ)
       → OfJudged (λ judged. HasFirstFault judged (UnknownType k count) place) bytes
       → IsIllNamed bytes
+
+-- The bytes are a module with a custom section of an unknown kind, and such sections are rejected.
+pub record HasRejectedSection (unknown : UnknownSections) (bytes : List ℕ) : Type 0 where
+  pub are_rejected : unknown ≡ Rejected
+  pub offset : ℕ
+  pub has : HasUnknownCustomAt bytes offset

@@ -2,8 +2,8 @@
 ghost use Rattle.std.specs.Prelude.{◌≡◌, ◌≤◌, ◌⊎◌};
 ghost use Rattle.wasmnorm.specs.Steps.Failures.{Explains, ExplainsModule, HasContext, IsOfStreams, refused_status, status_of};
 
+use crate::custom_section::{write_outdated, write_unknown_kind};
 use crate::fault::first_error;
-use crate::outdated::write_outdated;
 use crate::snip_failure::{SnipFailure, snip_status};
 use error_context::{Context, context_of, context_of_error};
 use std::alloc::{AllocError, Global};
@@ -23,6 +23,13 @@ pub enum Failure {
         context: Context,
         /// What may help.
         advice: Advice,
+    },
+    /// A custom section is of an unknown kind, and the module is rejected for it.
+    UnknownSection {
+        /// The place of the first such section.
+        offset: usize,
+        /// The section, with its name.
+        context: Context,
     },
     /// The functions were not snipped.
     Unsnipped(SnipFailure),
@@ -74,6 +81,7 @@ impl fmt::Display for Failure {
                 context,
                 advice,
             } => write!(f, "{error}{context}{advice}"),
+            Failure::UnknownSection { offset, context } => write_unknown_kind(f, *offset, context),
             Failure::Unsnipped(failure) => write!(f, "{failure}"),
             Failure::Memory => write!(f, "out of memory"),
             Failure::Keys => write!(f, "no random keys"),
@@ -168,6 +176,7 @@ fn status(failure: &Failure) -> u8
 {
     match failure {
         Failure::Refused { error, .. } => refusal_status(*error),
+        Failure::UnknownSection { .. } => 1,
         Failure::Unsnipped(failure) => snip_status(failure),
         Failure::Memory => 3,
         Failure::Keys | Failure::Input(_) | Failure::Output(_) => 4,

@@ -3,31 +3,38 @@
 
 ghost use Rattle.std.specs.Prelude.{◌≡◌, ◌<◌, ◌≤◌, ◌⊎◌, IfErr, IfOk, OnOk, IfSome};
 ghost use Rattle.std.specs.Io.KnownBytes.{Appends, Keeps};
-ghost use Rattle.wasmnorm.specs.Runs.{IsWritten, IsRefused, IsIllNamed};
+ghost use Rattle.walrus_module.specs.UnknownCustoms.{HasNoUnknownCustom};
+ghost use Rattle.wasmnorm.specs.Runs.{IsWritten, IsRefused, IsIllNamed, HasRejectedSection};
 ghost use Rattle.wasmnorm.specs.Snips.{BecomesNormal, CanNotBeSnipped, MisnamesFunctions};
 ghost use Rattle.wasmnorm.specs.Steps.Failures.{ExplainsRun, status_of};
+ghost use Rattle.wasmnorm.specs.declared.unknown.UnknownSections.TheVariants.{Rejected};
 
+mod custom_section;
 mod failure;
 mod fault;
 mod front;
 mod module;
-mod outdated;
+mod options;
 mod snip_failure;
 mod snipping;
 mod texts;
+mod unknown;
 
 use command_line::{
-    OptionValue, Request, has_option, open, parse_arguments, random_keys, read_bytes, report_usage,
+    OptionValue, Request, open, parse_arguments, random_keys, read_bytes, report_usage,
     write_version,
 };
+use error_context::context_of;
 use failure::{Failure, failed_input, refusal, report};
 use module::normal_module;
+use options::{RunOptions, run_options};
 use snipping::snipped_module;
 use std::alloc::{AllocError, Global};
 use std::io::{self, BufWriter, Read, Write};
 use std::process::ExitCode;
-use texts::{HELP, KEEP_WIDTHS, PRUNE, SNIP, STRIP, USAGE};
-use walrus_normalise::{Descriptions, HashKeys, NormaliseOptions, UnusedTypes, Widths};
+use texts::{HELP, KEEP_WIDTHS, PRUNE, REJECT_UNKNOWN, SNIP, STRIP, USAGE};
+use unknown::rejected_section;
+use walrus_normalise::HashKeys;
 
 /// Reads a module from `reader`, and writes the same module to `out`, with its type section in
 /// normal form and every other index of a type written again.
@@ -36,7 +43,9 @@ use walrus_normalise::{Descriptions, HashKeys, NormaliseOptions, UnusedTypes, Wi
 /// allow. Recursion groups keep their order and are never merged. Types that nothing uses stay,
 /// unless the options say that they are deleted. Custom sections other than `name` are copied as
 /// they are. Where one of them describes bytes that would change, such as debug data, the module is
-/// refused, unless the options say that such sections are left out.
+/// refused, unless the options say that such sections are left out. A section of an unknown kind
+/// may refer to types or to places in the file. The options say whether the module is rejected for
+/// it.
 ///
 /// `snips` are functions whose bodies become a single `unreachable` before that. Each is an index,
 /// in digits alone that write a `u32`, or else the name of one function. A module that is refused
@@ -49,7 +58,7 @@ use walrus_normalise::{Descriptions, HashKeys, NormaliseOptions, UnusedTypes, Wi
 /// - 0: done.
 /// - 1: the bytes are no module, or a section of it is malformed, or one with types that no record
 ///   holds. Or a section or a function body would be too long. Or a custom section describes bytes
-///   that would change.
+///   that would change, or is rejected since its kind is unknown.
 /// - 2: the type section names a type that it may not name, or has too many entries. Or another
 ///   section names a type that the type section does not have. Or one of `snips` is the name of no
 ///   function or of several, or the index of an imported function or of none.
@@ -57,7 +66,8 @@ use walrus_normalise::{Descriptions, HashKeys, NormaliseOptions, UnusedTypes, Wi
 /// - 4: a read or a write failed.
 ///
 /// What is wrong first is reported. Where the bytes are no module, since a section breaks the
-/// framing, the sections before it are judged first.
+/// framing, the sections before it are judged first. A section of an unknown kind is reported where
+/// nothing else is wrong with the module, and before what is wrong with `snips`.
 ///
 /// `out` gains nothing at 1 to 3, since the whole module is there before it is written. At 4 it may
 /// have gained the module or a part of it.
@@ -67,17 +77,22 @@ use walrus_normalise::{Descriptions, HashKeys, NormaliseOptions, UnusedTypes, Wi
 pub fn run<R: Read, W: Write, E: Write>(
     alloc: Global,
     keys: HashKeys,
-    options: NormaliseOptions,
+    options: RunOptions,
     snips: &[String],
     reader: &mut R,
     out: &mut W,
     err: &mut E,
 ) -> u8
     ensures done { result ≡ 0 → IfSome (R.remaining reader.old)
-        (λ bytes. IsWritten options snips.now bytes (W.contents out.old) (W.contents out.new)) }
+        (λ bytes. IsWritten options.normalise snips.now bytes
+        (W.contents out.old) (W.contents out.new)) }
+    ensures known { result ≡ 0 → options.unknown ≡ Rejected →
+        IfSome (R.remaining reader.old) HasNoUnknownCustom }
     ensures silent { result ≡ 0 → Keeps (E.contents err.old) (E.contents err.new) }
     ensures refused { result ≡ 1 → IfSome (R.remaining reader.old)
-        (λ bytes. IsRefused options bytes ⊎ CanNotBeSnipped options snips.now bytes) }
+        (λ bytes. IsRefused options.normalise bytes ⊎
+        CanNotBeSnipped options.normalise snips.now bytes ⊎
+        HasRejectedSection options.unknown bytes) }
     ensures ill_named { result ≡ 2 → IfSome (R.remaining reader.old)
         (λ bytes. IsIllNamed bytes ⊎ MisnamesFunctions snips.now bytes) }
     ensures range { result ≤ 4 }
@@ -92,13 +107,16 @@ pub fn run<R: Read, W: Write, E: Write>(
 fn normalise_input<R: Read, W: Write>(
     alloc: Global,
     keys: HashKeys,
-    options: NormaliseOptions,
+    options: RunOptions,
     snips: &[String],
     reader: &mut R,
     out: &mut W,
 ) -> Result<(), Failure>
     ensures done { OnOk result (IfSome (R.remaining reader.old)
-        (λ bytes. IsWritten options snips.now bytes (W.contents out.old) (W.contents out.new))) }
+        (λ bytes. IsWritten options.normalise snips.now bytes
+        (W.contents out.old) (W.contents out.new))) }
+    ensures known { OnOk result (options.unknown ≡ Rejected →
+        IfSome (R.remaining reader.old) HasNoUnknownCustom) }
     ensures failed { IfErr result (λ failure.
         IfSome (R.remaining reader.old) (λ bytes. ExplainsRun options snips.now bytes failure)) }
     ensures unwritten { IfErr result (λ failure. status_of failure < 4 →
@@ -120,22 +138,29 @@ fn normalise_input<R: Read, W: Write>(
 fn new_module(
     alloc: Global,
     keys: HashKeys,
-    options: NormaliseOptions,
+    options: RunOptions,
     snips: &[String],
     bytes: &[u8],
 ) -> Result<Vec<u8>, Failure>
-    ensures normal { IfOk result (λ new. BecomesNormal options snips.now bytes.now new.items) }
+    ensures normal { IfOk result (λ new.
+        BecomesNormal options.normalise snips.now bytes.now new.items) }
+    ensures known { IfOk result (λ new. options.unknown ≡ Rejected →
+        HasNoUnknownCustom bytes.now) }
     ensures refused { IfErr result (ExplainsRun options snips.now bytes.now) }
 {
-    let normal = match normal_module(alloc, keys, options, bytes) {
+    let normal = match normal_module(alloc, keys, options.normalise, bytes) {
         Ok(module) => module,
-        Err(error) => return Err(refusal(alloc, keys, bytes, options, error)),
+        Err(error) => return Err(refusal(alloc, keys, bytes, options.normalise, error)),
     };
+    if let Some(offset) = rejected_section(bytes, options.unknown) {
+        let context = context_of(bytes, offset);
+        return Err(Failure::UnknownSection { offset, context });
+    }
     if snips.is_empty() {
         return Ok(normal);
     }
     drop(normal);
-    match snipped_module(alloc, keys, options, snips, bytes) {
+    match snipped_module(alloc, keys, options.normalise, snips, bytes) {
         Ok(module) => Ok(module),
         Err(failure) => Err(Failure::Unsnipped(failure)),
     }
@@ -160,7 +185,7 @@ fn main(rt: HostRuntime) -> ExitCode {
 
 /// Does what the arguments ask for, and returns the exit status.
 fn start<E: Write>(rt: &HostRuntime, err: &mut E) -> Result<u8, Failure> {
-    match parse_arguments(rt, &[KEEP_WIDTHS, PRUNE, STRIP], &[SNIP])? {
+    match parse_arguments(rt, &[KEEP_WIDTHS, PRUNE, STRIP, REJECT_UNKNOWN], &[SNIP])? {
         Request::Help => printed(rt.stdout().write_all(HELP.as_bytes())),
         Request::Version => printed(write_version("wasmnorm", &mut rt.stdout())),
         Request::Work {
@@ -168,35 +193,11 @@ fn start<E: Write>(rt: &HostRuntime, err: &mut E) -> Result<u8, Failure> {
             options,
             values,
         } => {
-            let options = normalise_options(options.as_slice());
+            let options = run_options(options.as_slice());
             let snips = named_functions(rt.alloc(), values)?;
             normalise_named(rt, names.as_slice(), options, snips.as_slice(), err)
         }
         Request::Usage => Ok(report_usage(USAGE, err)),
-    }
-}
-
-/// How the module is normalised, by the options that are there.
-fn normalise_options(options: &[String]) -> NormaliseOptions {
-    let widths = if has_option(options, KEEP_WIDTHS) {
-        Widths::Kept
-    } else {
-        Widths::Shortest
-    };
-    let descriptions = if has_option(options, STRIP) {
-        Descriptions::Stripped
-    } else {
-        Descriptions::Kept
-    };
-    let unused = if has_option(options, PRUNE) {
-        UnusedTypes::Deleted
-    } else {
-        UnusedTypes::Kept
-    };
-    NormaliseOptions {
-        widths,
-        descriptions,
-        unused,
     }
 }
 
@@ -212,7 +213,7 @@ fn named_functions(alloc: Global, values: Vec<OptionValue>) -> Result<Vec<String
 fn normalise_named<E: Write>(
     rt: &HostRuntime,
     names: &[String],
-    options: NormaliseOptions,
+    options: RunOptions,
     snips: &[String],
     err: &mut E,
 ) -> Result<u8, Failure> {
@@ -226,7 +227,7 @@ fn normalise_named<E: Write>(
 fn normalise_file<E: Write>(
     rt: &HostRuntime,
     name: &str,
-    options: NormaliseOptions,
+    options: RunOptions,
     snips: &[String],
     err: &mut E,
 ) -> Result<u8, Failure> {

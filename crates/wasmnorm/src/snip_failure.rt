@@ -2,7 +2,7 @@
 ghost use Rattle.std.specs.Prelude.{◌≡◌};
 ghost use Rattle.wasmnorm.specs.Steps.Snips.{snip_status, refusal_status};
 
-use crate::outdated::write_outdated;
+use crate::custom_section::write_outdated;
 use error_context::Context;
 use std::alloc::AllocError;
 use std::fmt;

@@ -9,13 +9,18 @@ pub const PRUNE: &str = "--prune";
 /// The option that leaves out sections that describe other bytes.
 pub const STRIP: &str = "--strip";
 
+/// The option that rejects modules with custom sections of an unknown kind.
+pub const REJECT_UNKNOWN: &str = "--reject-unknown";
+
 /// The option that snips a function, with its name or index behind it.
 pub const SNIP: &str = "--snip";
 
-pub const USAGE: &str =
-    "usage: wasmnorm [--snip FUNCTION] [--prune] [--strip] [--keep-widths] [FILE]\n";
+pub const USAGE: &str = "\
+usage: wasmnorm [--snip FUNCTION] [--prune] [--strip] [--reject-unknown] [--keep-widths] [FILE]
+";
 
-pub const HELP: &str = "usage: wasmnorm [--snip FUNCTION] [--prune] [--strip] [--keep-widths] [FILE]
+pub const HELP: &str = "\
+usage: wasmnorm [--snip FUNCTION] [--prune] [--strip] [--reject-unknown] [--keep-widths] [FILE]
 Writes the WebAssembly module in FILE to standard output, with its type section in normal form and
 every other index of a type written again. Without FILE, or if it is -, the module comes from
 standard input. Custom sections other than the one named name are copied as they are, and a module
@@ -26,6 +31,9 @@ is refused if one of them, such as debug data, describes bytes that would change
                  its section name gives it; the option can come several times
   --prune        deletes types that nothing uses outside the type section
   --strip        leaves out custom sections that describe other bytes, such as debug data
+  --reject-unknown
+                 rejects a module that has a custom section of an unknown kind, since such a
+                 section may refer to types or to places in the file
   --keep-widths  writes an index in as many bytes as it had, or in more where it needs them
   --help         prints this text
   --version      prints the version

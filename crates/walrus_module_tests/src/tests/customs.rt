@@ -6,10 +6,10 @@ use std::test::*;
 use walrus_binary::{DecodeError, Expected};
 use walrus_module::{find_description, strip_descriptions};
 
-const HEADER: [u8; 8] = [0, 0x61, 0x73, 0x6D, 1, 0, 0, 0];
+pub const HEADER: [u8; 8] = [0, 0x61, 0x73, 0x6D, 1, 0, 0, 0];
 
 /// The module of this section alone.
-fn module_of(alloc: Global, section: &[u8]) -> Result<Vec<u8>, AllocError> {
+pub fn module_of(alloc: Global, section: &[u8]) -> Result<Vec<u8>, AllocError> {
     let mut bytes = Vec::new(alloc);
     bytes.extend_from_slice(&HEADER)?;
     bytes.extend_from_slice(section)?;

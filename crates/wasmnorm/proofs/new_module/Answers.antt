@@ -1,5 +1,5 @@
 use Rattle.std.proofs.Common.{sym}
-use Rattle.wasmnorm.specs.Steps.Failures.{of_module, of_functions}
+use Rattle.wasmnorm.specs.Steps.Failures.{of_module, of_section, of_functions}
 use Rattle.wasmnorm.proofs.Snips.{normal_without_snips, some_named}
 use Rattle.wasmnorm.proofs.new_module.Goals as goal
 
@@ -7,9 +7,15 @@ pub returns-in-Err-clause-refused : goal.returns-in-Err-clause-refused
 returns-in-Err-clause-refused c =
     of_module c.refusal.result (c.refusal.ensures.explains c.in-Err.ensures.refused)
 
+pub returns-in-Some-clause-refused : goal.returns-in-Some-clause-refused
+returns-in-Some-clause-refused c =
+    let found = c.in-Some in
+    of_section found.offset c.context_of-context.result found.ensures.rejected found.ensures.found
+    c.context_of-context.ensures
+
 pub returns-then-is_empty-clause-normal : goal.returns-then-is_empty-clause-normal
 returns-then-is_empty-clause-normal c =
-    normal_without_snips c.args.options c.args.snips.now c.args.bytes.now c.in-Ok.module.items
+    normal_without_snips c.args.options.normalise c.args.snips.now c.args.bytes.now c.in-Ok.module.items
     (sym c.if-is_empty.ensures) c.in-Ok.ensures.normal c.in-Ok.ensures.fits
 
 pub returns-in-Err-snipped_module-clause-refused : goal.returns-in-Err-snipped_module-clause-refused

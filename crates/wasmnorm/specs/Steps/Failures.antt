@@ -3,6 +3,7 @@ use Rattle.std.specs.Prelude.{◌≡◌, ℕ, ◌-◌, Bool, true, false, List, 
 use Rattle.std.specs.declared.alloc.Global.{Global}
 use Rattle.std.specs.declared.string.String.{String}
 use Rattle.walrus_binary.specs.ModuleSections.{HasBadTypesBy}
+use Rattle.walrus_module.specs.UnknownCustoms.{HasUnknownCustomAt}
 use Rattle.walrus_module.specs.declared.faults.FaultKind.TheVariants as fault
 use Rattle.walrus_normalise.specs.declared.options.NormaliseOptions.{NormaliseOptions}
 use Rattle.walrus_sections.specs.declared.error.ReadError.TheVariants as read
@@ -16,6 +17,8 @@ use Rattle.wasmnorm.specs.Steps.Snips.{ExplainsSnip, snip_status}
 use Rattle.wasmnorm.specs.declared.snip_failure.SnipFailure.{SnipFailure}
 use Rattle.wasmnorm.specs.declared.failure.Failure.{Failure}
 use Rattle.wasmnorm.specs.declared.failure.Failure.TheVariants as failure
+use Rattle.wasmnorm.specs.declared.options.RunOptions.{RunOptions}
+use Rattle.wasmnorm.specs.declared.unknown.UnknownSections.TheVariants.{Rejected}
 
 -- what an error says of the bytes where all of them are judged
 abbrev pub ExplainsModule : NormaliseOptions → List ℕ → NormaliseModuleError → Type 0
@@ -79,22 +82,28 @@ HasContext bytes error.TooLong context = Unit {0}
 HasContext bytes (error.Outdated offset) context = IsContext context bytes offset
 HasContext bytes error.Memory context = Unit {0}
 
--- what a failure says of the bytes, before anything is snipped
+-- what a failure to normalise the bytes says of them
 abbrev pub Explains : NormaliseOptions → List ℕ → Failure → Type 0
 Explains options bytes (failure.Refused e context advice) =
     ExplainsError options bytes e × HasContext bytes e context
+Explains options bytes (failure.UnknownSection offset context) = ⊥
 Explains options bytes (failure.Unsnipped e) = ⊥
 Explains options bytes failure.Memory = Unit {0}
 Explains options bytes failure.Keys = Unit {0}
 Explains options bytes (failure.Input error) = Unit {0}
 Explains options bytes (failure.Output error) = Unit {0}
 
--- what a failure says of the bytes and of the arguments that name functions
-pub data ExplainsRun (options : NormaliseOptions) (snips : List (String Global)) (bytes : List ℕ) :
+-- what a failure says of the bytes, of the options and of the arguments that name functions
+pub data ExplainsRun (options : RunOptions) (snips : List (String Global)) (bytes : List ℕ) :
     Failure → Type 0 where
-  of_module : (f : Failure) → Explains options bytes f → ExplainsRun options snips bytes f
+  of_module :
+      (f : Failure) → Explains options.normalise bytes f → ExplainsRun options snips bytes f
+  of_section :
+      (offset : ℕ) (context : Context) → options.unknown ≡ Rejected
+      → HasUnknownCustomAt bytes offset → IsContext context bytes offset
+      → ExplainsRun options snips bytes (failure.UnknownSection offset context)
   of_functions :
-      (e : SnipFailure) → (snips ≡ [] → ⊥) → ExplainsSnip options snips bytes e
+      (e : SnipFailure) → (snips ≡ [] → ⊥) → ExplainsSnip options.normalise snips bytes e
       → ExplainsRun options snips bytes (failure.Unsnipped e)
 
 abbrev pub refused_status : NormaliseModuleError → ℕ
@@ -109,6 +118,7 @@ refused_status error.Memory = 3
 
 abbrev pub status_of : Failure → ℕ
 status_of (failure.Refused e context advice) = refused_status e
+status_of (failure.UnknownSection offset context) = 1
 status_of (failure.Unsnipped e) = snip_status e
 status_of failure.Memory = 3
 status_of failure.Keys = 4
@@ -118,6 +128,7 @@ status_of (failure.Output error) = 4
 -- it says nothing of the bytes: a stream failed, or memory was refused
 abbrev pub IsOfStreams : Failure → Type 0
 IsOfStreams (failure.Refused e context advice) = ⊥
+IsOfStreams (failure.UnknownSection offset context) = ⊥
 IsOfStreams (failure.Unsnipped e) = ⊥
 IsOfStreams failure.Memory = Unit {0}
 IsOfStreams failure.Keys = Unit {0}

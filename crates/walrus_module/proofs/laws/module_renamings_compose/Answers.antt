@@ -1,6 +1,15 @@
-use Rattle.walrus_module.proofs.ComposedModules.{modules_compose}
+use Rattle.walrus_module.proofs.ComposedModules.{modules_compose, modules_compose_among}
+use Rattle.walrus_module.proofs.FollowingModules.{modules_follow_among}
 use Rattle.walrus_module.proofs.laws.module_renamings_compose.Goals as goal
 
-pub returns : goal.returns
-returns c = λ types others first second both widths bytes mid new turn none_deleted order.
+pub returns-clause-in_order : goal.returns-clause-in_order
+returns-clause-in_order c = λ types others first second both widths bytes mid new turn none_deleted order.
     modules_compose first second both turn none_deleted order widths types others bytes mid new
+
+pub returns-clause-among_names : goal.returns-clause-among_names
+returns-clause-among_names c = λ types others first second both widths bytes mid new turn none_deleted.
+    modules_compose_among first second both turn none_deleted widths types others bytes mid new
+
+pub returns-clause-leads_on : goal.returns-clause-leads_on
+returns-clause-leads_on c = λ types others first second both widths bytes mid new turn none_deleted within.
+    modules_follow_among first second both turn none_deleted within widths types others bytes mid new

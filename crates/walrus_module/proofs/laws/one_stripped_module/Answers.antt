@@ -1,3 +1,4 @@
+use Rattle.walrus_module.proofs.StrippedBefore.{stripped_before, stripped_after}
 use Rattle.walrus_module.proofs.StrippedOnce.{stripped_once, renamed_is_stripped, no_types_before}
 use Rattle.walrus_module.proofs.StrippedRenamed.{stripped_renamed}
 use Rattle.walrus_module.proofs.laws.one_stripped_module.Goals as goal
@@ -13,3 +14,9 @@ returns-clause-types c = no_types_before
 
 pub returns-clause-in_any_order : goal.returns-clause-in_any_order
 returns-clause-in_any_order c = stripped_renamed
+
+pub returns-clause-before : goal.returns-clause-before
+returns-clause-before c = stripped_before
+
+pub returns-clause-after : goal.returns-clause-after
+returns-clause-after c = stripped_after
