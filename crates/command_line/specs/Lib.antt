@@ -1,3 +1,4 @@
 pub mod Arguments
 pub mod Inputs
+pub mod Outputs
 pub mod About

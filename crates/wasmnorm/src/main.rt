@@ -21,7 +21,7 @@ mod texts;
 mod unknown;
 
 use command_line::{
-    OptionValue, Request, open, parse_arguments, random_keys, read_bytes, report_usage,
+    OptionValue, Request, create, open, parse_arguments, random_keys, read_bytes, report_usage,
     write_version,
 };
 use error_context::context_of;
@@ -32,7 +32,7 @@ use snipping::snipped_module;
 use std::alloc::{AllocError, Global};
 use std::io::{self, BufWriter, Read, Write};
 use std::process::ExitCode;
-use texts::{HELP, KEEP_WIDTHS, PRUNE, REJECT_UNKNOWN, SNIP, STRIP, USAGE};
+use texts::{HELP, KEEP_WIDTHS, OUTPUT, PRUNE, REJECT_UNKNOWN, SNIP, STRIP, USAGE};
 use unknown::rejected_section;
 use walrus_normalise::HashKeys;
 
@@ -185,7 +185,11 @@ fn main(rt: HostRuntime) -> ExitCode {
 
 /// Does what the arguments ask for, and returns the exit status.
 fn start<E: Write>(rt: &HostRuntime, err: &mut E) -> Result<u8, Failure> {
-    match parse_arguments(rt, &[KEEP_WIDTHS, PRUNE, STRIP, REJECT_UNKNOWN], &[SNIP])? {
+    match parse_arguments(
+        rt,
+        &[KEEP_WIDTHS, PRUNE, STRIP, REJECT_UNKNOWN],
+        &[OUTPUT, SNIP],
+    )? {
         Request::Help => printed(rt.stdout().write_all(HELP.as_bytes())),
         Request::Version => printed(write_version("wasmnorm", &mut rt.stdout())),
         Request::Work {
@@ -194,51 +198,68 @@ fn start<E: Write>(rt: &HostRuntime, err: &mut E) -> Result<u8, Failure> {
             values,
         } => {
             let options = run_options(options.as_slice());
-            let snips = named_functions(rt.alloc(), values)?;
-            normalise_named(rt, names.as_slice(), options, snips.as_slice(), err)
+            let Values { outputs, snips } = by_option(rt.alloc(), values)?;
+            let (Some(input), Some(output)) = (only_name(&names), only_name(&outputs)) else {
+                return Ok(report_usage(USAGE, err));
+            };
+            normalise_file(rt, Files { input, output }, options, snips.as_slice(), err)
         }
         Request::Usage => Ok(report_usage(USAGE, err)),
     }
 }
 
-/// The functions to snip. No other option has a value.
-fn named_functions(alloc: Global, values: Vec<OptionValue>) -> Result<Vec<String>, AllocError> {
-    let mut snips = Vec::new(alloc);
-    for value in values {
-        snips.push(value.value)?;
-    }
-    Ok(snips)
+/// The values of options.
+struct Values {
+    /// The names of files to write.
+    outputs: Vec<String>,
+    /// The functions to snip.
+    snips: Vec<String>,
 }
 
-fn normalise_named<E: Write>(
-    rt: &HostRuntime,
-    names: &[String],
-    options: RunOptions,
-    snips: &[String],
-    err: &mut E,
-) -> Result<u8, Failure> {
-    match names {
-        [] => normalise_file(rt, "-", options, snips, err),
-        [name] => normalise_file(rt, name.as_str(), options, snips, err),
-        _ => Ok(report_usage(USAGE, err)),
+fn by_option(alloc: Global, values: Vec<OptionValue>) -> Result<Values, AllocError> {
+    let mut outputs = Vec::new(alloc);
+    let mut snips = Vec::new(alloc);
+    for OptionValue { option, value } in values {
+        if option.as_str() == OUTPUT {
+            outputs.push(value)?;
+        } else {
+            snips.push(value)?;
+        }
     }
+    Ok(Values { outputs, snips })
+}
+
+/// The only name, or `-` if there is none.
+fn only_name(names: &[String]) -> Option<&str> {
+    match names {
+        [] => Some("-"),
+        [name] => Some(name.as_str()),
+        _ => None,
+    }
+}
+
+/// The names of the file that is read and of the one that is written. `-` is for a standard stream.
+#[derive(Clone, Copy)]
+struct Files<'a> {
+    input: &'a str,
+    output: &'a str,
 }
 
 fn normalise_file<E: Write>(
     rt: &HostRuntime,
-    name: &str,
+    files: Files<'_>,
     options: RunOptions,
     snips: &[String],
     err: &mut E,
 ) -> Result<u8, Failure> {
-    let mut input = match open(rt, name, err) {
+    let mut input = match open(rt, files.input, err) {
         Ok(input) => input,
         Err(error) => return Err(failed_input(error)),
     };
     let Ok(keys) = random_keys(rt) else {
         return Err(Failure::Keys);
     };
-    let Ok(mut out) = BufWriter::new(rt.alloc(), rt.stdout()) else {
+    let Ok(mut out) = BufWriter::new(rt.alloc(), create(rt, files.output)) else {
         return Err(Failure::Memory);
     };
     Ok(run(rt.alloc(), keys, options, snips, &mut input, &mut out, err))

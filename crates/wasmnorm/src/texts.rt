@@ -12,15 +12,20 @@ pub const STRIP: &str = "--strip";
 /// The option that rejects modules with custom sections of an unknown kind.
 pub const REJECT_UNKNOWN: &str = "--reject-unknown";
 
+/// The option that names the file to write, which is behind it.
+pub const OUTPUT: &str = "-o";
+
 /// The option that snips a function, with its name or index behind it.
 pub const SNIP: &str = "--snip";
 
 pub const USAGE: &str = "\
-usage: wasmnorm [--snip FUNCTION] [--prune] [--strip] [--reject-unknown] [--keep-widths] [FILE]
+usage: wasmnorm [--snip FUNCTION] [--prune] [--strip] [--reject-unknown] [--keep-widths]
+                [-o OUTPUT] [FILE]
 ";
 
 pub const HELP: &str = "\
-usage: wasmnorm [--snip FUNCTION] [--prune] [--strip] [--reject-unknown] [--keep-widths] [FILE]
+usage: wasmnorm [--snip FUNCTION] [--prune] [--strip] [--reject-unknown] [--keep-widths]
+                [-o OUTPUT] [FILE]
 Writes the WebAssembly module in FILE to standard output, with its type section in normal form and
 every other index of a type written again. Without FILE, or if it is -, the module comes from
 standard input. Custom sections other than the one named name are copied as they are, and a module
@@ -34,7 +39,10 @@ is refused if one of them, such as debug data, describes bytes that would change
   --reject-unknown
                  rejects a module that has a custom section of an unknown kind, since such a
                  section may refer to types or to places in the file
-  --keep-widths  writes an index in as many bytes as it had, or in more where it needs them
+  --keep-widths  writes each index outside the type section in as many bytes as it had, or in more
+                 where it needs them
+  -o OUTPUT      writes to this file, which may be FILE itself, and not to standard output; the
+                 file is created or changed only once the whole new module is there
   --help         prints this text
   --version      prints the version
 ";

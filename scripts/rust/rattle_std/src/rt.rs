@@ -1,6 +1,6 @@
 //! What a program has of the system.
 use std::fs::File;
-use std::io::{self, Read, Stderr, Stdin, Stdout};
+use std::io::{self, Read, Stderr, Stdin, Stdout, Write};
 
 /// The system that a program runs on.
 #[derive(Clone, Copy, Debug)]
@@ -31,10 +31,13 @@ impl AllocGlobal for HostRuntime {}
 /// A system with files.
 pub trait Files {
     /// An open file.
-    type File: Read;
+    type File: Read + Write;
 
     /// Opens a file for reading.
     fn open(&self, name: &str) -> io::Result<Self::File>;
+
+    /// Opens a file for writing. A file that exists is emptied.
+    fn create(&self, name: &str) -> io::Result<Self::File>;
 }
 
 impl Files for HostRuntime {
@@ -42,6 +45,10 @@ impl Files for HostRuntime {
 
     fn open(&self, name: &str) -> io::Result<File> {
         File::open(name)
+    }
+
+    fn create(&self, name: &str) -> io::Result<File> {
+        File::create(name)
     }
 }
 
@@ -79,6 +86,11 @@ pub mod fs {
     /// Opens a file for reading.
     pub fn open<R: Files>(rt: &R, name: &str) -> std::io::Result<R::File> {
         rt.open(name)
+    }
+
+    /// Opens a file for writing. A file that exists is emptied.
+    pub fn create<R: Files>(rt: &R, name: &str) -> std::io::Result<R::File> {
+        rt.create(name)
     }
 }
 
