@@ -1,4 +1,5 @@
--- Modules that differ only in the order and repetition of simple types have the same normal form.
+-- Modules that differ only in the order and repetition of simple types, and in unused ones where these are
+-- deleted, have the same normal form.
 use Rattle.std.proofs.Common.{◌≡◌, ℕ, ◌<◌, List, [], length, map, Some, None, refl, sym, ap, subst, ◌∙◌, arith, All}
 use Rattle.std.proofs.lemmas.List.{length-map, get_or-map, ext_get_or}
 use Rattle.walrus_binary.specs.ModuleSections.{HasTypes}
@@ -173,21 +174,21 @@ customs_too P Q bytes also h = record {
 -- ---- one step
 
 -- names of unequal types keep their order, whatever it is
-order_kept : (s r : Section) (n : IndexSpace) (indices : List ℕ) (m : NewIndices) (There : ℕ → Type 0) →
-    HaveSameTypes s r indices → IsSortedForm (index_space r) n (new_index m) There →
+order_kept : (u : UnusedTypes) (s r : Section) (n : IndexSpace) (indices : List ℕ) (m : NewIndices)
+    (There : ℕ → Type 0) → HaveSameTypes u s r indices → IsSortedForm (index_space r) n (new_index m) There →
     (names : List ℕ) → NameUnequalTypes s names → KeepOrderAmong names (all_kept indices) m
-order_kept s r n indices m There t h names differ j k p q i has_j has_k less ej ek mj mk =
+order_kept u s r n indices m There t h names differ j k p q i has_j has_k less ej ek mj mk =
     let goes : (k p : ℕ) → new_index (all_kept indices) k ≡ Some p → new_index m p ≡ Some i
     → n.definition i ≡ (index_space s).definition k =
     λ k p e to.
     let at = item_at indices k p e in
-    let hk : k < (index_space s).count = subst (λ u. k < u) t.one_each at.0 in
-    let hp : p < (index_space r).count = subst (λ u. u < (index_space r).count) at.1 (t.within k hk) in
+    let hk : k < (index_space s).count = subst (λ v. k < v) t.one_each at.0 in
+    let hp : p < (index_space r).count = subst (λ v. v < (index_space r).count) at.1 (t.within k hk) in
     h.same p i hp to ∙ ap (index_space r).definition (sym at.1) ∙ t.equal k hk in
     let one = differ j k has_j has_k (sym (goes j p ej mj) ∙ goes k q ek mk) in absurd (omega (arith, one, less))
 
 module _ (u : UnusedTypes) (d : Descriptions) (types : List ℕ) (normal : List GroupAt)
-    (new bytes other : List ℕ) (f : IsRelisted bytes other) where
+    (new bytes other : List ℕ) (f : IsRelisted u bytes other) where
   abbrev S : Section
   S = section_of f.groups
 
@@ -207,7 +208,7 @@ module _ (u : UnusedTypes) (d : Descriptions) (types : List ℕ) (normal : List 
       IsSortedForm (index_space R) N (new_index m) There → IsLeft d bytes left → NamesInCustoms (λ names. KeepOrderAmong names first m) left
   ordered m There left sorted is_left =
       customs_too (NameUnequalTypes S) (λ names. KeepOrderAmong names first m) left
-      (order_kept S R N f.indices m There f.same_types sorted)
+      (order_kept u S R N f.indices m There f.same_types sorted)
       (customs_left (NameUnequalTypes S) d bytes left is_left f.named_once)
 
   lead_back : LeadsTo u d types normal new other → LeadsTo u d types normal new bytes
@@ -234,8 +235,8 @@ module _ (u : UnusedTypes) (d : Descriptions) (types : List ℕ) (normal : List 
             sorted_same (index_space S) N (λ k. new_index h.indices (image f.indices k)) (new_index both)
             (Wanted u follows.names)
             (λ k below. at k (subst (λ v. k < v) (sym f.same_types.one_each) below))
-            (sorted_before S R f.indices f.same_types N (Wanted u follows.names) (Wanted u h.roots)
-            (wanted_alike bytes other f u follows.names h.roots named h.named) (new_index h.indices) sorted);
+            (sorted_before u S R f.indices f.same_types N (Wanted u follows.names) (Wanted u h.roots)
+            (wanted_alike u bytes other f follows.names h.roots named h.named) (new_index h.indices) sorted);
         left = l.0;
         is_left = l.1.is_left;
         renamed =
@@ -258,13 +259,13 @@ module _ (u : UnusedTypes) (d : Descriptions) (types : List ℕ) (normal : List 
       h.many ∙ ap (λ (v : List GroupAt). (index_space (section_of v)).count) same in
       let named = named_roots u other follows.new_names follows.after in
       let There : ℕ → Type 0 = Wanted u follows.new_names in
-      let alike = wanted_alike bytes other f u h.roots follows.new_names h.named named in
+      let alike = wanted_alike u bytes other f h.roots follows.new_names h.named named in
       let second : NewIndices =
-      after S R f.indices f.same_types N (Wanted u h.roots) There alike h.indices sorted in
+      after u S R f.indices f.same_types N (Wanted u h.roots) There alike h.indices sorted in
       let long : length second ≡ (index_space R).count =
-      after_long S R f.indices f.same_types N (Wanted u h.roots) There alike h.indices sorted in
+      after_long u S R f.indices f.same_types N (Wanted u h.roots) There alike h.indices sorted in
       let sorted-on : IsSortedForm (index_space R) N (new_index second) There =
-      sorted_after S R f.indices f.same_types N (Wanted u h.roots) There alike h.indices sorted in
+      sorted_after u S R f.indices f.same_types N (Wanted u h.roots) There alike h.indices sorted in
       let goes : (k n : ℕ) → new_index first k ≡ Some n → (k < (index_space S).count)
       × (n < (index_space R).count) × ((index_space R).definition n ≡ (index_space S).definition k) =
       λ k n e.
@@ -291,7 +292,7 @@ module _ (u : UnusedTypes) (d : Descriptions) (types : List ℕ) (normal : List 
             (record {
               as_many = many ∙ sym f.same_types.one_each ∙ sym (length-map f.indices (λ n. Some n));
               lead = λ k n e. (let g = goes k n e in
-                  after_leads S R f.indices f.same_types N (Wanted u h.roots) There alike h.indices sorted k n
+                  after_leads u S R f.indices f.same_types N (Wanted u h.roots) There alike h.indices sorted k n
                   g.0 g.1 g.2);
             })
             (none_deleted f.indices) (λ k n e. subst (λ v. n < v) (sym long) (goes k n e).1) f.widths f.types
@@ -301,7 +302,7 @@ module _ (u : UnusedTypes) (d : Descriptions) (types : List ℕ) (normal : List 
 -- ---- one result
 
 chain_leads : (u : UnusedTypes) (d : Descriptions) (types : List ℕ) (normal : List GroupAt)
-    (new last bytes : List ℕ) → DiffersInList last bytes → LeadsTo u d types normal new bytes →
+    (new last bytes : List ℕ) → DiffersInList u last bytes → LeadsTo u d types normal new bytes →
     LeadsTo u d types normal new last
 chain_leads u d types normal new last _ stop h = h
 chain_leads u d types normal new last _ (forth bytes next f chain) h =
@@ -343,7 +344,7 @@ one_lead u d types others normal normal' a b bytes full full' written written' h
     (left_once d bytes h.left k.left h.is_left k.is_left) h.renamed k.renamed
 
 module _ (options : NormaliseOptions) (last bytes a b : List ℕ) (short : options.widths ≡ widths.Shortest)
-    (chain : DiffersInList last bytes) (h : IsNormalised options bytes a) (k : IsNormalised options last b) where
+    (chain : DiffersInList options.unused last bytes) (h : IsNormalised options bytes a) (k : IsNormalised options last b) where
   simple_once : (groups : List GroupAt) → HasTypes bytes groups → All IsSimple (section_of groups) → a ≡ b
   simple_once groups read simple =
       let u : UnusedTypes = options.unused in
@@ -355,7 +356,7 @@ module _ (options : NormaliseOptions) (last bytes a b : List ℕ) (short : optio
       h.has.written k.has.written far other
 
 pub relisted_once : (options : NormaliseOptions) (last bytes a b : List ℕ) → options.widths ≡ widths.Shortest →
-    DiffersInList last bytes → IsNormalised options bytes a → IsNormalised options last b → a ≡ b
+    DiffersInList options.unused last bytes → IsNormalised options bytes a → IsNormalised options last b → a ≡ b
 relisted_once options last _ a b short stop h k = normalised_once options last a b h k
 relisted_once options last _ a b short (forth bytes next f chain) h k =
     simple_once options last bytes a b short (forth bytes next f chain) h k f.groups f.read

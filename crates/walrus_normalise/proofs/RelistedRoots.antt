@@ -1,5 +1,6 @@
--- Which types are wanted in the normal forms of two modules with the same simple types.
-use Rattle.std.proofs.Common.{◌≡◌, ℕ, ◌<◌, List, map, refl, sym, ap, subst, ◌∙◌, All, Contains}
+-- Which types are wanted in the normal forms of two modules with the same simple types, or, where unused
+-- types are deleted, with the same used ones.
+use Rattle.std.proofs.Common.{◌≡◌, ℕ, ◌<◌, List, map, refl, sym, ap, subst, ◌∙◌, inl, inr, All, Contains}
 use Rattle.std.proofs.lemmas.List.Elements.{All-contains}
 use Rattle.walrus_ty.specs.Groups.{Section}
 use Rattle.walrus_ty.specs.Records.{section_of}
@@ -40,7 +41,7 @@ pub same_wanted : (u : UnusedTypes) (bytes a b : List ℕ) → AreRoots u bytes 
 same_wanted kinds.Kept bytes a b h k = refl
 same_wanted kinds.Deleted bytes a b h k = ap (Wanted kinds.Deleted) (named_once bytes a b h k)
 
-module _ (bytes other : List ℕ) (f : IsRelisted bytes other) where
+module _ (u : UnusedTypes) (bytes other : List ℕ) (f : IsRelisted u bytes other) where
   abbrev S : Section
   S = section_of f.groups
 
@@ -55,29 +56,35 @@ module _ (bytes other : List ℕ) (f : IsRelisted bytes other) where
   sent roots new named named-on =
       named_once other new names.new_names named-on names.after
       ∙ sent_roots f.indices names.names names.new_names names.mapped
-      ∙ ap (λ (u : List ℕ). map (image f.indices) u) (named_once bytes names.names roots names.before named)
+      ∙ ap (λ (v : List ℕ). map (image f.indices) v) (named_once bytes names.names roots names.before named)
 
   known_roots : (roots : List ℕ) → NamesOutside bytes roots → All (λ k. k < (index_space S).count) roots
   known_roots roots named =
-      subst (λ (u : List ℕ). All (λ k. k < (index_space S).count) u)
+      subst (λ (v : List ℕ). All (λ k. k < (index_space S).count) v)
       (named_once bytes names.names roots names.before named)
       (roots_known (new_index (all_kept f.indices)) names.names names.new_names names.mapped
       (index_space S).count
-      (λ i q e. subst (λ u. i < u) f.same_types.one_each (item_at f.indices i q e).0))
+      (λ i q e. subst (λ v. i < v) f.same_types.one_each (item_at f.indices i q e).0))
 
-  pub wanted_alike : (u : UnusedTypes) (roots new : List ℕ) → AreRoots u bytes roots → AreRoots u other new →
-      AreWantedAlike S R f.indices (Wanted u roots) (Wanted u new)
-  wanted_alike kinds.Kept roots new named named-on = record {
-    to = λ k below w. tt;
-    back = λ j below w. (let k = f.same_types.no_others j below in (k.0, k.1, tt, k.2));
-  }
-  wanted_alike kinds.Deleted roots new named named-on =
-      let is = sent roots new named named-on in
-      record {
-        to = λ k below w. subst (λ (u : List ℕ). Contains u (image f.indices k)) (sym is)
-            (contains_map (image f.indices) roots k w);
-        back = λ j below w.
-            (let x = contains_before (image f.indices) roots j (subst (λ (u : List ℕ). Contains u j) is w) in
-            let within = All-contains (λ i. i < (index_space S).count) roots x.0 (known_roots roots named) x.1 in
-            (x.0, within, x.1, sym (f.same_types.equal x.0 within) ∙ ap (index_space R).definition x.2));
-      }
+pub wanted_alike : (u : UnusedTypes) (bytes other : List ℕ) (f : IsRelisted u bytes other) (roots new : List ℕ) →
+    AreRoots u bytes roots → AreRoots u other new →
+    AreWantedAlike (section_of f.groups) (section_of f.other_groups) f.indices (Wanted u roots) (Wanted u new)
+wanted_alike kinds.Kept bytes other f roots new named named-on = record {
+  to = λ k below w. tt;
+  back = λ j below w. elim (f.same_types.no_others j below) [
+    | inl k ↦ (k.0, k.1, tt, k.2)
+    | inr x ↦ absurd (let is = x.0 in cc)
+  ];
+}
+wanted_alike kinds.Deleted bytes other f roots new named named-on =
+    let R : Section = section_of f.other_groups in
+    let is = sent kinds.Deleted bytes other f roots new named named-on in
+    let known = known_roots kinds.Deleted bytes other f roots named in
+    record {
+      to = λ k below w. subst (λ (v : List ℕ). Contains v (image f.indices k)) (sym is)
+          (contains_map (image f.indices) roots k w);
+      back = λ j below w.
+          (let x = contains_before (image f.indices) roots j (subst (λ (v : List ℕ). Contains v j) is w) in
+          let within = All-contains (λ i. i < (index_space (section_of f.groups)).count) roots x.0 known x.1 in
+          (x.0, within, x.1, sym (f.same_types.equal x.0 within) ∙ ap (index_space R).definition x.2));
+    }

@@ -88,12 +88,13 @@ pub fn joined_modules_have_the_same_result()
 {}
 
 /// Two modules that differ only in the order and repetition of simple types have the same result,
-/// with the shortest widths. A type is simple if it refers to no type and is in no recursion group.
+/// with the shortest widths. Where unused types are deleted, the modules may also differ in unused
+/// types without names. A type is simple if it refers to no type and is in no recursion group.
 ///
 /// The modules between the two need no result. Of equal types, the section `name` of a module may
 /// have a name for one at most.
 pub fn relisted_modules_have_the_same_result()
     ensures { (options : NormaliseOptions) (bytes last a b : List ℕ) →
-        options.widths ≡ Shortest → DiffersInList last bytes →
+        options.widths ≡ Shortest → DiffersInList options.unused last bytes →
         IsNormalised options bytes a → IsNormalised options last b → a ≡ b }
 {}
