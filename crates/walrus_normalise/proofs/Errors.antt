@@ -18,11 +18,11 @@ use Rattle.walrus_ty.specs.declared.records.GroupAt.{GroupAt}
 use Rattle.walrus_unused.specs.UsedSections.{IsRefusal as IsUsedRefusal}
 use Rattle.walrus_unused.specs.declared.error.NormaliseUsedError.{NormaliseUsedError}
 use Rattle.walrus_unused.specs.declared.error.NormaliseUsedError.TheVariants as used
-use Rattle.walrus_normalise.specs.NormalModules.{HasFirstFault, IsStoppedByFault, unread, BecomesTooLong}
+use Rattle.walrus_normalise.specs.NormalModules.{HasFirstFault, HasTypesError, IsStoppedByFault, unread, BecomesTooLong}
 use Rattle.walrus_normalise.specs.Steps.Errors.{encode_refusal, fault_failure, read_failure, rename_refusal, used_refusal}
 use Rattle.walrus_normalise.specs.Steps.Faults.{IsFirstFaultBy}
 use Rattle.walrus_normalise.specs.Steps.NormalModules.{IsRefusal}
-use Rattle.walrus_normalise.specs.Steps.NormalTypes.{IsSectionError, IsTypesRefusal}
+use Rattle.walrus_normalise.specs.Steps.NormalTypes.{IsTypesRefusal}
 use Rattle.walrus_normalise.specs.declared.error.NormaliseModuleError.{NormaliseModuleError}
 use Rattle.walrus_normalise.specs.declared.error.NormaliseModuleError.TheVariants as error
 use Rattle.walrus_normalise.specs.declared.options.NormaliseOptions.{NormaliseOptions}
@@ -33,7 +33,7 @@ use Rattle.walrus_normalise.specs.declared.refusal.Refusal.TheVariants as refusa
 -- ---- the types of a module
 
 section_error : (options : NormaliseOptions) (bytes : List ℕ) (e : NormaliseModuleError) →
-    IsSectionError bytes e → IsRefusal options bytes (refusal.Other e)
+    HasTypesError bytes e → IsRefusal options bytes (refusal.Other e)
 section_error options bytes (error.Types e) h = h
 section_error options bytes (error.BadIndex entry index end) h = h
 section_error options bytes error.TooMany h = h
@@ -49,7 +49,7 @@ types_refused options bytes refusal.Fault h = unread h.0 h.1
 types_refused options bytes (refusal.Other e) h = section_error options bytes e h
 
 section_first : (bytes : List ℕ) (groups : List GroupAt) (e : ReadError) → HasTypes bytes groups →
-    IsFirstError (section_of groups) e → IsSectionError bytes (read_failure e)
+    IsFirstError (section_of groups) e → HasTypesError bytes (read_failure e)
 section_first bytes groups (read.BadIndex entry index end) types first =
     record { groups = groups; read = types; first = first }
 section_first bytes groups read.TooMany types first = record { groups = groups; read = types; first = first }

@@ -14,3 +14,9 @@ pub mod SimpleUsed
 pub mod RelistedForms
 pub mod RelistedRoots
 pub mod RelistedModules
+pub mod EqualTypes
+pub mod CarriedTypes
+pub mod CarriedUsed
+pub mod EqualForms
+pub mod SelfReferences
+pub mod ChangedTypes

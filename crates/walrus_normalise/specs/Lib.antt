@@ -2,3 +2,4 @@ pub mod NormalModules
 pub mod Steps
 pub mod Moved
 pub mod Relisted
+pub mod EqualTypes

@@ -4,7 +4,7 @@
 use Rattle.std.specs.Prelude.{◌≡◌, ℕ, ◌≤◌, ◌⊎◌, List, length, map, Some}
 use Rattle.walrus_binary.specs.Faults.{HasNoText}
 use Rattle.walrus_binary.specs.Grammar.{IsTypes}
-use Rattle.walrus_binary.specs.ModuleSections.{HasTypes}
+use Rattle.walrus_binary.specs.ModuleSections.{HasTypes, HasBadTypesBy}
 use Rattle.walrus_module.specs.Customs.{IsStripped}
 use Rattle.walrus_module.specs.Outdated.{AllFit, HasOutdatedAt}
 use Rattle.walrus_module.specs.ModuleFaults.{IsModuleFault}
@@ -16,9 +16,12 @@ use Rattle.walrus_sections.specs.FirstError.{IsFirstError}
 use Rattle.walrus_sections.specs.NormalForm.{IsNormalForm}
 use Rattle.walrus_sections.specs.Section.{IsWellNamed, index_space}
 use Rattle.walrus_sections.specs.declared.error.ReadError.{ReadError}
+use Rattle.walrus_sections.specs.declared.error.ReadError.TheVariants as read
 use Rattle.walrus_ty.specs.Records.{section_of}
 use Rattle.walrus_ty.specs.declared.records.GroupAt.{GroupAt}
 use Rattle.walrus_unused.specs.UsedSections.{first_unknown, IsUsedNormal, IsUsedNormalForm}
+use Rattle.walrus_normalise.specs.declared.error.NormaliseModuleError.{NormaliseModuleError}
+use Rattle.walrus_normalise.specs.declared.error.NormaliseModuleError.TheVariants as error
 use Rattle.walrus_normalise.specs.declared.options.Descriptions.{Descriptions}
 use Rattle.walrus_normalise.specs.declared.options.Descriptions.TheVariants as descriptions
 use Rattle.walrus_normalise.specs.declared.options.NormaliseOptions.{NormaliseOptions}
@@ -81,6 +84,18 @@ pub record HasFirstError (bytes : List ℕ) (e : ReadError) : Type 0 where
   pub groups : List GroupAt
   pub read : HasTypes bytes groups
   pub first : IsFirstError (section_of groups) e
+
+-- what an error says of the type section of the module: no other error is one of it
+abbrev pub HasTypesError : List ℕ → NormaliseModuleError → Type 0
+HasTypesError bytes (error.Types e) = HasBadTypesBy bytes e
+HasTypesError bytes (error.BadIndex entry index end) =
+    HasFirstError bytes (read.BadIndex entry index end)
+HasTypesError bytes error.TooMany = HasFirstError bytes read.TooMany
+HasTypesError bytes (error.Malformed place) = ⊥
+HasTypesError bytes (error.UnknownType index count place) = ⊥
+HasTypesError bytes error.TooLong = ⊥
+HasTypesError bytes (error.Outdated offset) = ⊥
+HasTypesError bytes error.Memory = Unit {0}
 
 -- From left to right, this is the first fault of the module outside its type section, at this
 -- place. The module has as many types as its type section has entries.

@@ -4,3 +4,4 @@ pub mod Errors
 pub mod Faults
 pub mod NormalModules
 pub mod NormalTypes
+pub mod SelfReferences

@@ -2,8 +2,9 @@
 //! caller gets by calling it.
 ghost use Rattle.std.specs.Prelude.{◌≡◌, ℕ, suc, List, map};
 ghost use Rattle.walrus_binary.specs.ModuleSections.{HasTypes};
-ghost use Rattle.walrus_module.specs.Renaming.{NewIndices};
+ghost use Rattle.walrus_module.specs.Renaming.{NewIndices, new_index};
 ghost use Rattle.walrus_module.specs.declared.renaming.Widths.TheVariants.{Shortest};
+ghost use Rattle.walrus_normalise.specs.EqualTypes.{AreAllEqual, KeepsModuleTypes};
 ghost use Rattle.walrus_normalise.specs.Moved.{IsMoved, KeepsOrderOfEqual, MoveChainTo};
 ghost use Rattle.walrus_normalise.specs.NormalModules.{HasNormalForm, IsShortest, IsNormalised};
 ghost use Rattle.walrus_normalise.specs.Relisted.{DiffersInList};
@@ -35,6 +36,18 @@ pub fn result_has_the_normal_form()
     ensures { (options : NormaliseOptions) (bytes new : List ℕ) → IsNormalised options bytes new →
         (normal : List GroupAt) × (new_indices : NewIndices) ×
         HasNormalForm options.unused bytes normal new_indices × HasTypes new normal }
+{}
+
+/// Where the normal form keeps each type of a module, each type that is left in the result is equal
+/// to the types of the module whose indices lead to it. Equal means WebAssembly's rule: see
+/// [`find_changed_type`](crate::find_changed_type), which says of which modules this holds.
+pub fn kept_types_stay_equal()
+    ensures { (options : NormaliseOptions) (bytes new : List ℕ) → KeepsModuleTypes bytes →
+        IsNormalised options bytes new →
+        (groups normal : List GroupAt) × (new_indices : NewIndices) ×
+        HasTypes bytes groups × HasTypes new normal ×
+        HasNormalForm options.unused bytes normal new_indices ×
+        AreAllEqual (section_of groups) (section_of normal) (new_index new_indices) }
 {}
 
 /// A second round changes nothing, whatever the options are: the result is its own result, and has

@@ -29,6 +29,8 @@
 //! ```
 #![tactic(auto)]
 
+mod changed_types;
+mod entry_names;
 mod error;
 mod faults;
 pub mod laws;
@@ -36,7 +38,9 @@ mod normal_module;
 mod normal_types;
 mod options;
 mod refusal;
+mod self_references;
 
+pub use changed_types::find_changed_type;
 pub use error::NormaliseModuleError;
 pub use normal_module::normalise_module;
 pub use options::{Descriptions, NormaliseOptions, UnusedTypes};

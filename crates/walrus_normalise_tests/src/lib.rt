@@ -6,6 +6,8 @@
 #![tactic(auto)]
 
 #[cfg(test)]
+mod changed_types;
+#[cfg(test)]
 mod places;
 #[cfg(test)]
 mod refusals;

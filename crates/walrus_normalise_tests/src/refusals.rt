@@ -4,12 +4,17 @@ use std::alloc::Global;
 use std::test::*;
 use walrus_normalise::{
     Descriptions, HashKeys, NormaliseModuleError, NormaliseOptions, UnusedTypes, Widths,
-    normalise_module,
+    find_changed_type, normalise_module,
 };
 
 // (type (struct)) (type (func)), and a body with a code that no instruction has
 const MALFORMED: [u8; 22] = [
     0, 0x61, 0x73, 0x6D, 1, 0, 0, 0, 1, 6, 2, 0x5F, 0, 0x60, 0, 0, 10, 4, 1, 2, 0, 0xFF,
+];
+
+// (type $a (func (param (ref null $a)))) (type (func (param (ref null $a))))
+const JOINS: [u8; 21] = [
+    0, 0x61, 0x73, 0x6D, 1, 0, 0, 0, 1, 11, 2, 0x60, 1, 0x63, 0, 0, 0x60, 1, 0x63, 0, 0,
 ];
 
 // What the call returns when it is made again after a refusal.
@@ -32,4 +37,17 @@ fn a_refused_place_is_found_when_it_is_asked_for_again(rt: HostRuntime) {
     let malformed = Some(NormaliseModuleError::Malformed { offset: 21 });
     assert!(rt; normalised_again(rt.alloc(), UnusedTypes::Kept) == malformed);
     assert!(rt; normalised_again(rt.alloc(), UnusedTypes::Deleted) == malformed);
+}
+
+// The same of a changed type.
+fn changed_again(alloc: Global) -> Result<Option<u32>, NormaliseModuleError> {
+    match find_changed_type(alloc, HashKeys::fixed(), &JOINS) {
+        Err(NormaliseModuleError::Memory) => find_changed_type(alloc, HashKeys::fixed(), &JOINS),
+        other => other,
+    }
+}
+
+#[test]
+fn a_refused_changed_type_is_found_when_it_is_asked_for_again(rt: HostRuntime) {
+    assert!(rt; changed_again(rt.alloc()) == Ok(Some(1)));
 }

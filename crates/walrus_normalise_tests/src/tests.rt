@@ -66,6 +66,7 @@ fn the_laws_hold() {
     laws::one_normalised_module();
     laws::one_shortest_text();
     laws::result_has_the_normal_form();
+    laws::kept_types_stay_equal();
     laws::second_round();
     laws::moved_module_has_the_same_result();
     laws::joined_modules_have_the_same_result();

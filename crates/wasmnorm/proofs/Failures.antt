@@ -1,12 +1,12 @@
 -- The exit status of a failure, and what it says of the bytes.
-use Rattle.std.proofs.Common.{◌≡◌, ◌≤◌, ℕ, true, List, Result, Ok, Err, refl, arith}
-use Rattle.std.specs.Prelude.{IfErr, IsErrOf}
+use Rattle.std.proofs.Common.{◌≡◌, ◌≤◌, ℕ, true, List, Result, Ok, Err, refl, sym, subst, arith}
+use Rattle.std.specs.Prelude.{IfErr, IsErrAnd, IsErrOf}
 use Rattle.walrus_binary.specs.ModuleSections.{HasBadTypesBy}
 use Rattle.walrus_binary.specs.declared.error.DecodeError.{DecodeError}
 use Rattle.walrus_module.specs.declared.faults.FaultKind.TheVariants as kind
 use Rattle.walrus_normalise.specs.declared.options.NormaliseOptions.{NormaliseOptions}
 use Rattle.walrus_sections.specs.declared.error.ReadError.TheVariants as read
-use Rattle.walrus_normalise.specs.NormalModules.{HasFirstError, HasFirstFault, BecomesTooLong, BecomesOutdated}
+use Rattle.walrus_normalise.specs.NormalModules.{HasFirstError, HasFirstFault, HasTypesError, BecomesTooLong, BecomesOutdated}
 use Rattle.walrus_normalise.specs.declared.error.NormaliseModuleError.{NormaliseModuleError}
 use Rattle.walrus_normalise.specs.declared.error.NormaliseModuleError.TheVariants as error
 use Rattle.wasmnorm.specs.declared.failure.Failure.{Failure}
@@ -18,7 +18,11 @@ use Rattle.walrus_snipping.specs.declared.error.SnipError.TheVariants as snip
 use Rattle.wasmnorm.specs.declared.snip_failure.SnipFailure.{SnipFailure}
 use Rattle.wasmnorm.specs.declared.snip_failure.SnipFailure.TheVariants as snips
 use Rattle.wasmnorm.specs.Steps.Snips.{refusal_status, snip_status}
-use Rattle.wasmnorm.specs.Steps.Failures.{Explains, ExplainsError, ExplainsModule, is_of_types, is_of_sections, refused_status, status_of}
+use Rattle.std.specs.declared.alloc.Global.{Global}
+use Rattle.std.specs.declared.string.String.{String}
+use Rattle.wasmnorm.specs.declared.options.RunOptions.{RunOptions}
+use Rattle.wasmnorm.specs.declared.strict.Strictness.TheVariants.{Strict}
+use Rattle.wasmnorm.specs.Steps.Failures.{Explains, ExplainsObjection, ExplainsRun, of_strictness, ExplainsError, ExplainsModule, is_of_types, is_of_sections, refused_status, status_of}
 
 error_range : (e : NormaliseModuleError) → refused_status e ≤ 4
 error_range (error.Types e) = omega arith
@@ -47,6 +51,7 @@ snip_range snips.Memory = omega arith
 
 pub status_range : (f : Failure) → status_of f ≤ 4
 status_range (failure.Refused e context advice) = error_range e
+status_range (failure.ChangedType index) = omega arith
 status_range (failure.UnknownSection offset context) = omega arith
 status_range (failure.Unsnipped e) = snip_range e
 status_range failure.Memory = omega arith
@@ -140,6 +145,7 @@ pub explains_refused :
     → IsRefused options bytes
 explains_refused options bytes (failure.Refused e context advice) why is =
     error_refused options bytes e why.0 is
+explains_refused options bytes (failure.ChangedType index) why is = absurd why
 explains_refused options bytes (failure.UnknownSection offset context) why is = absurd why
 explains_refused options bytes (failure.Unsnipped e) why is = absurd why
 explains_refused options bytes failure.Memory why is = absurd (omega (arith, is))
@@ -152,6 +158,7 @@ pub explains_ill_named :
     → IsIllNamed bytes
 explains_ill_named options bytes (failure.Refused e context advice) why is =
     error_ill_named options bytes e why.0 is
+explains_ill_named options bytes (failure.ChangedType index) why is = absurd why
 explains_ill_named options bytes (failure.UnknownSection offset context) why is = absurd why
 explains_ill_named options bytes (failure.Unsnipped e) why is = absurd why
 explains_ill_named options bytes failure.Memory why is = absurd (omega (arith, is))
@@ -181,3 +188,25 @@ explains_each options bytes (Err (error.UnknownType k count place)) a b c d e f 
 explains_each options bytes (Err error.TooLong) a b c d e f g = f refl
 explains_each options bytes (Err (error.Outdated k)) a b c d e f g = g k refl
 explains_each options bytes (Err error.Memory) a b c d e f g = tt
+
+-- an error of the type section is one of the module
+pub explains_types :
+    (options : NormaliseOptions) (bytes : List ℕ) (e : NormaliseModuleError)
+    → HasTypesError bytes e → ExplainsModule options bytes e
+explains_types options bytes (error.Types e) why = why
+explains_types options bytes (error.BadIndex entry index end) why = why
+explains_types options bytes error.TooMany why = why
+explains_types options bytes (error.Malformed place) why = absurd why
+explains_types options bytes (error.UnknownType k count place) why = absurd why
+explains_types options bytes error.TooLong why = absurd why
+explains_types options bytes (error.Outdated offset) why = absurd why
+explains_types options bytes error.Memory why = tt
+
+-- what ends the strict check ends the run
+pub objection_ends :
+    {A : Type 0} (options : RunOptions) (snips : List (String Global)) (bytes : List ℕ)
+    (result : Result A Failure) (f : Failure) → IsErrAnd result (λ e. e ≡ f) → options.strictness ≡ Strict
+    → ExplainsObjection options.normalise bytes f → IfErr result (ExplainsRun options snips bytes)
+objection_ends options snips bytes (Ok new) f is strict why = tt
+objection_ends options snips bytes (Err e) f is strict why =
+    subst (λ x. ExplainsRun options snips bytes x) (sym is) (of_strictness f strict why)

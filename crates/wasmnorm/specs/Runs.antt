@@ -1,5 +1,5 @@
 -- What a run does: `IsWritten` where its bytes are a module that is normalised, `IsRefused`,
--- `IsIllNamed` and `HasRejectedSection` where not. What stops functions from being snipped is in
+-- `IsIllNamed` and `IsRejected` where not. What stops functions from being snipped is in
 -- `Snips`.
 use Rattle.std.specs.Prelude.{◌≡◌, ℕ, List, Option}
 use Rattle.std.specs.Io.KnownBytes.{Appends}
@@ -10,12 +10,13 @@ use Rattle.walrus_binary.specs.declared.error.DecodeError.{DecodeError}
 use Rattle.walrus_module.specs.declared.faults.FaultKind.TheVariants.{UnknownType}
 use Rattle.walrus_module.specs.UnknownCustoms.{HasUnknownCustomAt}
 use Rattle.walrus_normalise.specs.declared.options.NormaliseOptions.{NormaliseOptions}
+use Rattle.walrus_normalise.specs.EqualTypes.{ChangesType}
 use Rattle.walrus_normalise.specs.NormalModules.{HasFirstError, HasFirstFault, BecomesTooLong, BecomesOutdated}
 use Rattle.walrus_sections.specs.declared.error.ReadError.{ReadError}
 use Rattle.wasmnorm.specs.Judged.{OfJudged, IsMalformedAt}
 use Rattle.wasmnorm.specs.Snips.{BecomesNormal}
-use Rattle.wasmnorm.specs.declared.unknown.UnknownSections.{UnknownSections}
-use Rattle.wasmnorm.specs.declared.unknown.UnknownSections.TheVariants.{Rejected}
+use Rattle.wasmnorm.specs.declared.strict.Strictness.{Strictness}
+use Rattle.wasmnorm.specs.declared.strict.Strictness.TheVariants.{Strict}
 
 -- The bytes are a module, and a writer gained the same module with its type section in normal form.
 -- The functions that the arguments name were snipped before.
@@ -47,8 +48,11 @@ pub data IsIllNamed (bytes : List ℕ) : Type 0 where
       → OfJudged (λ judged. HasFirstFault judged (UnknownType k count) place) bytes
       → IsIllNamed bytes
 
--- The bytes are a module with a custom section of an unknown kind, and such sections are rejected.
-pub record HasRejectedSection (unknown : UnknownSections) (bytes : List ℕ) : Type 0 where
-  pub are_rejected : unknown ≡ Rejected
-  pub offset : ℕ
-  pub has : HasUnknownCustomAt bytes offset
+-- The bytes are a module that is strictly rejected: its normal form changes a type, or it has a
+-- custom section of an unknown kind.
+pub data IsRejected (strictness : Strictness) (bytes : List ℕ) : Type 0 where
+  changed_type :
+      (index : ℕ) → strictness ≡ Strict → ChangesType bytes index → IsRejected strictness bytes
+  unknown_section :
+      (offset : ℕ) → strictness ≡ Strict → HasUnknownCustomAt bytes offset
+      → IsRejected strictness bytes

@@ -24,6 +24,11 @@ pub enum Failure {
         /// What may help.
         advice: Advice,
     },
+    /// A type would become another one, and the module is rejected for it.
+    ChangedType {
+        /// The first such type.
+        index: u32,
+    },
     /// A custom section is of an unknown kind, and the module is rejected for it.
     UnknownSection {
         /// The place of the first such section.
@@ -81,6 +86,12 @@ impl fmt::Display for Failure {
                 context,
                 advice,
             } => write!(f, "{error}{context}{advice}"),
+            Failure::ChangedType { index } => {
+                write!(
+                    f,
+                    "type {index} would become another type, one that refers to itself"
+                )
+            }
             Failure::UnknownSection { offset, context } => write_unknown_kind(f, *offset, context),
             Failure::Unsnipped(failure) => write!(f, "{failure}"),
             Failure::Memory => write!(f, "out of memory"),
@@ -176,7 +187,7 @@ fn status(failure: &Failure) -> u8
 {
     match failure {
         Failure::Refused { error, .. } => refusal_status(*error),
-        Failure::UnknownSection { .. } => 1,
+        Failure::ChangedType { .. } | Failure::UnknownSection { .. } => 1,
         Failure::Unsnipped(failure) => snip_status(failure),
         Failure::Memory => 3,
         Failure::Keys | Failure::Input(_) | Failure::Output(_) => 4,

@@ -4,10 +4,11 @@
 ghost use Rattle.std.specs.Prelude.{◌≡◌, ◌<◌, ◌≤◌, ◌⊎◌, IfErr, IfOk, OnOk, IfSome};
 ghost use Rattle.std.specs.Io.KnownBytes.{Appends, Keeps};
 ghost use Rattle.walrus_module.specs.UnknownCustoms.{HasNoUnknownCustom};
-ghost use Rattle.wasmnorm.specs.Runs.{IsWritten, IsRefused, IsIllNamed, HasRejectedSection};
+ghost use Rattle.walrus_normalise.specs.EqualTypes.{KeepsModuleTypes};
+ghost use Rattle.wasmnorm.specs.Runs.{IsWritten, IsRefused, IsIllNamed, IsRejected};
 ghost use Rattle.wasmnorm.specs.Snips.{BecomesNormal, CanNotBeSnipped, MisnamesFunctions};
 ghost use Rattle.wasmnorm.specs.Steps.Failures.{ExplainsRun, status_of};
-ghost use Rattle.wasmnorm.specs.declared.unknown.UnknownSections.TheVariants.{Rejected};
+ghost use Rattle.wasmnorm.specs.declared.strict.Strictness.TheVariants.{Strict};
 
 mod custom_section;
 mod failure;
@@ -17,14 +18,13 @@ mod module;
 mod options;
 mod snip_failure;
 mod snipping;
+mod strict;
 mod texts;
-mod unknown;
 
 use command_line::{
     OptionValue, Request, create, open, parse_arguments, random_keys, read_bytes, report_usage,
     write_version,
 };
-use error_context::context_of;
 use failure::{Failure, failed_input, refusal, report};
 use module::normal_module;
 use options::{RunOptions, run_options};
@@ -32,8 +32,8 @@ use snipping::snipped_module;
 use std::alloc::{AllocError, Global};
 use std::io::{self, BufWriter, Read, Write};
 use std::process::ExitCode;
-use texts::{HELP, KEEP_WIDTHS, OUTPUT, PRUNE, REJECT_UNKNOWN, SNIP, STRIP, USAGE};
-use unknown::rejected_section;
+use strict::check_strictness;
+use texts::{HELP, KEEP_WIDTHS, OUTPUT, PRUNE, SNIP, STRICT, STRIP, USAGE};
 use walrus_normalise::HashKeys;
 
 /// Reads a module from `reader`, and writes the same module to `out`, with its type section in
@@ -43,9 +43,12 @@ use walrus_normalise::HashKeys;
 /// allow. Recursion groups keep their order and are never merged. Types that nothing uses stay,
 /// unless the options say that they are deleted. Custom sections other than `name` are copied as
 /// they are. Where one of them describes bytes that would change, such as debug data, the module is
-/// refused, unless the options say that such sections are left out. A section of an unknown kind
-/// may refer to types or to places in the file. The options say whether the module is rejected for
-/// it.
+/// refused, unless the options say that such sections are left out.
+///
+/// With [`Strictness::Strict`](strict::Strictness::Strict) a module is rejected in two more cases. One of its types would become
+/// another type, by WebAssembly's rule of type equality:
+/// [`find_changed_type`](walrus_normalise::find_changed_type) says when. Or a custom section is of
+/// an unknown kind, so that it may refer to types or to places in the file.
 ///
 /// `snips` are functions whose bodies become a single `unreachable` before that. Each is an index,
 /// in digits alone that write a `u32`, or else the name of one function. A module that is refused
@@ -58,7 +61,7 @@ use walrus_normalise::HashKeys;
 /// - 0: done.
 /// - 1: the bytes are no module, or a section of it is malformed, or one with types that no record
 ///   holds. Or a section or a function body would be too long. Or a custom section describes bytes
-///   that would change, or is rejected since its kind is unknown.
+///   that would change. Or the module is strictly rejected.
 /// - 2: the type section names a type that it may not name, or has too many entries. Or another
 ///   section names a type that the type section does not have. Or one of `snips` is the name of no
 ///   function or of several, or the index of an imported function or of none.
@@ -66,8 +69,8 @@ use walrus_normalise::HashKeys;
 /// - 4: a read or a write failed.
 ///
 /// What is wrong first is reported. Where the bytes are no module, since a section breaks the
-/// framing, the sections before it are judged first. A section of an unknown kind is reported where
-/// nothing else is wrong with the module, and before what is wrong with `snips`.
+/// framing, the sections before it are judged first. What a module is strictly rejected for is
+/// reported where nothing else is wrong with it, and before what is wrong with `snips`.
 ///
 /// `out` gains nothing at 1 to 3, since the whole module is there before it is written. At 4 it may
 /// have gained the module or a part of it.
@@ -86,13 +89,15 @@ pub fn run<R: Read, W: Write, E: Write>(
     ensures done { result ≡ 0 → IfSome (R.remaining reader.old)
         (λ bytes. IsWritten options.normalise snips.now bytes
         (W.contents out.old) (W.contents out.new)) }
-    ensures known { result ≡ 0 → options.unknown ≡ Rejected →
+    ensures kept { result ≡ 0 → options.strictness ≡ Strict →
+        IfSome (R.remaining reader.old) KeepsModuleTypes }
+    ensures known { result ≡ 0 → options.strictness ≡ Strict →
         IfSome (R.remaining reader.old) HasNoUnknownCustom }
     ensures silent { result ≡ 0 → Keeps (E.contents err.old) (E.contents err.new) }
     ensures refused { result ≡ 1 → IfSome (R.remaining reader.old)
         (λ bytes. IsRefused options.normalise bytes ⊎
         CanNotBeSnipped options.normalise snips.now bytes ⊎
-        HasRejectedSection options.unknown bytes) }
+        IsRejected options.strictness bytes) }
     ensures ill_named { result ≡ 2 → IfSome (R.remaining reader.old)
         (λ bytes. IsIllNamed bytes ⊎ MisnamesFunctions snips.now bytes) }
     ensures range { result ≤ 4 }
@@ -115,7 +120,9 @@ fn normalise_input<R: Read, W: Write>(
     ensures done { OnOk result (IfSome (R.remaining reader.old)
         (λ bytes. IsWritten options.normalise snips.now bytes
         (W.contents out.old) (W.contents out.new))) }
-    ensures known { OnOk result (options.unknown ≡ Rejected →
+    ensures kept { OnOk result (options.strictness ≡ Strict →
+        IfSome (R.remaining reader.old) KeepsModuleTypes) }
+    ensures known { OnOk result (options.strictness ≡ Strict →
         IfSome (R.remaining reader.old) HasNoUnknownCustom) }
     ensures failed { IfErr result (λ failure.
         IfSome (R.remaining reader.old) (λ bytes. ExplainsRun options snips.now bytes failure)) }
@@ -144,18 +151,15 @@ fn new_module(
 ) -> Result<Vec<u8>, Failure>
     ensures normal { IfOk result (λ new.
         BecomesNormal options.normalise snips.now bytes.now new.items) }
-    ensures known { IfOk result (λ new. options.unknown ≡ Rejected →
-        HasNoUnknownCustom bytes.now) }
+    ensures kept { OnOk result (options.strictness ≡ Strict → KeepsModuleTypes bytes.now) }
+    ensures known { OnOk result (options.strictness ≡ Strict → HasNoUnknownCustom bytes.now) }
     ensures refused { IfErr result (ExplainsRun options snips.now bytes.now) }
 {
     let normal = match normal_module(alloc, keys, options.normalise, bytes) {
         Ok(module) => module,
         Err(error) => return Err(refusal(alloc, keys, bytes, options.normalise, error)),
     };
-    if let Some(offset) = rejected_section(bytes, options.unknown) {
-        let context = context_of(bytes, offset);
-        return Err(Failure::UnknownSection { offset, context });
-    }
+    check_strictness(alloc, keys, options, bytes)?;
     if snips.is_empty() {
         return Ok(normal);
     }
@@ -185,11 +189,7 @@ fn main(rt: HostRuntime) -> ExitCode {
 
 /// Does what the arguments ask for, and returns the exit status.
 fn start<E: Write>(rt: &HostRuntime, err: &mut E) -> Result<u8, Failure> {
-    match parse_arguments(
-        rt,
-        &[KEEP_WIDTHS, PRUNE, STRIP, REJECT_UNKNOWN],
-        &[OUTPUT, SNIP],
-    )? {
+    match parse_arguments(rt, &[KEEP_WIDTHS, PRUNE, STRIP, STRICT], &[OUTPUT, SNIP])? {
         Request::Help => printed(rt.stdout().write_all(HELP.as_bytes())),
         Request::Version => printed(write_version("wasmnorm", &mut rt.stdout())),
         Request::Work {

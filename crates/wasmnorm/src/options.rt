@@ -1,6 +1,6 @@
 //! The options of a run, as the arguments choose them.
-use crate::texts::{KEEP_WIDTHS, PRUNE, REJECT_UNKNOWN, STRIP};
-use crate::unknown::UnknownSections;
+use crate::strict::Strictness;
+use crate::texts::{KEEP_WIDTHS, PRUNE, STRICT, STRIP};
 use command_line::has_option;
 use walrus_normalise::{Descriptions, NormaliseOptions, UnusedTypes, Widths};
 
@@ -9,15 +9,15 @@ use walrus_normalise::{Descriptions, NormaliseOptions, UnusedTypes, Widths};
 pub struct RunOptions {
     /// How it is normalised.
     pub normalise: NormaliseOptions,
-    /// What becomes of custom sections of an unknown kind.
-    pub unknown: UnknownSections,
+    /// Whether it is rejected though it has a normal form.
+    pub strictness: Strictness,
 }
 
 /// What these options ask for.
 pub fn run_options(options: &[String]) -> RunOptions {
     RunOptions {
         normalise: normalise_options(options),
-        unknown: unknown_sections(options),
+        strictness: strictness(options),
     }
 }
 
@@ -45,10 +45,10 @@ fn normalise_options(options: &[String]) -> NormaliseOptions {
     }
 }
 
-fn unknown_sections(options: &[String]) -> UnknownSections {
-    if has_option(options, REJECT_UNKNOWN) {
-        UnknownSections::Rejected
+fn strictness(options: &[String]) -> Strictness {
+    if has_option(options, STRICT) {
+        Strictness::Strict
     } else {
-        UnknownSections::Copied
+        Strictness::Lenient
     }
 }

@@ -9,8 +9,9 @@ pub const PRUNE: &str = "--prune";
 /// The option that leaves out sections that describe other bytes.
 pub const STRIP: &str = "--strip";
 
-/// The option that rejects modules with custom sections of an unknown kind.
-pub const REJECT_UNKNOWN: &str = "--reject-unknown";
+/// The option that rejects modules with a type that would become another type, or with a custom
+/// section of an unknown kind.
+pub const STRICT: &str = "--strict";
 
 /// The option that names the file to write, which is behind it.
 pub const OUTPUT: &str = "-o";
@@ -19,12 +20,12 @@ pub const OUTPUT: &str = "-o";
 pub const SNIP: &str = "--snip";
 
 pub const USAGE: &str = "\
-usage: wasmnorm [--snip FUNCTION] [--prune] [--strip] [--reject-unknown] [--keep-widths]
+usage: wasmnorm [--snip FUNCTION] [--prune] [--strip] [--strict] [--keep-widths]
                 [-o OUTPUT] [FILE]
 ";
 
 pub const HELP: &str = "\
-usage: wasmnorm [--snip FUNCTION] [--prune] [--strip] [--reject-unknown] [--keep-widths]
+usage: wasmnorm [--snip FUNCTION] [--prune] [--strip] [--strict] [--keep-widths]
                 [-o OUTPUT] [FILE]
 Writes the WebAssembly module in FILE to standard output, with its type section in normal form and
 every other index of a type written again. Without FILE, or if it is -, the module comes from
@@ -36,9 +37,9 @@ is refused if one of them, such as debug data, describes bytes that would change
                  its section name gives it; the option can come several times
   --prune        deletes types that nothing uses outside the type section
   --strip        leaves out custom sections that describe other bytes, such as debug data
-  --reject-unknown
-                 rejects a module that has a custom section of an unknown kind, since such a
-                 section may refer to types or to places in the file
+  --strict       rejects a module if one of its types would become another type, or if it has a
+                 custom section of an unknown kind, which may refer to types or to places in the
+                 file
   --keep-widths  writes each index outside the type section in as many bytes as it had, or in more
                  where it needs them
   -o OUTPUT      writes to this file, which may be FILE itself, and not to standard output; the

@@ -1,17 +1,12 @@
 use Rattle.std.proofs.Common.{sym}
-use Rattle.wasmnorm.specs.Steps.Failures.{of_module, of_section, of_functions}
+use Rattle.wasmnorm.specs.Steps.Failures.{of_module, of_functions}
+use Rattle.wasmnorm.proofs.Failures.{objection_ends}
 use Rattle.wasmnorm.proofs.Snips.{normal_without_snips, some_named}
 use Rattle.wasmnorm.proofs.new_module.Goals as goal
 
 pub returns-in-Err-clause-refused : goal.returns-in-Err-clause-refused
 returns-in-Err-clause-refused c =
     of_module c.refusal.result (c.refusal.ensures.explains c.in-Err.ensures.refused)
-
-pub returns-in-Some-clause-refused : goal.returns-in-Some-clause-refused
-returns-in-Some-clause-refused c =
-    let found = c.in-Some in
-    of_section found.offset c.context_of-context.result found.ensures.rejected found.ensures.found
-    c.context_of-context.ensures
 
 pub returns-then-is_empty-clause-normal : goal.returns-then-is_empty-clause-normal
 returns-then-is_empty-clause-normal c =
@@ -22,3 +17,10 @@ pub returns-in-Err-snipped_module-clause-refused : goal.returns-in-Err-snipped_m
 returns-in-Err-snipped_module-clause-refused c =
     of_functions c.in-Err-snipped_module.failure (some_named c.args.snips.now (sym c.if-is_empty.ensures))
     c.in-Err-snipped_module.ensures.refused
+
+pub returns-in_err-check_strictness-clause-refused :
+    goal.returns-in_err-check_strictness-clause-refused
+returns-in_err-check_strictness-clause-refused c =
+    let why = c.in_err-check_strictness.ensures.refused in
+    objection_ends c.args.options c.args.snips.now c.args.bytes.now c.from_residual.result
+    c.in_err-check_strictness.field-0.0 c.from_residual.ensures.1 why.0 why.1

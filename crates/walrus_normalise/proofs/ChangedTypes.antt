@@ -1,0 +1,125 @@
+-- What the flags of a section and of its normal form say of the types that the normal form changes.
+use Rattle.std.proofs.Common.{◌≡◌, ◌⊎◌, ℕ, ◌<◌, List, length, Bool, true, false, refl, sym, ap, subst, ◌∙◌, inl, inr, arith, Option, Some, None}
+use Rattle.std.specs.Prelude.{IfNone, IfSome}
+use Rattle.walrus_binary.specs.ModuleSections.{HasTypes}
+use Rattle.walrus_module.specs.Renaming.{new_index}
+use Rattle.walrus_sections.specs.NormalForm.{image, IsNormalForm}
+use Rattle.walrus_sections.specs.Section.{IndexSpace, index_space, IsWellNamed, NamesBelowEnds}
+use Rattle.walrus_sections.proofs.Sections.Lying.{in_or_out}
+use Rattle.walrus_sections.proofs.Sections.Rows.{laid_out}
+use Rattle.walrus_ty.specs.Groups.{Section}
+use Rattle.walrus_ty.specs.Records.{section_of}
+use Rattle.walrus_ty.specs.declared.records.GroupAt.{GroupAt}
+use Rattle.walrus_normalise.specs.EqualTypes.{KeepsTypes, KeepsModuleTypes, IsFirstChanged, ChangesType}
+use Rattle.walrus_normalise.specs.Steps.SelfReferences.{self_references, flag, BeginsToReferTo}
+use Rattle.walrus_normalise.proofs.CarriedTypes.{carries_all, to}
+use Rattle.walrus_normalise.proofs.EqualForms.{keeps_types}
+use Rattle.walrus_normalise.proofs.EqualTypes.{KeepsApart, never_equal, stays_equal}
+use Rattle.walrus_normalise.proofs.SecondNormal.{all_kept, item_at}
+use Rattle.walrus_normalise.proofs.SelfReferences.{flag_says}
+
+true_or_false : (b : Bool) → (b ≡ true) ⊎ (b ≡ false)
+true_or_false true = inl refl
+true_or_false false = inr refl
+
+module _ (s n : Section) (indices : List ℕ) (wn : NamesBelowEnds (index_space s))
+    (f : IsNormalForm s n indices) where
+  abbrev S : IndexSpace
+  S = index_space s
+
+  abbrev N : IndexSpace
+  N = index_space n
+
+  abbrev m : ℕ → ℕ
+  m = image indices
+
+  abbrev w : ℕ → Option ℕ
+  w = new_index (all_kept indices)
+
+  abbrev Begins : ℕ → Type 0
+  Begins = BeginsToReferTo (self_references 0 s) (self_references 0 n) indices
+
+  apart : (bound : ℕ) → ((i : ℕ) → i < bound → ¬ (Begins i)) → KeepsApart S N w bound
+  apart bound none i p low e o self =
+      let c = carries_all s n indices wn f in
+      let h = c.inside i p e in
+      let goes = (item_at indices i p e).1 in
+      let new : flag (self_references 0 n) p ≡ true = (flag_says n p (c.below i p e)).1 (c.single i p e o, self) in
+      elim (true_or_false (flag (self_references 0 s) i)) [
+        | inl old ↦ ((flag_says s i h).0 old).1
+        | inr old ↦ absurd (none i low (old, ap (flag (self_references 0 n)) goes ∙ new))
+      ]
+
+  pub none_begins : ((i : ℕ) → i < length indices → ¬ (Begins i)) → KeepsTypes s
+  none_begins none =
+      keeps_types s n indices wn f
+      (apart S.count (λ i h. none i (subst (λ u. i < u) (sym f.one_each) h)))
+
+  pub first_begins : (i : ℕ) → i < length indices → Begins i → ((k : ℕ) → k < i → ¬ (Begins k)) →
+      IsFirstChanged s i
+  first_begins i low is before =
+      let h : i < S.count = subst (λ u. i < u) f.one_each low in
+      let new = (flag_says n (m i) (f.laws.below i h)).0 is.1 in
+      record {
+        normal = n;
+        indices = indices;
+        is_normal = f;
+        within = h;
+        changed = λ same. elim (in_or_out (S.rec_position i)) [
+          | inl o ↦
+              let old = (flag_says s i h).1 (o, never_equal S N i (m i) o new.0 new.1 same) in
+              let not_old = is.0 in absurd cc
+          | inr x ↦ (let there = f.laws.rec_to_rec i x.0 h x.1 in let alone = new.0 in absurd cc)
+        ];
+        before = λ k less.
+            stays_equal S N w (laid_out s) (laid_out n) wn (carries_all s n indices wn f) i (apart i before) k (m k)
+            less (to s n indices wn f k (omega (arith, less, h)));
+      }
+
+-- ---- the same of the types of a module
+
+module _ (bytes : List ℕ) (groups normal : List GroupAt) (indices lent : List ℕ) (old new : List Bool)
+    (types : HasTypes bytes groups) (w : IsWellNamed (section_of groups))
+    (f : IsNormalForm (section_of groups) (section_of normal) indices)
+    (is_old : old ≡ self_references 0 (section_of groups)) (is_new : new ≡ self_references 0 (section_of normal))
+    (is_lent : lent ≡ indices) where
+  same_begins : (i : ℕ) →
+      BeginsToReferTo (self_references 0 (section_of groups)) (self_references 0 (section_of normal)) indices i →
+      BeginsToReferTo old new lent i
+  same_begins i is = (
+    ap (λ (u : List Bool). flag u i) is_old ∙ is.0,
+    ap (λ (u : List ℕ). flag new (image u i)) is_lent ∙ (ap (λ (u : List Bool). flag u (image indices i)) is_new
+        ∙ is.1),
+  )
+
+  begins_back : (i : ℕ) → BeginsToReferTo old new lent i →
+      BeginsToReferTo (self_references 0 (section_of groups)) (self_references 0 (section_of normal)) indices i
+  begins_back i is = (
+    ap (λ (u : List Bool). flag u i) (sym is_old) ∙ is.0,
+    ap (λ (u : List Bool). flag u (image indices i)) (sym is_new) ∙ (ap (λ (u : List ℕ). flag new (image u i))
+        (sym is_lent) ∙ is.1),
+  )
+
+  pub none_found : (result : Option ℕ) →
+      IfNone result ((i : ℕ) → i < length lent → ¬ (BeginsToReferTo old new lent i)) →
+      IfNone result (KeepsModuleTypes bytes)
+  none_found None none = record {
+    groups = groups;
+    read = types;
+    kept = none_begins (section_of groups) (section_of normal) indices w.below_ends f (λ i h is.
+        none i (subst (λ (u : List ℕ). i < length u) (sym is_lent) h) (same_begins i is));
+  }
+  none_found (Some i) none = tt
+
+  pub one_found : (result : Option ℕ) → IfSome result (λ i. i < length lent) →
+      IfSome result (BeginsToReferTo old new lent) →
+      IfSome result (λ i. (k : ℕ) → k < i → ¬ (BeginsToReferTo old new lent k)) →
+      IfSome result (ChangesType bytes)
+  one_found None low is before = tt
+  one_found (Some i) low is before = record {
+    groups = groups;
+    read = types;
+    first = first_begins (section_of groups) (section_of normal) indices w.below_ends f i
+        (subst (λ (u : List ℕ). i < length u) is_lent low) (begins_back i is) (λ k less begins.
+        before k less (same_begins k begins));
+  }

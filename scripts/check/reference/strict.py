@@ -1,0 +1,57 @@
+"""What `wasmnorm --strict` must do with a module (`outcome`).
+
+Slow and plain, as the modules beside it, which say what the program does without the option, and which types are equal.
+"""
+import functools
+
+from reference import module, snipping, type_equality, type_section
+from reference.module import CUSTOM, DONE, HEADER, REFUSED, TYPE
+from reference.reader import Reader
+
+KNOWN = (b'name', b'producers', b'target_features', b'dylink.0', b'build_id')
+
+
+@functools.cache
+def first_changed_of(content):
+    """The first type of a type section that would become another type, or None."""
+    reader = Reader(content, 0, len(content))
+    groups = type_section.read_vec(reader, type_section.read_group)
+    return type_equality.first_changed(groups, *type_section.normal_form(groups))
+
+
+def first_changed(text):
+    """The same of a module."""
+    return next(map(first_changed_of, snipping.contents(text, TYPE)), None)
+
+
+def unknown_section(text):
+    """The name and the place of the first custom section of an unknown kind, or None. The module is accepted without the
+    option, so each custom section has a name."""
+    at = len(HEADER)
+    for code, section in module.sections_of(text):
+        if code == CUSTOM:
+            content = module.content(section)
+            name = Reader(content, 0, len(content)).name()
+            if name not in KNOWN and not snipping.describes(content):
+                return name, at
+        at += 1 + len(section)
+    return None
+
+
+def complaint(text):
+    """The line about a module that only `--strict` rejects, or None."""
+    index = first_changed(text)
+    if index is not None:
+        return f'type {index} would become another type, one that refers to itself'
+    found = unknown_section(text)
+    if found is None:
+        return None
+    name, at = found
+    return f'the custom section "{name.decode("ascii")}" at byte {at} is of an unknown kind'
+
+
+def outcome(text, keeps_widths=False, prunes=False):
+    """The status, the module that it writes, or None, and the line of `complaint`, or None."""
+    status, new = module.outcome(text, keeps_widths, prunes)
+    line = complaint(text) if status == DONE else None
+    return (status, new, None) if line is None else (REFUSED, None, line)

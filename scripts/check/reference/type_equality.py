@@ -1,0 +1,31 @@
+"""Equality of types, by the rule of the WebAssembly core specification 3.0, "Types", recursive types, and "Validation",
+type equality.
+
+Two types are equal if they are at the same place of groups of the same length whose definitions are alike. An index of the
+own group stands for a place in it, and any other index for its type. A lone type is a group of one. So it equals the same
+type in an explicit group. Nothing here depends on a normal form.
+"""
+from reference.type_section import renamed
+
+
+def ids_of(groups, known):
+    """An id for each type of these groups, as type_section reads them. Types are equal if their ids are, also types of two
+    sections for which `known` is the same dictionary. It has a number for each closed group."""
+    ids = []
+    for _, definitions in groups:
+        first = len(ids)
+
+        def closed(index):
+            return ids[index] if index < first else (index - first,)
+
+        group = tuple(renamed(definition, closed) for definition in definitions)
+        number = known.setdefault(group, len(known))
+        ids += [(number, place) for place in range(len(definitions))]
+    return ids
+
+
+def first_changed(groups, new_groups, images):
+    """The first type that is not equal to the type with its new index, or None."""
+    known = {}
+    ids, new_ids = ids_of(groups, known), ids_of(new_groups, known)
+    return next((index for index, image in enumerate(images) if ids[index] != new_ids[image]), None)
