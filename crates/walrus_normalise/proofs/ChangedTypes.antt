@@ -44,7 +44,10 @@ module _ (s n : Section) (indices : List ℕ) (wn : NamesBelowEnds (index_space 
       let c = carries_all s n indices wn f in
       let h = c.inside i p e in
       let goes = (item_at indices i p e).1 in
-      let new : flag (self_references 0 n) p ≡ true = (flag_says n p (c.below i p e)).1 (c.single i p e o, self) in
+      let new : flag (self_references 0 n) p ≡ true = (flag_says n p (c.below i p e)).1 (
+        c.single i p e o,
+        self,
+      ) in
       elim (true_or_false (flag (self_references 0 s) i)) [
         | inl old ↦ ((flag_says s i h).0 old).1
         | inr old ↦ absurd (none i low (old, ap (flag (self_references 0 n)) goes ∙ new))
@@ -72,7 +75,8 @@ module _ (s n : Section) (indices : List ℕ) (wn : NamesBelowEnds (index_space 
           | inr x ↦ (let there = f.laws.rec_to_rec i x.0 h x.1 in let alone = new.0 in absurd cc)
         ];
         before = λ k less.
-            stays_equal S N w (laid_out s) (laid_out n) wn (carries_all s n indices wn f) i (apart i before) k (m k)
+            stays_equal S N w (laid_out s) (laid_out n) wn (carries_all s n indices wn f) i (apart i before)
+            k (m k)
             less (to s n indices wn f k (omega (arith, less, h)));
       }
 
@@ -81,19 +85,23 @@ module _ (s n : Section) (indices : List ℕ) (wn : NamesBelowEnds (index_space 
 module _ (bytes : List ℕ) (groups normal : List GroupAt) (indices lent : List ℕ) (old new : List Bool)
     (types : HasTypes bytes groups) (w : IsWellNamed (section_of groups))
     (f : IsNormalForm (section_of groups) (section_of normal) indices)
-    (is_old : old ≡ self_references 0 (section_of groups)) (is_new : new ≡ self_references 0 (section_of normal))
+    (is_old : old ≡ self_references 0 (section_of groups)) (is_new : new ≡ self_references 0 (section_of
+    normal))
     (is_lent : lent ≡ indices) where
   same_begins : (i : ℕ) →
-      BeginsToReferTo (self_references 0 (section_of groups)) (self_references 0 (section_of normal)) indices i →
+      BeginsToReferTo (self_references 0 (section_of groups)) (self_references 0 (section_of normal))
+      indices i →
       BeginsToReferTo old new lent i
   same_begins i is = (
     ap (λ (u : List Bool). flag u i) is_old ∙ is.0,
-    ap (λ (u : List ℕ). flag new (image u i)) is_lent ∙ (ap (λ (u : List Bool). flag u (image indices i)) is_new
+    ap (λ (u : List ℕ). flag new (image u i)) is_lent ∙ (ap (λ (u : List Bool). flag u (image indices i))
+        is_new
         ∙ is.1),
   )
 
   begins_back : (i : ℕ) → BeginsToReferTo old new lent i →
-      BeginsToReferTo (self_references 0 (section_of groups)) (self_references 0 (section_of normal)) indices i
+      BeginsToReferTo (self_references 0 (section_of groups)) (self_references 0 (section_of normal))
+      indices i
   begins_back i is = (
     ap (λ (u : List Bool). flag u i) (sym is_old) ∙ is.0,
     ap (λ (u : List Bool). flag u (image indices i)) (sym is_new) ∙ (ap (λ (u : List ℕ). flag new (image u i))

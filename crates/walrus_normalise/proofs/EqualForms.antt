@@ -44,29 +44,31 @@ module _ (s n : Section) (indices : List ℕ) (wn : NamesBelowEnds (index_space 
         subst (λ (x : Section). AreAllEqual s x (λ i. Some (image others i))) is.0
         (subst (λ (x : List ℕ). AreAllEqual s n (λ i. Some (image x i))) is.1 all_equal)
 
-    module _ (normal : Section) (roots : List ℕ) (new : NewIndices) (u : IsUsedNormal s roots normal new) where
-      apart_too : KeepsApart S (index_space normal) (new_index new) S.count
-      apart_too i p low e o self =
-          let c = carries_used s normal roots new wn u in
-          let before =
-          named_before (value_or_zero (new_index new)) (S.definition i) p (names_same p (c.same i p e) self) in
-          let z = before.0 in
-          let goes = c.named i p z e before.1 in
-          let is : goes.0 ≡ p = sym (value_is (new_index new) z goes.0 goes.1) ∙ before.2 in
-          let hz = named_within s wn i z low before.1 in
-          let slots = u.contents.apart z i p (goes.1 ∙ ap (λ (x : ℕ). Some x) is) e in
-          let joined =
-          one_image S N (image indices) (laid_out s) wn f.laws u.slot u.merged z i hz low slots in
-          let there : Names (N.definition (image indices i)) (image indices z) =
-          names_same (image indices z) (sym (f.laws.same i low))
-          (Names-rename (image indices) (S.definition i) z before.1) in
-          apart i (image indices i) low (to s n indices wn f i low) o
-          (subst (λ (x : ℕ). Names (N.definition (image indices i)) x) joined there)
+    module _ (normal : Section) (roots : List ℕ) (new : NewIndices) (u : IsUsedNormal s roots normal new)
+      where
+        apart_too : KeepsApart S (index_space normal) (new_index new) S.count
+        apart_too i p low e o self =
+            let c = carries_used s normal roots new wn u in
+            let before =
+            named_before (value_or_zero (new_index new)) (S.definition i) p (names_same p (c.same i p e) self)
+            in
+            let z = before.0 in
+            let goes = c.named i p z e before.1 in
+            let is : goes.0 ≡ p = sym (value_is (new_index new) z goes.0 goes.1) ∙ before.2 in
+            let hz = named_within s wn i z low before.1 in
+            let slots = u.contents.apart z i p (goes.1 ∙ ap (λ (x : ℕ). Some x) is) e in
+            let joined =
+            one_image S N (image indices) (laid_out s) wn f.laws u.slot u.merged z i hz low slots in
+            let there : Names (N.definition (image indices i)) (image indices z) =
+            names_same (image indices z) (sym (f.laws.same i low))
+            (Names-rename (image indices) (S.definition i) z before.1) in
+            apart i (image indices i) low (to s n indices wn f i low) o
+            (subst (λ (x : ℕ). Names (N.definition (image indices i)) x) joined there)
 
-      used_equal : AreAllEqual s normal (new_index new)
-      used_equal i j h e =
-          stays_equal S (index_space normal) (new_index new) (laid_out s) (laid_out normal) wn
-          (carries_used s normal roots new wn u) S.count apart_too i j h e
+        used_equal : AreAllEqual s normal (new_index new)
+        used_equal i j h e =
+            stays_equal S (index_space normal) (new_index new) (laid_out s) (laid_out normal) wn
+            (carries_used s normal roots new wn u) S.count apart_too i j h e
 
     pub keeps_types : KeepsTypes s
     keeps_types = record { of_all = by_one_form; of_used = used_equal }

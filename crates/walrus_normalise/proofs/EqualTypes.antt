@@ -11,7 +11,8 @@ use Rattle.walrus_normalise.specs.EqualTypes.{IsMember, alone, in_rec, IsInGroup
 
 -- ---- members of groups
 
-pub only_itself : (s : IndexSpace) (i place k : ℕ) → IsSingle s i → IsMember s i place k → (place ≡ 0) × (k ≡ i)
+pub only_itself : (s : IndexSpace) (i place k : ℕ) → IsSingle s i → IsMember s i place k →
+    (place ≡ 0) × (k ≡ i)
 only_itself s i _ _ o (alone h single) = (refl, refl)
 only_itself s i _ _ o (in_rec k place group own at_i at_k) = absurd cc
 
@@ -54,7 +55,12 @@ module _ (s : IndexSpace) (l : IsLaidOut s) where
     | inr over ↦ absurd (elim (cases_eq i x) [
       | inl same ↦ outside (t, subst (λ (y : ℕ). IsMember s i t y) same (in_rec i t group t at_i at_i))
       | inr other ↦ elim (l.pair i x (omega (arith, over, other)) hx) [
-        | inl a ↦ (let e = one_end i k group t u hi hk at_i at_k in let z = a.ends in omega (arith, e, z, low))
+        | inl a ↦ (let e = one_end i k group t u hi hk at_i at_k in let z = a.ends in omega (
+          arith,
+          e,
+          z,
+          low,
+        ))
         | inr o ↦
             let p = some_pair o.x.0 o.x.1 group t (sym o.at_x ∙ at_i) in
             outside (
@@ -108,7 +114,8 @@ module _ (s n : IndexSpace) (m : ℕ → Option ℕ) (ls : IsLaidOut s) (ln : Is
   v = value_or_zero m
 
   there : (i p z : ℕ) → m i ≡ Some p → Names (s.definition i) z → m z ≡ Some (v z)
-  there i p z e names = let t = c.named i p z e names in t.1 ∙ ap (λ (u : ℕ). Some u) (sym (value_is m z t.0 t.1))
+  there i p z e names = let t = c.named i p z e names in t.1 ∙ ap (λ (u : ℕ). Some u) (sym (value_is m z t.0
+      t.1))
 
   -- ---- a lone type
 
@@ -145,7 +152,11 @@ module _ (s n : IndexSpace) (m : ℕ → Option ℕ) (ls : IsLaidOut s) (ln : Is
       own = 0;
       at_own = own;
       at_own_too = own_too;
-      places = λ k place x. (p, subst (λ (u : ℕ). IsMember n p u p) (sym (only_itself s i place k o x).0) own_too);
+      places = λ k place x. (
+        p,
+        subst (λ (u : ℕ). IsMember n p u p) (sym (only_itself s i place k o x).0)
+            own_too,
+      );
       places_too = λ l place x. (
         i,
         subst (λ (u : ℕ). IsMember s i u i) (sym (only_itself n p place l (c.single i p e o) x).0) own,
@@ -162,7 +173,8 @@ module _ (s n : IndexSpace) (m : ℕ → Option ℕ) (ls : IsLaidOut s) (ln : Is
             (subst (λ (u : ℕ). IsMember n p 0 u) (sym (ap v is.1 ∙ goes)) own_too))),
         (λ inner. (
             let is = only_itself n p place (v x) (c.single i p e o) inner in
-            let names_too = subst (λ (u : ℕ). Names (s.definition u) x) (only_itself s i g.0 k o g.1).1 names in
+            let names_too = subst (λ (u : ℕ). Names (s.definition u) x) (only_itself s i g.0 k o g.1).1
+            names in
             subst (λ (u : ℕ). IsMember s i u x) (sym is.0)
             (subst (λ (u : ℕ). IsMember s i 0 u) (sym (itself x names_too is.1)) own))),
       );
@@ -211,7 +223,8 @@ module _ (s n : IndexSpace) (m : ℕ → Option ℕ) (ls : IsLaidOut s) (ln : Is
     sent k place f =
         let g = r.forth k place f in g.1 ∙ ap (λ (u : ℕ). Some u) (sym (value_is m k g.0 g.1))
 
-    sent_to : (k place : ℕ) → s.rec_position k ≡ Some (group, place) → n.rec_position (v k) ≡ Some (r.new, place)
+    sent_to : (k place : ℕ) → s.rec_position k ≡ Some (group, place) →
+        n.rec_position (v k) ≡ Some (r.new, place)
     sent_to k place f =
         let g = r.forth k place f in ap n.rec_position (value_is m k g.0 g.1) ∙ g.2
 
@@ -272,7 +285,8 @@ module _ (s n : IndexSpace) (m : ℕ → Option ℕ) (ls : IsLaidOut s) (ln : Is
         let to = lone_before i p e o low k x g names outside in
         let before = to.0 in
         equal_below b x (v x) (omega (arith, less, before)) (omega (arith, low, before)) to.1))
-    | inr x ↦ equal i p s.definition (λ k y. y) (λ k. v) (rec_groups i p x.0.0 x.0.1 e x.1) (λ k y g names outside. (
+    | inr x ↦ equal i p s.definition (λ k y. y) (λ k. v) (rec_groups i p x.0.0 x.0.1 e x.1) (λ k y g names
+        outside. (
         let to = rec_before i p x.0.0 x.0.1 e x.1 k y g names outside in
         let before = to.0 in
         equal_below b y (v y) (omega (arith, less, before)) (omega (arith, low, before)) to.1))

@@ -67,7 +67,8 @@ fits_from : (b k : ℕ) (gs : Section) → Fits b (places_from b k gs) (self_ref
 fits_from b k [] = tt
 fits_from b k (Single d ∷ gs) = (
   ((λ e. (refl, named_if b d e)), (λ is. if_named b d is.1)),
-  subst (λ x. Fits (suc b) (places_from (suc b) k gs) (self_references x gs)) (omega arith) (fits_from (suc b) k gs),
+  subst (λ x. Fits (suc b) (places_from (suc b) k gs) (self_references x gs)) (omega arith) (fits_from (suc
+      b) k gs),
 )
 fits_from b k (Rec ds ∷ gs) =
     let many : length (replicate (length ds) false) ≡ length ds = length-replicate (length ds) false in
@@ -77,7 +78,8 @@ fits_from b k (Rec ds ∷ gs) =
     (self_references (b + length (replicate (length ds) false)) gs)
     (subst (λ x. Fits x (places_from (length ds + b) (recs_after ds k) gs)
     (self_references (b + length (replicate (length ds) false)) gs)) next
-    (subst (λ x. Fits (length ds + b) (places_from (length ds + b) (recs_after ds k) gs) (self_references x gs))
+    (subst (λ x. Fits (length ds + b) (places_from (length ds + b) (recs_after ds k) gs) (self_references x
+    gs))
     same (fits_from (length ds + b) (recs_after ds k) gs)))
 
 fits_at : (b : ℕ) (ps : List Place) (fs : List Bool) → Fits b ps fs → (i : ℕ) → i < length ps →
@@ -91,7 +93,8 @@ fits_at b (p ∷ ps) (f ∷ fs) h (suc i) less =
 
 -- what a flag says
 pub flag_says : (s : Section) (i : ℕ) → i < (index_space s).count →
-    (flag (self_references 0 s) i ≡ true) ↔ (IsSingle (index_space s) i × Names ((index_space s).definition i) i)
+    (flag (self_references 0 s) i ≡ true) ↔ (IsSingle (index_space s) i × Names ((index_space s).definition
+    i) i)
 flag_says s i h =
     subst (λ x. (flag (self_references 0 s) i ≡ true) ↔ IsSelfAt x (at (places_from 0 0 s) i)) (omega arith)
     (fits_at 0 (places_from 0 0 s) (self_references 0 s) (fits_from 0 0 s) i h)

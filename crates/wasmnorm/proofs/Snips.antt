@@ -81,14 +81,16 @@ objection_refused :
     ⊎ IsRejected options.strictness bytes
 objection_refused options named bytes f strict (of_reading _ why) is =
     inl (explains_refused options.normalise bytes f why is)
-objection_refused options named bytes _ strict (of_type index changes) is = inr (inr (changed_type index strict changes))
+objection_refused options named bytes _ strict (of_type index changes) is = inr (inr (changed_type index
+    strict changes))
 objection_refused options named bytes _ strict (of_section offset context has shown) is =
     inr (inr (unknown_section offset strict has))
 
 objection_ill_named :
     (options : RunOptions) (bytes : List ℕ) (f : Failure) → ExplainsObjection options.normalise bytes f
     → status_of f ≡ 2 → IsIllNamed bytes
-objection_ill_named options bytes f (of_reading _ why) is = explains_ill_named options.normalise bytes f why is
+objection_ill_named options bytes f (of_reading _ why) is = explains_ill_named options.normalise bytes f why
+    is
 objection_ill_named options bytes _ (of_type index changes) is = absurd (omega (arith, is))
 objection_ill_named options bytes _ (of_section offset context has shown) is = absurd (omega (arith, is))
 
@@ -247,7 +249,8 @@ becomes_normal {A} {E} options named bytes written lent again (Ok new) items is_
       is_normalised = subst (λ (u : List ℕ). IsNormalised options u (items new)) b normal;
       still_fit = λ kept. subst (λ (u : List ℕ). DescriptionsFit u (items new)) b (still kept);
     }
-becomes_normal {A} {E} options named bytes written lent again (Err e) items is_snipped a b fit normal still = tt
+becomes_normal {A} {E} options named bytes written lent again (Err e) items is_snipped a b fit normal still
+    = tt
 
 pub some_named : (named : List (String Global)) → (length named == 0) ≡ false → named ≡ [] → ⊥
 some_named named fails e =
@@ -277,10 +280,12 @@ pub normal_explained :
     → IfErr result (ExplainsNormal options lent) → IfErr result (ExplainsSnip options named bytes)
 normal_explained {A} options named bytes written lent (Ok new) is_snipped same why = tt
 normal_explained {A} options named bytes written lent (Err snips.NoNames) is_snipped same why = absurd why
-normal_explained {A} options named bytes written lent (Err (snips.NotOne name functions)) is_snipped same why =
+normal_explained {A} options named bytes written lent (Err (snips.NotOne name functions)) is_snipped same
+    why =
     absurd why
 normal_explained {A} options named bytes written lent (Err (snips.Refused e)) is_snipped same why = absurd why
-normal_explained {A} options named bytes written lent (Err (snips.Outdated offset context)) is_snipped same why =
+normal_explained {A} options named bytes written lent (Err (snips.Outdated offset context)) is_snipped same
+    why =
     absurd why
 normal_explained {A} options named bytes written lent (Err snips.TooLong) is_snipped same why = record {
   snipped = written;
