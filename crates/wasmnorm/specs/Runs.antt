@@ -1,8 +1,10 @@
 -- What a run does: `IsWritten` where its bytes are a module that is normalised, `IsRefused`,
 -- `IsIllNamed` and `IsRejected` where not. What stops functions from being snipped is in
 -- `Snips`.
-use Rattle.std.specs.Prelude.{◌≡◌, ℕ, List, Option}
+use Rattle.std.specs.Prelude.{◌≡◌, ℕ, true, List, Option, bytes_eq}
+use Rattle.std.specs.List.{list_any}
 use Rattle.std.specs.Io.KnownBytes.{Appends}
+use Rattle.std.specs.String.{string_bytes}
 use Rattle.std.specs.declared.alloc.Global.{Global}
 use Rattle.std.specs.declared.string.String.{String}
 use Rattle.walrus_binary.specs.ModuleSections.{HasBadTypesBy}
@@ -56,3 +58,9 @@ pub data IsRejected (strictness : Strictness) (bytes : List ℕ) : Type 0 where
   unknown_section :
       (offset : ℕ) → strictness ≡ Strict → HasUnknownCustomAt bytes offset
       → IsRejected strictness bytes
+
+-- ---- the arguments
+
+-- the option is among these
+abbrev pub IsGiven : List ℕ → List (String Global) → Type 0
+IsGiven option options = list_any (λ given. bytes_eq (string_bytes given) option) options ≡ true

@@ -1,4 +1,11 @@
 //! The options of a run, as the arguments choose them.
+ghost use Rattle.std.specs.Prelude.{◌≡◌, ◌↔◌, codes};
+ghost use Rattle.walrus_module.specs.declared.renaming.Widths.TheVariants as widths;
+ghost use Rattle.walrus_normalise.specs.declared.options.Descriptions.TheVariants as descriptions;
+ghost use Rattle.walrus_normalise.specs.declared.options.UnusedTypes.TheVariants as unused;
+ghost use Rattle.wasmnorm.specs.Runs.{IsGiven};
+ghost use Rattle.wasmnorm.specs.declared.strict.Strictness.TheVariants as strictness;
+
 use crate::strict::Strictness;
 use crate::texts::{KEEP_WIDTHS, PRUNE, STRICT, STRIP};
 use command_line::has_option;
@@ -14,38 +21,59 @@ pub struct RunOptions {
 }
 
 /// What these options ask for.
-pub fn run_options(options: &[String]) -> RunOptions {
+pub fn run_options(options: &[String]) -> RunOptions
+    ensures keep_widths { result.normalise.widths ≡ widths.Kept ↔
+        IsGiven (codes "--keep-widths") options.now }
+    ensures strip { result.normalise.descriptions ≡ descriptions.Stripped ↔
+        IsGiven (codes "--strip") options.now }
+    ensures prune { result.normalise.unused ≡ unused.Deleted ↔
+        IsGiven (codes "--prune") options.now }
+    ensures strict { result.strictness ≡ strictness.Strict ↔
+        IsGiven (codes "--strict") options.now }
+{
     RunOptions {
-        normalise: normalise_options(options),
+        normalise: NormaliseOptions {
+            widths: widths(options),
+            descriptions: descriptions(options),
+            unused: unused_types(options),
+        },
         strictness: strictness(options),
     }
 }
 
-/// How the module is normalised, by the options that are there.
-fn normalise_options(options: &[String]) -> NormaliseOptions {
-    let widths = if has_option(options, KEEP_WIDTHS) {
+fn widths(options: &[String]) -> Widths
+    ensures { result ≡ widths.Kept ↔ IsGiven (codes "--keep-widths") options.now }
+{
+    if has_option(options, KEEP_WIDTHS) {
         Widths::Kept
     } else {
         Widths::Shortest
-    };
-    let descriptions = if has_option(options, STRIP) {
-        Descriptions::Stripped
-    } else {
-        Descriptions::Kept
-    };
-    let unused = if has_option(options, PRUNE) {
-        UnusedTypes::Deleted
-    } else {
-        UnusedTypes::Kept
-    };
-    NormaliseOptions {
-        widths,
-        descriptions,
-        unused,
     }
 }
 
-fn strictness(options: &[String]) -> Strictness {
+fn descriptions(options: &[String]) -> Descriptions
+    ensures { result ≡ descriptions.Stripped ↔ IsGiven (codes "--strip") options.now }
+{
+    if has_option(options, STRIP) {
+        Descriptions::Stripped
+    } else {
+        Descriptions::Kept
+    }
+}
+
+fn unused_types(options: &[String]) -> UnusedTypes
+    ensures { result ≡ unused.Deleted ↔ IsGiven (codes "--prune") options.now }
+{
+    if has_option(options, PRUNE) {
+        UnusedTypes::Deleted
+    } else {
+        UnusedTypes::Kept
+    }
+}
+
+fn strictness(options: &[String]) -> Strictness
+    ensures { result ≡ strictness.Strict ↔ IsGiven (codes "--strict") options.now }
+{
     if has_option(options, STRICT) {
         Strictness::Strict
     } else {
