@@ -87,7 +87,8 @@ pub encode_refused :
 encode_refused options bytes (Ok new) e is long = absurd is
 encode_refused options bytes (Err x) encode.TooMany is long =
     subst (λ y. IsRefusal options bytes y) (sym is) (long refl)
-encode_refused options bytes (Err x) encode.Memory is long = subst (λ y. IsRefusal options bytes y) (sym is) tt
+encode_refused options bytes (Err x) encode.Memory is long = subst (λ y. IsRefusal options bytes y) (sym is)
+    tt
 
 pub rename_refused :
     {A B : Type 0} (options : NormaliseOptions) (bytes : List ℕ) (result : Result B Refusal) (e : RenameError)

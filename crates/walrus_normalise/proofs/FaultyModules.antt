@@ -74,8 +74,10 @@ first_known : (count : ℕ) (texts rest whole : List ℕ) (sections all : List S
 first_known count _ rest whole _ all no_items hs e known = All-nil (Known count)
 first_known count _ rest _ _ _ (next_item text texts s sections h hs) no_items e known =
     absurd (not_empty text (texts ++ rest) s h (sym e ∙ append_assoc text texts rest))
-first_known count _ rest _ _ _ (next_item text texts s sections h hs) (next_item other whole t all k ks) e known =
-    let same = same_section text (texts ++ rest) other whole s t h k (sym (append_assoc text texts rest) ∙ e) in
+first_known count _ rest _ _ _ (next_item text texts s sections h hs) (next_item other whole t all k ks) e
+    known =
+    let same = same_section text (texts ++ rest) other whole s t h k (sym (append_assoc text texts rest) ∙
+    e) in
     All-cons (Known count) s sections
     (subst (λ (u : Section). Known count u) (sym same.0) (All-head (Known count) t all known))
     (first_known count texts rest whole sections all hs ks same.1 (All-tail (Known count) t all known))
@@ -182,7 +184,8 @@ none_unknown count (x ∷ roots) k below found =
 same_count : (bytes : List ℕ) (count : ℕ) (groups : List GroupAt) → HasCount bytes count →
     HasTypes bytes groups → (index_space (section_of groups)).count ≡ count
 same_count bytes count groups c read =
-    ap (λ (v : List GroupAt). (index_space (section_of v)).count) (types_once bytes groups c.groups read c.read)
+    ap (λ (v : List GroupAt). (index_space (section_of v)).count) (types_once bytes groups c.groups read
+    c.read)
     ∙ sym c.same
 
 -- where no type is deleted, there are as many new indices, and each type has one
@@ -247,7 +250,8 @@ module _ (count k : ℕ) (bytes types left : List ℕ) (m : NewIndices) (w : Wid
       settled long (known_names m (all_new bytes normal m f) known.sections
       (subst (λ (j : ℕ). AreKnownSections j known.sections) (sym long) known.known))
 
-  left_of_used : (d : Descriptions) (normal : List GroupAt) → IsLeft d bytes left → UsedNormal bytes normal m → ⊥
+  left_of_used : (d : Descriptions) (normal : List GroupAt) → IsLeft d bytes left →
+      UsedNormal bytes normal m → ⊥
   left_of_used d normal is f =
       let n = names_of count known.sections known.known in
       let roots : f.roots ≡ n.names =
@@ -260,7 +264,8 @@ module _ (count k : ℕ) (bytes types left : List ℕ) (m : NewIndices) (w : Wid
       (new_names m known.sections n.names n.are
       (subst (λ (xs : List ℕ). All (HasNew m) xs) roots (roots_new bytes normal m f below)))
 
-left_by_kind : (unused : UnusedTypes) (d : Descriptions) (w : Widths) (count k : ℕ) (bytes types left : List ℕ)
+left_by_kind : (unused : UnusedTypes) (d : Descriptions) (w : Widths) (count k : ℕ) (bytes types left : List
+    ℕ)
     (m : NewIndices) → HasCount bytes count → KnownModule count left → HasNormalTypes unused bytes types m →
     IsLeft d bytes left → ModuleNamesUnknown types m w k left → ⊥
 left_by_kind kinds.Kept d w count k bytes types left m c known has is u =
@@ -279,8 +284,10 @@ stopped_by_fault options bytes (unread deleted h) count c known =
     roots_known count bytes c (known_module count bytes c.groups c.read known) h
 stopped_by_fault options bytes (malformed left is never) count c known =
     renamable count left
-    (left_known count options.descriptions bytes left is (known_module count bytes c.groups c.read known)) never
+    (left_known count options.descriptions bytes left is (known_module count bytes c.groups c.read known))
+    never
 stopped_by_fault options bytes (unknown types left m k has is u) count c known =
     left_by_kind options.unused options.descriptions options.widths count k bytes types left m c
-    (left_known count options.descriptions bytes left is (known_module count bytes c.groups c.read known)) has is
+    (left_known count options.descriptions bytes left is (known_module count bytes c.groups c.read known))
+    has is
     u

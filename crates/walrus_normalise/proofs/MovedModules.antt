@@ -250,7 +250,8 @@ moved_kept options bytes moved a b mv short kept order h k =
     cor.1 c order in
     moved_same options bytes moved a b mv short h k (same_section h.has.normal k.has.normal cor.0)
     (subst (λ (u : NewIndices). AreInTurn (all_kept mv.indices) u h.new_indices) (sym g.all_kept)
-    (subst (λ (u : NewIndices). AreInTurn (all_kept mv.indices) (all_kept g.indices) u) (sym f.all_kept) turn))
+    (subst (λ (u : NewIndices). AreInTurn (all_kept mv.indices) (all_kept g.indices) u) (sym f.all_kept)
+    turn))
     (subst (λ (u : NewIndices). KeepOrder (all_kept mv.indices) u) (sym g.all_kept) ordered)
 
 moved_deleted : (options : NormaliseOptions) (bytes moved a b : List ℕ) (mv : IsMoved bytes moved) →
@@ -294,7 +295,8 @@ chain_once options last _ a b short (back bytes next new (move, order) has chain
 -- ---- where the order stays
 
 -- what has a new index is a type of the module; if it names none, it is defined there as before
-new_definition : (u : UnusedTypes) (bytes : List ℕ) (groups normal : List GroupAt) (m : NewIndices) (q p : ℕ) →
+new_definition : (u : UnusedTypes) (bytes : List ℕ) (groups normal : List GroupAt) (m : NewIndices) (q p :
+    ℕ) →
     HasTypes bytes groups → HasNormalForm u bytes normal m → new_index m q ≡ Some p
     → (q < (index_space (section_of groups)).count)
     × (((k : ℕ) → ¬ (Names ((index_space (section_of groups)).definition q) k))

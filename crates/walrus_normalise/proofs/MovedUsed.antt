@@ -72,7 +72,8 @@ moved_forms : (s r n p : Section) (indices roots : List ℕ) (m w : NewIndices) 
     (n ≡ p) × ((k : ℕ) → k < (index_space s).count → new_index m k ≡ new_index w (image indices k))
 moved_forms s r n p _ roots m w (drops_empty_rec x) ws known h k =
     let own : map (image (identity s)) roots ≡ roots =
-    same_images (index_space s).count (image (identity s)) (λ k. k) (own_image s) roots known ∙ map_own roots in
+    same_images (index_space s).count (image (identity s)) (λ k. k) (own_image s) roots known ∙ map_own
+    roots in
     let one = unemptied_form s r n p roots m w ws known x h
     (subst (λ (u : List ℕ). IsUsedNormal r u p w) own k) in (
       one.0,
@@ -128,7 +129,8 @@ moved_used bytes moved mv normal new m w f g read have =
     let to = have f.roots f.named in
     let known = roots_known (new_index m) f.roots to.0 to.1 (index_space s).count
     (λ i q e. (let at = has_place m i q e in omega (arith, at, c.one_each))) in
-    let one = moved_forms s r (section_of normal) (section_of new) mv.indices f.roots m w mv.moves ws known c d in
+    let one = moved_forms s r (section_of normal) (section_of new) mv.indices f.roots m w mv.moves ws known
+    c d in
     let many = moves_all s r mv.indices mv.moves in
     record {
       same = same_section normal new one.0;

@@ -28,11 +28,13 @@ use Rattle.walrus_normalise.specs.declared.options.NormaliseOptions.{NormaliseOp
 
 -- ---- contents
 
-texts_once : (kinds : List Kind) (content a b : List ℕ) → Names kinds content a → Names kinds content b → a ≡ b
+texts_once : (kinds : List Kind) (content a b : List ℕ) → Names kinds content a → Names kinds content b →
+    a ≡ b
 texts_once kinds content a b h k =
     h.named ∙ same_names kinds content h.pieces content k.pieces [] [] h.are k.are refl ∙ sym k.named
 
-body_once : (text other a b r s : List ℕ) → IsSizedBody text a → IsSizedBody other b → text ++ r ≡ other ++ s →
+body_once : (text other a b r s : List ℕ) → IsSizedBody text a → IsSizedBody other b →
+    text ++ r ≡ other ++ s →
     (a ≡ b) × (r ≡ s)
 body_once _ _ a b r s (sized size content _ h f) (sized size' content' _ g k) e =
     let c = same_content ((size ++ content) ++ r) content r content' s (taken size content r _ h refl)
@@ -60,7 +62,8 @@ vec_once _ _ _ _ (counted count front bodies h hs) (counted count' front' bodies
 
 code_once : (content a b : List ℕ) → IsCode content a → IsCode content b → a ≡ b
 code_once content a b h k =
-    h.named ∙ ap (λ (u : List (List ℕ)). concat u) (vec_once content content h.bodies k.bodies h.are k.are refl)
+    h.named ∙ ap (λ (u : List (List ℕ)). concat u) (vec_once content content h.bodies k.bodies h.are k.are
+    refl)
     ∙ sym k.named
 
 no_code : (id : ℕ) (kinds : List Kind) → section_kinds id ≡ Some kinds → section_kinds id ≡ None → ⊥
@@ -70,10 +73,12 @@ content_once : (id : ℕ) (content a b : List ℕ) → IsContent id content a �
 content_once id content a b (texts _ kinds _ _ e h) (texts _ kinds' _ _ e' k) =
     texts_once kinds content a b h
     (subst (λ (u : List Kind). Names u content b) (same_kinds (section_kinds id) kinds' kinds e' e) k)
-content_once _ content a b (texts _ kinds _ _ e h) (code _ _ k) = absurd (no_texts_of_code code_id kinds e refl)
+content_once _ content a b (texts _ kinds _ _ e h) (code _ _ k) = absurd (no_texts_of_code code_id kinds e
+    refl)
 content_once id content a _ (texts _ kinds _ _ e h) (nameless _ _ nothing other) =
     absurd (no_code id kinds e nothing)
-content_once _ content a b (code _ _ h) (texts _ kinds _ _ e k) = absurd (no_texts_of_code code_id kinds e refl)
+content_once _ content a b (code _ _ h) (texts _ kinds _ _ e k) = absurd (no_texts_of_code code_id kinds e
+    refl)
 content_once _ content a b (code _ _ h) (code _ _ k) = code_once content a b h k
 content_once _ content a _ (code _ _ h) (nameless _ _ nothing other) = absurd (other refl)
 content_once id content _ b (nameless _ _ nothing other) (texts _ kinds _ _ e k) =
@@ -151,7 +156,8 @@ left_names : (bytes left names others : List ℕ) → IsStripped bytes left → 
 left_names bytes left names others s h k =
     let r = sections_left s.texts s.new_texts s.are in
     let all : IsModule bytes r.all = module_of bytes s.texts s.sections r.all s.is_module s.parts r.before in
-    let rest : IsModule left r.left = module_of left s.new_texts k.sections r.left k.is_module s.new_parts r.after
+    let rest : IsModule left r.left = module_of left s.new_texts k.sections r.left k.is_module s.new_parts
+    r.after
     in
     let there : AreContents r.all names = subst (λ (u : List Section). AreContents u names)
     (one_module bytes h.sections r.all h.is_module all) h.are in
@@ -171,7 +177,8 @@ pub record NewRoots (m : NewIndices) (roots : List ℕ) (new : List ℕ) : Type 
   pub named : NamesOutside new new_roots
   pub mapped : map (λ k. new_index m k) roots ≡ map (λ k. Some k) new_roots
 
-pub new_roots_of : (options : NormaliseOptions) (bytes new roots : List ℕ) → (h : IsNormalised options bytes new)
+pub new_roots_of : (options : NormaliseOptions) (bytes new roots : List ℕ) →
+    (h : IsNormalised options bytes new)
     → NamesOutside bytes roots → NewRoots h.new_indices roots new
 new_roots_of options bytes new roots h named =
     let f = module_follows h.new_indices options.widths h.types h.left new h.renamed in

@@ -106,7 +106,8 @@ used_normal u bytes normal m deleted (of_used groups roots same read well_named 
   is_used_normal = used;
 }
 
-all_once : (bytes : List ℕ) (a b : List GroupAt) (m w : NewIndices) → AllNormal bytes a m → AllNormal bytes b w →
+all_once : (bytes : List ℕ) (a b : List GroupAt) (m w : NewIndices) → AllNormal bytes a m →
+    AllNormal bytes b w →
     (a ≡ b) × (m ≡ w)
 all_once bytes a b m w h k =
     let same : k.groups ≡ h.groups = types_once bytes k.groups h.groups k.read h.read in
@@ -121,7 +122,8 @@ abbrev pub HaveNew : NewIndices → List ℕ → Type 0
 HaveNew m bytes = (roots : List ℕ) → NamesOutside bytes roots → (new_roots : List ℕ)
     × (map (λ k. new_index m k) roots ≡ map (λ k. Some k) new_roots)
 
-used_once : (bytes : List ℕ) (a b : List GroupAt) (m w : NewIndices) → HaveNew m bytes → UsedNormal bytes a m →
+used_once : (bytes : List ℕ) (a b : List GroupAt) (m w : NewIndices) → HaveNew m bytes →
+    UsedNormal bytes a m →
     UsedNormal bytes b w → (a ≡ b) × (m ≡ w)
 used_once bytes a b m w have h k =
     let same : k.groups ≡ h.groups = types_once bytes k.groups h.groups k.read h.read in

@@ -20,7 +20,8 @@ pub record AreWantedAlike (s r : Section) (indices : List ℕ) (Here There : ℕ
       → (k : ℕ) × (k < (index_space s).count) × Here k
       × ((index_space s).definition k ≡ (index_space r).definition j)
 
-module _ (u : UnusedTypes) (s r : Section) (indices : List ℕ) (t : HaveSameTypes u s r indices) (n : IndexSpace)
+module _ (u : UnusedTypes) (s r : Section) (indices : List ℕ) (t : HaveSameTypes u s r indices) (n :
+    IndexSpace)
     (Here There : ℕ → Type 0) (alike : AreWantedAlike s r indices Here There) where
   abbrev S : IndexSpace
   S = index_space s

@@ -93,7 +93,8 @@ module _ (options : NormaliseOptions) (bytes new : List ℕ) (short : options.wi
       let same : f.groups ≡ groups = types_once bytes f.groups groups f.read read in
       let s : Section = section_of groups in
       let c : IsUsedNormal s f.roots (section_of h.has.normal) h.new_indices =
-      subst (λ (u : List GroupAt). IsUsedNormal (section_of u) f.roots (section_of h.has.normal) h.new_indices)
+      subst (λ (u : List GroupAt). IsUsedNormal (section_of u) f.roots (section_of h.has.normal)
+      h.new_indices)
       same f.is_used_normal in
       let well : IsWellNamed s = subst (λ (u : List GroupAt). IsWellNamed (section_of u)) same f.well_named in
       let to = have_new options bytes new h f.roots f.named in
@@ -117,7 +118,8 @@ module _ (options : NormaliseOptions) (bytes new : List ℕ) (short : options.wi
   own_lead : (u : UnusedTypes) → options.unused ≡ u →
       LeadsTo u options.descriptions h.types h.has.normal new bytes
   own_lead kinds.Kept e = all_lead (all_normal options.unused bytes h.has.normal h.new_indices e h.has.has)
-  own_lead kinds.Deleted e = used_lead (used_normal options.unused bytes h.has.normal h.new_indices e h.has.has)
+  own_lead kinds.Deleted e = used_lead (used_normal options.unused bytes h.has.normal h.new_indices e
+      h.has.has)
 
 -- ---- what is left of modules
 
@@ -128,7 +130,8 @@ record AreLeft (d : Descriptions) (types : List ℕ) (m : NewIndices) (w : Width
   is_new_left : IsLeft d new new_left
   renamed : RenamesModule types m w left new_left
 
-left_before : (d : Descriptions) (types : List ℕ) (m : NewIndices) (w : Widths) (bytes new new_left : List ℕ) →
+left_before : (d : Descriptions) (types : List ℕ) (m : NewIndices) (w : Widths) (bytes new new_left : List
+    ℕ) →
     RenamesModule types m w bytes new → IsLeft d new new_left →
     (left : List ℕ) × AreLeft d types m w bytes new left new_left
 left_before descriptions.Kept types m w bytes new new_left r e = (
@@ -185,7 +188,11 @@ order_kept u s r n indices m There t h names differ j k p q i has_j has_k less e
     let hk : k < (index_space s).count = subst (λ v. k < v) t.one_each at.0 in
     let hp : p < (index_space r).count = subst (λ v. v < (index_space r).count) at.1 (t.within k hk) in
     h.same p i hp to ∙ ap (index_space r).definition (sym at.1) ∙ t.equal k hk in
-    let one = differ j k has_j has_k (sym (goes j p ej mj) ∙ goes k q ek mk) in absurd (omega (arith, one, less))
+    let one = differ j k has_j has_k (sym (goes j p ej mj) ∙ goes k q ek mk) in absurd (omega (
+      arith,
+      one,
+      less,
+    ))
 
 module _ (u : UnusedTypes) (d : Descriptions) (types : List ℕ) (normal : List GroupAt)
     (new bytes other : List ℕ) (f : IsRelisted u bytes other) where
@@ -205,7 +212,8 @@ module _ (u : UnusedTypes) (d : Descriptions) (types : List ℕ) (normal : List 
   follows = module_follows first f.widths f.types bytes other f.renamed
 
   ordered : (m : NewIndices) (There : ℕ → Type 0) (left : List ℕ) →
-      IsSortedForm (index_space R) N (new_index m) There → IsLeft d bytes left → NamesInCustoms (λ names. KeepOrderAmong names first m) left
+      IsSortedForm (index_space R) N (new_index m) There → IsLeft d bytes left →
+      NamesInCustoms (λ names. KeepOrderAmong names first m) left
   ordered m There left sorted is_left =
       customs_too (NameUnequalTypes S) (λ names. KeepOrderAmong names first m) left
       (order_kept u S R N f.indices m There f.same_types sorted)
@@ -292,7 +300,8 @@ module _ (u : UnusedTypes) (d : Descriptions) (types : List ℕ) (normal : List 
             (record {
               as_many = many ∙ sym f.same_types.one_each ∙ sym (length-map f.indices (λ n. Some n));
               lead = λ k n e. (let g = goes k n e in
-                  after_leads u S R f.indices f.same_types N (Wanted u h.roots) There alike h.indices sorted k n
+                  after_leads u S R f.indices f.same_types N (Wanted u h.roots) There alike h.indices sorted
+                  k n
                   g.0 g.1 g.2);
             })
             (none_deleted f.indices) (λ k n e. subst (λ v. n < v) (sym long) (goes k n e).1) f.widths f.types
@@ -313,7 +322,8 @@ chain_leads u d types normal new last _ (back bytes next f chain) h =
 filled : (u : UnusedTypes) (bytes : List ℕ) (normal : List GroupAt) (m : NewIndices) →
     HasNormalForm u bytes normal m → IsFilled (section_of normal)
 filled kinds.Kept bytes normal m h = (all_normal kinds.Kept bytes normal m refl h).is_normal_form.filled
-filled kinds.Deleted bytes normal m h = (used_normal kinds.Deleted bytes normal m refl h).is_used_normal.filled
+filled kinds.Deleted bytes normal m h = (used_normal kinds.Deleted bytes normal m refl
+    h).is_used_normal.filled
 
 -- what leads to two results leads to one
 one_lead : (u : UnusedTypes) (d : Descriptions) (types others : List ℕ) (normal normal' : List GroupAt)
@@ -344,7 +354,8 @@ one_lead u d types others normal normal' a b bytes full full' written written' h
     (left_once d bytes h.left k.left h.is_left k.is_left) h.renamed k.renamed
 
 module _ (options : NormaliseOptions) (last bytes a b : List ℕ) (short : options.widths ≡ widths.Shortest)
-    (chain : DiffersInList options.unused last bytes) (h : IsNormalised options bytes a) (k : IsNormalised options last b) where
+    (chain : DiffersInList options.unused last bytes) (h : IsNormalised options bytes a) (k : IsNormalised
+    options last b) where
   simple_once : (groups : List GroupAt) → HasTypes bytes groups → All IsSimple (section_of groups) → a ≡ b
   simple_once groups read simple =
       let u : UnusedTypes = options.unused in
@@ -352,11 +363,14 @@ module _ (options : NormaliseOptions) (last bytes a b : List ℕ) (short : optio
       let far = chain_leads u options.descriptions h.types h.has.normal a last bytes chain own in
       let other = own_lead options last b short k far.groups far.read far.simple u refl in
       one_lead u options.descriptions h.types k.types h.has.normal k.has.normal a b last
-      (filled u bytes h.has.normal h.new_indices h.has.has) (filled u last k.has.normal k.new_indices k.has.has)
+      (filled u bytes h.has.normal h.new_indices h.has.has) (filled u last k.has.normal k.new_indices
+      k.has.has)
       h.has.written k.has.written far other
 
-pub relisted_once : (options : NormaliseOptions) (last bytes a b : List ℕ) → options.widths ≡ widths.Shortest →
-    DiffersInList options.unused last bytes → IsNormalised options bytes a → IsNormalised options last b → a ≡ b
+pub relisted_once : (options : NormaliseOptions) (last bytes a b : List ℕ) →
+    options.widths ≡ widths.Shortest →
+    DiffersInList options.unused last bytes → IsNormalised options bytes a → IsNormalised options last b →
+    a ≡ b
 relisted_once options last _ a b short stop h k = normalised_once options last a b h k
 relisted_once options last _ a b short (forth bytes next f chain) h k =
     simple_once options last bytes a b short (forth bytes next f chain) h k f.groups f.read

@@ -66,7 +66,8 @@ module _ (u : UnusedTypes) (bytes other : List ℕ) (f : IsRelisted u bytes othe
       (index_space S).count
       (λ i q e. subst (λ v. i < v) f.same_types.one_each (item_at f.indices i q e).0))
 
-pub wanted_alike : (u : UnusedTypes) (bytes other : List ℕ) (f : IsRelisted u bytes other) (roots new : List ℕ) →
+pub wanted_alike : (u : UnusedTypes) (bytes other : List ℕ) (f : IsRelisted u bytes other) (roots new : List
+    ℕ) →
     AreRoots u bytes roots → AreRoots u other new →
     AreWantedAlike (section_of f.groups) (section_of f.other_groups) f.indices (Wanted u roots) (Wanted u new)
 wanted_alike kinds.Kept bytes other f roots new named named-on = record {
@@ -85,6 +86,7 @@ wanted_alike kinds.Deleted bytes other f roots new named named-on =
           (contains_map (image f.indices) roots k w);
       back = λ j below w.
           (let x = contains_before (image f.indices) roots j (subst (λ (v : List ℕ). Contains v j) is w) in
-          let within = All-contains (λ i. i < (index_space (section_of f.groups)).count) roots x.0 known x.1 in
+          let within = All-contains (λ i. i < (index_space (section_of f.groups)).count) roots x.0 known x.1
+          in
           (x.0, within, x.1, sym (f.same_types.equal x.0 within) ∙ ap (index_space R).definition x.2));
     }

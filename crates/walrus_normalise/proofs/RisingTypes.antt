@@ -17,7 +17,8 @@ AreAmong count types many others = (p : ℕ) → p < count → (q : ℕ) × (q <
 not_both : (d e : Definition) → definition_cmp d e ≡ Less → ¬ (definition_cmp e d ≡ Less)
 not_both d e h = not_greater (definition_cmp d e) (definition_cmp e d) (definitions_total.antisymm e d) h
 
-lesser_first : (count : ℕ) (types : ℕ → Definition) → AreRising count types → (p q : ℕ) → p < count → q < count →
+lesser_first : (count : ℕ) (types : ℕ → Definition) → AreRising count types → (p q : ℕ) → p < count →
+    q < count →
     definition_cmp (types p) (types q) ≡ Less → p < q
 lesser_first count types rising p q hp hq less = elim (cases_lt p q) [
   | inl before ↦ before
@@ -26,7 +27,8 @@ lesser_first count types rising p q hp hq less = elim (cases_lt p q) [
     | inr under ↦ absurd (
         let same : p ≡ q = omega (arith, over, under) in
         let own : definition_cmp (types q) (types q) ≡ Less =
-        subst (λ i. definition_cmp (types i) (types q) ≡ Less) same less in not_both (types q) (types q) own own)
+        subst (λ i. definition_cmp (types i) (types q) ≡ Less) same less in not_both (types q) (types q) own
+        own)
   ]
 ]
 

@@ -181,7 +181,8 @@ module _ (options other : NormaliseOptions) (bytes new : List ℕ) (widths : oth
   abbrev own : NewIndices
   own = all_kept (identity (section_of h.has.normal))
 
-  stays : HasNormalForm other.unused new h.has.normal own → AreOwn h.new_indices own → IsNormalised other new new
+  stays : HasNormalForm other.unused new h.has.normal own → AreOwn h.new_indices own →
+      IsNormalised other new new
   stays has keeps = record {
     types = h.types;
     new_indices = own;
@@ -208,7 +209,8 @@ module _ (options other : NormaliseOptions) (bytes new : List ℕ) (widths : oth
       let f = used_normal options.unused bytes h.has.normal h.new_indices deleted h.has.has in
       let roots = new_roots_of options bytes new f.roots h f.named in
       stays (by_kind other.unused refl f roots)
-      (own_used_indices (section_of f.groups) (section_of h.has.normal) f.roots h.new_indices f.is_used_normal)
+      (own_used_indices (section_of f.groups) (section_of h.has.normal) f.roots h.new_indices
+      f.is_used_normal)
     where
       by_kind : (u : UnusedTypes) → other.unused ≡ u → (f : UsedNormal bytes h.has.normal h.new_indices)
           → NewRoots h.new_indices f.roots new → HasNormalForm other.unused new h.has.normal own
@@ -216,7 +218,8 @@ module _ (options other : NormaliseOptions) (bytes new : List ℕ) (widths : oth
           normal_form_of other.unused new h.has.normal own kept
           (all_of_used bytes new h.has.normal h.new_indices f roots (has_normal options bytes new h))
       by_kind kinds.Deleted also f roots =
-          form_of_used bytes new h.has.normal h.new_indices f roots (has_normal options bytes new h) other.unused
+          form_of_used bytes new h.has.normal h.new_indices f roots (has_normal options bytes new h)
+          other.unused
           also
 
 pub normalised_again : (options : NormaliseOptions) (bytes new : List ℕ) → IsNormalised options bytes new →
@@ -245,4 +248,5 @@ pub unchanged_after_deleting : (options other : NormaliseOptions) (bytes new aga
     → other.descriptions ≡ options.descriptions → IsNormalised options bytes new
     → IsNormalised other new again → again ≡ new
 unchanged_after_deleting options other bytes new again deleted widths described h k =
-    normalised_once other new again new k (again_after_deleting options other bytes new deleted widths described h)
+    normalised_once other new again new k (again_after_deleting options other bytes new deleted widths
+    described h)

@@ -77,7 +77,8 @@ module _ (s n p : IndexSpace) (m w : ℕ → Option ℕ) (Wanted : ℕ → Type 
       let alike : s.definition i ≡ s.definition o.0 = sym (h.same i q hi e) ∙ o.3 in
       let is : to.0 ≡ q =
       one_place n.count n.definition p.count p.definition h.rises k.rises (among s n p m w Wanted h k)
-      (among s p n w m Wanted k h) q to.0 hq (k.below o.0 to.0 o.1 to.1) (k.same o.0 to.0 o.1 to.1 ∙ sym o.3) in
+      (among s p n w m Wanted k h) q to.0 hq (k.below o.0 to.0 o.1 to.1) (k.same o.0 to.0 o.1 to.1 ∙ sym
+      o.3) in
       k.equal i o.0 hi o.1 alike ∙ to.1 ∙ ap (λ (u : ℕ). Some u) is
 
 -- the same by indices that agree

@@ -38,7 +38,8 @@ module _ (s n : Section) (roots : List ℕ) (w : NewIndices) (simple : All IsSim
 
   same : (i p : ℕ) → i < S.count → new_index w i ≡ Some p → N.definition p ≡ S.definition i
   same i p h e =
-      c.contents.same i p e ∙ nameless (value_or_zero (new_index w)) (S.definition i) (plain s simple i h).nameless
+      c.contents.same i p e ∙ nameless (value_or_zero (new_index w)) (S.definition i) (plain s simple i
+      h).nameless
 
   alone : (p : ℕ) → p < N.count → IsSingle N p
   alone p h =
@@ -72,7 +73,8 @@ module _ (s n : Section) (roots : List ℕ) (w : NewIndices) (simple : All IsSim
             })
       ] in
       elim (cases_eq (c.slot j) j) [
-        | inl own ↦ absurd (c.merged.fresh j (c.slot i) hj two ((plain s simple j hj).nameless j) own candidate)
+        | inl own ↦ absurd (c.merged.fresh j (c.slot i) hj two ((plain s simple j hj).nameless j) own
+            candidate)
         | inr other ↦
             one_candidate S c.slot (laid_out s) ends c.merged j (c.slot i) (c.slot j) hj candidate
             (c.merged.to_candidate j hj two other)

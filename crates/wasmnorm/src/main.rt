@@ -45,7 +45,7 @@ use walrus_normalise::HashKeys;
 /// they are. Where one of them describes bytes that would change, such as debug data, the module is
 /// refused, unless the options say that such sections are left out.
 ///
-/// With [`Strictness::Strict`](strict::Strictness::Strict) a module is rejected in two more cases. One of its types would become
+/// With `Strictness::Strict` a module is rejected in two more cases. One of its types would become
 /// another type, by WebAssembly's rule of type equality:
 /// [`find_changed_type`](walrus_normalise::find_changed_type) says when. Or a custom section is of
 /// an unknown kind, so that it may refer to types or to places in the file.

@@ -8,7 +8,8 @@ returns-in_err-types-clause-refused c =
     let form = lent_normal_form c.args.options.unused c.args.bytes.now c.in_ok-normal.normal.items
     c.as_slice.result.now c.in_ok-normal.new_indices.items c.in_ok-normal.ensures.normal
     c.as_slice.ensures.value in
-    encode_refused c.args.options c.args.bytes.now c.from_residual-in_err-types.result c.in_err-types.field-0.0
+    encode_refused c.args.options c.args.bytes.now c.from_residual-in_err-types.result
+    c.in_err-types.field-0.0
     c.from_residual-in_err-types.ensures.1 (λ is. no_text c.as_slice.result.now
     c.in_ok-normal.new_indices.items form (c.in_err-types.ensures.too_many is))
 

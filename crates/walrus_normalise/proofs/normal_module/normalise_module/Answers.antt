@@ -7,7 +7,8 @@ use Rattle.walrus_normalise.proofs.normal_module.normalise_module.Goals as goal
 
 pub error_of_fault-requires : goal.error_of_fault-requires
 error_of_fault-requires c =
-    stopped_by_fault c.args.options c.args.bytes.now (rw c.in-Err-Fault.field-0-is at c.in-Err-Fault.ensures.refused)
+    stopped_by_fault c.args.options c.args.bytes.now (rw c.in-Err-Fault.field-0-is at
+    c.in-Err-Fault.ensures.refused)
 
 pub returns-in-Err-Fault : goal.returns-in-Err-Fault
 returns-in-Err-Fault c =
