@@ -4,8 +4,8 @@ use Rattle.command_line.specs.Inputs.{standard_name}
 use Rattle.command_line.specs.declared.output.Output.{Output}
 use Rattle.command_line.specs.declared.output.Output.TheVariants as output
 
--- Standard output, or a file of this name that is not there yet, or is emptied by the first write.
-abbrev pub IsOutput : List ℕ → Output → Type 0
-IsOutput name (output.Standard stdout) = name ≡ standard_name
-IsOutput name (output.New rt given) = (given.now ≡ name) × (¬ (name ≡ standard_name))
-IsOutput name (output.File file) = ⊥
+-- standard output for the name `-`, and otherwise the file of that name, which is not opened yet
+abbrev pub IsOutputNamed : List ℕ → Output → Type 0
+IsOutputNamed name (output.Standard stdout) = name ≡ standard_name
+IsOutputNamed name (output.New rt given) = (given.now ≡ name) × (¬ (name ≡ standard_name))
+IsOutputNamed name (output.File file) = ⊥

@@ -1,5 +1,5 @@
 //! What a program writes to.
-ghost use Rattle.command_line.specs.Outputs.{IsOutput};
+ghost use Rattle.command_line.specs.Outputs.{IsOutputNamed};
 
 use std::fs::{self, File};
 use std::io::{self, Stdout, Write};
@@ -47,7 +47,7 @@ impl Write for Output<'_> {
 /// of a file, which is created or emptied by the first write. So a program that fails before it
 /// writes leaves the file as it was.
 pub fn create<'a>(rt: &'a HostRuntime, name: &'a str) -> Output<'a>
-    ensures { IsOutput name.now result }
+    ensures { IsOutputNamed name.now result }
 {
     if name == "-" {
         Output::Standard(rt.stdout())

@@ -4,14 +4,15 @@ use Rattle.std.specs.Prelude.{IfNone, IfSome}
 use Rattle.walrus_binary.specs.ModuleSections.{HasTypes}
 use Rattle.walrus_module.specs.Renaming.{new_index}
 use Rattle.walrus_sections.specs.NormalForm.{image, IsNormalForm}
-use Rattle.walrus_sections.specs.Section.{IndexSpace, index_space, IsWellNamed, NamesBelowEnds}
+use Rattle.walrus_sections.specs.Section.{IndexSpace, index_space, IsSingle, IsWellNamed, NamesBelowEnds}
+use Rattle.walrus_ty.specs.Definition.{Names}
 use Rattle.walrus_sections.proofs.Sections.Lying.{in_or_out}
 use Rattle.walrus_sections.proofs.Sections.Rows.{laid_out}
 use Rattle.walrus_ty.specs.Groups.{Section}
 use Rattle.walrus_ty.specs.Records.{section_of}
 use Rattle.walrus_ty.specs.declared.records.GroupAt.{GroupAt}
 use Rattle.walrus_normalise.specs.EqualTypes.{KeepsTypes, KeepsModuleTypes, IsFirstChanged, ChangesType}
-use Rattle.walrus_normalise.specs.Steps.SelfReferences.{self_references, flag, BeginsToReferTo}
+use Rattle.walrus_normalise.specs.Steps.SelfReferences.{self_references, flag, GainsSelfReference}
 use Rattle.walrus_normalise.proofs.CarriedTypes.{carries_all, to}
 use Rattle.walrus_normalise.proofs.EqualForms.{keeps_types}
 use Rattle.walrus_normalise.proofs.EqualTypes.{KeepsApart, never_equal, stays_equal}
@@ -36,10 +37,10 @@ module _ (s n : Section) (indices : List ℕ) (wn : NamesBelowEnds (index_space 
   abbrev w : ℕ → Option ℕ
   w = new_index (all_kept indices)
 
-  abbrev Begins : ℕ → Type 0
-  Begins = BeginsToReferTo (self_references 0 s) (self_references 0 n) indices
+  abbrev Gains : ℕ → Type 0
+  Gains = GainsSelfReference (self_references 0 s) (self_references 0 n) indices
 
-  apart : (bound : ℕ) → ((i : ℕ) → i < bound → ¬ (Begins i)) → KeepsApart S N w bound
+  apart : (bound : ℕ) → ((i : ℕ) → i < bound → ¬ (Gains i)) → KeepsApart S N w bound
   apart bound none i p low e o self =
       let c = carries_all s n indices wn f in
       let h = c.inside i p e in
@@ -53,81 +54,91 @@ module _ (s n : Section) (indices : List ℕ) (wn : NamesBelowEnds (index_space 
         | inr old ↦ absurd (none i low (old, ap (flag (self_references 0 n)) goes ∙ new))
       ]
 
-  pub none_begins : ((i : ℕ) → i < length indices → ¬ (Begins i)) → KeepsTypes s
-  none_begins none =
+  pub none_gains : ((i : ℕ) → i < length indices → ¬ (Gains i)) → KeepsTypes s
+  none_gains none =
       keeps_types s n indices wn f
       (apart S.count (λ i h. none i (subst (λ u. i < u) (sym f.one_each) h)))
 
-  pub first_begins : (i : ℕ) → i < length indices → Begins i → ((k : ℕ) → k < i → ¬ (Begins k)) →
+  -- what gains a reference to itself is a lone type
+  is_alone : (i : ℕ) → i < S.count → IsSingle N (m i) → IsSingle S i
+  is_alone i h single = elim (in_or_out (S.rec_position i)) [
+    | inl o ↦ o
+    | inr x ↦ absurd (let there = f.laws.rec_to_rec i x.0 h x.1 in cc)
+  ]
+
+  no_itself : (i : ℕ) → i < S.count → IsSingle S i → flag (self_references 0 s) i ≡ false →
+      ¬ (Names (S.definition i) i)
+  no_itself i h o none names = absurd (let old = (flag_says s i h).1 (o, names) in cc)
+
+  pub first_gains : (i : ℕ) → i < length indices → Gains i → ((k : ℕ) → k < i → ¬ (Gains k)) →
       IsFirstChanged s i
-  first_begins i low is before =
+  first_gains i low is before =
       let h : i < S.count = subst (λ u. i < u) f.one_each low in
       let new = (flag_says n (m i) (f.laws.below i h)).0 is.1 in
+      let lone = is_alone i h new.0 in
+      let none = no_itself i h lone is.0 in
       record {
         normal = n;
         indices = indices;
         is_normal = f;
         within = h;
-        changed = λ same. elim (in_or_out (S.rec_position i)) [
-          | inl o ↦
-              let old = (flag_says s i h).1 (o, never_equal S N i (m i) o new.0 new.1 same) in
-              let not_old = is.0 in absurd cc
-          | inr x ↦ (let there = f.laws.rec_to_rec i x.0 h x.1 in let alone = new.0 in absurd cc)
-        ];
+        changed = λ same. none (never_equal S N i (m i) lone new.0 new.1 same);
+        is_lone = lone;
+        not_itself = none;
+        to_itself = new.1;
         before = λ k less.
-            stays_equal S N w (laid_out s) (laid_out n) wn (carries_all s n indices wn f) i (apart i before)
-            k (m k)
-            less (to s n indices wn f k (omega (arith, less, h)));
+            stays_equal S N w (laid_out s) (laid_out n) wn (carries_all s n indices wn f) i
+            (apart i before) k (m k) less (to s n indices wn f k (omega (arith, less, h)));
       }
 
 -- ---- the same of the types of a module
 
 module _ (bytes : List ℕ) (groups normal : List GroupAt) (indices lent : List ℕ) (old new : List Bool)
-    (types : HasTypes bytes groups) (w : IsWellNamed (section_of groups))
+    (types : HasTypes bytes groups) (well_named : IsWellNamed (section_of groups))
     (f : IsNormalForm (section_of groups) (section_of normal) indices)
     (is_old : old ≡ self_references 0 (section_of groups)) (is_new : new ≡ self_references 0 (section_of
     normal))
     (is_lent : lent ≡ indices) where
-  same_begins : (i : ℕ) →
-      BeginsToReferTo (self_references 0 (section_of groups)) (self_references 0 (section_of normal))
+  same_gains : (i : ℕ) →
+      GainsSelfReference (self_references 0 (section_of groups)) (self_references 0 (section_of normal))
       indices i →
-      BeginsToReferTo old new lent i
-  same_begins i is = (
+      GainsSelfReference old new lent i
+  same_gains i is = (
     ap (λ (u : List Bool). flag u i) is_old ∙ is.0,
     ap (λ (u : List ℕ). flag new (image u i)) is_lent ∙ (ap (λ (u : List Bool). flag u (image indices i))
         is_new
         ∙ is.1),
   )
 
-  begins_back : (i : ℕ) → BeginsToReferTo old new lent i →
-      BeginsToReferTo (self_references 0 (section_of groups)) (self_references 0 (section_of normal))
+  gains_back : (i : ℕ) → GainsSelfReference old new lent i →
+      GainsSelfReference (self_references 0 (section_of groups)) (self_references 0 (section_of normal))
       indices i
-  begins_back i is = (
+  gains_back i is = (
     ap (λ (u : List Bool). flag u i) (sym is_old) ∙ is.0,
     ap (λ (u : List Bool). flag u (image indices i)) (sym is_new) ∙ (ap (λ (u : List ℕ). flag new (image u i))
         (sym is_lent) ∙ is.1),
   )
 
   pub none_found : (result : Option ℕ) →
-      IfNone result ((i : ℕ) → i < length lent → ¬ (BeginsToReferTo old new lent i)) →
+      IfNone result ((i : ℕ) → i < length lent → ¬ (GainsSelfReference old new lent i)) →
       IfNone result (KeepsModuleTypes bytes)
   none_found None none = record {
     groups = groups;
     read = types;
-    kept = none_begins (section_of groups) (section_of normal) indices w.below_ends f (λ i h is.
-        none i (subst (λ (u : List ℕ). i < length u) (sym is_lent) h) (same_begins i is));
+    kept = none_gains (section_of groups) (section_of normal) indices well_named.below_ends f (λ i h is.
+        none i (subst (λ (u : List ℕ). i < length u) (sym is_lent) h) (same_gains i is));
   }
   none_found (Some i) none = tt
 
   pub one_found : (result : Option ℕ) → IfSome result (λ i. i < length lent) →
-      IfSome result (BeginsToReferTo old new lent) →
-      IfSome result (λ i. (k : ℕ) → k < i → ¬ (BeginsToReferTo old new lent k)) →
+      IfSome result (GainsSelfReference old new lent) →
+      IfSome result (λ i. (k : ℕ) → k < i → ¬ (GainsSelfReference old new lent k)) →
       IfSome result (ChangesType bytes)
   one_found None low is before = tt
   one_found (Some i) low is before = record {
     groups = groups;
     read = types;
-    first = first_begins (section_of groups) (section_of normal) indices w.below_ends f i
-        (subst (λ (u : List ℕ). i < length u) is_lent low) (begins_back i is) (λ k less begins.
-        before k less (same_begins k begins));
+    first = first_gains (section_of groups) (section_of normal) indices well_named.below_ends f i
+        (subst (λ (u : List ℕ). i < length u) is_lent low) (gains_back i is) (λ k less gains.
+        before k less (same_gains k gains));
   }

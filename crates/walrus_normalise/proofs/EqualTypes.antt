@@ -149,20 +149,20 @@ module _ (s n : IndexSpace) (m : ℕ → Option ℕ) (ls : IsLaidOut s) (ln : Is
 
     pub lone_groups : HaveLikeGroups s n i p s.definition (λ k x. x) (λ k. v)
     lone_groups = record {
-      own = 0;
-      at_own = own;
-      at_own_too = own_too;
-      places = λ k place x. (
+      own_place = 0;
+      first_own = own;
+      second_own = own_too;
+      first_places = λ k place x. (
         p,
         subst (λ (u : ℕ). IsMember n p u p) (sym (only_itself s i place k o x).0)
             own_too,
       );
-      places_too = λ l place x. (
+      second_places = λ l place x. (
         i,
         subst (λ (u : ℕ). IsMember s i u i) (sym (only_itself n p place l (c.single i p e o) x).0) own,
       );
-      first = λ k g. sym (rename_id (s.definition k));
-      second = λ k l place x y. (
+      first_definitions = λ k g. sym (rename_id (s.definition k));
+      second_definitions = λ k l place x y. (
           let is = (only_itself s i place k o x).1 in
           let is_too = (only_itself n p place l (c.single i p e o) y).1 in
           ap n.definition is_too ∙ (c.same i p e ∙ ap (λ (u : ℕ). rename v (s.definition u)) (sym is)));
@@ -250,14 +250,14 @@ module _ (s n : IndexSpace) (m : ℕ → Option ℕ) (ls : IsLaidOut s) (ln : Is
 
     pub rec_groups : HaveLikeGroups s n i p s.definition (λ k x. x) (λ k. v)
     rec_groups = record {
-      own = t;
-      at_own = member i t at_i;
-      at_own_too = member_too p t at_p;
-      places = λ k place x. (let f = at k place x in (v k, member_too (v k) place (sent_to k place f)));
-      places_too = λ l place x. (
+      own_place = t;
+      first_own = member i t at_i;
+      second_own = member_too p t at_p;
+      first_places = λ k place x. (let f = at k place x in (v k, member_too (v k) place (sent_to k place f)));
+      second_places = λ l place x. (
           let back = r.back l place (at_too l place x) in (back.0, member back.0 place back.2));
-      first = λ k g. sym (rename_id (s.definition k));
-      second = second;
+      first_definitions = λ k g. sym (rename_id (s.definition k));
+      second_definitions = second;
       inside = λ k x place g names. (
         (λ y. member_too (v x) place (sent_to x place (at x place y))),
         (λ y. inner k x place g names y),
@@ -301,14 +301,13 @@ module _ (s n : IndexSpace) (m : ℕ → Option ℕ) (ls : IsLaidOut s) (ln : Is
 pub never_equal : (s n : IndexSpace) (i p : ℕ) → IsSingle s i → IsSingle n p → Names (n.definition p) p →
     AreEqual s n i p → Names (s.definition i) i
 never_equal s n _ _ o single self (equal i p common left right like outside) =
-    let own = only_itself s i like.own i o like.at_own in
-    let is = like.second i p like.own like.at_own like.at_own_too in
-    let mine : IsInGroup s i i = (like.own, like.at_own) in
+    let is = like.second_definitions i p like.own_place like.first_own like.second_own in
+    let mine : IsInGroup s i i = (like.own_place, like.first_own) in
     let before = named_before (right i) (common i) p (names_same p is self) in
     let x = before.0 in
-    let there : IsMember n p like.own (right i x) =
-    subst (λ (u : ℕ). IsMember n p like.own u) (sym before.2) like.at_own_too in
-    let here = (like.inside i x like.own mine before.1).1 there in
-    let same = (only_itself s i like.own (left i x) o here).1 in
+    let there : IsMember n p like.own_place (right i x) =
+    subst (λ (u : ℕ). IsMember n p like.own_place u) (sym before.2) like.second_own in
+    let here = (like.inside i x like.own_place mine before.1).1 there in
+    let same = (only_itself s i like.own_place (left i x) o here).1 in
     subst (λ (u : ℕ). Names (s.definition i) u) same
-    (names_same (left i x) (sym (like.first i mine)) (Names-rename (left i) (common i) x before.1))
+    (names_same (left i x) (sym (like.first_definitions i mine)) (Names-rename (left i) (common i) x before.1))

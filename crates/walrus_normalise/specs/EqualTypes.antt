@@ -2,8 +2,8 @@
 -- and the sections whose normal form keeps each type (`KeepsTypes`).
 -- WebAssembly core specification, "Types", recursive types, and "Validation", defined types: two
 -- types are equal if they are at the same place of recursion groups that are equal once their
--- indices are resolved. An index of the own group then means a place of it, and any other index a
--- type. A lone type is a group of one.
+-- indices are resolved. An index into the same group then means a place in it, and any other index
+-- the type itself. A lone type is a group of one.
 use Rattle.std.specs.Prelude.{◌≡◌, ◌<◌, ◌↔◌, ℕ, List, Option, Some}
 use Rattle.walrus_binary.specs.ModuleSections.{HasTypes}
 use Rattle.walrus_module.specs.Renaming.{NewIndices, new_index}
@@ -31,18 +31,18 @@ IsInGroup s i k = (place : ℕ) × IsMember s i place k
 pub record HaveLikeGroups (s n : IndexSpace) (i j : ℕ) (common : ℕ → Definition)
     (left right : ℕ → ℕ → ℕ) : Type 0 where
   -- i and j are at the same place
-  pub own : ℕ
-  pub at_own : IsMember s i own i
-  pub at_own_too : IsMember n j own j
+  pub own_place : ℕ
+  pub first_own : IsMember s i own_place i
+  pub second_own : IsMember n j own_place j
   -- the groups have the same places
-  pub places : (k place : ℕ) → IsMember s i place k → (l : ℕ) × IsMember n j place l
-  pub places_too : (l place : ℕ) → IsMember n j place l → (k : ℕ) × IsMember s i place k
+  pub first_places : (k place : ℕ) → IsMember s i place k → (l : ℕ) × IsMember n j place l
+  pub second_places : (l place : ℕ) → IsMember n j place l → (k : ℕ) × IsMember s i place k
   -- the definitions are alike
-  pub first : (k : ℕ) → IsInGroup s i k → s.definition k ≡ rename (left k) (common k)
-  pub second :
+  pub first_definitions : (k : ℕ) → IsInGroup s i k → s.definition k ≡ rename (left k) (common k)
+  pub second_definitions :
       (k l place : ℕ) → IsMember s i place k → IsMember n j place l
       → n.definition l ≡ rename (right k) (common k)
-  -- an index of the own group means the same place of it
+  -- an index into the same group means the same place in it
   pub inside :
       (k x place : ℕ) → IsInGroup s i k → Names (common k) x
       → IsMember s i place (left k x) ↔ IsMember n j place (right k x)
@@ -79,13 +79,17 @@ pub record KeepsModuleTypes (bytes : List ℕ) : Type 0 where
   pub read : HasTypes bytes groups
   pub kept : KeepsTypes (section_of groups)
 
--- In normal form, i is the first index of the section that means another type.
+-- In normal form, i is the first index of the section that means another type. It is a lone type
+-- that does not refer to itself, and goes to one that does.
 pub record IsFirstChanged (section : Section) (i : ℕ) : Type 0 where
   pub normal : Section
   pub indices : List ℕ
   pub is_normal : IsNormalForm section normal indices
   pub within : i < (index_space section).count
   pub changed : ¬ (AreEqual (index_space section) (index_space normal) i (image indices i))
+  pub is_lone : IsSingle (index_space section) i
+  pub not_itself : ¬ (Names ((index_space section).definition i) i)
+  pub to_itself : Names ((index_space normal).definition (image indices i)) (image indices i)
   pub before :
       (k : ℕ) → k < i → AreEqual (index_space section) (index_space normal) k (image indices k)
 

@@ -85,7 +85,8 @@ pub record HasFirstError (bytes : List ℕ) (e : ReadError) : Type 0 where
   pub read : HasTypes bytes groups
   pub first : IsFirstError (section_of groups) e
 
--- what an error says of the type section of the module: no other error is one of it
+-- What an error says of the type section, or of bytes that are no module. Refused memory says
+-- nothing, and no other error can come.
 abbrev pub HasTypesError : List ℕ → NormaliseModuleError → Type 0
 HasTypesError bytes (error.Types e) = HasBadTypesBy bytes e
 HasTypesError bytes (error.BadIndex entry index end) =

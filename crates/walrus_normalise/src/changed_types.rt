@@ -4,7 +4,7 @@
 ghost use Rattle.std.specs.Prelude.{◌≡◌, ◌<◌, ℕ, length, slice_index_or, false, IfErr, IfNone, IfOk, IfSome};
 ghost use Rattle.walrus_normalise.specs.EqualTypes.{ChangesType, KeepsModuleTypes};
 ghost use Rattle.walrus_normalise.specs.NormalModules.{HasTypesError};
-ghost use Rattle.walrus_normalise.specs.Steps.SelfReferences.{BeginsToReferTo};
+ghost use Rattle.walrus_normalise.specs.Steps.SelfReferences.{GainsSelfReference};
 
 use crate::self_references::self_references;
 use crate::{HashKeys, NormaliseModuleError};
@@ -16,15 +16,16 @@ use walrus_types::normalise;
 /// each type stays equal to what it was (WebAssembly core specification, "Types", recursive types).
 ///
 /// Two types are equal if they are at the same place of recursion groups that are equal. An index
-/// of the own group then means a place of it, and any other index a type. A lone type is a group of
-/// one. So a lone type that refers to itself never equals one that refers to another type, also if
+/// into the same group then means a place in it, and any other index the type itself. A lone type is
+/// a group of one. So a lone type that refers to itself never equals one that refers to another type, also if
 /// both have the same indices. But [`normalise_module`](crate::normalise_module) merges lone types
-/// that have the same indices. So it changes a type in just one case: **a lone type that does not
-/// refer to itself is merged into one that does.** A call or a cast that trapped before can then
-/// succeed.
+/// that have the same indices. So it changes types in just one case: **a lone type that does not
+/// refer to itself is merged into one that does.** The types that refer to it change with it. A call
+/// or a cast that trapped before can then succeed.
 ///
-/// The result holds for each choice of [`NormaliseOptions`](crate::NormaliseOptions). Only the type
-/// section is looked at, with its unused types.
+/// Only the type section is looked at, with its unused types. `None` holds for each choice of
+/// [`NormaliseOptions`](crate::NormaliseOptions). A type that is found may be one that
+/// [`UnusedTypes::Deleted`](crate::UnusedTypes::Deleted) deletes.
 ///
 /// # Errors
 ///
@@ -58,18 +59,18 @@ pub fn find_changed_type(
     let (normal, indices) = normalise(alloc, keys, groups.as_slice())?;
     let old = self_references(alloc, groups.as_slice())?;
     let new = self_references(alloc, normal.as_slice())?;
-    Ok(first_that_begins(old.as_slice(), new.as_slice(), indices.as_slice()))
+    Ok(first_changed(old.as_slice(), new.as_slice(), indices.as_slice()))
 }
 
 /// The first type that does not refer to itself, and goes to one that does.
-fn first_that_begins(old: &[bool], new: &[bool], indices: &[u32]) -> Option<u32>
+fn first_changed(old: &[bool], new: &[bool], indices: &[u32]) -> Option<u32>
     requires { length indices.now < 4294967296 }
     ensures none { IfNone result ((i : ℕ) → i < length indices.now →
-        ¬ (BeginsToReferTo old.now new.now indices.now i)) }
+        ¬ (GainsSelfReference old.now new.now indices.now i)) }
     ensures within { IfSome result (λ i. i < length indices.now) }
-    ensures found { IfSome result (BeginsToReferTo old.now new.now indices.now) }
+    ensures found { IfSome result (GainsSelfReference old.now new.now indices.now) }
     ensures first { IfSome result (λ i. (k : ℕ) → k < i →
-        ¬ (BeginsToReferTo old.now new.now indices.now k)) }
+        ¬ (GainsSelfReference old.now new.now indices.now k)) }
 {
     for (i, index) in indices.iter().enumerate() {
         if !flag(old, i) && flag(new, *index as usize) {

@@ -38,16 +38,15 @@ pub fn result_has_the_normal_form()
         HasNormalForm options.unused bytes normal new_indices × HasTypes new normal }
 {}
 
-/// Where the normal form keeps each type of a module, each type that is left in the result is equal
-/// to the types of the module whose indices lead to it. Equal means WebAssembly's rule: see
-/// [`find_changed_type`](crate::find_changed_type), which says of which modules this holds.
+/// Where the normal form keeps each type of a module, each type that has a new index is equal to the
+/// type of the result at that index. These are the indices by which the module was written again.
+/// Equal means WebAssembly's rule: see [`find_changed_type`](crate::find_changed_type), which says
+/// of which modules this holds.
 pub fn kept_types_stay_equal()
     ensures { (options : NormaliseOptions) (bytes new : List ℕ) → KeepsModuleTypes bytes →
-        IsNormalised options bytes new →
-        (groups normal : List GroupAt) × (new_indices : NewIndices) ×
-        HasTypes bytes groups × HasTypes new normal ×
-        HasNormalForm options.unused bytes normal new_indices ×
-        AreAllEqual (section_of groups) (section_of normal) (new_index new_indices) }
+        (is : IsNormalised options bytes new) →
+        (groups normal : List GroupAt) × HasTypes bytes groups × HasTypes new normal ×
+        AreAllEqual (section_of groups) (section_of normal) (new_index is.new_indices) }
 {}
 
 /// A second round changes nothing, whatever the options are: the result is its own result, and has

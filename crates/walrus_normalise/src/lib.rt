@@ -9,7 +9,8 @@
 //! want that, [`normalise_used`](walrus_unused::normalise_used) deletes the types that nothing
 //! uses, and [`strip_descriptions`](walrus_module::strip_descriptions) leaves out debug data and
 //! the like. Where these are kept, [`find_outdated`](walrus_module::find_outdated) looks for a
-//! custom section that no longer fits.
+//! custom section that no longer fits. [`find_changed_type`] looks for a type that the normal form
+//! makes another one.
 //!
 //! # Which section no longer fits
 //!
@@ -30,7 +31,7 @@
 #![tactic(auto)]
 
 mod changed_types;
-mod entry_names;
+mod entry_references;
 mod error;
 mod faults;
 pub mod laws;

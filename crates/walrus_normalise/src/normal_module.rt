@@ -21,8 +21,9 @@ use walrus_binary::encode_types;
 use walrus_module::{find_outdated, rename_module, strip_descriptions};
 
 /// Returns the module with its type section in normal form, and with every other index of a type
-/// written again, so that it names the same type as before. All else stays byte for byte
-/// (WebAssembly core specification, "Binary Format", "Modules").
+/// written again. It names the same type as before, unless
+/// [`find_changed_type`](crate::find_changed_type) finds a type that changes. All else stays byte
+/// for byte (WebAssembly core specification, "Binary Format", "Modules").
 ///
 /// The normal form is that of [`normalise`](walrus_types::normalise): equal lone types are merged,
 /// lone types are sorted as far as references allow, and recursion groups keep their order. Its

@@ -3,7 +3,7 @@ ghost use Rattle.std.specs.Prelude.{◌≡◌, ◌++◌, length, IfOk, OnOk, rep
 ghost use Rattle.walrus_normalise.specs.Steps.SelfReferences.{group_self_references, self_references};
 ghost use Rattle.walrus_ty.specs.Records.{group_of, section_of};
 
-use crate::entry_names::entry_names;
+use crate::entry_references::entry_refers_to;
 use std::alloc::{AllocError, Global};
 use walrus_types::GroupAt;
 
@@ -24,7 +24,7 @@ fn push_group(flags: &mut Vec<bool>, group: &GroupAt) -> Result<(), AllocError>
 {
     match group {
         GroupAt::Single(entry) => {
-            let refers = entry_names(entry, flags.len());
+            let refers = entry_refers_to(entry, flags.len());
             flags.push(refers)?;
         }
         GroupAt::Rec(entries) => push_members(flags, entries.len())?,

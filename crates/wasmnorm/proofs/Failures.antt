@@ -22,7 +22,7 @@ use Rattle.std.specs.declared.alloc.Global.{Global}
 use Rattle.std.specs.declared.string.String.{String}
 use Rattle.wasmnorm.specs.declared.options.RunOptions.{RunOptions}
 use Rattle.wasmnorm.specs.declared.strict.Strictness.TheVariants.{Strict}
-use Rattle.wasmnorm.specs.Steps.Failures.{Explains, ExplainsObjection, ExplainsRun, of_strictness, ExplainsError, ExplainsModule, is_of_types, is_of_sections, refused_status, status_of}
+use Rattle.wasmnorm.specs.Steps.Failures.{Explains, ExplainsRejection, ExplainsRun, of_strictness, ExplainsError, ExplainsModule, is_of_types, is_of_sections, refused_status, status_of}
 
 error_range : (e : NormaliseModuleError) → refused_status e ≤ 4
 error_range (error.Types e) = omega arith
@@ -203,10 +203,10 @@ explains_types options bytes (error.Outdated offset) why = absurd why
 explains_types options bytes error.Memory why = tt
 
 -- what ends the strict check ends the run
-pub objection_ends :
+pub rejection_ends :
     {A : Type 0} (options : RunOptions) (snips : List (String Global)) (bytes : List ℕ)
     (result : Result A Failure) (f : Failure) → IsErrAnd result (λ e. e ≡ f) → options.strictness ≡ Strict
-    → ExplainsObjection options.normalise bytes f → IfErr result (ExplainsRun options snips bytes)
-objection_ends options snips bytes (Ok new) f is strict why = tt
-objection_ends options snips bytes (Err e) f is strict why =
+    → ExplainsRejection options.normalise bytes f → IfErr result (ExplainsRun options snips bytes)
+rejection_ends options snips bytes (Ok new) f is strict why = tt
+rejection_ends options snips bytes (Err e) f is strict why =
     subst (λ x. ExplainsRun options snips bytes x) (sym is) (of_strictness f strict why)

@@ -30,7 +30,7 @@ use Rattle.wasmnorm.specs.declared.snip_failure.SnipFailure.TheVariants as snips
 use Rattle.wasmnorm.specs.declared.strict.Strictness.TheVariants.{Strict}
 use Rattle.wasmnorm.specs.Runs.{IsRefused, IsIllNamed, IsRejected, changed_type, unknown_section}
 use Rattle.wasmnorm.specs.Snips.{IsIndex, NamesFunction, NameFunctions, by_index, by_name, SnipsNamed, stays, of_named, SectionsFit, BecomesNormal, HasNoNames, OfNamed, SnippingOutdates, StopsSnipping, CanNotBeSnipped, no_names as nameless, no_functions, long_code, long_result, outdated, MisnamesFunctions, not_one, imported, unknown}
-use Rattle.wasmnorm.specs.Steps.Failures.{ExplainsObjection, of_reading, of_type, of_section, ExplainsRun, IsOfStreams, of_module, of_strictness, of_functions, status_of}
+use Rattle.wasmnorm.specs.Steps.Failures.{ExplainsRejection, of_reading, of_type, of_section, ExplainsRun, IsOfStreams, of_module, of_strictness, of_functions, status_of}
 use Rattle.wasmnorm.specs.Steps.Snips.{ExplainsArgument, ExplainsNames, ExplainsNormal, ExplainsRefusal, ExplainsSnip, refusal_status, snip_status}
 use Rattle.wasmnorm.proofs.Failures.{explains_refused, explains_ill_named}
 
@@ -74,25 +74,25 @@ snip_misnamed options named bytes (snips.Outdated offset context) why is = absur
 snip_misnamed options named bytes snips.TooLong why is = absurd (omega (arith, is))
 snip_misnamed options named bytes snips.Memory why is = absurd (omega (arith, is))
 
-objection_refused :
+rejection_refused :
     (options : RunOptions) (named : List (String Global)) (bytes : List ℕ) (f : Failure)
-    → options.strictness ≡ Strict → ExplainsObjection options.normalise bytes f → status_of f ≡ 1
+    → options.strictness ≡ Strict → ExplainsRejection options.normalise bytes f → status_of f ≡ 1
     → IsRefused options.normalise bytes ⊎ CanNotBeSnipped options.normalise named bytes
     ⊎ IsRejected options.strictness bytes
-objection_refused options named bytes f strict (of_reading _ why) is =
+rejection_refused options named bytes f strict (of_reading _ why) is =
     inl (explains_refused options.normalise bytes f why is)
-objection_refused options named bytes _ strict (of_type index changes) is = inr (inr (changed_type index
+rejection_refused options named bytes _ strict (of_type index changes) is = inr (inr (changed_type index
     strict changes))
-objection_refused options named bytes _ strict (of_section offset context has shown) is =
+rejection_refused options named bytes _ strict (of_section offset context has shown) is =
     inr (inr (unknown_section offset strict has))
 
-objection_ill_named :
-    (options : RunOptions) (bytes : List ℕ) (f : Failure) → ExplainsObjection options.normalise bytes f
+rejection_ill_named :
+    (options : RunOptions) (bytes : List ℕ) (f : Failure) → ExplainsRejection options.normalise bytes f
     → status_of f ≡ 2 → IsIllNamed bytes
-objection_ill_named options bytes f (of_reading _ why) is = explains_ill_named options.normalise bytes f why
+rejection_ill_named options bytes f (of_reading _ why) is = explains_ill_named options.normalise bytes f why
     is
-objection_ill_named options bytes _ (of_type index changes) is = absurd (omega (arith, is))
-objection_ill_named options bytes _ (of_section offset context has shown) is = absurd (omega (arith, is))
+rejection_ill_named options bytes _ (of_type index changes) is = absurd (omega (arith, is))
+rejection_ill_named options bytes _ (of_section offset context has shown) is = absurd (omega (arith, is))
 
 run_refused :
     (options : RunOptions) (named : List (String Global)) (bytes : List ℕ) (f : Failure)
@@ -102,7 +102,7 @@ run_refused :
 run_refused options named bytes f (of_module _ why) is =
     inl (explains_refused options.normalise bytes f why is)
 run_refused options named bytes f (of_strictness _ strict why) is =
-    objection_refused options named bytes f strict why is
+    rejection_refused options named bytes f strict why is
 run_refused options named bytes _ (of_functions e given why) is =
     inr (inl record { given = given; why = snip_refused options.normalise named bytes e why is })
 
@@ -113,7 +113,7 @@ run_ill_named :
 run_ill_named options named bytes f (of_module _ why) is =
     inl (explains_ill_named options.normalise bytes f why is)
 run_ill_named options named bytes f (of_strictness _ strict why) is =
-    inl (objection_ill_named options bytes f why is)
+    inl (rejection_ill_named options bytes f why is)
 run_ill_named options named bytes _ (of_functions e given why) is =
     inr (snip_misnamed options.normalise named bytes e why is)
 

@@ -1,6 +1,6 @@
 -- What a run does: `IsWritten` where its bytes are a module that is normalised, `IsRefused`,
 -- `IsIllNamed` and `IsRejected` where not. What stops functions from being snipped is in
--- `Snips`.
+-- `Snips`. `IsGiven` says which options the arguments give.
 use Rattle.std.specs.Prelude.{◌≡◌, ℕ, true, List, Option, bytes_eq}
 use Rattle.std.specs.List.{list_any}
 use Rattle.std.specs.Io.KnownBytes.{Appends}
@@ -50,8 +50,8 @@ pub data IsIllNamed (bytes : List ℕ) : Type 0 where
       → OfJudged (λ judged. HasFirstFault judged (UnknownType k count) place) bytes
       → IsIllNamed bytes
 
--- The bytes are a module that is strictly rejected: its normal form changes a type, or it has a
--- custom section of an unknown kind.
+-- The bytes are a module that `Strict` rejects: its normal form changes a type, or it has a custom
+-- section of an unknown kind.
 pub data IsRejected (strictness : Strictness) (bytes : List ℕ) : Type 0 where
   changed_type :
       (index : ℕ) → strictness ≡ Strict → ChangesType bytes index → IsRejected strictness bytes

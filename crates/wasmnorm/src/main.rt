@@ -32,7 +32,7 @@ use snipping::snipped_module;
 use std::alloc::{AllocError, Global};
 use std::io::{self, BufWriter, Read, Write};
 use std::process::ExitCode;
-use strict::check_strictness;
+use strict::reject_unsafe;
 use texts::{HELP, KEEP_WIDTHS, OUTPUT, PRUNE, SNIP, STRICT, STRIP, USAGE};
 use walrus_normalise::HashKeys;
 
@@ -48,7 +48,7 @@ use walrus_normalise::HashKeys;
 /// With `Strictness::Strict` a module is rejected in two more cases. One of its types would become
 /// another type, by WebAssembly's rule of type equality:
 /// [`find_changed_type`](walrus_normalise::find_changed_type) says when. Or a custom section is of
-/// an unknown kind, so that it may refer to types or to places in the file.
+/// an unknown kind, and so may refer to types or to places in the file.
 ///
 /// `snips` are functions whose bodies become a single `unreachable` before that. Each is an index,
 /// in digits alone that write a `u32`, or else the name of one function. A module that is refused
@@ -61,7 +61,7 @@ use walrus_normalise::HashKeys;
 /// - 0: done.
 /// - 1: the bytes are no module, or a section of it is malformed, or one with types that no record
 ///   holds. Or a section or a function body would be too long. Or a custom section describes bytes
-///   that would change. Or the module is strictly rejected.
+///   that would change. Or `Strictness::Strict` rejects the module.
 /// - 2: the type section names a type that it may not name, or has too many entries. Or another
 ///   section names a type that the type section does not have. Or one of `snips` is the name of no
 ///   function or of several, or the index of an imported function or of none.
@@ -69,8 +69,8 @@ use walrus_normalise::HashKeys;
 /// - 4: a read or a write failed.
 ///
 /// What is wrong first is reported. Where the bytes are no module, since a section breaks the
-/// framing, the sections before it are judged first. What a module is strictly rejected for is
-/// reported where nothing else is wrong with it, and before what is wrong with `snips`.
+/// framing, the sections before it are judged first. What only `Strictness::Strict`
+/// rejects is reported where nothing else is wrong, and before what is wrong with `snips`.
 ///
 /// `out` gains nothing at 1 to 3, since the whole module is there before it is written. At 4 it may
 /// have gained the module or a part of it.
@@ -159,7 +159,7 @@ fn new_module(
         Ok(module) => module,
         Err(error) => return Err(refusal(alloc, keys, bytes, options.normalise, error)),
     };
-    check_strictness(alloc, keys, options, bytes)?;
+    reject_unsafe(alloc, keys, options, bytes)?;
     if snips.is_empty() {
         return Ok(normal);
     }

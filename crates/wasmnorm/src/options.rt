@@ -16,7 +16,7 @@ use walrus_normalise::{Descriptions, NormaliseOptions, UnusedTypes, Widths};
 pub struct RunOptions {
     /// How it is normalised.
     pub normalise: NormaliseOptions,
-    /// Whether it is rejected though it has a normal form.
+    /// Whether it may be rejected although it has a normal form.
     pub strictness: Strictness,
 }
 

@@ -1,9 +1,9 @@
-//! What a module is rejected for that has a normal form.
+//! Why a module with a normal form may still be rejected.
 ghost use Rattle.std.specs.Prelude.{◌≡◌, IfErr, IfNone, IfOk, IfSome, OnOk};
 ghost use Rattle.walrus_binary.specs.Modules.{IsNoModule};
 ghost use Rattle.walrus_module.specs.UnknownCustoms.{HasNoUnknownCustom, HasUnknownCustomAt};
 ghost use Rattle.walrus_normalise.specs.EqualTypes.{KeepsModuleTypes};
-ghost use Rattle.wasmnorm.specs.Steps.Failures.{ExplainsObjection};
+ghost use Rattle.wasmnorm.specs.Steps.Failures.{ExplainsRejection};
 ghost use Rattle.wasmnorm.specs.declared.strict.Strictness.TheVariants.{Strict};
 
 use crate::failure::{Failure, refusal};
@@ -13,19 +13,20 @@ use std::alloc::Global;
 use walrus_module::find_unknown_custom;
 use walrus_normalise::{HashKeys, NormaliseOptions, find_changed_type};
 
-/// Whether a module is rejected that has a normal form.
+/// Whether a module with a normal form may still be rejected.
 #[derive(Clone, Copy, PartialEq, Eq, Debug)]
 pub enum Strictness {
-    /// It is not.
+    /// Never.
     Lenient,
-    /// It is if a type would become another type, or if it has a custom section of an unknown kind.
-    /// The program does not know whether such a section refers to types or to places in the file.
+    /// If a type would become another type, or if the module has a custom section of an unknown
+    /// kind. The program does not know whether such a section refers to types or to places in the
+    /// file.
     Strict,
 }
 
-/// Fails with what a module with a normal form is rejected for, if there is such a thing. The types
-/// are judged before the custom sections.
-pub fn check_strictness(
+/// Fails if a module with a normal form is to be rejected. The types are judged before the custom
+/// sections.
+pub fn reject_unsafe(
     alloc: Global,
     keys: HashKeys,
     options: RunOptions,
@@ -35,15 +36,15 @@ pub fn check_strictness(
     ensures kept { OnOk result (options.strictness ≡ Strict → KeepsModuleTypes bytes.now) }
     ensures known { OnOk result (options.strictness ≡ Strict → HasNoUnknownCustom bytes.now) }
     ensures refused { IfErr result (λ f. (options.strictness ≡ Strict) ×
-        ExplainsObjection options.normalise bytes.now f) }
+        ExplainsRejection options.normalise bytes.now f) }
 {
     match options.strictness {
         Strictness::Lenient => Ok(()),
-        Strictness::Strict => check_strictly(alloc, keys, options.normalise, bytes),
+        Strictness::Strict => check_types_and_sections(alloc, keys, options.normalise, bytes),
     }
 }
 
-fn check_strictly(
+fn check_types_and_sections(
     alloc: Global,
     keys: HashKeys,
     options: NormaliseOptions,
@@ -52,7 +53,7 @@ fn check_strictly(
     requires { ¬ IsNoModule bytes.now }
     ensures kept { OnOk result (KeepsModuleTypes bytes.now) }
     ensures known { OnOk result (HasNoUnknownCustom bytes.now) }
-    ensures refused { IfErr result (ExplainsObjection options bytes.now) }
+    ensures refused { IfErr result (ExplainsRejection options bytes.now) }
 {
     check_types(alloc, keys, options, bytes)?;
     check_sections(bytes)
@@ -65,7 +66,7 @@ fn check_types(
     bytes: &[u8],
 ) -> Result<(), Failure>
     ensures kept { OnOk result (KeepsModuleTypes bytes.now) }
-    ensures refused { IfErr result (ExplainsObjection options bytes.now) }
+    ensures refused { IfErr result (ExplainsRejection options bytes.now) }
 {
     let changed = match find_changed_type(alloc, keys, bytes) {
         Ok(changed) => changed,
@@ -81,7 +82,7 @@ fn check_sections(bytes: &[u8]) -> Result<(), Failure>
     requires { ¬ IsNoModule bytes.now }
     ensures known { OnOk result (HasNoUnknownCustom bytes.now) }
     ensures refused { (options : NormaliseOptions) →
-        IfErr result (ExplainsObjection options bytes.now) }
+        IfErr result (ExplainsRejection options bytes.now) }
 {
     match unknown_section(bytes) {
         Some(offset) => {

@@ -1,4 +1,4 @@
-"""Modules with short types that refer to each other and to themselves (`modules`)."""
+"""Modules with short types that refer to earlier types and to themselves (`modules`)."""
 import itertools
 
 from reference import type_section

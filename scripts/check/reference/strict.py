@@ -1,6 +1,6 @@
 """What `wasmnorm --strict` must do with a module (`outcome`).
 
-Slow and plain, as the modules beside it, which say what the program does without the option, and which types are equal.
+Slow and plain, like the modules beside it, which say what the program does without the option, and which types are equal.
 """
 import functools
 

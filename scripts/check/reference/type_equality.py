@@ -1,9 +1,9 @@
 """Equality of types, by the rule of the WebAssembly core specification 3.0, "Types", recursive types, and "Validation",
-type equality.
+defined types.
 
-Two types are equal if they are at the same place of groups of the same length whose definitions are alike. An index of the
-own group stands for a place in it, and any other index for its type. A lone type is a group of one. So it equals the same
-type in an explicit group. Nothing here depends on a normal form.
+Two types are equal if they are at the same place of groups of the same length whose definitions are alike. An index into
+the same group stands for a place in it, and any other index for its type. A lone type is a group of one. So it equals the
+same type in an explicit group. Nothing here depends on a normal form.
 """
 from reference.type_section import renamed
 

@@ -5,6 +5,7 @@ use Rattle.walrus_sections.specs.NormalForm.{image}
 use Rattle.walrus_ty.specs.Definition.{Definition, names_of}
 use Rattle.walrus_ty.specs.Groups.{Group, Single, Rec, Section}
 
+-- whether a name is this index
 abbrev pub is_index : ℕ → ℕ → Bool
 is_index index name = name == index
 
@@ -29,5 +30,5 @@ abbrev pub flag : List Bool → ℕ → Bool
 flag flags i = slice_index_or flags i false
 
 -- the type i does not refer to itself, and goes to one that does
-abbrev pub BeginsToReferTo : List Bool → List Bool → List ℕ → ℕ → Type 0
-BeginsToReferTo old new indices i = (flag old i ≡ false) × (flag new (image indices i) ≡ true)
+abbrev pub GainsSelfReference : List Bool → List Bool → List ℕ → ℕ → Type 0
+GainsSelfReference old new indices i = (flag old i ≡ false) × (flag new (image indices i) ≡ true)

@@ -96,15 +96,15 @@ Explains options bytes (failure.Input error) = Unit {0}
 Explains options bytes (failure.Output error) = Unit {0}
 
 -- what a failure of the strict check says of the bytes
-pub data ExplainsObjection (options : NormaliseOptions) (bytes : List ℕ) : Failure → Type 0 where
-  of_reading : (f : Failure) → Explains options bytes f → ExplainsObjection options bytes f
+pub data ExplainsRejection (options : NormaliseOptions) (bytes : List ℕ) : Failure → Type 0 where
+  of_reading : (f : Failure) → Explains options bytes f → ExplainsRejection options bytes f
   of_type :
       (index : ℕ) → ChangesType bytes index
-      → ExplainsObjection options bytes (failure.ChangedType index)
+      → ExplainsRejection options bytes (failure.ChangedType index)
   of_section :
       (offset : ℕ) (context : Context) → HasUnknownCustomAt bytes offset
       → IsContext context bytes offset
-      → ExplainsObjection options bytes (failure.UnknownSection offset context)
+      → ExplainsRejection options bytes (failure.UnknownSection offset context)
 
 -- what a failure says of the bytes, of the options and of the arguments that name functions
 pub data ExplainsRun (options : RunOptions) (snips : List (String Global)) (bytes : List ℕ) :
@@ -112,7 +112,7 @@ pub data ExplainsRun (options : RunOptions) (snips : List (String Global)) (byte
   of_module :
       (f : Failure) → Explains options.normalise bytes f → ExplainsRun options snips bytes f
   of_strictness :
-      (f : Failure) → options.strictness ≡ Strict → ExplainsObjection options.normalise bytes f
+      (f : Failure) → options.strictness ≡ Strict → ExplainsRejection options.normalise bytes f
       → ExplainsRun options snips bytes f
   of_functions :
       (e : SnipFailure) → (snips ≡ [] → ⊥) → ExplainsSnip options.normalise snips bytes e

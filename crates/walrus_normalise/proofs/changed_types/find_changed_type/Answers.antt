@@ -20,7 +20,7 @@ returns-clause-none c =
     ∙ ap (λ (g : List GroupAt). self_references 0 (section_of g)) c.as_slice-2.ensures.value))
     (c.as_slice-5.ensures.value ∙ (c.in_ok-new.ensures
     ∙ ap (λ (g : List GroupAt). self_references 0 (section_of g)) c.as_slice-3.ensures.value))
-    c.as_slice-6.ensures.value c.first_that_begins.result c.first_that_begins.ensures.none
+    c.as_slice-6.ensures.value c.first_changed.result c.first_changed.ensures.none
 
 pub returns-clause-found : goal.returns-clause-found
 returns-clause-found c =
@@ -35,5 +35,5 @@ returns-clause-found c =
     ∙ ap (λ (g : List GroupAt). self_references 0 (section_of g)) c.as_slice-2.ensures.value))
     (c.as_slice-5.ensures.value ∙ (c.in_ok-new.ensures
     ∙ ap (λ (g : List GroupAt). self_references 0 (section_of g)) c.as_slice-3.ensures.value))
-    c.as_slice-6.ensures.value c.first_that_begins.result c.first_that_begins.ensures.within
-    c.first_that_begins.ensures.found c.first_that_begins.ensures.first
+    c.as_slice-6.ensures.value c.first_changed.result c.first_changed.ensures.within
+    c.first_changed.ensures.found c.first_changed.ensures.first

@@ -6,9 +6,7 @@ pub returns : goal.returns
 returns c = λ options bytes new k h. (
   k.groups,
   h.has.normal,
-  h.new_indices,
   k.read,
   has_normal options bytes new h,
-  h.has.has,
   kept_all options.unused bytes h.has.normal h.new_indices h.has.has k,
 )

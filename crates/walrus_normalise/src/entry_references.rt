@@ -10,40 +10,40 @@ use walrus_ty::{CompAt, EntryAt, FieldAt, ValAt};
 
 /// Whether the type refers to this index.
 #[tactic(auto, using(crate::proofs::SelfReferences::list_any_both))]
-pub(crate) fn entry_names(entry: &EntryAt, index: usize) -> bool
+pub(crate) fn entry_refers_to(entry: &EntryAt, index: usize) -> bool
     ensures { result ≡ names_index index (entry_definition entry.now) }
 {
-    comp_names(&entry.comp, index) || is_name(entry.supertype, index)
+    composite_refers_to(&entry.comp, index) || is_index(entry.supertype, index)
 }
 
 #[tactic(auto, using(crate::proofs::SelfReferences::list_any_flat_map, crate::proofs::SelfReferences::list_any_both, walrus_ty::proofs::Names::InLists::field_named))]
-fn comp_names(comp: &CompAt, index: usize) -> bool
+fn composite_refers_to(comp: &CompAt, index: usize) -> bool
     ensures { result ≡ list_any (is_index index) (composite_names (comp_composite comp.now)) }
 {
     match comp {
         CompAt::Function { params, results } => {
-            vals_name(params.as_slice(), index) || vals_name(results.as_slice(), index)
+            vals_refer_to(params.as_slice(), index) || vals_refer_to(results.as_slice(), index)
         }
-        CompAt::Struct { fields } => fields_name(fields.as_slice(), index),
-        CompAt::Array { field } => is_name(field.name(), index),
+        CompAt::Struct { fields } => fields_refer_to(fields.as_slice(), index),
+        CompAt::Array { field } => is_index(field.name(), index),
     }
 }
 
 #[tactic(auto, using(walrus_ty::proofs::Names::InLists::val_named))]
-fn vals_name(vals: &[ValAt], index: usize) -> bool
+fn vals_refer_to(vals: &[ValAt], index: usize) -> bool
     ensures { result ≡ list_any (λ v. list_any (is_index index) (val_names v)) vals.now }
 {
-    vals.iter().any(|val| is_name(val.name(), index))
+    vals.iter().any(|val| is_index(val.name(), index))
 }
 
 #[tactic(auto, using(walrus_ty::proofs::Names::InLists::field_named))]
-fn fields_name(fields: &[FieldAt], index: usize) -> bool
+fn fields_refer_to(fields: &[FieldAt], index: usize) -> bool
     ensures { result ≡ list_any (λ f. list_any (is_index index) (field_names f)) fields.now }
 {
-    fields.iter().any(|field| is_name(field.name(), index))
+    fields.iter().any(|field| is_index(field.name(), index))
 }
 
-fn is_name(name: Option<u32>, index: usize) -> bool
+fn is_index(name: Option<u32>, index: usize) -> bool
     ensures { result ≡ list_any (is_index index) (supertype_names name) }
 {
     match name {
