@@ -16,12 +16,12 @@ use walrus_types::normalise;
 /// each type stays equal to what it was (WebAssembly core specification, "Types", recursive types).
 ///
 /// Two types are equal if they are at the same place of recursion groups that are equal. An index
-/// into the same group then means a place in it, and any other index the type itself. A lone type is
-/// a group of one. So a lone type that refers to itself never equals one that refers to another type, also if
-/// both have the same indices. But [`normalise_module`](crate::normalise_module) merges lone types
-/// that have the same indices. So it changes types in just one case: **a lone type that does not
-/// refer to itself is merged into one that does.** The types that refer to it change with it. A call
-/// or a cast that trapped before can then succeed.
+/// into the same group then means a place in it, and any other index the type itself. A lone type
+/// is a group of one. So a lone type that refers to itself never equals one that refers to another
+/// type, also if both have the same indices. But [`normalise_module`](crate::normalise_module)
+/// merges lone types that have the same indices. So it changes types in just one case: **a lone
+/// type that does not refer to itself is merged into one that does.** The types that refer to it
+/// change with it. A call or a cast that trapped before can then succeed.
 ///
 /// Only the type section is looked at, with its unused types. `None` holds for each choice of
 /// [`NormaliseOptions`](crate::NormaliseOptions). A type that is found may be one that

@@ -21,8 +21,7 @@ use Rattle.wasmnorm.specs.Steps.Snips.{refusal_status, snip_status}
 use Rattle.std.specs.declared.alloc.Global.{Global}
 use Rattle.std.specs.declared.string.String.{String}
 use Rattle.wasmnorm.specs.declared.options.RunOptions.{RunOptions}
-use Rattle.wasmnorm.specs.declared.strict.Strictness.TheVariants.{Strict}
-use Rattle.wasmnorm.specs.Steps.Failures.{Explains, ExplainsRejection, ExplainsRun, of_strictness, ExplainsError, ExplainsModule, is_of_types, is_of_sections, refused_status, status_of}
+use Rattle.wasmnorm.specs.Steps.Failures.{Explains, ExplainsRun, ExplainsError, ExplainsModule, is_of_types, is_of_sections, refused_status, status_of}
 
 error_range : (e : NormaliseModuleError) → refused_status e ≤ 4
 error_range (error.Types e) = omega arith
@@ -51,8 +50,7 @@ snip_range snips.Memory = omega arith
 
 pub status_range : (f : Failure) → status_of f ≤ 4
 status_range (failure.Refused e context advice) = error_range e
-status_range (failure.ChangedType index) = omega arith
-status_range (failure.UnknownSection offset context) = omega arith
+status_range (failure.Rejected h) = omega arith
 status_range (failure.Unsnipped e) = snip_range e
 status_range failure.Memory = omega arith
 status_range failure.Keys = omega arith
@@ -145,8 +143,7 @@ pub explains_refused :
     → IsRefused options bytes
 explains_refused options bytes (failure.Refused e context advice) why is =
     error_refused options bytes e why.0 is
-explains_refused options bytes (failure.ChangedType index) why is = absurd why
-explains_refused options bytes (failure.UnknownSection offset context) why is = absurd why
+explains_refused options bytes (failure.Rejected h) why is = absurd why
 explains_refused options bytes (failure.Unsnipped e) why is = absurd why
 explains_refused options bytes failure.Memory why is = absurd (omega (arith, is))
 explains_refused options bytes failure.Keys why is = absurd (omega (arith, is))
@@ -158,8 +155,7 @@ pub explains_ill_named :
     → IsIllNamed bytes
 explains_ill_named options bytes (failure.Refused e context advice) why is =
     error_ill_named options bytes e why.0 is
-explains_ill_named options bytes (failure.ChangedType index) why is = absurd why
-explains_ill_named options bytes (failure.UnknownSection offset context) why is = absurd why
+explains_ill_named options bytes (failure.Rejected h) why is = absurd why
 explains_ill_named options bytes (failure.Unsnipped e) why is = absurd why
 explains_ill_named options bytes failure.Memory why is = absurd (omega (arith, is))
 explains_ill_named options bytes failure.Keys why is = absurd (omega (arith, is))
@@ -202,11 +198,11 @@ explains_types options bytes error.TooLong why = absurd why
 explains_types options bytes (error.Outdated offset) why = absurd why
 explains_types options bytes error.Memory why = tt
 
--- what ends the strict check ends the run
-pub rejection_ends :
+-- what ends the search for hazards ends the run
+pub search_ends :
     {A : Type 0} (options : RunOptions) (snips : List (String Global)) (bytes : List ℕ)
-    (result : Result A Failure) (f : Failure) → IsErrAnd result (λ e. e ≡ f) → options.strictness ≡ Strict
-    → ExplainsRejection options.normalise bytes f → IfErr result (ExplainsRun options snips bytes)
-rejection_ends options snips bytes (Ok new) f is strict why = tt
-rejection_ends options snips bytes (Err e) f is strict why =
-    subst (λ x. ExplainsRun options snips bytes x) (sym is) (of_strictness f strict why)
+    (result : Result A Failure) (f : Failure) → IsErrAnd result (λ e. e ≡ f)
+    → ExplainsRun options snips bytes f → IfErr result (ExplainsRun options snips bytes)
+search_ends options snips bytes (Ok new) f is why = tt
+search_ends options snips bytes (Err e) f is why =
+    subst (λ x. ExplainsRun options snips bytes x) (sym is) why

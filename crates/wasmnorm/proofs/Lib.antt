@@ -1,3 +1,4 @@
 pub mod Failures
 pub mod Fronts
 pub mod Snips
+pub mod Warnings

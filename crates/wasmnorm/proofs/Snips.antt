@@ -1,6 +1,6 @@
 -- What follows where functions are not snipped.
 use Rattle.std.proofs.Common.{◌≡◌, ◌∙◌, true, false, ℕ, ◌+◌, ◌<◌, List, [], ◌∷◌, ◌++◌, length, take, get_or, slice_index_or, Option, None, Some, Result, Ok, Err, ◌⊎◌, inl, inr, refl, sym, ap, subst, arith}
-use Rattle.std.specs.Prelude.{◌==◌, IfErr, IfOk, IfSome, IsErrOf}
+use Rattle.std.specs.Prelude.{◌==◌, IfErr, IfOk, IfSome, IsErrAnd, IsErrOf}
 use Rattle.std.specs.List.{AllZip}
 use Rattle.std.specs.Str.Parse.{digits_value}
 use Rattle.std.specs.String.{string_bytes}
@@ -27,10 +27,13 @@ use Rattle.wasmnorm.specs.declared.failure.Failure.TheVariants as failure
 use Rattle.wasmnorm.specs.declared.options.RunOptions.{RunOptions}
 use Rattle.wasmnorm.specs.declared.snip_failure.SnipFailure.{SnipFailure}
 use Rattle.wasmnorm.specs.declared.snip_failure.SnipFailure.TheVariants as snips
-use Rattle.wasmnorm.specs.declared.strict.Strictness.TheVariants.{Strict}
+use Rattle.wasmnorm.specs.declared.hazard.Hazard.{Hazard}
+use Rattle.wasmnorm.specs.declared.hazard.Hazard.TheVariants as hazard
+use Rattle.wasmnorm.specs.declared.options.Strictness.TheVariants.{Strict}
 use Rattle.wasmnorm.specs.Runs.{IsRefused, IsIllNamed, IsRejected, changed_type, unknown_section}
 use Rattle.wasmnorm.specs.Snips.{IsIndex, NamesFunction, NameFunctions, by_index, by_name, SnipsNamed, stays, of_named, SectionsFit, BecomesNormal, HasNoNames, OfNamed, SnippingOutdates, StopsSnipping, CanNotBeSnipped, no_names as nameless, no_functions, long_code, long_result, outdated, MisnamesFunctions, not_one, imported, unknown}
-use Rattle.wasmnorm.specs.Steps.Failures.{ExplainsRejection, of_reading, of_type, of_section, ExplainsRun, IsOfStreams, of_module, of_strictness, of_functions, status_of}
+use Rattle.wasmnorm.specs.Steps.Failures.{ExplainsRun, IsOfStreams, of_module, of_hazard, of_functions, status_of}
+use Rattle.wasmnorm.specs.Steps.Hazards.{IsHazard}
 use Rattle.wasmnorm.specs.Steps.Snips.{ExplainsArgument, ExplainsNames, ExplainsNormal, ExplainsRefusal, ExplainsSnip, refusal_status, snip_status}
 use Rattle.wasmnorm.proofs.Failures.{explains_refused, explains_ill_named}
 
@@ -74,25 +77,12 @@ snip_misnamed options named bytes (snips.Outdated offset context) why is = absur
 snip_misnamed options named bytes snips.TooLong why is = absurd (omega (arith, is))
 snip_misnamed options named bytes snips.Memory why is = absurd (omega (arith, is))
 
-rejection_refused :
-    (options : RunOptions) (named : List (String Global)) (bytes : List ℕ) (f : Failure)
-    → options.strictness ≡ Strict → ExplainsRejection options.normalise bytes f → status_of f ≡ 1
-    → IsRefused options.normalise bytes ⊎ CanNotBeSnipped options.normalise named bytes
-    ⊎ IsRejected options.strictness bytes
-rejection_refused options named bytes f strict (of_reading _ why) is =
-    inl (explains_refused options.normalise bytes f why is)
-rejection_refused options named bytes _ strict (of_type index changes) is = inr (inr (changed_type index
-    strict changes))
-rejection_refused options named bytes _ strict (of_section offset context has shown) is =
-    inr (inr (unknown_section offset strict has))
-
-rejection_ill_named :
-    (options : RunOptions) (bytes : List ℕ) (f : Failure) → ExplainsRejection options.normalise bytes f
-    → status_of f ≡ 2 → IsIllNamed bytes
-rejection_ill_named options bytes f (of_reading _ why) is = explains_ill_named options.normalise bytes f why
-    is
-rejection_ill_named options bytes _ (of_type index changes) is = absurd (omega (arith, is))
-rejection_ill_named options bytes _ (of_section offset context has shown) is = absurd (omega (arith, is))
+hazard_rejected :
+    (options : RunOptions) (bytes : List ℕ) (h : Hazard) → options.strictness ≡ Strict → IsHazard bytes h
+    → IsRejected options.strictness bytes
+hazard_rejected options bytes (hazard.ChangedType index) strict changes = changed_type index strict changes
+hazard_rejected options bytes (hazard.UnknownSection offset context) strict has =
+    unknown_section offset strict has.0 has.1
 
 run_refused :
     (options : RunOptions) (named : List (String Global)) (bytes : List ℕ) (f : Failure)
@@ -101,8 +91,8 @@ run_refused :
     ⊎ IsRejected options.strictness bytes
 run_refused options named bytes f (of_module _ why) is =
     inl (explains_refused options.normalise bytes f why is)
-run_refused options named bytes f (of_strictness _ strict why) is =
-    rejection_refused options named bytes f strict why is
+run_refused options named bytes _ (of_hazard h strict is_hazard) is =
+    inr (inr (hazard_rejected options bytes h strict is_hazard))
 run_refused options named bytes _ (of_functions e given why) is =
     inr (inl record { given = given; why = snip_refused options.normalise named bytes e why is })
 
@@ -112,8 +102,7 @@ run_ill_named :
     → IsIllNamed bytes ⊎ MisnamesFunctions named bytes
 run_ill_named options named bytes f (of_module _ why) is =
     inl (explains_ill_named options.normalise bytes f why is)
-run_ill_named options named bytes f (of_strictness _ strict why) is =
-    inl (rejection_ill_named options bytes f why is)
+run_ill_named options named bytes _ (of_hazard h strict is_hazard) is = absurd (omega (arith, is))
 run_ill_named options named bytes _ (of_functions e given why) is =
     inr (snip_misnamed options.normalise named bytes e why is)
 
@@ -143,8 +132,7 @@ stream_explains :
     (options : RunOptions) (named : List (String Global)) (bytes : List ℕ) (f : Failure)
     → IsOfStreams f → ExplainsRun options named bytes f
 stream_explains options named bytes (failure.Refused e context advice) h = absurd h
-stream_explains options named bytes (failure.ChangedType index) h = absurd h
-stream_explains options named bytes (failure.UnknownSection offset context) h = absurd h
+stream_explains options named bytes (failure.Rejected x) h = absurd h
 stream_explains options named bytes (failure.Unsnipped e) h = absurd h
 stream_explains options named bytes failure.Memory h = of_module failure.Memory tt
 stream_explains options named bytes failure.Keys h = of_module failure.Keys tt
@@ -156,6 +144,14 @@ pub known_of_streams :
     → IsOfStreams f → IfSome known (λ bytes. ExplainsRun options named bytes f)
 known_of_streams options named None f h = tt
 known_of_streams options named (Some bytes) f h = stream_explains options named bytes f h
+
+pub streams_end :
+    {A : Type 0} (options : RunOptions) (named : List (String Global)) (known : Option (List ℕ))
+    (result : Result A Failure) (f : Failure) → IsErrAnd result (λ e. e ≡ f) → IsOfStreams f
+    → IfErr result (λ e. IfSome known (λ bytes. ExplainsRun options named bytes e))
+streams_end options named known (Ok x) f is h = tt
+streams_end options named known (Err e) f is h = known_of_streams options named known e (subst (λ x.
+    IsOfStreams x) (sym is) h)
 
 -- ---- functions by their names
 

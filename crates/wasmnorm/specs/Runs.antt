@@ -1,24 +1,24 @@
 -- What a run does: `IsWritten` where its bytes are a module that is normalised, `IsRefused`,
--- `IsIllNamed` and `IsRejected` where not. What stops functions from being snipped is in
--- `Snips`. `IsGiven` says which options the arguments give.
-use Rattle.std.specs.Prelude.{◌≡◌, ℕ, true, List, Option, bytes_eq}
+-- `IsIllNamed` and `IsRejected` where not. `IsWarned` says when there is a warning. What stops
+-- functions from being snipped is in `Snips`. `IsGiven` says which options the arguments give.
+use Rattle.std.specs.Prelude.{◌≡◌, ℕ, ◌⊎◌, true, List, [], ◌∷◌, ◌++◌, Option, bytes_eq, codes}
 use Rattle.std.specs.List.{list_any}
-use Rattle.std.specs.Io.KnownBytes.{Appends}
+use Rattle.std.specs.Io.KnownBytes.{Appends, Keeps}
 use Rattle.std.specs.String.{string_bytes}
 use Rattle.std.specs.declared.alloc.Global.{Global}
 use Rattle.std.specs.declared.string.String.{String}
 use Rattle.walrus_binary.specs.ModuleSections.{HasBadTypesBy}
 use Rattle.walrus_binary.specs.declared.error.DecodeError.{DecodeError}
 use Rattle.walrus_module.specs.declared.faults.FaultKind.TheVariants.{UnknownType}
-use Rattle.walrus_module.specs.UnknownCustoms.{HasUnknownCustomAt}
+use Rattle.walrus_module.specs.UnknownCustoms.{HasNoUnknownCustom, HasUnknownCustomAt}
 use Rattle.walrus_normalise.specs.declared.options.NormaliseOptions.{NormaliseOptions}
-use Rattle.walrus_normalise.specs.EqualTypes.{ChangesType}
+use Rattle.walrus_normalise.specs.EqualTypes.{ChangesType, KeepsModuleTypes}
 use Rattle.walrus_normalise.specs.NormalModules.{HasFirstError, HasFirstFault, BecomesTooLong, BecomesOutdated}
 use Rattle.walrus_sections.specs.declared.error.ReadError.{ReadError}
 use Rattle.wasmnorm.specs.Judged.{OfJudged, IsMalformedAt}
 use Rattle.wasmnorm.specs.Snips.{BecomesNormal}
-use Rattle.wasmnorm.specs.declared.strict.Strictness.{Strictness}
-use Rattle.wasmnorm.specs.declared.strict.Strictness.TheVariants.{Strict}
+use Rattle.wasmnorm.specs.declared.options.Strictness.{Strictness}
+use Rattle.wasmnorm.specs.declared.options.Strictness.TheVariants.{Strict}
 
 -- The bytes are a module, and a writer gained the same module with its type section in normal form.
 -- The functions that the arguments name were snipped before.
@@ -27,6 +27,33 @@ pub record IsWritten (options : NormaliseOptions) (snips : List (String Global))
   pub normal : List ℕ
   pub becomes : BecomesNormal options snips bytes normal
   pub written : Appends old new normal
+
+-- ---- warnings
+
+-- a warning with this text, and a line feed behind it
+abbrev pub warning_line : List ℕ → List ℕ
+warning_line text = codes "warning: " ++ (text ++ 10 ∷ [])
+
+-- a writer gained a warning
+abbrev pub Warns : Option (List ℕ) → Option (List ℕ) → Type 0
+Warns old new = (text : List ℕ) × Appends old new (warning_line text)
+
+-- a writer gained nothing but a warning
+abbrev pub WarnsAtMost : Option (List ℕ) → Option (List ℕ) → Type 0
+WarnsAtMost old new = Keeps old new ⊎ Warns old new
+
+-- A writer gained nothing, where the normal form of the bytes keeps each type, and no custom
+-- section is of an unknown kind. Otherwise it gained a warning. A type comes before a section.
+pub data IsWarned (bytes : List ℕ) (old new : Option (List ℕ)) : Type 0 where
+  not_warned :
+      KeepsModuleTypes bytes → HasNoUnknownCustom bytes → Keeps old new → IsWarned bytes old new
+  of_changed_type :
+      (index : ℕ) → ChangesType bytes index → Warns old new → IsWarned bytes old new
+  of_unknown_section :
+      (offset : ℕ) → KeepsModuleTypes bytes → HasUnknownCustomAt bytes offset → Warns old new
+      → IsWarned bytes old new
+
+-- ---- where no module is written
 
 -- The bytes are no module, or its types can't be read; or another section is malformed; or a
 -- section or a function body would be too long; or a section describes bytes that would change.
@@ -50,14 +77,14 @@ pub data IsIllNamed (bytes : List ℕ) : Type 0 where
       → OfJudged (λ judged. HasFirstFault judged (UnknownType k count) place) bytes
       → IsIllNamed bytes
 
--- The bytes are a module that `Strict` rejects: its normal form changes a type, or it has a custom
--- section of an unknown kind.
+-- The bytes are a module that `Strict` rejects: its normal form changes a type, or else it has a
+-- custom section of an unknown kind.
 pub data IsRejected (strictness : Strictness) (bytes : List ℕ) : Type 0 where
   changed_type :
       (index : ℕ) → strictness ≡ Strict → ChangesType bytes index → IsRejected strictness bytes
   unknown_section :
-      (offset : ℕ) → strictness ≡ Strict → HasUnknownCustomAt bytes offset
-      → IsRejected strictness bytes
+      (offset : ℕ) → strictness ≡ Strict → KeepsModuleTypes bytes
+      → HasUnknownCustomAt bytes offset → IsRejected strictness bytes
 
 -- ---- the arguments
 

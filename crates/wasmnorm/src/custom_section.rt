@@ -1,4 +1,4 @@
-//! What the program says of the custom section for which it rejects a module.
+//! What the program says of a custom section for which it rejects a module or warns of it.
 use error_context::{Context, NamedSection};
 use std::fmt;
 use std::fmt::Formatter;

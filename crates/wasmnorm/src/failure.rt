@@ -2,8 +2,9 @@
 ghost use Rattle.std.specs.Prelude.{◌≡◌, ◌≤◌, ◌⊎◌};
 ghost use Rattle.wasmnorm.specs.Steps.Failures.{Explains, ExplainsModule, HasContext, IsOfStreams, refused_status, status_of};
 
-use crate::custom_section::{write_outdated, write_unknown_kind};
+use crate::custom_section::write_outdated;
 use crate::fault::first_error;
+use crate::hazard::Hazard;
 use crate::snip_failure::{SnipFailure, snip_status};
 use error_context::{Context, context_of, context_of_error};
 use std::alloc::{AllocError, Global};
@@ -24,18 +25,8 @@ pub enum Failure {
         /// What may help.
         advice: Advice,
     },
-    /// A type would become another one, and the module is rejected for it.
-    ChangedType {
-        /// The first such type.
-        index: u32,
-    },
-    /// A custom section is of an unknown kind, and the module is rejected for it.
-    UnknownSection {
-        /// The place of the first such section.
-        offset: usize,
-        /// The section, with its name.
-        context: Context,
-    },
+    /// The module is rejected for what could be wrong in its normal form.
+    Rejected(Hazard),
     /// The functions were not snipped.
     Unsnipped(SnipFailure),
     /// Memory was refused.
@@ -44,7 +35,7 @@ pub enum Failure {
     Keys,
     /// The input could not be opened, or a read failed.
     Input(io::Error),
-    /// A write of the output failed.
+    /// A write of the output or of a warning failed.
     Output(io::Error),
 }
 
@@ -86,13 +77,7 @@ impl fmt::Display for Failure {
                 context,
                 advice,
             } => write!(f, "{error}{context}{advice}"),
-            Failure::ChangedType { index } => {
-                write!(
-                    f,
-                    "type {index} would become another type, one that refers to itself"
-                )
-            }
-            Failure::UnknownSection { offset, context } => write_unknown_kind(f, *offset, context),
+            Failure::Rejected(hazard) => write!(f, "{hazard}"),
             Failure::Unsnipped(failure) => write!(f, "{failure}"),
             Failure::Memory => write!(f, "out of memory"),
             Failure::Keys => write!(f, "no random keys"),
@@ -187,7 +172,7 @@ fn status(failure: &Failure) -> u8
 {
     match failure {
         Failure::Refused { error, .. } => refusal_status(*error),
-        Failure::ChangedType { .. } | Failure::UnknownSection { .. } => 1,
+        Failure::Rejected(_) => 1,
         Failure::Unsnipped(failure) => snip_status(failure),
         Failure::Memory => 3,
         Failure::Keys | Failure::Input(_) | Failure::Output(_) => 4,

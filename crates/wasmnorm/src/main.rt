@@ -1,40 +1,43 @@
 //! Reads a WebAssembly module and writes it with its type section in normal form.
 #![tactic(auto)]
 
-ghost use Rattle.std.specs.Prelude.{◌≡◌, ◌<◌, ◌≤◌, ◌⊎◌, IfErr, IfOk, OnOk, IfSome};
+ghost use Rattle.std.specs.Prelude.{◌≡◌, ◌<◌, ◌≤◌, ◌⊎◌, IfErr, IfOk, OnOk, IfSome, None};
 ghost use Rattle.std.specs.Io.KnownBytes.{Appends, Keeps};
 ghost use Rattle.walrus_module.specs.UnknownCustoms.{HasNoUnknownCustom};
 ghost use Rattle.walrus_normalise.specs.EqualTypes.{KeepsModuleTypes};
-ghost use Rattle.wasmnorm.specs.Runs.{IsWritten, IsRefused, IsIllNamed, IsRejected};
+ghost use Rattle.wasmnorm.specs.Runs.{IsWritten, IsWarned, WarnsAtMost, IsRefused, IsIllNamed, IsRejected};
 ghost use Rattle.wasmnorm.specs.Snips.{BecomesNormal, CanNotBeSnipped, MisnamesFunctions};
 ghost use Rattle.wasmnorm.specs.Steps.Failures.{ExplainsRun, status_of};
-ghost use Rattle.wasmnorm.specs.declared.strict.Strictness.TheVariants.{Strict};
+ghost use Rattle.wasmnorm.specs.Steps.Hazards.{IsFirstHazard};
+ghost use Rattle.wasmnorm.specs.declared.options.Strictness.TheVariants.{Strict};
 
 mod custom_section;
 mod failure;
 mod fault;
 mod front;
+mod hazard;
 mod module;
 mod options;
 mod snip_failure;
 mod snipping;
-mod strict;
 mod texts;
+mod warning;
 
 use command_line::{
     OptionValue, Request, create, open, parse_arguments, random_keys, read_bytes, report_usage,
     write_version,
 };
 use failure::{Failure, failed_input, refusal, report};
+use hazard::{Hazard, accepted_hazard};
 use module::normal_module;
 use options::{RunOptions, run_options};
 use snipping::snipped_module;
 use std::alloc::{AllocError, Global};
 use std::io::{self, BufWriter, Read, Write};
 use std::process::ExitCode;
-use strict::reject_unsafe;
 use texts::{HELP, KEEP_WIDTHS, OUTPUT, PRUNE, SNIP, STRICT, STRIP, USAGE};
 use walrus_normalise::HashKeys;
+use warning::warn_of;
 
 /// Reads a module from `reader`, and writes the same module to `out`, with its type section in
 /// normal form and every other index of a type written again.
@@ -45,10 +48,13 @@ use walrus_normalise::HashKeys;
 /// they are. Where one of them describes bytes that would change, such as debug data, the module is
 /// refused, unless the options say that such sections are left out.
 ///
-/// With `Strictness::Strict` a module is rejected in two more cases. One of its types would become
-/// another type, by WebAssembly's rule of type equality:
+/// In two cases the new module can be wrong. A type of the input becomes another type, by
+/// WebAssembly's rule of type equality:
 /// [`find_changed_type`](walrus_normalise::find_changed_type) says when. Or a custom section is of
-/// an unknown kind, and so may refer to types or to places in the file.
+/// an unknown kind, and so may refer to types or to places in the file. With `Strictness::Strict`
+/// such a module is rejected, even if no byte would change. With `Strictness::Lenient` a line on
+/// `err` warns of it, before the module is written. The line names the type or the place of the
+/// input.
 ///
 /// `snips` are functions whose bodies become a single `unreachable` before that. Each is an index,
 /// in digits alone that write a `u32`, or else the name of one function. A module that is refused
@@ -56,7 +62,8 @@ use walrus_normalise::HashKeys;
 /// input. Where a body changes, a custom section that describes other bytes no longer fits,
 /// whatever it describes.
 ///
-/// It returns the exit status. One line on `err` explains each of 1 to 4.
+/// It returns the exit status. One line on `err` explains each of 1 to 4. At 0 `err` gains nothing
+/// but a warning. At 4 a warning can be before the line.
 ///
 /// - 0: done.
 /// - 1: the bytes are no module, or a section of it is malformed, or one with types that no record
@@ -93,7 +100,11 @@ pub fn run<R: Read, W: Write, E: Write>(
         IfSome (R.remaining reader.old) KeepsModuleTypes }
     ensures known { result ≡ 0 → options.strictness ≡ Strict →
         IfSome (R.remaining reader.old) HasNoUnknownCustom }
-    ensures silent { result ≡ 0 → Keeps (E.contents err.old) (E.contents err.new) }
+    ensures warned { result ≡ 0 → IfSome (R.remaining reader.old)
+        (λ bytes. IsWarned bytes (E.contents err.old) (E.contents err.new)) }
+    ensures bounded { result ≡ 0 → WarnsAtMost (E.contents err.old) (E.contents err.new) }
+    ensures silent { result ≡ 0 → options.strictness ≡ Strict →
+        Keeps (E.contents err.old) (E.contents err.new) }
     ensures refused { result ≡ 1 → IfSome (R.remaining reader.old)
         (λ bytes. IsRefused options.normalise bytes ⊎
         CanNotBeSnipped options.normalise snips.now bytes ⊎
@@ -103,19 +114,20 @@ pub fn run<R: Read, W: Write, E: Write>(
     ensures range { result ≤ 4 }
     ensures unwritten { 0 < result → result < 4 → Keeps (W.contents out.old) (W.contents out.new) }
 {
-    match normalise_input(alloc, keys, options, snips, reader, out) {
+    match normalise_input(alloc, keys, options, snips, reader, out, err) {
         Ok(()) => 0,
         Err(failure) => report(&failure, err),
     }
 }
 
-fn normalise_input<R: Read, W: Write>(
+fn normalise_input<R: Read, W: Write, E: Write>(
     alloc: Global,
     keys: HashKeys,
     options: RunOptions,
     snips: &[String],
     reader: &mut R,
     out: &mut W,
+    err: &mut E,
 ) -> Result<(), Failure>
     ensures done { OnOk result (IfSome (R.remaining reader.old)
         (λ bytes. IsWritten options.normalise snips.now bytes
@@ -124,6 +136,11 @@ fn normalise_input<R: Read, W: Write>(
         IfSome (R.remaining reader.old) KeepsModuleTypes) }
     ensures known { OnOk result (options.strictness ≡ Strict →
         IfSome (R.remaining reader.old) HasNoUnknownCustom) }
+    ensures warned { OnOk result (IfSome (R.remaining reader.old)
+        (λ bytes. IsWarned bytes (E.contents err.old) (E.contents err.new))) }
+    ensures bounded { OnOk result (WarnsAtMost (E.contents err.old) (E.contents err.new)) }
+    ensures silent { OnOk result (options.strictness ≡ Strict →
+        Keeps (E.contents err.old) (E.contents err.new)) }
     ensures failed { IfErr result (λ failure.
         IfSome (R.remaining reader.old) (λ bytes. ExplainsRun options snips.now bytes failure)) }
     ensures unwritten { IfErr result (λ failure. status_of failure < 4 →
@@ -133,11 +150,19 @@ fn normalise_input<R: Read, W: Write>(
         Ok(bytes) => bytes,
         Err(error) => return Err(failed_input(error)),
     };
-    let module = new_module(alloc, keys, options, snips, bytes.as_slice())?;
+    let NewModule { module, hazard } = new_module(alloc, keys, options, snips, bytes.as_slice())?;
+    warn_of(alloc, hazard, err)?;
     match write_and_flush(out, module.as_slice()) {
         Ok(()) => Ok(()),
         Err(error) => Err(Failure::Output(error)),
     }
+}
+
+/// A module that is ready to be written.
+struct NewModule {
+    module: Vec<u8>,
+    /// What can be wrong in it.
+    hazard: Option<Hazard>,
 }
 
 /// The module that is written. The input is judged before anything is snipped, so each place in a
@@ -148,9 +173,11 @@ fn new_module(
     options: RunOptions,
     snips: &[String],
     bytes: &[u8],
-) -> Result<Vec<u8>, Failure>
+) -> Result<NewModule, Failure>
     ensures normal { IfOk result (λ new.
-        BecomesNormal options.normalise snips.now bytes.now new.items) }
+        BecomesNormal options.normalise snips.now bytes.now new.module.items) }
+    ensures first { IfOk result (λ new. IsFirstHazard bytes.now new.hazard) }
+    ensures none { options.strictness ≡ Strict → IfOk result (λ new. new.hazard ≡ None) }
     ensures kept { OnOk result (options.strictness ≡ Strict → KeepsModuleTypes bytes.now) }
     ensures known { OnOk result (options.strictness ≡ Strict → HasNoUnknownCustom bytes.now) }
     ensures refused { IfErr result (ExplainsRun options snips.now bytes.now) }
@@ -159,13 +186,16 @@ fn new_module(
         Ok(module) => module,
         Err(error) => return Err(refusal(alloc, keys, bytes, options.normalise, error)),
     };
-    reject_unsafe(alloc, keys, options, bytes)?;
+    let hazard = accepted_hazard(alloc, keys, options, bytes)?;
     if snips.is_empty() {
-        return Ok(normal);
+        return Ok(NewModule {
+            module: normal,
+            hazard,
+        });
     }
     drop(normal);
     match snipped_module(alloc, keys, options.normalise, snips, bytes) {
-        Ok(module) => Ok(module),
+        Ok(module) => Ok(NewModule { module, hazard }),
         Err(failure) => Err(Failure::Unsnipped(failure)),
     }
 }

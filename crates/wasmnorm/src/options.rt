@@ -4,9 +4,8 @@ ghost use Rattle.walrus_module.specs.declared.renaming.Widths.TheVariants as wid
 ghost use Rattle.walrus_normalise.specs.declared.options.Descriptions.TheVariants as descriptions;
 ghost use Rattle.walrus_normalise.specs.declared.options.UnusedTypes.TheVariants as unused;
 ghost use Rattle.wasmnorm.specs.Runs.{IsGiven};
-ghost use Rattle.wasmnorm.specs.declared.strict.Strictness.TheVariants as strictness;
+ghost use Rattle.wasmnorm.specs.declared.options.Strictness.TheVariants as strictness;
 
-use crate::strict::Strictness;
 use crate::texts::{KEEP_WIDTHS, PRUNE, STRICT, STRIP};
 use command_line::has_option;
 use walrus_normalise::{Descriptions, NormaliseOptions, UnusedTypes, Widths};
@@ -16,8 +15,19 @@ use walrus_normalise::{Descriptions, NormaliseOptions, UnusedTypes, Widths};
 pub struct RunOptions {
     /// How it is normalised.
     pub normalise: NormaliseOptions,
-    /// Whether it may be rejected although it has a normal form.
+    /// What is done if the new module can be wrong.
     pub strictness: Strictness,
+}
+
+/// What is done if the new module can be wrong: a type of the input becomes another type, or a custom
+/// section is of an unknown kind. The program does not know whether such a section refers to types
+/// or to places in the file.
+#[derive(Clone, Copy, PartialEq, Eq, Debug)]
+pub enum Strictness {
+    /// It is written, with a warning on standard error.
+    Lenient,
+    /// It is rejected.
+    Strict,
 }
 
 /// What these options ask for.
@@ -37,7 +47,7 @@ pub fn run_options(options: &[String]) -> RunOptions
             descriptions: descriptions(options),
             unused: unused_types(options),
         },
-        strictness: strictness(options),
+        strictness: how_strict(options),
     }
 }
 
@@ -71,7 +81,7 @@ fn unused_types(options: &[String]) -> UnusedTypes
     }
 }
 
-fn strictness(options: &[String]) -> Strictness
+fn how_strict(options: &[String]) -> Strictness
     ensures { result ≡ strictness.Strict ↔ IsGiven (codes "--strict") options.now }
 {
     if has_option(options, STRICT) {

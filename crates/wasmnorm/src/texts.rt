@@ -9,8 +9,7 @@ pub const PRUNE: &str = "--prune";
 /// The option that leaves out sections that describe other bytes.
 pub const STRIP: &str = "--strip";
 
-/// The option that rejects modules with a type that would become another type, or with a custom
-/// section of an unknown kind.
+/// The option that rejects modules instead of warning of them.
 pub const STRICT: &str = "--strict";
 
 /// The option that names the file to write, which is behind it.
@@ -30,16 +29,16 @@ usage: wasmnorm [--snip FUNCTION] [--prune] [--strip] [--strict] [--keep-widths]
 Writes the WebAssembly module in FILE to standard output, with its type section in normal form and
 every other index of a type written again. Without FILE, or if it is -, the module comes from
 standard input. Custom sections other than the one named name are copied as they are, and a module
-is refused if one of them, such as debug data, describes bytes that would change.
+is refused if one of them, such as debug data, describes bytes that would change. There is a warning
+if the new module can be wrong: a type becomes another type, or a custom section is of an unknown
+kind, which may refer to types or to places in the file.
   --snip FUNCTION
                  makes the body of a function a single unreachable, so that a call of it traps;
                  FUNCTION is an index, or a name by which the module exports the function or that
                  its section name gives it; the option can come several times
   --prune        deletes types that nothing uses outside the type section
   --strip        leaves out custom sections that describe other bytes, such as debug data
-  --strict       rejects a module if one of its types would become another type, or if it has a
-                 custom section of an unknown kind, which may refer to types or to places in the
-                 file
+  --strict       rejects a module instead of warning of it
   --keep-widths  writes each index outside the type section in as many bytes as it had, or in more
                  where it needs them
   -o OUTPUT      writes to this file, which may be FILE itself, and not to standard output; the

@@ -1,6 +1,6 @@
-"""What `wasmnorm --strict` must do with a module (`outcome`).
+"""What `wasmnorm --strict` must do with a module (`outcome`), and of which modules `wasmnorm` must warn (`complaint`).
 
-Slow and plain, like the modules beside it, which say what the program does without the option, and which types are equal.
+Slow and plain, like the modules beside it, which say what the new module is, and which types are equal.
 """
 import functools
 
@@ -9,6 +9,8 @@ from reference.module import CUSTOM, DONE, HEADER, REFUSED, TYPE
 from reference.reader import Reader
 
 KNOWN = (b'name', b'producers', b'target_features', b'dylink.0', b'build_id')
+# How many bytes of the name of a section are shown.
+SHOWN = 64
 
 
 @functools.cache
@@ -38,16 +40,26 @@ def unknown_section(text):
     return None
 
 
+def shown(name):
+    """A name as a string of the text format, with three points behind it if it is long."""
+    def of_byte(byte):
+        if byte in b'"\\':
+            return '\\' + chr(byte)
+        return chr(byte) if 0x20 <= byte < 0x7F else f'\\{byte:02x}'
+
+    return '"' + ''.join(map(of_byte, name[:SHOWN])) + '"' + '...' * (len(name) > SHOWN)
+
+
 def complaint(text):
-    """The line about a module that only `--strict` rejects, or None."""
+    """The line about a module that only `--strict` rejects, and of which there is a warning without it. Or None."""
     index = first_changed(text)
     if index is not None:
-        return f'type {index} would become another type, one that refers to itself'
+        return f'type {index} becomes another type, one that refers to itself'
     found = unknown_section(text)
     if found is None:
         return None
     name, at = found
-    return f'the custom section "{name.decode("ascii")}" at byte {at} is of an unknown kind'
+    return f'the custom section {shown(name)} at byte {at} is of an unknown kind'
 
 
 def outcome(text, keeps_widths=False, prunes=False):

@@ -1,6 +1,6 @@
 use Rattle.std.proofs.Common.{sym}
 use Rattle.wasmnorm.specs.Steps.Failures.{of_module, of_functions}
-use Rattle.wasmnorm.proofs.Failures.{rejection_ends}
+use Rattle.wasmnorm.proofs.Failures.{search_ends}
 use Rattle.wasmnorm.proofs.Snips.{normal_without_snips, some_named}
 use Rattle.wasmnorm.proofs.new_module.Goals as goal
 
@@ -18,9 +18,8 @@ returns-in-Err-snipped_module-clause-refused c =
     of_functions c.in-Err-snipped_module.failure (some_named c.args.snips.now (sym c.if-is_empty.ensures))
     c.in-Err-snipped_module.ensures.refused
 
-pub returns-in_err-reject_unsafe-clause-refused :
-    goal.returns-in_err-reject_unsafe-clause-refused
-returns-in_err-reject_unsafe-clause-refused c =
-    let why = c.in_err-reject_unsafe.ensures.refused in
-    rejection_ends c.args.options c.args.snips.now c.args.bytes.now c.from_residual.result
-    c.in_err-reject_unsafe.field-0.0 c.from_residual.ensures.1 why.0 why.1
+pub returns-in_err-hazard-clause-refused : goal.returns-in_err-hazard-clause-refused
+returns-in_err-hazard-clause-refused c =
+    search_ends c.args.options c.args.snips.now c.args.bytes.now c.from_residual.result
+    c.in_err-hazard.field-0.0 c.from_residual.ensures.1
+    (c.in_err-hazard.ensures.refused c.args.snips.now)

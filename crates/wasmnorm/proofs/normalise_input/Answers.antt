@@ -1,5 +1,6 @@
 use Rattle.wasmnorm.specs.declared.failure.Failure.TheVariants as failure
-use Rattle.wasmnorm.proofs.Snips.{known_of_streams}
+use Rattle.wasmnorm.proofs.Snips.{known_of_streams, streams_end}
+use Rattle.wasmnorm.proofs.Warnings.{known_warned, warns_at_most}
 use Rattle.wasmnorm.proofs.normalise_input.Goals as goal
 
 pub returns-in-Err-clause-failed : goal.returns-in-Err-clause-failed
@@ -11,3 +12,21 @@ pub returns-clause-failed : goal.returns-clause-failed
 returns-clause-failed g c =
     known_of_streams c.args.options c.args.snips.now (g.R.Read.remaining c.args.reader.now)
     (failure.Output c.in-Err-write_and_flush.error) tt
+
+pub returns-in_err-warn_of-clause-failed : goal.returns-in_err-warn_of-clause-failed
+returns-in_err-warn_of-clause-failed g c =
+    streams_end c.args.options c.args.snips.now (g.R.Read.remaining c.args.reader.now)
+    c.from_residual-in_err-warn_of.result c.in_err-warn_of.field-0.0
+    c.from_residual-in_err-warn_of.ensures.1 c.in_err-warn_of.ensures.failed
+
+pub returns-in-Ok-write_and_flush-clause-warned : goal.returns-in-Ok-write_and_flush-clause-warned
+returns-in-Ok-write_and_flush-clause-warned g c =
+    known_warned (g.R.Read.remaining c.args.reader.now) c.in-Ok.bytes.items c.as_slice.result.now
+    c.in_ok-module.field-0.hazard (g.E.Write.contents c.args.err.now) (g.E.Write.contents c.warn_of.new.err)
+    c.in-Ok.ensures c.as_slice.ensures.value c.in_ok-module.ensures.first
+    c.in_ok-warn_of.ensures.warned
+
+pub returns-in-Ok-write_and_flush-clause-bounded : goal.returns-in-Ok-write_and_flush-clause-bounded
+returns-in-Ok-write_and_flush-clause-bounded g c =
+    warns_at_most c.in_ok-module.field-0.hazard (g.E.Write.contents c.args.err.now)
+    (g.E.Write.contents c.warn_of.new.err) c.in_ok-warn_of.ensures.warned

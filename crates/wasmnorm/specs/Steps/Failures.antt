@@ -3,23 +3,23 @@ use Rattle.std.specs.Prelude.{◌≡◌, ℕ, ◌-◌, Bool, true, false, List, 
 use Rattle.std.specs.declared.alloc.Global.{Global}
 use Rattle.std.specs.declared.string.String.{String}
 use Rattle.walrus_binary.specs.ModuleSections.{HasBadTypesBy}
-use Rattle.walrus_module.specs.UnknownCustoms.{HasUnknownCustomAt}
 use Rattle.walrus_module.specs.declared.faults.FaultKind.TheVariants as fault
 use Rattle.walrus_normalise.specs.declared.options.NormaliseOptions.{NormaliseOptions}
 use Rattle.walrus_sections.specs.declared.error.ReadError.TheVariants as read
-use Rattle.walrus_normalise.specs.EqualTypes.{ChangesType}
 use Rattle.walrus_normalise.specs.NormalModules.{HasFirstError, HasFirstFault, BecomesTooLong, BecomesOutdated}
 use Rattle.walrus_normalise.specs.declared.error.NormaliseModuleError.{NormaliseModuleError}
 use Rattle.walrus_normalise.specs.declared.error.NormaliseModuleError.TheVariants as error
 use Rattle.error_context.specs.declared.context.Context.{Context}
 use Rattle.error_context.specs.Contexts.{IsContext, IsErrorContext}
 use Rattle.wasmnorm.specs.Judged.{OfJudged, IsMalformedAt}
+use Rattle.wasmnorm.specs.Steps.Hazards.{IsHazard}
 use Rattle.wasmnorm.specs.Steps.Snips.{ExplainsSnip, snip_status}
 use Rattle.wasmnorm.specs.declared.snip_failure.SnipFailure.{SnipFailure}
 use Rattle.wasmnorm.specs.declared.failure.Failure.{Failure}
 use Rattle.wasmnorm.specs.declared.failure.Failure.TheVariants as failure
+use Rattle.wasmnorm.specs.declared.hazard.Hazard.{Hazard}
 use Rattle.wasmnorm.specs.declared.options.RunOptions.{RunOptions}
-use Rattle.wasmnorm.specs.declared.strict.Strictness.TheVariants.{Strict}
+use Rattle.wasmnorm.specs.declared.options.Strictness.TheVariants.{Strict}
 
 -- what an error says of the bytes where all of them are judged
 abbrev pub ExplainsModule : NormaliseOptions → List ℕ → NormaliseModuleError → Type 0
@@ -87,33 +87,21 @@ HasContext bytes error.Memory context = Unit {0}
 abbrev pub Explains : NormaliseOptions → List ℕ → Failure → Type 0
 Explains options bytes (failure.Refused e context advice) =
     ExplainsError options bytes e × HasContext bytes e context
-Explains options bytes (failure.ChangedType index) = ⊥
-Explains options bytes (failure.UnknownSection offset context) = ⊥
+Explains options bytes (failure.Rejected h) = ⊥
 Explains options bytes (failure.Unsnipped e) = ⊥
 Explains options bytes failure.Memory = Unit {0}
 Explains options bytes failure.Keys = Unit {0}
 Explains options bytes (failure.Input error) = Unit {0}
 Explains options bytes (failure.Output error) = Unit {0}
 
--- what a failure of the strict check says of the bytes
-pub data ExplainsRejection (options : NormaliseOptions) (bytes : List ℕ) : Failure → Type 0 where
-  of_reading : (f : Failure) → Explains options bytes f → ExplainsRejection options bytes f
-  of_type :
-      (index : ℕ) → ChangesType bytes index
-      → ExplainsRejection options bytes (failure.ChangedType index)
-  of_section :
-      (offset : ℕ) (context : Context) → HasUnknownCustomAt bytes offset
-      → IsContext context bytes offset
-      → ExplainsRejection options bytes (failure.UnknownSection offset context)
-
 -- what a failure says of the bytes, of the options and of the arguments that name functions
 pub data ExplainsRun (options : RunOptions) (snips : List (String Global)) (bytes : List ℕ) :
     Failure → Type 0 where
   of_module :
       (f : Failure) → Explains options.normalise bytes f → ExplainsRun options snips bytes f
-  of_strictness :
-      (f : Failure) → options.strictness ≡ Strict → ExplainsRejection options.normalise bytes f
-      → ExplainsRun options snips bytes f
+  of_hazard :
+      (h : Hazard) → options.strictness ≡ Strict → IsHazard bytes h
+      → ExplainsRun options snips bytes (failure.Rejected h)
   of_functions :
       (e : SnipFailure) → (snips ≡ [] → ⊥) → ExplainsSnip options.normalise snips bytes e
       → ExplainsRun options snips bytes (failure.Unsnipped e)
@@ -130,8 +118,7 @@ refused_status error.Memory = 3
 
 abbrev pub status_of : Failure → ℕ
 status_of (failure.Refused e context advice) = refused_status e
-status_of (failure.ChangedType index) = 1
-status_of (failure.UnknownSection offset context) = 1
+status_of (failure.Rejected h) = 1
 status_of (failure.Unsnipped e) = snip_status e
 status_of failure.Memory = 3
 status_of failure.Keys = 4
@@ -141,8 +128,7 @@ status_of (failure.Output error) = 4
 -- it says nothing of the bytes: a stream failed, or memory was refused
 abbrev pub IsOfStreams : Failure → Type 0
 IsOfStreams (failure.Refused e context advice) = ⊥
-IsOfStreams (failure.ChangedType index) = ⊥
-IsOfStreams (failure.UnknownSection offset context) = ⊥
+IsOfStreams (failure.Rejected h) = ⊥
 IsOfStreams (failure.Unsnipped e) = ⊥
 IsOfStreams failure.Memory = Unit {0}
 IsOfStreams failure.Keys = Unit {0}
