@@ -15,7 +15,6 @@ RULES = [(re.compile(pattern, re.M), text) for pattern, text in [
     (r'\.try_(push|insert)\(', r'.\1('),
     (r'\bprintln!\(rt; (.*)\)\?', r'println!(\1)'),
     (rf'\b{CRATE}::test::fail\((".*?")\)', r'\1.into()'),
-    (r'\bRandomState::new\(&rt\)\?', 'RandomState::new()'),
     # What a call returns of refused memory where the one here panics.
     (r'\blet Ok\((\w+)\) = (.*) else \{\n.*"out of memory".*\n\};', r'let \1 = \2;'),
     (r'^match (.*) \{\n    Ok\((\w+)\) => (.*),\n.*"out of memory".*\n\}', r'let \2 = \1;\n\3;'),

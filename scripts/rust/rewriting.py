@@ -9,7 +9,7 @@ import contracts
 
 CRATE = 'rattle_std'
 # What Rust's standard library has under the same name and with the same meaning stays as it is.
-OTHER_MODULES = 'alloc|collections|env|fs|hash|process::Abort|random|rt|test'
+OTHER_MODULES = 'alloc|collections|env|fs|hash|process::Abort|rt|test'
 REFUSABLE = 'push|insert|reserve|extend_from_slice|sort|push_str|to_vec|to_string|clone'
 # Rust's maps and sets: a call `try_insert` of theirs is to come with another meaning.
 MAPS = r'self\.map|self\.by_id|seen|kept|(?<!\.)names'
@@ -54,6 +54,10 @@ RULES = [
     (r'^pub mod ((?:record_)?laws);', r'#[doc(hidden)]\npub mod \1;'),
     (r'\b(?:record_laws|laws as \w+),\s*|,\s*laws as \w+(?=\s*\})', ''),
     (r'^pub use \w+::laws as \w+;\n', ''),
+    # What is random comes from Rust's standard library.
+    (r'\bsource: &impl RandomSource', ''),
+    (r'^use std::random::RandomSource;\n', ''),
+    (r'\b(RandomState::new|HashKeys::random)\(&?(?:rt|source)\)', r'\1()'),
     # Names of the standard library.
     (r'\bstd::process::\{Abort, (\w+)\}', rf'{CRATE}::process::{{Abort, \1}}'),
     (rf'\bstd::({OTHER_MODULES})\b', rf'{CRATE}::\1'),

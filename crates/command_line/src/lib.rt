@@ -1,22 +1,19 @@
-//! What the programs share: their arguments, their input and output, what they say about
-//! themselves, and the keys of their hashes.
+//! What the programs share: their arguments, their input and output, and what they say about
+//! themselves.
 //!
 //! - [`parse_arguments`] says what the arguments of a program ask for, and [`has_option`] whether
 //!   an option is among them. An [`OptionValue`] is an option with a value.
 //! - [`open`] opens a file, or takes standard input where the name is `-`. [`read_bytes`] reads all
 //!   that an input gives. [`create`] names a file to write, or standard output.
 //! - [`write_version`] and [`report_usage`] say what a program is and how it is used.
-//! - [`random_keys`] draws keys that the author of an input can't foresee.
 #![tactic(auto)]
 
 mod about;
 mod arguments;
 mod input;
-mod keys;
 mod output;
 
 pub use about::{report_usage, write_version};
 pub use arguments::{OptionValue, Request, has_option, parse_arguments};
 pub use input::{Input, open, read_bytes};
-pub use keys::random_keys;
 pub use output::{Output, create};

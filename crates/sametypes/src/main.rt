@@ -13,9 +13,7 @@ pub mod laws;
 mod normal_form;
 mod texts;
 
-use command_line::{
-    Input, Request, open, parse_arguments, random_keys, report_usage, write_version,
-};
+use command_line::{Input, Request, open, parse_arguments, report_usage, write_version};
 use failure::{Failure, InputError, Names, report};
 use normal_form::{index_of_difference, read_normal_form};
 use std::alloc::Global;
@@ -168,7 +166,7 @@ fn compare_files<E: Write>(rt: &HostRuntime, names: Names<'_>, err: &mut E) -> u
         Ok(inputs) => inputs,
         Err(failure) => return report(&failure, names, err),
     };
-    let Ok(keys) = random_keys(rt) else {
+    let Ok(keys) = HashKeys::random(rt) else {
         return report(&Failure::Keys, names, err);
     };
     let mut out = rt.stdout();

@@ -11,9 +11,7 @@ ghost use Rattle.typenorm.specs.Steps.Failures.{Explains, status_of};
 mod failure;
 mod texts;
 
-use command_line::{
-    Request, has_option, open, parse_arguments, random_keys, report_usage, write_version,
-};
+use command_line::{Request, has_option, open, parse_arguments, report_usage, write_version};
 use failure::{Failure, report};
 use std::alloc::Global;
 use std::io::{self, BufWriter, Read, Write};
@@ -163,7 +161,7 @@ fn normalise_file<E: Write>(
         Ok(input) => input,
         Err(error) => return Err(Failure::Open(error)),
     };
-    let Ok(keys) = random_keys(rt) else {
+    let Ok(keys) = HashKeys::random(rt) else {
         return Err(Failure::Keys);
     };
     let Ok(mut out) = BufWriter::new(rt.alloc(), rt.stdout()) else {

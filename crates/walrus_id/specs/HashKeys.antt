@@ -1,5 +1,5 @@
 -- What the hash of a set begins with. Of no part of the WebAssembly specification.
-use Rattle.std.specs.Prelude.{ℕ, ◌++◌, refl}
+use Rattle.std.specs.Prelude.{◌≡◌, ℕ, ◌++◌, refl}
 use Rattle.std.specs.Coded.{Coded, code_by, coded_ℕ}
 use Rattle.std.specs.Hash as fed
 use Rattle.std.specs.Hash.FoldHasher as folding
@@ -17,6 +17,10 @@ fixed_hasher = folding.initial
 -- std's hasher, fed the one key and then the other
 abbrev pub hasher_with_keys : ℕ → ℕ → InitialHasher
 hasher_with_keys first second = fold folding.write folding.initial (fed.u64 first ++ fed.u64 second)
+
+-- keys that some two numbers give
+abbrev pub IsKeyed : InitialHasher → Type 0
+IsKeyed keys = (first second : ℕ) × (keys ≡ hasher_with_keys first second)
 
 -- keys are stored as the number that the hasher holds
 abbrev pub keys_code : Coded InitialHasher

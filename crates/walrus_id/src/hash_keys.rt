@@ -1,21 +1,21 @@
 //! The keys of hashes.
-ghost use Rattle.std.specs.Prelude.{◌≡◌};
-ghost use Rattle.walrus_id.specs.HashKeys.{fixed_hasher, hasher_with_keys};
+ghost use Rattle.std.specs.Prelude.{◌≡◌, IfOk};
+ghost use Rattle.walrus_id.specs.HashKeys.{IsKeyed, fixed_hasher, hasher_with_keys};
 
-use std::hash::{BuildHasher, FoldHasher, Hasher};
+use std::hash::{BuildHasher, FoldHasher, Hasher, RandomState};
+use std::io;
 use std::marker::Model;
+use std::random::RandomSource;
 
 /// What the hashes of an `ArenaSet` of `walrus_arena` begin with, and the hashes by which a normal
 /// form finds equal types. The keys change how long a call takes, and no result.
 ///
 /// An attacker who knows the keys can make values whose hashes collide, and a set of such values
 /// takes time quadratic in their number. So fixed keys are safe only where the values are trusted.
-/// For values from elsewhere take two secret random numbers:
+/// For values from elsewhere take random keys:
 ///
 /// ```
-/// let random = RandomState::new(&rt)?;
-/// let keys = HashKeys::new(random.hash_one(0u64), random.hash_one(1u64));
-/// let mut set = ArenaSet::with_hash_keys(rt.alloc(), keys);
+/// let mut set = ArenaSet::with_hash_keys(rt.alloc(), HashKeys::random(&rt)?);
 /// ```
 ///
 /// The hash is std's `FoldHasher`, which is fast and not cryptographic. Random keys help where
@@ -55,6 +55,18 @@ impl HashKeys {
         initial.write_u64(first);
         initial.write_u64(second);
         HashKeys { initial }
+    }
+
+    /// Random keys, which the author of the values can't foresee.
+    ///
+    /// # Errors
+    ///
+    /// An error comes where the system has no random bytes.
+    pub fn random(source: &impl RandomSource) -> io::Result<HashKeys>
+        ensures { IfOk result IsKeyed }
+    {
+        let random = RandomState::new(source)?;
+        Ok(HashKeys::new(random.hash_one(0u64), random.hash_one(1u64)))
     }
 }
 

@@ -24,8 +24,7 @@ mod texts;
 mod warning;
 
 use command_line::{
-    OptionValue, Request, create, open, parse_arguments, random_keys, read_bytes, report_usage,
-    write_version,
+    OptionValue, Request, create, open, parse_arguments, read_bytes, report_usage, write_version,
 };
 use failure::{Failure, failed_input, refusal, report};
 use hazard::{Hazard, accepted_hazard};
@@ -286,7 +285,7 @@ fn normalise_file<E: Write>(
         Ok(input) => input,
         Err(error) => return Err(failed_input(error)),
     };
-    let Ok(keys) = random_keys(rt) else {
+    let Ok(keys) = HashKeys::random(rt) else {
         return Err(Failure::Keys);
     };
     let Ok(mut out) = BufWriter::new(rt.alloc(), create(rt, files.output)) else {

@@ -74,7 +74,7 @@ pub struct RandomState {
 
 impl RandomState {
     /// New keys.
-    pub fn new<R: crate::rt::random::RandomSource>(_: &R) -> std::io::Result<RandomState> {
+    pub fn new() -> std::io::Result<RandomState> {
         Ok(RandomState {
             host: HostState::new(),
         })

@@ -20,7 +20,7 @@ pub mod vec;
 
 pub use clone::TryClone;
 pub use rattle_std_derive::{DeriveWhere, Error, TryClone};
-pub use rt::{boxed, env, fs, process, random, rc, test};
+pub use rt::{boxed, env, fs, process, rc, test};
 
 /// The names that each module of the libraries has.
 pub mod prelude {

@@ -104,14 +104,6 @@ pub mod process {
     impl Abort for super::HostRuntime {}
 }
 
-/// Random numbers.
-pub mod random {
-    /// A system that gives random numbers.
-    pub trait RandomSource {}
-
-    impl RandomSource for super::HostRuntime {}
-}
-
 /// Failures of tests.
 pub mod test {
     /// Why a test fails.
