@@ -2,11 +2,15 @@
    to the standard output with the number STREAMS_OUT, and the one to the standard error with the number STREAMS_ERR;
    and with STREAMS_READ_FROM, STREAMS_OUT_FROM and STREAMS_ERR_FROM all from that number on. They count from 1, and
    each fails with EIO. With STREAMS_LITTLE a read or a write moves at most one byte. With STREAMS_DRY there are no
-   random bytes. */
+   random bytes. With STREAMS_FILE each write to a file fails, with STREAMS_NAME no file gets another name, and with
+   STREAMS_MODE none gets other permissions. */
 #define _GNU_SOURCE
 #include <errno.h>
+#include <fcntl.h>
+#include <stdio.h>
 #include <stddef.h>
 #include <stdlib.h>
+#include <sys/stat.h>
 #include <sys/syscall.h>
 #include <sys/types.h>
 #include <unistd.h>
@@ -50,7 +54,29 @@ ssize_t write(int file, const void *bytes, size_t count)
         return -1;
     if (file == STDERR_FILENO && is_failed(&errs, "STREAMS_ERR", "STREAMS_ERR_FROM"))
         return -1;
+    if (file > STDERR_FILENO && number("STREAMS_FILE")) {
+        errno = EIO;
+        return -1;
+    }
     return syscall(SYS_write, file, bytes, share(count));
+}
+
+int rename(const char *from, const char *to)
+{
+    if (number("STREAMS_NAME")) {
+        errno = EIO;
+        return -1;
+    }
+    return syscall(SYS_renameat2, AT_FDCWD, from, AT_FDCWD, to, 0);
+}
+
+int fchmod(int file, mode_t mode)
+{
+    if (number("STREAMS_MODE")) {
+        errno = EIO;
+        return -1;
+    }
+    return syscall(SYS_fchmod, file, mode);
 }
 
 int getentropy(void *bytes, size_t count)

@@ -58,6 +58,8 @@ RULES = [
     (r'\bsource: &impl RandomSource', ''),
     (r'^use std::random::RandomSource;\n', ''),
     (r'\b(RandomState::new|HashKeys::random)\(&?(?:rt|source)\)', r'\1()'),
+    # Rust's calls on files take no system.
+    (r'(\bFile::create_new|\.open)\((?:\w+\.)*rt, ', r'\1('),
     # Names of the standard library.
     (r'\bstd::process::\{Abort, (\w+)\}', rf'{CRATE}::process::{{Abort, \1}}'),
     (rf'\bstd::({OTHER_MODULES})\b', rf'{CRATE}::\1'),

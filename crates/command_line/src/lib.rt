@@ -12,8 +12,10 @@ mod about;
 mod arguments;
 mod input;
 mod output;
+mod output_file;
 
 pub use about::{report_usage, write_version};
 pub use arguments::{OptionValue, Request, has_option, parse_arguments};
 pub use input::{Input, open, read_bytes};
 pub use output::{Output, create};
+pub use output_file::{OutputFile, OutputNames, temporary_name};

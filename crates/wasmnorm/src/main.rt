@@ -24,7 +24,8 @@ mod texts;
 mod warning;
 
 use command_line::{
-    OptionValue, Request, create, open, parse_arguments, read_bytes, report_usage, write_version,
+    OptionValue, Request, create, open, parse_arguments, read_bytes, report_usage, temporary_name,
+    write_version,
 };
 use failure::{Failure, failed_input, refusal, report};
 use hazard::{Hazard, accepted_hazard};
@@ -32,7 +33,8 @@ use module::normal_module;
 use options::{RunOptions, run_options};
 use snipping::snipped_module;
 use std::alloc::{AllocError, Global};
-use std::io::{self, BufWriter, Read, Write};
+use std::hash::BuildHasher;
+use std::io::{self, Read, Write};
 use std::process::ExitCode;
 use texts::{HELP, KEEP_WIDTHS, OUTPUT, PRUNE, SNIP, STRICT, STRIP, USAGE};
 use walrus_normalise::HashKeys;
@@ -288,10 +290,17 @@ fn normalise_file<E: Write>(
     let Ok(keys) = HashKeys::random(rt) else {
         return Err(Failure::Keys);
     };
-    let Ok(mut out) = BufWriter::new(rt.alloc(), create(rt, files.output)) else {
+    let number = keys.hash_one(files.output);
+    let Ok(temporary) = temporary_name(rt.alloc(), files.output, number) else {
         return Err(Failure::Memory);
     };
-    Ok(run(rt.alloc(), keys, options, snips, &mut input, &mut out, err))
+    let mut out = create(rt, files.output, temporary.as_str());
+    let status = run(rt.alloc(), keys, options, snips, &mut input, &mut out, err);
+    if status != 0 {
+        out.discard();
+        return Ok(status);
+    }
+    printed(out.finish())
 }
 
 fn printed(written: io::Result<()>) -> Result<u8, Failure> {

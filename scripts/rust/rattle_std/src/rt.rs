@@ -80,8 +80,9 @@ pub mod env {
 
 /// Files.
 pub mod fs {
-    use super::Files;
-    pub use std::fs::File;
+    use super::{Files, HostRuntime};
+    use std::fs::Metadata;
+    pub use std::fs::{File, OpenOptions, Permissions};
 
     /// Opens a file for reading.
     pub fn open<R: Files>(rt: &R, name: &str) -> std::io::Result<R::File> {
@@ -91,6 +92,21 @@ pub mod fs {
     /// Opens a file for writing. A file that exists is emptied.
     pub fn create<R: Files>(rt: &R, name: &str) -> std::io::Result<R::File> {
         rt.create(name)
+    }
+
+    /// What the system says of a file, or of a link itself.
+    pub fn symlink_metadata(_: &HostRuntime, name: &str) -> std::io::Result<Metadata> {
+        std::fs::symlink_metadata(name)
+    }
+
+    /// Gives a file another name. A file that had that name is replaced.
+    pub fn rename(_: &HostRuntime, old: &str, new: &str) -> std::io::Result<()> {
+        std::fs::rename(old, new)
+    }
+
+    /// Removes a file.
+    pub fn remove_file(_: &HostRuntime, name: &str) -> std::io::Result<()> {
+        std::fs::remove_file(name)
     }
 }
 
