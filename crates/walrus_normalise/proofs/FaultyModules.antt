@@ -7,10 +7,10 @@ use Rattle.std.proofs.lemmas.List.{append_cancel_left, length-map, get_or_defaul
 use Rattle.std.proofs.lemmas.List.Elements.{All-nil, All-cons, All-head, All-tail, All-append}
 use Rattle.walrus_binary.specs.Grammar.{AreItems}
 use Rattle.walrus_binary.specs.Grammar.AreItems.{none as no_items, next as next_item}
-use Rattle.walrus_binary.specs.ModuleSections.{HasTypes, in_section, without_section}
-use Rattle.walrus_binary.specs.Modules.{Section, section, IsSection, IsModule, header}
+use Rattle.walrus_binary.specs.ModuleSections.{HasTypes}
+use Rattle.walrus_binary.specs.Modules.{Section, IsSection, IsModule, header}
 use Rattle.walrus_binary.proofs.Modules.Faulting.{module_parts}
-use Rattle.walrus_binary.proofs.Modules.Uniqueness.{one_module, located_types}
+use Rattle.walrus_binary.proofs.Modules.Uniqueness.{one_module}
 use Rattle.walrus_ty.specs.Records.{section_of}
 use Rattle.walrus_ty.specs.declared.records.GroupAt.{GroupAt}
 use Rattle.walrus_sections.specs.NormalForm.{image}
@@ -41,6 +41,7 @@ use Rattle.walrus_normalise.specs.declared.options.UnusedTypes.{UnusedTypes}
 use Rattle.walrus_normalise.specs.declared.options.UnusedTypes.TheVariants as kinds
 use Rattle.walrus_normalise.proofs.OneNaming.{named_once, names_left}
 use Rattle.walrus_normalise.proofs.OneNormalModule.{types_once, AllNormal, all_normal, UsedNormal, used_normal}
+use Rattle.walrus_normalise.proofs.ModulesWithTypes.{module_with_types}
 use Rattle.walrus_normalise.proofs.SecondNormal.{item_is}
 
 abbrev Known : ℕ → Section → Type 0
@@ -53,13 +54,6 @@ record KnownModule (count : ℕ) (bytes : List ℕ) : Type 0 where
   sections : List Section
   is_module : IsModule bytes sections
   known : AreKnownSections count sections
-
--- bytes with types are a module
-module_with_types : (bytes : List ℕ) (groups : List GroupAt) → HasTypes bytes groups →
-    (sections : List Section) × IsModule bytes sections
-module_with_types bytes groups (in_section start stop _ t text) =
-    let m = located_types bytes start stop t in (m.0 ++ section 1 t.content ∷ m.1, m.2)
-module_with_types bytes _ (without_section h) = (h.sections, h.is_module)
 
 known_module : (count : ℕ) (bytes : List ℕ) (groups : List GroupAt) → HasTypes bytes groups →
     HasKnownContents count bytes → KnownModule count bytes

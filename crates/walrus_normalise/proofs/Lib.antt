@@ -5,6 +5,7 @@ pub mod OneNaming
 pub mod OneNormalModule
 pub mod ResultTypes
 pub mod SecondNormal
+pub mod ModulesWithTypes
 pub mod FaultyModules
 pub mod MovedUsed
 pub mod MovedModules

@@ -3,3 +3,4 @@ pub mod Steps
 pub mod Moved
 pub mod Relisted
 pub mod EqualTypes
+pub mod Hazards

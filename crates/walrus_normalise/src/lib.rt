@@ -9,8 +9,8 @@
 //! want that, [`normalise_used`](walrus_unused::normalise_used) deletes the types that nothing
 //! uses, and [`strip_descriptions`](walrus_module::strip_descriptions) leaves out debug data and
 //! the like. Where these are kept, [`find_outdated`](walrus_module::find_outdated) looks for a
-//! custom section that no longer fits. [`find_changed_type`] looks for a type that the normal form
-//! makes another one.
+//! custom section that no longer fits. [`find_hazard`] looks for what can be wrong in the result,
+//! and [`find_changed_type`] for a type that the normal form makes another one.
 //!
 //! # Which section no longer fits
 //!
@@ -34,6 +34,7 @@ mod changed_types;
 mod entry_references;
 mod error;
 mod faults;
+mod hazards;
 pub mod laws;
 mod normal_module;
 mod normal_types;
@@ -43,6 +44,7 @@ mod self_references;
 
 pub use changed_types::find_changed_type;
 pub use error::NormaliseModuleError;
+pub use hazards::{Hazard, find_hazard};
 pub use normal_module::normalise_module;
 pub use options::{Descriptions, NormaliseOptions, UnusedTypes};
 pub use walrus_module::Widths;

@@ -8,6 +8,8 @@
 #[cfg(test)]
 mod changed_types;
 #[cfg(test)]
+mod hazards;
+#[cfg(test)]
 mod places;
 #[cfg(test)]
 mod refusals;

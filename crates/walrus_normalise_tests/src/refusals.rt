@@ -3,8 +3,8 @@
 use std::alloc::Global;
 use std::test::*;
 use walrus_normalise::{
-    Descriptions, HashKeys, NormaliseModuleError, NormaliseOptions, UnusedTypes, Widths,
-    find_changed_type, normalise_module,
+    Descriptions, HashKeys, Hazard, NormaliseModuleError, NormaliseOptions, UnusedTypes, Widths,
+    find_changed_type, find_hazard, normalise_module,
 };
 
 // (type (struct)) (type (func)), and a body with a code that no instruction has
@@ -50,4 +50,18 @@ fn changed_again(alloc: Global) -> Result<Option<u32>, NormaliseModuleError> {
 #[test]
 fn a_refused_changed_type_is_found_when_it_is_asked_for_again(rt: HostRuntime) {
     assert!(rt; changed_again(rt.alloc()) == Ok(Some(1)));
+}
+
+// The same of a hazard.
+fn hazard_again(alloc: Global) -> Result<Option<Hazard>, NormaliseModuleError> {
+    match find_hazard(alloc, HashKeys::fixed(), &JOINS) {
+        Err(NormaliseModuleError::Memory) => find_hazard(alloc, HashKeys::fixed(), &JOINS),
+        other => other,
+    }
+}
+
+#[test]
+fn a_refused_hazard_is_found_when_it_is_asked_for_again(rt: HostRuntime) {
+    let changed = Hazard::ChangedType { index: 1 };
+    assert!(rt; hazard_again(rt.alloc()) == Ok(Some(changed)));
 }

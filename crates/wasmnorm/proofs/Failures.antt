@@ -198,7 +198,7 @@ explains_types options bytes error.TooLong why = absurd why
 explains_types options bytes (error.Outdated offset) why = absurd why
 explains_types options bytes error.Memory why = tt
 
--- what ends the search for hazards ends the run
+-- what ends the search for warnings ends the run
 pub search_ends :
     {A : Type 0} (options : RunOptions) (snips : List (String Global)) (bytes : List ℕ)
     (result : Result A Failure) (f : Failure) → IsErrAnd result (λ e. e ≡ f)

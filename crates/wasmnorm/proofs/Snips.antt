@@ -12,9 +12,12 @@ use Rattle.walrus_module.specs.Customs.{HasDescriptionAt}
 use Rattle.walrus_module.specs.declared.renaming.Widths.{Widths}
 use Rattle.walrus_module.specs.declared.scan.ScanError.{ScanError}
 use Rattle.walrus_module.specs.declared.scan.ScanError.TheVariants as scan
+use Rattle.walrus_normalise.specs.Hazards.{IsHazard}
 use Rattle.walrus_normalise.specs.NormalModules.{IsNormalised, DescriptionsFit, BecomesTooLong}
 use Rattle.walrus_normalise.specs.declared.error.NormaliseModuleError.{NormaliseModuleError}
 use Rattle.walrus_normalise.specs.declared.error.NormaliseModuleError.TheVariants as error
+use Rattle.walrus_normalise.specs.declared.hazards.Hazard.{Hazard}
+use Rattle.walrus_normalise.specs.declared.hazards.Hazard.TheVariants as hazard
 use Rattle.walrus_normalise.specs.declared.options.Descriptions.TheVariants as descriptions
 use Rattle.walrus_normalise.specs.declared.options.NormaliseOptions.{NormaliseOptions}
 use Rattle.walrus_snipping.specs.Functions.{HasNoFunctions}
@@ -27,13 +30,10 @@ use Rattle.wasmnorm.specs.declared.failure.Failure.TheVariants as failure
 use Rattle.wasmnorm.specs.declared.options.RunOptions.{RunOptions}
 use Rattle.wasmnorm.specs.declared.snip_failure.SnipFailure.{SnipFailure}
 use Rattle.wasmnorm.specs.declared.snip_failure.SnipFailure.TheVariants as snips
-use Rattle.wasmnorm.specs.declared.hazard.Hazard.{Hazard}
-use Rattle.wasmnorm.specs.declared.hazard.Hazard.TheVariants as hazard
 use Rattle.wasmnorm.specs.declared.options.Strictness.TheVariants.{Strict}
 use Rattle.wasmnorm.specs.Runs.{IsRefused, IsIllNamed, IsRejected, changed_type, unknown_section}
 use Rattle.wasmnorm.specs.Snips.{IsIndex, NamesFunction, NameFunctions, by_index, by_name, SnipsNamed, stays, of_named, SectionsFit, BecomesNormal, HasNoNames, OfNamed, SnippingOutdates, StopsSnipping, CanNotBeSnipped, no_names as nameless, no_functions, long_code, long_result, outdated, MisnamesFunctions, not_one, imported, unknown}
-use Rattle.wasmnorm.specs.Steps.Failures.{ExplainsRun, IsOfStreams, of_module, of_hazard, of_functions, status_of}
-use Rattle.wasmnorm.specs.Steps.Hazards.{IsHazard}
+use Rattle.wasmnorm.specs.Steps.Failures.{ExplainsRun, IsOfStreams, of_module, of_warning, of_functions, status_of}
 use Rattle.wasmnorm.specs.Steps.Snips.{ExplainsArgument, ExplainsNames, ExplainsNormal, ExplainsRefusal, ExplainsSnip, refusal_status, snip_status}
 use Rattle.wasmnorm.proofs.Failures.{explains_refused, explains_ill_named}
 
@@ -81,7 +81,7 @@ hazard_rejected :
     (options : RunOptions) (bytes : List ℕ) (h : Hazard) → options.strictness ≡ Strict → IsHazard bytes h
     → IsRejected options.strictness bytes
 hazard_rejected options bytes (hazard.ChangedType index) strict changes = changed_type index strict changes
-hazard_rejected options bytes (hazard.UnknownSection offset context) strict has =
+hazard_rejected options bytes (hazard.UnknownSection offset) strict has =
     unknown_section offset strict has.0 has.1
 
 run_refused :
@@ -91,8 +91,8 @@ run_refused :
     ⊎ IsRejected options.strictness bytes
 run_refused options named bytes f (of_module _ why) is =
     inl (explains_refused options.normalise bytes f why is)
-run_refused options named bytes _ (of_hazard h strict is_hazard) is =
-    inr (inr (hazard_rejected options bytes h strict is_hazard))
+run_refused options named bytes _ (of_warning w strict is_warning) is =
+    inr (inr (hazard_rejected options bytes w.hazard strict is_warning.0))
 run_refused options named bytes _ (of_functions e given why) is =
     inr (inl record { given = given; why = snip_refused options.normalise named bytes e why is })
 
@@ -102,7 +102,7 @@ run_ill_named :
     → IsIllNamed bytes ⊎ MisnamesFunctions named bytes
 run_ill_named options named bytes f (of_module _ why) is =
     inl (explains_ill_named options.normalise bytes f why is)
-run_ill_named options named bytes _ (of_hazard h strict is_hazard) is = absurd (omega (arith, is))
+run_ill_named options named bytes _ (of_warning w strict is_warning) is = absurd (omega (arith, is))
 run_ill_named options named bytes _ (of_functions e given why) is =
     inr (snip_misnamed options.normalise named bytes e why is)
 

@@ -1,44 +1,51 @@
--- What follows from the first hazard of bytes: a warning, or why the module is rejected.
+-- What follows from the first warning of bytes: a line, or why the module is rejected.
 use Rattle.std.proofs.Common.{◌≡◌, ℕ, List, Option, None, Some, inl, inr, subst}
 use Rattle.std.specs.Prelude.{IfSome}
 use Rattle.std.specs.declared.alloc.Global.{Global}
 use Rattle.std.specs.declared.string.String.{String}
-use Rattle.wasmnorm.specs.Runs.{WarnsAtMost, IsWarned, not_warned, of_changed_type, of_unknown_section}
-use Rattle.wasmnorm.specs.Steps.Failures.{ExplainsRun, of_hazard}
-use Rattle.wasmnorm.specs.Steps.Hazards.{IsFirstHazard, WarnsOf}
+use Rattle.walrus_normalise.specs.Hazards.{IsHazard}
+use Rattle.walrus_normalise.specs.declared.hazards.Hazard.{Hazard}
+use Rattle.walrus_normalise.specs.declared.hazards.Hazard.TheVariants as hazard
+use Rattle.wasmnorm.specs.Runs.{Warns, WarnsAtMost, IsWarned, not_warned, of_changed_type, of_unknown_section}
+use Rattle.wasmnorm.specs.Steps.Failures.{ExplainsRun, of_warning}
+use Rattle.wasmnorm.specs.Steps.Warnings.{IsFirstWarning, WarnsOf}
 use Rattle.wasmnorm.specs.declared.failure.Failure.TheVariants as failure
-use Rattle.wasmnorm.specs.declared.hazard.Hazard.{Hazard}
-use Rattle.wasmnorm.specs.declared.hazard.Hazard.TheVariants as hazard
 use Rattle.wasmnorm.specs.declared.options.RunOptions.{RunOptions}
 use Rattle.wasmnorm.specs.declared.options.Strictness.TheVariants.{Strict}
+use Rattle.wasmnorm.specs.declared.warning.Warning.{Warning}
 
 pub warns_at_most :
-    (h : Option Hazard) (old new : Option (List ℕ)) → WarnsOf h old new → WarnsAtMost old new
+    (w : Option Warning) (old new : Option (List ℕ)) → WarnsOf w old new → WarnsAtMost old new
 warns_at_most None old new kept = inl kept
-warns_at_most (Some h) old new line = inr line
+warns_at_most (Some w) old new line = inr line
 
 hazard_warned :
-    (bytes : List ℕ) (h : Option Hazard) (old new : Option (List ℕ))
-    → IsFirstHazard bytes h → WarnsOf h old new → IsWarned bytes old new
-hazard_warned bytes None old new safe kept = not_warned safe.0 safe.1 kept
-hazard_warned bytes (Some (hazard.ChangedType index)) old new changes line =
+    (bytes : List ℕ) (h : Hazard) (old new : Option (List ℕ))
+    → IsHazard bytes h → Warns old new → IsWarned bytes old new
+hazard_warned bytes (hazard.ChangedType index) old new changes line =
     of_changed_type index changes line
-hazard_warned bytes (Some (hazard.UnknownSection offset context)) old new has line =
+hazard_warned bytes (hazard.UnknownSection offset) old new has line =
     of_unknown_section offset has.0 has.1 line
 
-pub known_warned :
-    (known : Option (List ℕ)) (read lent : List ℕ) (h : Option Hazard) (old new : Option (List ℕ))
-    → IfSome known (λ bytes. read ≡ bytes) → lent ≡ read → IsFirstHazard lent h → WarnsOf h old new
-    → IfSome known (λ bytes. IsWarned bytes old new)
-known_warned None read lent h old new is same first warns = tt
-known_warned (Some bytes) read lent h old new is same first warns =
-    hazard_warned bytes h old new
-    (subst (λ (b : List ℕ). IsFirstHazard b h) is
-    (subst (λ (b : List ℕ). IsFirstHazard b h) same first)) warns
+warning_warned :
+    (bytes : List ℕ) (w : Option Warning) (old new : Option (List ℕ))
+    → IsFirstWarning bytes w → WarnsOf w old new → IsWarned bytes old new
+warning_warned bytes None old new safe kept = not_warned safe.0 safe.1 kept
+warning_warned bytes (Some w) old new is line = hazard_warned bytes w.hazard old new is.0 line
 
-pub hazard_rejected :
-    (options : RunOptions) (snips : List (String Global)) (bytes : List ℕ) (found : Option Hazard) (h : Hazard)
-    → IsFirstHazard bytes found → found ≡ Some h → options.strictness ≡ Strict
-    → ExplainsRun options snips bytes (failure.Rejected h)
-hazard_rejected options snips bytes found h first is strict =
-    of_hazard h strict (subst (λ o. IsFirstHazard bytes o) is first)
+pub known_warned :
+    (known : Option (List ℕ)) (read lent : List ℕ) (w : Option Warning) (old new : Option (List ℕ))
+    → IfSome known (λ bytes. read ≡ bytes) → lent ≡ read → IsFirstWarning lent w → WarnsOf w old new
+    → IfSome known (λ bytes. IsWarned bytes old new)
+known_warned None read lent w old new is same first warns = tt
+known_warned (Some bytes) read lent w old new is same first warns =
+    warning_warned bytes w old new
+    (subst (λ (b : List ℕ). IsFirstWarning b w) is
+    (subst (λ (b : List ℕ). IsFirstWarning b w) same first)) warns
+
+pub warning_rejected :
+    (options : RunOptions) (snips : List (String Global)) (bytes : List ℕ) (found : Option Warning)
+    (w : Warning) → IsFirstWarning bytes found → found ≡ Some w → options.strictness ≡ Strict
+    → ExplainsRun options snips bytes (failure.Rejected w)
+warning_rejected options snips bytes found w first is strict =
+    of_warning w strict (subst (λ o. IsFirstWarning bytes o) is first)

@@ -4,8 +4,8 @@ ghost use Rattle.wasmnorm.specs.Steps.Failures.{Explains, ExplainsModule, HasCon
 
 use crate::custom_section::write_outdated;
 use crate::fault::first_error;
-use crate::hazard::Hazard;
 use crate::snip_failure::{SnipFailure, snip_status};
+use crate::warning::Warning;
 use error_context::{Context, context_of, context_of_error};
 use std::alloc::{AllocError, Global};
 use std::fmt;
@@ -25,8 +25,8 @@ pub enum Failure {
         /// What may help.
         advice: Advice,
     },
-    /// The module is rejected for what could be wrong in its normal form.
-    Rejected(Hazard),
+    /// The module is rejected, and not just warned of.
+    Rejected(Warning),
     /// The functions were not snipped.
     Unsnipped(SnipFailure),
     /// Memory was refused.
@@ -77,7 +77,7 @@ impl fmt::Display for Failure {
                 context,
                 advice,
             } => write!(f, "{error}{context}{advice}"),
-            Failure::Rejected(hazard) => write!(f, "{hazard}"),
+            Failure::Rejected(warning) => write!(f, "{warning}"),
             Failure::Unsnipped(failure) => write!(f, "{failure}"),
             Failure::Memory => write!(f, "out of memory"),
             Failure::Keys => write!(f, "no random keys"),

@@ -8,14 +8,13 @@ ghost use Rattle.walrus_normalise.specs.EqualTypes.{KeepsModuleTypes};
 ghost use Rattle.wasmnorm.specs.Runs.{IsWritten, IsWarned, WarnsAtMost, IsRefused, IsIllNamed, IsRejected};
 ghost use Rattle.wasmnorm.specs.Snips.{BecomesNormal, CanNotBeSnipped, MisnamesFunctions};
 ghost use Rattle.wasmnorm.specs.Steps.Failures.{ExplainsRun, status_of};
-ghost use Rattle.wasmnorm.specs.Steps.Hazards.{IsFirstHazard};
+ghost use Rattle.wasmnorm.specs.Steps.Warnings.{IsFirstWarning};
 ghost use Rattle.wasmnorm.specs.declared.options.Strictness.TheVariants.{Strict};
 
 mod custom_section;
 mod failure;
 mod fault;
 mod front;
-mod hazard;
 mod module;
 mod options;
 mod snip_failure;
@@ -28,7 +27,6 @@ use command_line::{
     write_version,
 };
 use failure::{Failure, failed_input, refusal, report};
-use hazard::{Hazard, accepted_hazard};
 use module::normal_module;
 use options::{RunOptions, run_options};
 use snipping::snipped_module;
@@ -38,7 +36,7 @@ use std::io::{self, Read, Write};
 use std::process::ExitCode;
 use texts::{HELP, KEEP_WIDTHS, OUTPUT, PRUNE, SNIP, STRICT, STRIP, USAGE};
 use walrus_normalise::HashKeys;
-use warning::warn_of;
+use warning::{Warning, accepted_warning, warn_of};
 
 /// Reads a module from `reader`, and writes the same module to `out`, with its type section in
 /// normal form and every other index of a type written again.
@@ -151,8 +149,8 @@ fn normalise_input<R: Read, W: Write, E: Write>(
         Ok(bytes) => bytes,
         Err(error) => return Err(failed_input(error)),
     };
-    let NewModule { module, hazard } = new_module(alloc, keys, options, snips, bytes.as_slice())?;
-    warn_of(alloc, hazard, err)?;
+    let NewModule { module, warning } = new_module(alloc, keys, options, snips, bytes.as_slice())?;
+    warn_of(alloc, warning, err)?;
     match write_and_flush(out, module.as_slice()) {
         Ok(()) => Ok(()),
         Err(error) => Err(Failure::Output(error)),
@@ -163,7 +161,7 @@ fn normalise_input<R: Read, W: Write, E: Write>(
 struct NewModule {
     module: Vec<u8>,
     /// What can be wrong in it.
-    hazard: Option<Hazard>,
+    warning: Option<Warning>,
 }
 
 /// The module that is written. The input is judged before anything is snipped, so each place in a
@@ -177,8 +175,8 @@ fn new_module(
 ) -> Result<NewModule, Failure>
     ensures normal { IfOk result (λ new.
         BecomesNormal options.normalise snips.now bytes.now new.module.items) }
-    ensures first { IfOk result (λ new. IsFirstHazard bytes.now new.hazard) }
-    ensures none { options.strictness ≡ Strict → IfOk result (λ new. new.hazard ≡ None) }
+    ensures first { IfOk result (λ new. IsFirstWarning bytes.now new.warning) }
+    ensures none { options.strictness ≡ Strict → IfOk result (λ new. new.warning ≡ None) }
     ensures kept { OnOk result (options.strictness ≡ Strict → KeepsModuleTypes bytes.now) }
     ensures known { OnOk result (options.strictness ≡ Strict → HasNoUnknownCustom bytes.now) }
     ensures refused { IfErr result (ExplainsRun options snips.now bytes.now) }
@@ -187,16 +185,16 @@ fn new_module(
         Ok(module) => module,
         Err(error) => return Err(refusal(alloc, keys, bytes, options.normalise, error)),
     };
-    let hazard = accepted_hazard(alloc, keys, options, bytes)?;
+    let warning = accepted_warning(alloc, keys, options, bytes)?;
     if snips.is_empty() {
         return Ok(NewModule {
             module: normal,
-            hazard,
+            warning,
         });
     }
     drop(normal);
     match snipped_module(alloc, keys, options.normalise, snips, bytes) {
-        Ok(module) => Ok(NewModule { module, hazard }),
+        Ok(module) => Ok(NewModule { module, warning }),
         Err(failure) => Err(Failure::Unsnipped(failure)),
     }
 }

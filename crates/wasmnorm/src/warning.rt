@@ -1,32 +1,117 @@
-//! The line on standard error about a new module that can be wrong.
-ghost use Rattle.std.specs.Prelude.{◌≡◌, ◌++◌, IfErr, OnOk};
+//! What can be wrong in the new module: a line on standard error, or the end of a strict run.
+ghost use Rattle.std.specs.Prelude.{◌≡◌, ◌++◌, IfErr, IfOk, List, None, OnOk};
 ghost use Rattle.std.specs.Io.KnownBytes.{Appends};
+ghost use Rattle.std.specs.declared.alloc.Global.{Global};
+ghost use Rattle.std.specs.declared.string.String.{String};
+ghost use Rattle.walrus_module.specs.UnknownCustoms.{HasNoUnknownCustom};
+ghost use Rattle.walrus_normalise.specs.EqualTypes.{KeepsModuleTypes};
+ghost use Rattle.walrus_normalise.specs.Hazards.{IsHazard};
 ghost use Rattle.wasmnorm.specs.Runs.{Warns, warning_line};
-ghost use Rattle.wasmnorm.specs.Steps.Failures.{IsOfStreams};
-ghost use Rattle.wasmnorm.specs.Steps.Hazards.{WarnsOf};
+ghost use Rattle.wasmnorm.specs.Steps.Failures.{Explains, ExplainsRun, IsOfStreams};
+ghost use Rattle.wasmnorm.specs.Steps.Warnings.{IsFirstWarning, IsWarning, WarnsOf};
+ghost use Rattle.wasmnorm.specs.declared.options.Strictness.TheVariants.{Strict};
 
-use crate::failure::Failure;
-use crate::hazard::Hazard;
+use crate::custom_section::write_unknown_kind;
+use crate::failure::{Failure, refusal};
+use crate::options::{RunOptions, Strictness};
+use error_context::{Context, context_of};
 use std::alloc::Global;
+use std::fmt;
+use std::fmt::Formatter;
 use std::io::{self, Write};
+use walrus_normalise::{HashKeys, Hazard, NormaliseOptions, find_hazard};
 
-/// Writes a line about the hazard, if there is one.
-pub fn warn_of<E: Write>(alloc: Global, hazard: Option<Hazard>, err: &mut E) -> Result<(), Failure>
-    ensures warned { OnOk result (WarnsOf hazard (E.contents err.old) (E.contents err.new)) }
+/// What can be wrong in the new module, with what else is known of the input.
+#[derive(Clone, Copy, PartialEq, Eq, Debug)]
+pub struct Warning {
+    /// What can be wrong.
+    pub hazard: Hazard,
+    /// The section that it names, if it names one.
+    pub context: Context,
+}
+
+impl fmt::Display for Warning {
+    fn fmt<W: fmt::Write>(&self, f: &mut Formatter<W>) -> fmt::Result {
+        match self.hazard {
+            Hazard::ChangedType { .. } => write!(f, "{}", self.hazard),
+            Hazard::UnknownSection { offset } => write_unknown_kind(f, offset, &self.context),
+        }
+    }
+}
+
+/// The warning that a module with a normal form needs, or `None`. It fails if the module is to be
+/// rejected instead.
+#[tactic(auto, using(crate::proofs::Warnings::warning_rejected))]
+pub fn accepted_warning(
+    alloc: Global,
+    keys: HashKeys,
+    options: RunOptions,
+    bytes: &[u8],
+) -> Result<Option<Warning>, Failure>
+    ensures first { IfOk result (IsFirstWarning bytes.now) }
+    ensures none { options.strictness ≡ Strict → IfOk result (λ warning. warning ≡ None) }
+    ensures kept { OnOk result (options.strictness ≡ Strict → KeepsModuleTypes bytes.now) }
+    ensures known { OnOk result (options.strictness ≡ Strict → HasNoUnknownCustom bytes.now) }
+    ensures refused { (snips : List (String Global)) →
+        IfErr result (ExplainsRun options snips bytes.now) }
+{
+    let warning = first_warning(alloc, keys, options.normalise, bytes)?;
+    match options.strictness {
+        Strictness::Lenient => Ok(warning),
+        Strictness::Strict => match warning {
+            Some(warning) => Err(Failure::Rejected(warning)),
+            None => Ok(None),
+        },
+    }
+}
+
+fn first_warning(
+    alloc: Global,
+    keys: HashKeys,
+    options: NormaliseOptions,
+    bytes: &[u8],
+) -> Result<Option<Warning>, Failure>
+    ensures first { IfOk result (IsFirstWarning bytes.now) }
+    ensures refused { IfErr result (Explains options bytes.now) }
+{
+    match find_hazard(alloc, keys, bytes) {
+        Ok(Some(hazard)) => Ok(Some(warning_of(hazard, bytes))),
+        Ok(None) => Ok(None),
+        Err(error) => Err(refusal(alloc, keys, bytes, options, error)),
+    }
+}
+
+fn warning_of(hazard: Hazard, bytes: &[u8]) -> Warning
+    ensures { IsHazard bytes.now hazard → IsWarning bytes.now result }
+{
+    let context = match hazard {
+        Hazard::ChangedType { .. } => Context::Nothing,
+        Hazard::UnknownSection { offset } => context_of(bytes, offset),
+    };
+    Warning { hazard, context }
+}
+
+/// Writes the line of a warning, if there is one.
+pub fn warn_of<E: Write>(
+    alloc: Global,
+    warning: Option<Warning>,
+    err: &mut E,
+) -> Result<(), Failure>
+    ensures warned { OnOk result (WarnsOf warning (E.contents err.old) (E.contents err.new)) }
     ensures failed { IfErr result IsOfStreams }
 {
-    match hazard {
-        Some(hazard) => warn(alloc, hazard, err),
+    match warning {
+        Some(warning) => warn(alloc, warning, err),
         None => Ok(()),
     }
 }
 
-fn warn<E: Write>(alloc: Global, hazard: Hazard, err: &mut E) -> Result<(), Failure>
+fn warn<E: Write>(alloc: Global, warning: Warning, err: &mut E) -> Result<(), Failure>
     ensures warned { OnOk result (Warns (E.contents err.old) (E.contents err.new)) }
     ensures failed { IfErr result IsOfStreams }
 {
     // The text is made first, so that what is written is known.
-    let text = hazard.to_string(alloc)?;
+    let text = warning.to_string(alloc)?;
     match write_warning(text.as_str(), err) {
         Ok(()) => Ok(()),
         Err(error) => Err(Failure::Output(error)),

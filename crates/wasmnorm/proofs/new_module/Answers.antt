@@ -18,8 +18,8 @@ returns-in-Err-snipped_module-clause-refused c =
     of_functions c.in-Err-snipped_module.failure (some_named c.args.snips.now (sym c.if-is_empty.ensures))
     c.in-Err-snipped_module.ensures.refused
 
-pub returns-in_err-hazard-clause-refused : goal.returns-in_err-hazard-clause-refused
-returns-in_err-hazard-clause-refused c =
+pub returns-in_err-warning-clause-refused : goal.returns-in_err-warning-clause-refused
+returns-in_err-warning-clause-refused c =
     search_ends c.args.options c.args.snips.now c.args.bytes.now c.from_residual.result
-    c.in_err-hazard.field-0.0 c.from_residual.ensures.1
-    (c.in_err-hazard.ensures.refused c.args.snips.now)
+    c.in_err-warning.field-0.0 c.from_residual.ensures.1
+    (c.in_err-warning.ensures.refused c.args.snips.now)

@@ -12,14 +12,14 @@ use Rattle.walrus_normalise.specs.declared.error.NormaliseModuleError.TheVariant
 use Rattle.error_context.specs.declared.context.Context.{Context}
 use Rattle.error_context.specs.Contexts.{IsContext, IsErrorContext}
 use Rattle.wasmnorm.specs.Judged.{OfJudged, IsMalformedAt}
-use Rattle.wasmnorm.specs.Steps.Hazards.{IsHazard}
+use Rattle.wasmnorm.specs.Steps.Warnings.{IsWarning}
 use Rattle.wasmnorm.specs.Steps.Snips.{ExplainsSnip, snip_status}
 use Rattle.wasmnorm.specs.declared.snip_failure.SnipFailure.{SnipFailure}
 use Rattle.wasmnorm.specs.declared.failure.Failure.{Failure}
 use Rattle.wasmnorm.specs.declared.failure.Failure.TheVariants as failure
-use Rattle.wasmnorm.specs.declared.hazard.Hazard.{Hazard}
 use Rattle.wasmnorm.specs.declared.options.RunOptions.{RunOptions}
 use Rattle.wasmnorm.specs.declared.options.Strictness.TheVariants.{Strict}
+use Rattle.wasmnorm.specs.declared.warning.Warning.{Warning}
 
 -- what an error says of the bytes where all of them are judged
 abbrev pub ExplainsModule : NormaliseOptions → List ℕ → NormaliseModuleError → Type 0
@@ -87,7 +87,7 @@ HasContext bytes error.Memory context = Unit {0}
 abbrev pub Explains : NormaliseOptions → List ℕ → Failure → Type 0
 Explains options bytes (failure.Refused e context advice) =
     ExplainsError options bytes e × HasContext bytes e context
-Explains options bytes (failure.Rejected h) = ⊥
+Explains options bytes (failure.Rejected w) = ⊥
 Explains options bytes (failure.Unsnipped e) = ⊥
 Explains options bytes failure.Memory = Unit {0}
 Explains options bytes failure.Keys = Unit {0}
@@ -99,9 +99,9 @@ pub data ExplainsRun (options : RunOptions) (snips : List (String Global)) (byte
     Failure → Type 0 where
   of_module :
       (f : Failure) → Explains options.normalise bytes f → ExplainsRun options snips bytes f
-  of_hazard :
-      (h : Hazard) → options.strictness ≡ Strict → IsHazard bytes h
-      → ExplainsRun options snips bytes (failure.Rejected h)
+  of_warning :
+      (w : Warning) → options.strictness ≡ Strict → IsWarning bytes w
+      → ExplainsRun options snips bytes (failure.Rejected w)
   of_functions :
       (e : SnipFailure) → (snips ≡ [] → ⊥) → ExplainsSnip options.normalise snips bytes e
       → ExplainsRun options snips bytes (failure.Unsnipped e)
@@ -118,7 +118,7 @@ refused_status error.Memory = 3
 
 abbrev pub status_of : Failure → ℕ
 status_of (failure.Refused e context advice) = refused_status e
-status_of (failure.Rejected h) = 1
+status_of (failure.Rejected w) = 1
 status_of (failure.Unsnipped e) = snip_status e
 status_of failure.Memory = 3
 status_of failure.Keys = 4
@@ -128,7 +128,7 @@ status_of (failure.Output error) = 4
 -- it says nothing of the bytes: a stream failed, or memory was refused
 abbrev pub IsOfStreams : Failure → Type 0
 IsOfStreams (failure.Refused e context advice) = ⊥
-IsOfStreams (failure.Rejected h) = ⊥
+IsOfStreams (failure.Rejected w) = ⊥
 IsOfStreams (failure.Unsnipped e) = ⊥
 IsOfStreams failure.Memory = Unit {0}
 IsOfStreams failure.Keys = Unit {0}

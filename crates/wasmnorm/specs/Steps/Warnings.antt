@@ -1,0 +1,29 @@
+-- Which warning a module needs, and what a writer gains for it.
+use Rattle.std.specs.Prelude.{ℕ, List, Option, None, Some}
+use Rattle.std.specs.Io.KnownBytes.{Keeps}
+use Rattle.error_context.specs.Contexts.{IsContext}
+use Rattle.error_context.specs.declared.context.Context.{Context}
+use Rattle.walrus_normalise.specs.Hazards.{HasNoHazard, IsHazard}
+use Rattle.walrus_normalise.specs.declared.hazards.Hazard.{Hazard}
+use Rattle.walrus_normalise.specs.declared.hazards.Hazard.TheVariants as hazard
+use Rattle.wasmnorm.specs.declared.warning.Warning.{Warning}
+use Rattle.wasmnorm.specs.Runs.{Warns}
+
+-- where a hazard names a section, this is known of it
+abbrev pub IsSectionContext : List ℕ → Hazard → Context → Type 0
+IsSectionContext bytes (hazard.ChangedType index) context = Unit {0}
+IsSectionContext bytes (hazard.UnknownSection offset) context = IsContext context bytes offset
+
+-- what a warning says of the bytes
+abbrev pub IsWarning : List ℕ → Warning → Type 0
+IsWarning bytes w = IsHazard bytes w.hazard × IsSectionContext bytes w.hazard w.context
+
+-- the first warning of the bytes, or none
+abbrev pub IsFirstWarning : List ℕ → Option Warning → Type 0
+IsFirstWarning bytes None = HasNoHazard bytes
+IsFirstWarning bytes (Some w) = IsWarning bytes w
+
+-- a writer gained the line of a warning, or nothing where there is none
+abbrev pub WarnsOf : Option Warning → Option (List ℕ) → Option (List ℕ) → Type 0
+WarnsOf None old new = Keeps old new
+WarnsOf (Some w) old new = Warns old new
