@@ -55,6 +55,6 @@ fn hazards_are_shown(rt: HostRuntime) {
     let unknown = Hazard::UnknownSection { offset: 21 }
         .to_string(alloc)
         .expect(&rt, "memory");
-    assert!(rt; changed == "type 1 becomes another type, one that refers to itself");
-    assert!(rt; unknown == "the custom section at byte 21 is of an unknown kind");
+    assert!(rt; changed.as_str() == "type 1 becomes another type, one that refers to itself");
+    assert!(rt; unknown.as_str() == "the custom section at byte 21 is of an unknown kind");
 }
