@@ -2,8 +2,9 @@
    to the standard output with the number STREAMS_OUT, and the one to the standard error with the number STREAMS_ERR;
    and with STREAMS_READ_FROM, STREAMS_OUT_FROM and STREAMS_ERR_FROM all from that number on. They count from 1, and
    each fails with EIO. With STREAMS_LITTLE a read or a write moves at most one byte. With STREAMS_DRY there are no
-   random bytes. With STREAMS_FILE each write to a file fails, with STREAMS_NAME no file gets another name, and with
-   STREAMS_MODE none gets other permissions. */
+   random bytes. With STREAMS_FILE each write to a file fails. With STREAMS_NAME no file gets another name, and with
+   STREAMS_MODE none gets other permissions. With STREAMS_COPY no file gets another name, and from then on each write to
+   a file fails. */
 #define _GNU_SOURCE
 #include <errno.h>
 #include <fcntl.h>
@@ -18,6 +19,7 @@
 static long reads = 0;
 static long outs = 0;
 static long errs = 0;
+static long are_files_full = 0;
 
 static long number(const char *name)
 {
@@ -54,7 +56,7 @@ ssize_t write(int file, const void *bytes, size_t count)
         return -1;
     if (file == STDERR_FILENO && is_failed(&errs, "STREAMS_ERR", "STREAMS_ERR_FROM"))
         return -1;
-    if (file > STDERR_FILENO && number("STREAMS_FILE")) {
+    if (file > STDERR_FILENO && (are_files_full || number("STREAMS_FILE"))) {
         errno = EIO;
         return -1;
     }
@@ -63,7 +65,8 @@ ssize_t write(int file, const void *bytes, size_t count)
 
 int rename(const char *from, const char *to)
 {
-    if (number("STREAMS_NAME")) {
+    if (number("STREAMS_NAME") || number("STREAMS_COPY")) {
+        are_files_full = number("STREAMS_COPY");
         errno = EIO;
         return -1;
     }

@@ -5,6 +5,7 @@
 //!   an option is among them. An [`OptionValue`] is an option with a value.
 //! - [`open`] opens a file, or takes standard input where the name is `-`. [`read_bytes`] reads all
 //!   that an input gives. [`create`] names a file to write, or standard output.
+//!   [`temporary_name`] makes the name that a new file has until all is written.
 //! - [`write_version`] and [`report_usage`] say what a program is and how it is used.
 #![tactic(auto)]
 

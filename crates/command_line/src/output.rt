@@ -40,12 +40,12 @@ impl Write for Output<'_> {
 }
 
 impl Output<'_> {
-    /// Ends the output once all is written. A new file gets its name.
+    /// Ends the output once all is written. A new file gets its name. If it can't, it is copied to
+    /// the file with that name, and removed.
     ///
     /// # Errors
     ///
-    /// An error comes where the new file can't get its name. Then it is removed, and the file with
-    /// that name stays as it was.
+    /// An error comes where the copy fails. The file with that name can then have a part of it.
     pub fn finish(self) -> io::Result<()>
         ensures { HasNoFile self.entry → IsOk result }
     {
@@ -70,10 +70,11 @@ impl Output<'_> {
 ///
 /// If the name is free, or an ordinary file has it, a new file is written under the temporary name.
 /// [`Output::finish`] gives it its name and [`Output::discard`] removes it. So a program that fails
-/// while it writes leaves the file as it was too. The new file has the permissions of the old one.
-/// Another hard link to the old file still leads to the old bytes.
+/// while it writes leaves the file as it was too. The new file has the permissions and the owner of
+/// the old one.
 ///
-/// A device, a pipe or a link is written itself. So is a file if no new one can be made beside it.
+/// A device, a pipe or a symbolic link is written itself. So is a file with several hard links, and
+/// a file if no new one can be made beside it, or only one with another owner.
 pub fn create<'a>(rt: &'a HostRuntime, name: &'a str, temporary: &'a str) -> Output<'a>
     ensures { IsOutputNamed name.now temporary.now result }
 {

@@ -4,8 +4,9 @@ ghost use Rattle.std.specs.String.{string_bytes};
 ghost use Rattle.command_line.specs.Outputs.{BeginsWith};
 
 use std::alloc::{AllocError, Global};
-use std::fs::{self, File, OpenOptions, Permissions};
+use std::fs::{self, File, Metadata, OpenOptions};
 use std::io::{self, ErrorKind, Write};
+use std::os::unix::fs::MetadataExt;
 
 /// A file that is open for writing.
 #[derive(Drop)]
@@ -47,20 +48,19 @@ impl Write for OutputFile<'_> {
 }
 
 impl<'a> OutputFile<'a> {
-    /// Opens a new file under the temporary name, if the name is free or an ordinary file has it.
-    /// Opens the file itself if it is a device, a link or anything else, and where no new file can
-    /// be made.
+    /// Opens a new file under the temporary name, if it can take the place of the file with the
+    /// name. Opens that file itself otherwise.
     pub(crate) fn open(names: OutputNames<'a>) -> io::Result<OutputFile<'a>> {
-        let permissions = match fs::symlink_metadata(names.rt, names.name) {
+        let old = match fs::symlink_metadata(names.rt, names.name) {
             Ok(metadata) if metadata.is_file() => {
                 // A file that may not be written may not be replaced.
                 OpenOptions::new().write(true).open(names.rt, names.name)?;
-                Some(metadata.permissions())
+                Some(metadata)
             }
             Err(error) if error.kind() == ErrorKind::NotFound => None,
             _ => return OutputFile::in_place(names),
         };
-        match new_file(names, permissions) {
+        match new_file(names, old) {
             Ok(file) => Ok(OutputFile::Beside { file, names }),
             Err(_) => OutputFile::in_place(names),
         }
@@ -70,16 +70,21 @@ impl<'a> OutputFile<'a> {
         Ok(OutputFile::InPlace(fs::create(names.rt, names.name)?))
     }
 
-    /// Gives a new file its name. If that fails it is removed.
+    /// Gives a new file its name, or copies it to the file with that name.
     pub(crate) fn finish(self) -> io::Result<()> {
         let OutputFile::Beside { names, .. } = self else {
             return Ok(());
         };
-        let renamed = fs::rename(names.rt, names.temporary, names.name);
-        if renamed.is_err() {
-            remove(names);
+        if fs::rename(names.rt, names.temporary, names.name).is_ok() {
+            return Ok(());
         }
-        renamed
+        // No file can take the place of one that is mounted by itself.
+        let copied = fs::copy(names.rt, names.temporary, names.name);
+        remove(names);
+        match copied {
+            Ok(_) => Ok(()),
+            Err(error) => Err(error),
+        }
     }
 
     /// Removes a new file. A file with its own name stays.
@@ -90,17 +95,29 @@ impl<'a> OutputFile<'a> {
     }
 }
 
-/// A new file under the temporary name, with the permissions of the file that it takes the place
-/// of.
-fn new_file(names: OutputNames<'_>, permissions: Option<Permissions>) -> io::Result<File> {
+/// A new file under the temporary name, which can take the place of the old one.
+fn new_file(names: OutputNames<'_>, old: Option<Metadata>) -> io::Result<File> {
     let file = File::create_new(names.rt, names.temporary)?;
-    if let Some(permissions) = permissions {
-        if let Err(error) = file.set_permissions(permissions) {
+    let Some(old) = old else {
+        return Ok(file);
+    };
+    match become_like(&file, &old) {
+        Ok(()) => Ok(file),
+        Err(error) => {
             remove(names);
-            return Err(error);
+            Err(error)
         }
     }
-    Ok(file)
+}
+
+/// Gives a new file the permissions of an old one. An error comes where more would change: the
+/// owner, or what another hard link leads to.
+fn become_like(file: &File, old: &Metadata) -> io::Result<()> {
+    let new = file.metadata()?;
+    if old.nlink() != 1 || new.uid() != old.uid() || new.gid() != old.gid() {
+        return Err(ErrorKind::Unsupported.into());
+    }
+    file.set_permissions(old.permissions())
 }
 
 /// Removes the file with the temporary name. If it can't be removed, it stays.

@@ -61,7 +61,7 @@ impl HashKeys {
     ///
     /// # Errors
     ///
-    /// An error comes where the system has no random bytes.
+    /// An error comes where the system gives no random bytes.
     pub fn random(source: &impl RandomSource) -> io::Result<HashKeys>
         ensures { IfOk result IsKeyed }
     {

@@ -33,10 +33,10 @@ pub enum Hazard {
 /// stays equal to what it was, and each custom section is of a known kind.
 ///
 /// It looks for a type first, by [`find_changed_type`], and then for a section, by
-/// [`find_unknown_custom`]. The answer does not depend on the
+/// [`find_unknown_custom`]. What it returns does not depend on the
 /// [`NormaliseOptions`](crate::NormaliseOptions). Custom sections that describe other bytes, such
-/// as debug data, are of a known kind: `normalise_module` itself refuses a module where one of them
-/// no longer fits.
+/// as debug data, are of a known kind: `normalise_module` refuses a module where one of them is
+/// kept and no longer fits.
 ///
 /// # Errors
 ///

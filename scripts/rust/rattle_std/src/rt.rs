@@ -81,8 +81,7 @@ pub mod env {
 /// Files.
 pub mod fs {
     use super::{Files, HostRuntime};
-    use std::fs::Metadata;
-    pub use std::fs::{File, OpenOptions, Permissions};
+    pub use std::fs::{File, Metadata, OpenOptions};
 
     /// Opens a file for reading.
     pub fn open<R: Files>(rt: &R, name: &str) -> std::io::Result<R::File> {
@@ -102,6 +101,11 @@ pub mod fs {
     /// Gives a file another name. A file that had that name is replaced.
     pub fn rename(_: &HostRuntime, old: &str, new: &str) -> std::io::Result<()> {
         std::fs::rename(old, new)
+    }
+
+    /// Copies a file, with its permissions, to one that may exist. Returns the number of bytes.
+    pub fn copy(_: &HostRuntime, from: &str, to: &str) -> std::io::Result<u64> {
+        std::fs::copy(from, to)
     }
 
     /// Removes a file.
