@@ -200,10 +200,10 @@ fn new_module(
 }
 
 /// Writes the whole module, and flushes the writer.
-fn write_and_flush<W: Write>(out: &mut W, module: &[u8]) -> io::Result<()>
-    ensures { OnOk result (Appends (W.contents out.old) (W.contents out.new) module.now) }
+fn write_and_flush<W: Write>(out: &mut W, bytes: &[u8]) -> io::Result<()>
+    ensures { OnOk result (Appends (W.contents out.old) (W.contents out.new) bytes.now) }
 {
-    out.write_all(module)?;
+    out.write_all(bytes)?;
     out.flush()
 }
 

@@ -54,3 +54,15 @@ fn other_keys_give_other_hashes(rt: HostRuntime) {
     assert!(rt; HashKeys::new(1, 1).hash_one(7u64) != first);
     assert_equal(&rt, HashKeys::new(1, 2).hash_one(7u64), first);
 }
+
+#[test]
+fn random_keys_differ(rt: HostRuntime) {
+    let first = HashKeys::random(&rt)
+        .expect(&rt, "random bytes")
+        .hash_one(7u64);
+    let second = HashKeys::random(&rt)
+        .expect(&rt, "random bytes")
+        .hash_one(7u64);
+    assert!(rt; first != second);
+    assert!(rt; first != HashKeys::fixed().hash_one(7u64));
+}
