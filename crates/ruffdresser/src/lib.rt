@@ -225,8 +225,9 @@ pub use walrus_module::{
     section_types, sections, skip_import, strip_descriptions,
 };
 pub use walrus_normalise::{
-    Descriptions, Hazard, NormaliseModuleError, NormaliseOptions, UnusedTypes, find_changed_type,
-    find_hazard, laws as normal_module_laws, normalise_module,
+    Descriptions, Hazard, NormaliseModuleError, NormaliseOptions, StrictError, UnusedTypes,
+    find_changed_type, find_hazard, laws as normal_module_laws, normalise_module,
+    normalise_strictly,
 };
 pub use walrus_snipping::{
     SnipError, exported_functions, functions_with_name, laws as snipping_laws, named_functions,

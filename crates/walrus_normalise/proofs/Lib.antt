@@ -21,3 +21,4 @@ pub mod CarriedUsed
 pub mod EqualForms
 pub mod SelfReferences
 pub mod ChangedTypes
+pub mod StrictRefusals

@@ -4,3 +4,4 @@ pub mod Moved
 pub mod Relisted
 pub mod EqualTypes
 pub mod Hazards
+pub mod StrictErrors

@@ -11,6 +11,7 @@
 //! the like. Where these are kept, [`find_outdated`](walrus_module::find_outdated) looks for a
 //! custom section that no longer fits. [`find_hazard`] looks for what can be wrong in the result,
 //! and [`find_changed_type`] for a type that the normal form makes another one.
+//! [`normalise_strictly`] returns only a module in which nothing can be wrong.
 //!
 //! # Which section no longer fits
 //!
@@ -41,11 +42,13 @@ mod normal_types;
 mod options;
 mod refusal;
 mod self_references;
+mod strict;
 
 pub use changed_types::find_changed_type;
 pub use error::NormaliseModuleError;
 pub use hazards::{Hazard, find_hazard};
 pub use normal_module::normalise_module;
 pub use options::{Descriptions, NormaliseOptions, UnusedTypes};
+pub use strict::{StrictError, normalise_strictly};
 pub use walrus_module::Widths;
 pub use walrus_types::HashKeys;

@@ -14,4 +14,6 @@ mod places;
 #[cfg(test)]
 mod refusals;
 #[cfg(test)]
+mod strict_calls;
+#[cfg(test)]
 mod tests;

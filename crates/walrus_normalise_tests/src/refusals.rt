@@ -3,8 +3,8 @@
 use std::alloc::Global;
 use std::test::*;
 use walrus_normalise::{
-    Descriptions, HashKeys, Hazard, NormaliseModuleError, NormaliseOptions, UnusedTypes, Widths,
-    find_changed_type, find_hazard, normalise_module,
+    Descriptions, HashKeys, Hazard, NormaliseModuleError, NormaliseOptions, StrictError,
+    UnusedTypes, Widths, find_changed_type, find_hazard, normalise_module, normalise_strictly,
 };
 
 // (type (struct)) (type (func)), and a body with a code that no instruction has
@@ -64,4 +64,21 @@ fn hazard_again(alloc: Global) -> Result<Option<Hazard>, NormaliseModuleError> {
 fn a_refused_hazard_is_found_when_it_is_asked_for_again(rt: HostRuntime) {
     let changed = Hazard::ChangedType { index: 1 };
     assert!(rt; hazard_again(rt.alloc()) == Ok(Some(changed)));
+}
+
+// The same of a module that is not normalised, since the result could be wrong.
+fn strictly_again(alloc: Global) -> Option<StrictError> {
+    let options = NormaliseOptions::default();
+    match normalise_strictly(alloc, HashKeys::fixed(), &JOINS, options) {
+        Err(StrictError::Refused(NormaliseModuleError::Memory)) => {
+            normalise_strictly(alloc, HashKeys::fixed(), &JOINS, options).err()
+        }
+        other => other.err(),
+    }
+}
+
+#[test]
+fn a_refused_module_is_judged_when_it_is_asked_for_again(rt: HostRuntime) {
+    let changed = StrictError::Hazard(Hazard::ChangedType { index: 1 });
+    assert!(rt; strictly_again(rt.alloc()) == Some(changed));
 }

@@ -1,4 +1,4 @@
-use Rattle.std.proofs.Common.{◌≡◌, ◌∙◌, ap, subst, List, Bool}
+use Rattle.std.proofs.Common.{◌∙◌, ap, subst, List, Bool}
 use Rattle.walrus_sections.specs.NormalForm.{IsNormalForm}
 use Rattle.walrus_sections.specs.Section.{IsWellNamed}
 use Rattle.walrus_ty.specs.Records.{section_of}
