@@ -15,12 +15,14 @@ use Rattle.walrus_sections.specs.declared.error.ReadError.TheVariants as read
 
 -- what each error says, as the clauses of `normalise_module` have it
 pub refused_by :
-    {A : Type 0} (options : NormaliseOptions) (bytes : List ℕ) (result : Result A NormaliseModuleError)
+    {A : Type 0} (options : NormaliseOptions) (bytes : List ℕ)
+    (result : Result A NormaliseModuleError)
     → ((t : DecodeError) → IsErrOf result (error.Types t) → HasBadTypesBy bytes t)
     → ((entry index end : ℕ) → IsErrOf result (error.BadIndex entry index end)
     → HasFirstError bytes (read.BadIndex entry index end))
     → (IsErrOf result error.TooMany → HasFirstError bytes read.TooMany)
-    → ((place : ℕ) → IsErrOf result (error.Malformed place) → HasFirstFault bytes fault.Malformed place)
+    → ((place : ℕ) → IsErrOf result (error.Malformed place)
+    → HasFirstFault bytes fault.Malformed place)
     → ((k count place : ℕ) → IsErrOf result (error.UnknownType k count place)
     → HasFirstFault bytes (fault.UnknownType k count) place)
     → ((place : ℕ) → IsErrOf result (error.Malformed place) → IsStoppedByFault options bytes)
@@ -29,16 +31,23 @@ pub refused_by :
     → (IsErrOf result error.TooLong → BecomesTooLong options bytes)
     → ((k : ℕ) → IsErrOf result (error.Outdated k) → BecomesOutdated options k bytes)
     → IfErr result (IsRefusedBy options bytes)
-refused_by options bytes (Ok new) a b c d e f g h i = tt
-refused_by options bytes (Err (error.Types t)) a b c d e f g h i = a t refl
-refused_by options bytes (Err (error.BadIndex entry index end)) a b c d e f g h i = b entry index end refl
-refused_by options bytes (Err error.TooMany) a b c d e f g h i = c refl
-refused_by options bytes (Err (error.Malformed place)) a b c d e f g h i = (d place refl, f place refl)
-refused_by options bytes (Err (error.UnknownType k count place)) a b c d e f g h i =
-    (e k count place refl, g k count place refl)
-refused_by options bytes (Err error.TooLong) a b c d e f g h i = h refl
-refused_by options bytes (Err (error.Outdated k)) a b c d e f g h i = i k refl
-refused_by options bytes (Err error.Memory) a b c d e f g h i = tt
+refused_by options bytes (Ok new) types index many malformed unknown stops stops_too long old = tt
+refused_by options bytes (Err (error.Types t)) types index many malformed unknown stops stops_too
+    long old = types t refl
+refused_by options bytes (Err (error.BadIndex entry k end)) types index many malformed unknown
+    stops stops_too long old = index entry k end refl
+refused_by options bytes (Err error.TooMany) types index many malformed unknown stops stops_too
+    long old = many refl
+refused_by options bytes (Err (error.Malformed place)) types index many malformed unknown stops
+    stops_too long old = (malformed place refl, stops place refl)
+refused_by options bytes (Err (error.UnknownType k count place)) types index many malformed unknown
+    stops stops_too long old = (unknown k count place refl, stops_too k count place refl)
+refused_by options bytes (Err error.TooLong) types index many malformed unknown stops stops_too
+    long old = long refl
+refused_by options bytes (Err (error.Outdated k)) types index many malformed unknown stops stops_too
+    long old = old k refl
+refused_by options bytes (Err error.Memory) types index many malformed unknown stops stops_too
+    long old = tt
 
 -- an error of a step ends the call
 pub step_refused :

@@ -1,14 +1,15 @@
 -- What an error says of bytes that are not normalised (`IsRefusedBy`), or only with a result that
 -- can be wrong (`IsStrictError`).
-use Rattle.std.specs.Prelude.{ℕ, List}
+use Rattle.std.specs.Prelude.{◌≡◌, ℕ, List}
 use Rattle.walrus_binary.specs.ModuleSections.{HasBadTypesBy}
 use Rattle.walrus_module.specs.declared.faults.FaultKind.{FaultKind}
 use Rattle.walrus_module.specs.declared.faults.FaultKind.TheVariants as fault
 use Rattle.walrus_normalise.specs.Hazards.{IsHazard}
-use Rattle.walrus_normalise.specs.NormalModules.{HasFirstError, HasFirstFault, IsNormalised, IsStoppedByFault, BecomesTooLong, BecomesOutdated}
+use Rattle.walrus_normalise.specs.NormalModules.{HasFirstError, HasFirstFault, DescriptionsFit, IsNormalised, IsStoppedByFault, BecomesTooLong, BecomesOutdated}
 use Rattle.walrus_normalise.specs.declared.error.NormaliseModuleError.{NormaliseModuleError}
 use Rattle.walrus_normalise.specs.declared.error.NormaliseModuleError.TheVariants as error
 use Rattle.walrus_normalise.specs.declared.hazards.Hazard.{Hazard}
+use Rattle.walrus_normalise.specs.declared.options.Descriptions.TheVariants as descriptions
 use Rattle.walrus_normalise.specs.declared.options.NormaliseOptions.{NormaliseOptions}
 use Rattle.walrus_normalise.specs.declared.strict.StrictError.{StrictError}
 use Rattle.walrus_normalise.specs.declared.strict.StrictError.TheVariants as failure
@@ -37,6 +38,7 @@ IsRefusedBy options bytes error.Memory = Unit {0}
 pub record HasHazard (options : NormaliseOptions) (bytes : List ℕ) (h : Hazard) : Type 0 where
   pub new : List ℕ
   pub is_normalised : IsNormalised options bytes new
+  pub fits : options.descriptions ≡ descriptions.Kept → DescriptionsFit bytes new
   pub is_hazard : IsHazard bytes h
 
 abbrev pub IsStrictError : NormaliseOptions → List ℕ → StrictError → Type 0

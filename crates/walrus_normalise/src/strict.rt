@@ -15,7 +15,7 @@ use thiserror::Error;
 /// Why [`normalise_strictly`] returned no module.
 #[derive(Clone, Copy, PartialEq, Eq, Debug, Error)]
 pub enum StrictError {
-    /// The module was not normalised.
+    /// The module was not normalised, or memory was refused to the search for a hazard.
     #[error("{0}")]
     Refused(NormaliseModuleError),
     /// The module was normalised, but this can be wrong in the result.
@@ -36,7 +36,8 @@ impl From<NormaliseModuleError> for StrictError {
 ///
 /// # Errors
 ///
-/// - [`StrictError::Refused`] has the error of `normalise_module`.
+/// - [`StrictError::Refused`] has the error of `normalise_module`. It has
+///   [`NormaliseModuleError::Memory`] also where `find_hazard` was refused memory.
 /// - [`StrictError::Hazard`] has what [`find_hazard`] finds. It comes only where `normalise_module`
 ///   returns a module.
 ///

@@ -27,8 +27,19 @@ const JOINS: [u8; 21] = [
     0, 0x61, 0x73, 0x6D, 1, 0, 0, 0, 1, 11, 2, 0x60, 1, 0x63, 0, 0, 0x60, 1, 0x63, 0, 0,
 ];
 
-// a custom section with the name "x", before a section with an id that no section has
-const UNKNOWN: [u8; 15] = [0, 0x61, 0x73, 0x6D, 1, 0, 0, 0, 0, 2, 1, b'x', 14, 1, 0];
+// a custom section with the name "x"
+const UNKNOWN: [u8; 12] = [0, 0x61, 0x73, 0x6D, 1, 0, 0, 0, 0, 2, 1, b'x'];
+
+// (type (func)), a function with a type that is not there, and the same custom section
+const ILL_NAMED: [u8; 22] = [
+    0, 0x61, 0x73, 0x6D, 1, 0, 0, 0, 1, 4, 1, 0x60, 0, 0, 3, 2, 1, 1, 0, 2, 1, b'x',
+];
+
+// the types that are joined, the same custom section, and one that has to fit all bytes
+const SIGNED: [u8; 37] = [
+    0, 0x61, 0x73, 0x6D, 1, 0, 0, 0, 1, 11, 2, 0x60, 1, 0x63, 0, 0, 0x60, 1, 0x63, 0, 0, 0, 2, 1,
+    b'x', 0, 10, 9, b's', b'i', b'g', b'n', b'a', b't', b'u', b'r', b'e',
+];
 
 /// Whether the bytes become these.
 fn becomes(alloc: Global, bytes: &[u8], unused: UnusedTypes, expected: &[u8]) -> bool {
@@ -58,24 +69,19 @@ fn a_hazard_is_an_error(rt: HostRuntime) {
     let changed = StrictError::Hazard(Hazard::ChangedType { index: 1 });
     let unknown = StrictError::Hazard(Hazard::UnknownSection { offset: 8 });
     assert!(rt; error_of(rt.alloc(), &JOINS) == Some(changed));
-    assert!(rt; error_of(rt.alloc(), &UNKNOWN[..12]) == Some(unknown));
+    assert!(rt; error_of(rt.alloc(), &UNKNOWN) == Some(unknown));
 }
 
 #[test]
 fn what_is_refused_comes_before_a_hazard(rt: HostRuntime) {
-    let error = match error_of(rt.alloc(), &UNKNOWN) {
-        Some(StrictError::Refused(error)) => Some(error),
-        _ => None,
-    };
-    assert!(rt; error.is_some());
-    let too_few = NormaliseModuleError::UnknownType {
+    let unknown = NormaliseModuleError::UnknownType {
         index: 1,
         count: 1,
         offset: 17,
     };
-    let mut short = PRUNED;
-    short[17] = 1;
-    assert!(rt; error_of(rt.alloc(), &short) == Some(StrictError::Refused(too_few)));
+    let outdated = NormaliseModuleError::Outdated { offset: 25 };
+    assert!(rt; error_of(rt.alloc(), &ILL_NAMED) == Some(StrictError::Refused(unknown)));
+    assert!(rt; error_of(rt.alloc(), &SIGNED) == Some(StrictError::Refused(outdated)));
 }
 
 #[test]
