@@ -204,7 +204,7 @@ fn an_endless_body_is_not_changed() {
 }
 
 #[test]
-#[should_panic(expected = "required: hooks keep which sequences stand in a sequence")]
+#[should_panic(expected = "required: hooks keep which sequences are inside a sequence")]
 fn a_hook_puts_no_sequence_into_itself() {
     let mut builder = builder();
     let start = builder.func_body_id();

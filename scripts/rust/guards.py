@@ -120,7 +120,7 @@ BROKEN = {
     '`position` is not past the end': '`position` is past the end',
     'the closure does not replace its builder': 'the closure replaces its builder',
     NESTED: 'the body is not nested from `start`',
-    'hooks keep which sequences stand in a sequence': 'a hook changes which sequences stand in a sequence',
+    'hooks keep which sequences are inside a sequence': 'a hook changes which sequences are inside a sequence',
 }
 # Calls whose guard is in the call that they make.
 DELEGATED = {'ArenaSet::insert', 'UsedIds::of'}
@@ -157,12 +157,12 @@ INSERTIONS = [
         let children = children_of(func.block(seq))?;
 \1        assert!(
             children_of(func.block(seq))? == children,
-            "required: hooks keep which sequences stand in a sequence"
+            "required: hooks keep which sequences are inside a sequence"
         );
 '''),
 ]
 # What a function requires of the visitor that it is given, beside its clauses.
-PROMISES = {'dfs_pre_order_mut': 'hooks keep which sequences stand in a sequence'}
+PROMISES = {'dfs_pre_order_mut': 'hooks keep which sequences are inside a sequence'}
 
 
 def guard_of(clause):
