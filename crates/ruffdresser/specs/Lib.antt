@@ -32,6 +32,8 @@ pub use Rattle.walrus_sections.specs.Refusal
 pub use Rattle.walrus_sections.specs.Examples
 pub use Rattle.walrus_sections.specs.FirstError
 pub use Rattle.walrus_sections.specs.SlotMap
+pub use Rattle.walrus_sections.specs.WritingOrders
+pub use Rattle.walrus_sections.specs.MissingNames
 pub use Rattle.walrus_types.specs.TypesById
 pub use Rattle.walrus_types.specs.Differences
 pub use Rattle.walrus_types.specs.Table
@@ -112,6 +114,10 @@ pub use Rattle.walrus_traversals_mut.specs.Walks
 pub use Rattle.walrus_traversals_mut.specs.Unfolding
 pub use Rattle.walrus_traversals_mut.specs.Counting
 pub use Rattle.walrus_functions.specs.declared.error.BuildError
+pub use Rattle.walrus_functions.specs.declared.function_builder.FunctionBuilder
+pub use Rattle.walrus_functions.specs.declared.function_builder.instr_seq_builder.InstrSeqBuilder
+pub use Rattle.walrus_functions.specs.declared.local_function.LocalFunction
+pub use Rattle.walrus_functions.specs.declared.local_functions.LocalFunctions
 pub use Rattle.walrus_nesting.specs.declared.nesting.Nesting as NestingType
 pub use Rattle.walrus_nesting.specs.declared.walk_error.WalkError
 pub use Rattle.walrus_traversals.specs.declared.id_visitor.AnyId
@@ -153,9 +159,6 @@ pub use Rattle.walrus_module.specs.RenamedModules
 pub use Rattle.walrus_module.specs.Customs
 pub use Rattle.walrus_module.specs.Composition as IndicesInTurn
 pub use Rattle.walrus_module.specs.CustomNames
-pub use Rattle.walrus_module.specs.Imports
-pub use Rattle.walrus_snipping.specs.Functions as ModuleFunctions
-pub use Rattle.walrus_snipping.specs.SnippedModules
 pub use Rattle.walrus_module.specs.RenamedNames
 pub use Rattle.walrus_module.specs.Lengths
 pub use Rattle.walrus_module.specs.UnknownCustoms
@@ -164,9 +167,6 @@ pub use Rattle.walrus_module.specs.IntegerFaults
 pub use Rattle.walrus_module.specs.ContentFaults
 pub use Rattle.walrus_module.specs.CustomFaults
 pub use Rattle.walrus_module.specs.ModuleFaults
-pub use Rattle.walrus_snipping.specs.Exports as ModuleExports
-pub use Rattle.walrus_snipping.specs.FunctionNames
-pub use Rattle.walrus_snipping.specs.WithName as FunctionsWithName
 pub use Rattle.walrus_normalise.specs.NormalModules
 pub use Rattle.walrus_normalise.specs.Moved as MovedModules
 pub use Rattle.walrus_normalise.specs.Relisted
@@ -178,7 +178,6 @@ pub use Rattle.walrus_binary.specs.declared.error.ReplaceError
 pub use Rattle.walrus_module.specs.declared.scan.ScanError
 pub use Rattle.walrus_module.specs.declared.renaming.RenameError
 pub use Rattle.walrus_module.specs.declared.renaming.Widths
-pub use Rattle.walrus_snipping.specs.declared.error.SnipError
 pub use Rattle.walrus_module.specs.declared.description_kinds.DescriptionKind
 pub use Rattle.walrus_module.specs.declared.faults.Fault
 pub use Rattle.walrus_module.specs.declared.faults.FaultKind

@@ -8,7 +8,7 @@
 //! - Walks: [`dfs_in_order`], [`dfs_pre_order_mut`], [`check_nesting`].
 //! - Passes: [`delete_unused_types`], [`normalise_used`], [`snip`], [`snip_calls`], [`adapter`].
 //! - Binary: [`decode_types`], [`encode_types`], [`sections`], [`rename_module`],
-//!   [`normalise_module`], [`snip_functions`].
+//!   [`normalise_module`].
 //! - Text: [`read_section`], [`write_section`].
 //!
 //! The module `laws` of each library has its theorems. It is here under a name of its own, such as
@@ -51,14 +51,15 @@ pub use walrus_types::{
 
 // Sections: the records of a type section, and its normal form.
 pub use walrus_module_types::{
-    FromRecordError, IdsToIndices, IndicesToIds, NoIndex, ToRecordError, UnknownIndex, record_laws,
+    FromRecordError, HasRecord, IdsToIndices, IndicesToIds, NoIndex, ToRecordError, UnknownIndex,
+    record_laws,
 };
 pub use walrus_normal_form_check::is_normal_form;
 pub use walrus_sections::{ReadError, first_error, laws as section_laws};
 pub use walrus_ty::{CompAt, EntryAt, FieldAt, GroupAt, HeapAt, RefAt, StorageAt, ValAt};
 pub use walrus_types::{
-    EmitError, SectionReader, entries_before, first_difference, normalise, normalise_owned,
-    parse_types, same_up_to_moves,
+    EmitError, SectionReader, entries_before, first_difference, normalise, normalise_by_table,
+    normalise_owned, parse_types, same_up_to_moves,
 };
 
 // Instructions, with their operators, locals and sequences; constant expressions.
@@ -222,16 +223,12 @@ pub use walrus_module::{
     body_types, description_kind, expression_types, find_content_fault, find_description,
     find_module_fault, find_outdated, find_unknown_custom, laws as module_laws, named_types,
     rename_body, rename_custom_section, rename_expression, rename_module, rename_section,
-    section_types, sections, skip_import, strip_descriptions,
+    section_types, sections, strip_descriptions,
 };
 pub use walrus_normalise::{
     Descriptions, Hazard, NormaliseModuleError, NormaliseOptions, StrictError, UnusedTypes,
     find_changed_type, find_hazard, laws as normal_module_laws, normalise_module,
     normalise_strictly,
-};
-pub use walrus_snipping::{
-    SnipError, exported_functions, functions_with_name, laws as snipping_laws, named_functions,
-    snip_functions,
 };
 
 // Text: type sections as text.

@@ -22,6 +22,10 @@ pub use Rattle.walrus_traversals_mut.specs.Walks
 pub use Rattle.walrus_traversals_mut.specs.Unfolding
 pub use Rattle.walrus_traversals_mut.specs.Counting
 pub use Rattle.walrus_functions.specs.declared.error.BuildError
+pub use Rattle.walrus_functions.specs.declared.function_builder.FunctionBuilder
+pub use Rattle.walrus_functions.specs.declared.function_builder.instr_seq_builder.InstrSeqBuilder
+pub use Rattle.walrus_functions.specs.declared.local_function.LocalFunction
+pub use Rattle.walrus_functions.specs.declared.local_functions.LocalFunctions
 pub use Rattle.walrus_nesting.specs.declared.nesting.Nesting as NestingType
 pub use Rattle.walrus_nesting.specs.declared.walk_error.WalkError
 pub use Rattle.walrus_traversals.specs.declared.id_visitor.AnyId

@@ -36,7 +36,7 @@ use walrus_types::{FunctionId, ModuleTypes, TypeId, ValType};
 /// body.drop()?;
 /// let id = builder.finish(Vec::new(alloc), &mut funcs);
 /// ```
-#[derive(Drop)]
+#[derive(Debug, Drop)]
 pub struct FunctionBuilder {
     seqs: Sequences,
     ty: TypeId,

@@ -13,7 +13,7 @@ use walrus_types::TypeId;
 /// A function that has a body: its sequences of instructions by id, which of them runs first, its
 /// type, its name, and its parameters. [`FunctionBuilder::local_func`] and
 /// [`FunctionBuilder::finish`] make one.
-#[derive(Drop)]
+#[derive(Debug, Drop)]
 pub struct LocalFunction {
     builder: FunctionBuilder,
     /// The locals that are its parameters.

@@ -37,12 +37,6 @@ pub back_empty : (a b : List ℕ) → a ++ b ≡ [] → b ≡ []
 back_empty [] b e = e
 back_empty (x ∷ a) b e = absurd cc
 
-pub shorter_behind : (bytes text rest : List ℕ) → bytes ≡ text ++ rest → length rest ≤ length bytes
-shorter_behind bytes text rest e =
-    let long : length bytes ≡ length text + length rest = ap (λ (u : List ℕ). length u) e
-    ∙ length-append text rest in
-    omega (arith, long)
-
 -- the bytes before what is behind them
 pub before : (bytes text rest : List ℕ) → bytes ≡ text ++ rest →
     take (length bytes - length rest) bytes ≡ text

@@ -61,7 +61,6 @@ pub mod NameFaults
 pub mod CustomFaults
 pub mod ContentFaults
 pub mod ModuleFaults
-pub mod TakenImports
 pub mod RenamedNames
 pub mod KnownContents
 pub mod KnownNames

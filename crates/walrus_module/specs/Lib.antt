@@ -20,5 +20,4 @@ pub mod IntegerFaults
 pub mod CustomFaults
 pub mod ContentFaults
 pub mod ModuleFaults
-pub mod Imports
 pub mod RenamedNames

@@ -15,8 +15,6 @@
 //! - [`find_outdated`] returns the place of the first of these sections that no longer fits where
 //!   the module is written again. [`description_kind`] says what a section describes.
 //! - [`find_unknown_custom`] returns the place of the first custom section of an unknown kind.
-//! - [`skip_import`] passes over an import, and [`parts`] has the readers and writers of integers
-//!   and sizes.
 #![tactic(auto)]
 
 mod bodies;
@@ -29,7 +27,6 @@ mod description_kinds;
 mod faults;
 mod framing;
 mod head;
-mod imports;
 mod joining;
 mod kind;
 pub mod laws;
@@ -41,7 +38,6 @@ mod name_section;
 mod named;
 mod opcodes;
 mod outdated;
-pub mod parts;
 mod plain;
 mod renamed_code;
 mod renamed_content;
@@ -60,7 +56,6 @@ pub use customs::{find_description, strip_descriptions};
 pub use description_kinds::{DescriptionKind, description_kind};
 pub use faults::{Fault, FaultKind, find_content_fault};
 pub use framing::{Section, SectionIter, sections};
-pub use imports::skip_import;
 pub use module_faults::find_module_fault;
 pub use name_section::rename_custom_section;
 pub use named::{named_types, section_types};

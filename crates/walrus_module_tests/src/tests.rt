@@ -4,7 +4,6 @@ mod content_faults;
 mod contents;
 mod custom_faults;
 mod customs;
-mod function_names;
 mod laws;
 mod module_faults;
 mod named;
@@ -12,7 +11,6 @@ mod outdated;
 mod refusals;
 mod renamed_modules;
 mod renaming;
-mod snipping;
 mod speed;
 mod unknown_customs;
 

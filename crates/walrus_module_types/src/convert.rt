@@ -19,6 +19,7 @@ use crate::{
     NoIndex, StructType, ToRecordError, Type, TypeId, UnknownIndex, ValType,
 };
 use std::alloc::Global;
+pub use values::HasRecord;
 use walrus_ty::{CompAt, EntryAt, FieldAt, Listed, ValAt};
 
 // The value types of these records, in order.
@@ -36,7 +37,7 @@ fn vals_from(
 {
     let mut types = Vec::with_capacity(alloc, records.len())?;
     for record in records {
-        types.push(ids.val_type(record)?)?;
+        types.push(ValType::from_record(record, ids)?)?;
     }
     Ok(types)
 }
@@ -57,7 +58,7 @@ fn vals_to(
 {
     let mut records = Vec::with_capacity(alloc, types.len())?;
     for ty in types {
-        records.push(indices.val_record(ty)?)?;
+        records.push(ty.to_record(indices)?)?;
     }
     Ok(records)
 }
@@ -77,7 +78,7 @@ fn fields_from(
 {
     let mut types = Vec::with_capacity(alloc, records.len())?;
     for record in records {
-        types.push(ids.field_type(record)?)?;
+        types.push(FieldType::from_record(record, ids)?)?;
     }
     Ok(types)
 }
@@ -98,7 +99,7 @@ fn fields_to(
 {
     let mut records = Vec::with_capacity(alloc, types.len())?;
     for ty in types {
-        records.push(indices.field_record(ty)?)?;
+        records.push(ty.to_record(indices)?)?;
     }
     Ok(records)
 }
@@ -185,7 +186,7 @@ impl CompositeType {
                 fields: Listed::from_vec(fields_from(alloc, fields.as_slice(), ids)?),
             })),
             CompAt::Array { field } => Ok(CompositeType::Array(ArrayType {
-                field: ids.field_type(field)?,
+                field: FieldType::from_record(field, ids)?,
             })),
         }
     }
@@ -214,14 +215,14 @@ impl CompositeType {
                 fields: Listed::from_vec(fields_to(alloc, of.fields.as_slice(), indices)?),
             }),
             CompositeType::Array(of) => Ok(CompAt::Array {
-                field: indices.field_record(&of.field)?,
+                field: of.field.to_record(indices)?,
             }),
         }
     }
 }
 
 /// What the record of a type says of it: a sub type in the WebAssembly specification.
-#[derive(Drop)]
+#[derive(Clone, Debug, Drop)]
 pub struct SubType {
     /// What the type is made of.
     pub kind: CompositeType,

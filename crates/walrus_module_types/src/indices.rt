@@ -9,25 +9,32 @@ pub use indices_to_ids::IndicesToIds;
 use walrus_id::Id;
 
 /// A function of a module, of which this layer knows only ids.
-pub enum Function {}
+#[derive(Clone, Copy, Debug)]
+pub struct Function;
 
 /// A global of a module, of which this layer knows only ids.
-pub enum Global {}
+#[derive(Clone, Copy, Debug)]
+pub struct Global;
 
 /// A memory of a module, of which this layer knows only ids.
-pub enum Memory {}
+#[derive(Clone, Copy, Debug)]
+pub struct Memory;
 
 /// A table of a module, of which this layer knows only ids.
-pub enum Table {}
+#[derive(Clone, Copy, Debug)]
+pub struct Table;
 
 /// A data segment of a module, of which this layer knows only ids.
-pub enum Data {}
+#[derive(Clone, Copy, Debug)]
+pub struct Data;
 
 /// An element segment of a module, of which this layer knows only ids.
-pub enum Element {}
+#[derive(Clone, Copy, Debug)]
+pub struct Element;
 
 /// A tag of a module, of which this layer knows only ids.
-pub enum Tag {}
+#[derive(Clone, Copy, Debug)]
+pub struct Tag;
 
 /// The id of a type in a `ModuleTypes`.
 pub type TypeId = Id<Type>;

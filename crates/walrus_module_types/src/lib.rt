@@ -25,7 +25,7 @@ pub mod laws;
 pub mod record_laws;
 mod ty;
 
-pub use convert::SubType;
+pub use convert::{HasRecord, SubType};
 pub use error::{FromRecordError, NoIndex, ToRecordError, UnknownIndex};
 pub use function_types::FunctionTypes;
 pub use indices::{

@@ -5,7 +5,7 @@ use std::fmt::{Debug, Display};
 use thiserror::Error;
 
 /// Why a walk ended before its end.
-#[derive(Clone, PartialEq, Eq, Debug, Drop, Error)]
+#[derive(Clone, Copy, PartialEq, Eq, Debug, Drop, Error)]
 pub enum WalkError<E: Debug + Display> {
     /// A hook refused, with this error.
     #[error("{0}")]

@@ -1,7 +1,4 @@
 -- Writing groups one after the other.
-pub mod IndexOfId
-pub mod PairsOfGroups
 pub mod RenamedGroups
 pub mod Numbering
-pub mod ReadMembers
 pub mod ReadOrder

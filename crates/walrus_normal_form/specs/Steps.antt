@@ -1,10 +1,7 @@
 -- What private functions promise one another on the way to a public clause. No public clause and no
 -- law cites these modules: who wants to know what the crate promises can pass them over.
 pub mod ReadSections
-pub mod RunStarts
 pub mod PendingGroups
 pub mod KeyNumbers
-pub mod WritingOrders
-pub mod MissingNames
 pub mod SectionReaders
 pub mod WrittenRecords

@@ -21,14 +21,14 @@ pub(crate) fn is_free_group(group: &SlotGroup) -> bool
 }
 
 // This one and those below say whether all names in something are `own`.
-#[tactic(auto, using(crate::proofs::Ordering::FreeNames::list_all_both))]
+#[tactic(auto, using(walrus_sections::proofs::Ordering::FreeNames::list_all_both))]
 fn entry_names_own(entry: &EntryAt, own: u32) -> bool
     ensures { result ≡ list_all (is_own own) (names_of (entry_definition entry.now)) }
 {
     comp_names_own(&entry.comp, own) && is_own_name(entry.supertype, own)
 }
 
-#[tactic(auto, using(crate::proofs::Ordering::FreeNames::list_all_flat_map, crate::proofs::Ordering::FreeNames::list_all_both, walrus_ty::proofs::Names::InLists::field_named))]
+#[tactic(auto, using(walrus_sections::proofs::Ordering::FreeNames::list_all_flat_map, walrus_sections::proofs::Ordering::FreeNames::list_all_both, walrus_ty::proofs::Names::InLists::field_named))]
 fn comp_names_own(comp: &CompAt, own: u32) -> bool
     ensures { result ≡ list_all (is_own own) (composite_names (comp_composite comp.now)) }
 {

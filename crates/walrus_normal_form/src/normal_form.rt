@@ -88,11 +88,8 @@ pub fn normalise(
     ensures refused { IfErr result
         (λ e. (e ≡ read.Memory) ⊎ IsFirstError (section_of groups.now) e) }
 {
-    contents_tell_records();
-    one_normal_form();
-    second_round();
-    swap_keeps_output();
-    copied_normal_form(alloc, keys, groups)
+    let copy = copy_of(alloc, groups)?;
+    normalise_owned(alloc, keys, copy)
 }
 
 /// Returns the same as [`normalise`], of a section that is no longer needed. Its records become
@@ -109,47 +106,53 @@ pub fn normalise_owned(
     ensures well_named { OnOk result (IsWellNamed (section_of groups.items)) }
     ensures normal { IfOk result
         (λ r. IsNormalForm (section_of groups.items) (section_of r.0.items) r.1.items) }
+
+    // It is the only normal form.
+    ensures only_section { IfOk result
+        (λ r. (n : Section) (m : List ℕ) → IsNormalForm (section_of groups.items) n m →
+        n ≡ section_of r.0.items) }
+    ensures only_map { IfOk result
+        (λ r. (n : Section) (m : List ℕ) → IsNormalForm (section_of groups.items) n m →
+        m ≡ r.1.items) }
+
+    // A second round changes nothing.
     ensures again_well_named { IfOk result (λ r. IsWellNamed (section_of r.0.items)) }
+    ensures again { IfOk result (λ r.
+        IsNormalForm (section_of r.0.items) (section_of r.0.items)
+        (identity (section_of r.0.items))) }
+
+    // A renumbered swap of neighbours keeps the section.
+    ensures swapped_well_named { IfOk result (λ r. (t : Section) (i : ℕ) →
+        IsRenumberedSwap (section_of groups.items) t i → IsWellNamed t) }
+    ensures swapped { IfOk result
+        (λ r. (t : Section) (i : ℕ) → IsRenumberedSwap (section_of groups.items) t i →
+        IsNormalForm t (section_of r.0.items) (swap r.1.items i (suc i))) }
+
+    // A section that is its own normal form stays as it is.
+    ensures stays { IfOk result (λ r.
+        IsNormalForm (section_of groups.items) (section_of groups.items)
+        (identity (section_of groups.items)) →
+        r.0.items ≡ groups.items) }
+    ensures stays_map { IfOk result (λ r.
+        IsNormalForm (section_of groups.items) (section_of groups.items)
+        (identity (section_of groups.items)) →
+        r.1.items ≡ identity (section_of groups.items)) }
+
+    // The first group that can't be read decides.
     ensures refused { IfErr result
         (λ e. (e ≡ read.Memory) ⊎ IsFirstError (section_of groups.items) e) }
 {
+    contents_tell_records();
+    one_normal_form();
     second_round();
-    owned_normal_form(alloc, keys, groups)
-}
-
-fn copied_normal_form(
-    alloc: Global,
-    keys: HashKeys,
-    groups: &[GroupAt],
-) -> Result<(Vec<GroupAt>, Vec<u32>), ReadError>
-    ensures well_named { OnOk result (IsWellNamed (section_of groups.now)) }
-    ensures normal { IfOk result
-        (λ r. IsNormalForm (section_of groups.now) (section_of r.0.items) r.1.items) }
-    ensures refused { IfErr result
-        (λ e. (e ≡ read.Memory) ⊎ IsFirstError (section_of groups.now) e) }
-{
-    let copy = copy_of(alloc, groups)?;
-    owned_normal_form(alloc, keys, copy)
+    swap_keeps_output();
+    let read = read_section(alloc, keys, groups)?;
+    let (normal, map) = write_section(alloc, read)?;
+    Ok((normal, map))
 }
 
 fn copy_of(alloc: Global, groups: &[GroupAt]) -> Result<Vec<GroupAt>, AllocError>
     ensures { IfOk result (λ copy. copy.items ≡ groups.now) }
 {
     groups.to_vec(alloc)
-}
-
-fn owned_normal_form(
-    alloc: Global,
-    keys: HashKeys,
-    groups: Vec<GroupAt>,
-) -> Result<(Vec<GroupAt>, Vec<u32>), ReadError>
-    ensures well_named { OnOk result (IsWellNamed (section_of groups.items)) }
-    ensures normal { IfOk result
-        (λ r. IsNormalForm (section_of groups.items) (section_of r.0.items) r.1.items) }
-    ensures refused { IfErr result
-        (λ e. (e ≡ read.Memory) ⊎ IsFirstError (section_of groups.items) e) }
-{
-    let read = read_section(alloc, keys, groups)?;
-    let (normal, map) = write_section(alloc, read)?;
-    Ok((normal, map))
 }

@@ -5,7 +5,7 @@ ghost use Rattle.walrus_sections.specs.Emission.{read_table};
 ghost use Rattle.walrus_sections.specs.NormalForm.{image};
 ghost use Rattle.walrus_normal_form.specs.Steps.PendingGroups.{ArePending, head, places_of};
 ghost use Rattle.walrus_normal_form.specs.Steps.ReadSections.{IsReadAs};
-ghost use Rattle.walrus_normal_form.specs.Steps.WritingOrders.{IsWritingOrder};
+ghost use Rattle.walrus_sections.specs.WritingOrders.{IsWritingOrder};
 
 use crate::free::is_free_group;
 use crate::keyed_entry::KeyedEntry;

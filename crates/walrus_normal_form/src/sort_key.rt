@@ -5,12 +5,15 @@
 //! module. Types with equal keys may differ: in what comes after the ranked parts, and in the types
 //! that they name. WebAssembly core specification, "Types", composite types.
 ghost use Rattle.std.specs.Prelude.{◌≡◌, true, [], ◌∷◌};
-ghost use Rattle.walrus_normal_form.specs.SortKeys.{field_rank, item_rank, marked_items, ranks};
+ghost use Rattle.std.specs.declared.cmp.Ordering.TheVariants.{Less, Greater};
+ghost use Rattle.walrus_ty.specs.Definition.{Definition, definition_cmp};
+ghost use Rattle.walrus_normal_form.specs.SortKeys.{composite_sort_key, field_rank, item_rank, marked_items, ranks, sort_key_cmp};
 
 mod ranks;
 
+pub use ranks::MARK;
 use ranks::{Items, first_field, rank_of_field};
-pub use ranks::{FIRST_NULLABLE, FIRST_PACKED, FIRST_REFERENCE, MARK, is_open};
+use std::cmp::Ordering;
 use walrus_ty::{Field, Val};
 
 /// The kind of a composite type and five ranks.
@@ -56,4 +59,17 @@ pub fn array_sort_key<N>(field: &Field<N>) -> SortKey
     ensures { result ≡ ranks 2 field_rank (field.now ∷ []) }
 {
     (2, rank_of_field(field), 0, 0, 0, 0)
+}
+
+/// How two keys compare: of two types the one with the lesser key is less. Types with equal keys
+/// may differ.
+#[inline]
+pub fn compare_keys(key: SortKey, other: SortKey) -> Ordering
+    ensures order { result ≡ sort_key_cmp key other }
+    ensures less { (d e : Definition) → key ≡ composite_sort_key d.composite →
+        other ≡ composite_sort_key e.composite → result ≡ Less → definition_cmp d e ≡ Less }
+    ensures greater { (d e : Definition) → key ≡ composite_sort_key d.composite →
+        other ≡ composite_sort_key e.composite → result ≡ Greater → definition_cmp d e ≡ Greater }
+{
+    key.cmp(&other)
 }

@@ -19,7 +19,6 @@ use walrus_types::{FunctionId, TypeId};
 ///
 /// Of wasm-snip this leaves out finding functions by their names, exports and tables that name the
 /// function, and deleting what nothing names any more.
-/// `snip_functions` of `walrus_snipping` does the same to functions in the bytes of a module.
 ///
 /// # Errors
 ///

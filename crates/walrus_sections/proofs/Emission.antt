@@ -5,3 +5,6 @@ pub mod Groups
 pub mod WrittenMembers
 pub mod Emits
 pub mod SameMembers
+pub mod IndexOfId
+pub mod PairsOfGroups
+pub mod ReadMembers

@@ -1,6 +1,7 @@
 pub mod Sections
 pub mod NormalForms
 pub mod Emission
+pub mod Ordering
 pub mod FirstError
 pub mod Moves
 pub mod Reading

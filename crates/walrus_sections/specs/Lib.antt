@@ -11,3 +11,6 @@ pub mod Refusal
 pub mod Examples
 pub mod FirstError
 pub mod SlotMap
+pub mod RunStarts
+pub mod WritingOrders
+pub mod MissingNames

@@ -3,11 +3,12 @@
 -- with the names sent along.
 -- WebAssembly core specification, "Modules", types: a definition is named by its index, so where it
 -- moves its names move along.
-use Rattle.std.specs.Prelude.{◌≡◌, ℕ, suc, ◌<◌, ◌≤◌, ◌-◌, ◌==◌, nat_lt, cond, [], ◌∷◌, ◌++◌, map, length, ◌⊎◌}
+use Rattle.std.specs.Prelude.{◌≡◌, ℕ, suc, ◌<◌, ◌-◌, ◌==◌, nat_lt, cond, List, [], ◌∷◌, ◌++◌, map, length, ◌⊎◌}
 use Rattle.std.specs.declared.cmp.Ordering.TheVariants.{Less}
 use Rattle.walrus_ty.specs.Definition.{Definition, Names, rename, definition_cmp}
 use Rattle.walrus_ty.specs.Groups.{Group, Single, Rec, Section}
 use Rattle.walrus_sections.specs.Section.{IndexSpace, index_space, IsSingle, IsWellNamed}
+use Rattle.walrus_sections.specs.NormalForm.{IsKept, AreFree, IsNormalForm, image}
 
 -- i and i + 1 exchanged
 abbrev pub exchange : ℕ → ℕ → ℕ
@@ -84,31 +85,35 @@ pub data ChainTo (r : Section) : Section → Type 0 where
 abbrev pub AreJoined : Section → Section → Type 0
 AreJoined a b = ChainTo b a
 
--- i and j are out of order: from i to j there are only `Single`s that name no index but their own,
--- and j is less than i
-pub record AreOutOfOrder (space : IndexSpace) (i j : ℕ) : Type 0 where
+-- i and j are out of order, where m is the map to the normal form: both are kept, none from i to j
+-- is an anchor, and j is less than i
+pub record AreOutOfOrder (space : IndexSpace) (m : ℕ → ℕ) (i j : ℕ) : Type 0 where
   pub earlier : i < j
   pub inside : j < space.count
-  pub singles : (a : ℕ) → i ≤ a → a ≤ j → IsSingle space a
-  pub own : (a : ℕ) → i ≤ a → a ≤ j → (k : ℕ) → Names (space.definition a) k → k ≡ a
+  pub first_kept : IsKept m i
+  pub second_kept : IsKept m j
+  pub free : AreFree space m i j
   pub less : definition_cmp (space.definition j) (space.definition i) ≡ Less
 
--- `new` has fewer pairs out of order than `old`: each pair of `new` is sent to one of `old`, no two
--- to one, and some pair of `old` is left
-pub record HasFewerOutOfOrder (old new : IndexSpace) : Type 0 where
+-- `new`, whose map is w, has fewer pairs out of order than `old`, whose map is m: each pair of
+-- `new` is sent to one of `old`, no two to one, and some pair of `old` is left
+pub record HasFewerOutOfOrder (old new : IndexSpace) (m w : ℕ → ℕ) : Type 0 where
   pub embed : ℕ → ℕ
   pub injective : (i j : ℕ) → embed i ≡ embed j → i ≡ j
-  pub preserves : (i j : ℕ) → AreOutOfOrder new i j → AreOutOfOrder old (embed i) (embed j)
+  pub preserves :
+      (i j : ℕ) → AreOutOfOrder new w i j → AreOutOfOrder old m (embed i) (embed j)
   pub first : ℕ
   pub second : ℕ
-  pub extra : AreOutOfOrder old first second
-  pub unreached : (i j : ℕ) → AreOutOfOrder new i j → embed i ≡ first → ¬ (embed j ≡ second)
+  pub extra : AreOutOfOrder old m first second
+  pub unreached : (i j : ℕ) → AreOutOfOrder new w i j → embed i ≡ first → ¬ (embed j ≡ second)
 
--- r has fewer groups than s, or as many groups and fewer pairs out of order
+-- r has fewer groups than s, or as many groups and, by the maps to the normal forms of both, fewer
+-- pairs out of order
 abbrev pub IsLower : Section → Section → Type 0
 IsLower s r =
     (length r < length s) ⊎ ((length r ≡ length s) ×
-    HasFewerOutOfOrder (index_space s) (index_space r))
+    ((n p : Section) (m w : List ℕ) → IsNormalForm s n m → IsNormalForm r p w →
+    HasFewerOutOfOrder (index_space s) (index_space r) (image m) (image w)))
 
 -- moves lead from a section down to r, through well-named sections
 pub data DescentTo (r : Section) : Section → Type 0 where

@@ -4,9 +4,12 @@
 //! A section is the list of the contents of its recursion groups, as `section_of` gives them for a
 //! list of `GroupAt`.
 ghost use Rattle.std.specs.List.{range_with_len, swap};
-ghost use Rattle.std.specs.Prelude.{◌<◌, ◌≡◌, ◌∷◌, ◌↔◌, ◌⊎◌, [], List, map, suc, ℕ};
-ghost use Rattle.walrus_ty.specs.Definition.{Names};
-ghost use Rattle.walrus_sections.specs.Emission.{IsEmission, IsMember, IsWrittenBefore, read_table};
+ghost use Rattle.std.specs.Prelude.{◌<◌, ◌≤◌, ◌≡◌, ◌∷◌, ◌↔◌, ◌⊎◌, [], List, Some, false, length, map, slice_get, suc, ℕ};
+ghost use Rattle.walrus_ty.specs.Definition.{Names, rename};
+ghost use Rattle.walrus_sections.specs.Emission.{IsEmission, IsMember, IsWrittenBefore, TableView, group_at, read_table};
+ghost use Rattle.walrus_sections.specs.MissingNames.{FirstMissingIs, IsMissingIn};
+ghost use Rattle.walrus_sections.specs.Refusal.{IsFirstMissing, IsMissing, NameUse};
+ghost use Rattle.walrus_sections.specs.WritingOrders.{IsWritingOrder, ids_in, in_order, written_group};
 ghost use Rattle.walrus_sections.specs.Moves.{AreJoined, DescentTo, IsRenumberedSwap};
 ghost use Rattle.walrus_sections.specs.FirstError.{IsFirstError};
 ghost use Rattle.walrus_sections.specs.declared.error.ReadError.{ReadError};
@@ -27,8 +30,8 @@ pub fn one_normal_form()
 {}
 
 /// Each well-named section has a normal form, and moves lead down to it. Each move leaves fewer
-/// groups, or as many groups and fewer pairs of free lone types, with no anchor between, that are
-/// out of order.
+/// groups, or as many groups and fewer pairs out of order. Such a pair is of kept lone types, with
+/// no anchor from the one to the other, whose later one is less.
 pub fn output_exists()
     ensures { (s : Section) → IsWellNamed s → (n : Section) × IsOutput s n × DescentTo n s }
 {}
@@ -95,6 +98,25 @@ pub fn read_then_emitted()
     ensures { (s n : Section) (r m : ℕ → ℕ) → IsWellNamed s → IsSlotMap (index_space s) r →
         IsEmission (read_table s r) n m →
         IsNormalForm s n (map (λ i. m (r i)) (range_with_len 0 (index_space s).count)) }
+{}
+
+/// Groups of a table that are written one after the other, in their writing order, are an emission
+/// of it, where each id has the index at which it is written. A group that isn't explicit has one
+/// id at most. A name that lacks an index in the table lacks one among these groups, and the first
+/// of these is the first of the table.
+pub fn written_in_order()
+    ensures emission { (t : TableView) (order : List ℕ) (m : ℕ → ℕ) → IsWritingOrder t order →
+        ((g : ℕ) → (group_at t.groups g).is_explicit ≡ false →
+        length (group_at t.groups g).ids ≤ 1) →
+        ((i p : ℕ) → slice_get (ids_in (in_order t.groups order)) p ≡ Some i → m i ≡ p) →
+        IsEmission t (map (written_group (λ i. rename m (t.definition i)))
+        (in_order t.groups order)) m }
+    ensures complete { (t : TableView) (order : List ℕ) → IsWritingOrder t order →
+        ((name : NameUse) → ¬ (IsMissingIn t.definition (in_order t.groups order) name)) →
+        (name : NameUse) → ¬ (IsMissing t name) }
+    ensures missing { (t : TableView) (order : List ℕ) (from to : ℕ) → IsWritingOrder t order →
+        FirstMissingIs t.definition (in_order t.groups order) from to →
+        (name : NameUse) × IsFirstMissing t name × (name.id ≡ from) × (name.named ≡ to) }
 {}
 
 /// A section is well-named, or its first group with an error decides which error reading it

@@ -115,6 +115,10 @@ HasSectionIndices groups = AllByRecursion HasGroupIndices groups
 abbrev pub IsSectionText : List (List (List ℕ)) → Type 0
 IsSectionText lines = IsText section_lines HasSectionIndices lines
 
+-- the text of some section begins with these lines
+abbrev pub BeginsSection : List (List (List ℕ)) → Type 0
+BeginsSection lines = (more : List (List (List ℕ))) × IsSectionText (lines ++ more)
+
 -- The bytes are a text of these groups: their lines of words are the groups', whose numbers can
 -- stand for types. They are a text of no other groups (`laws::one_section`).
 pub record IsTextOf (text : List ℕ) (groups : List GroupAt) : Type 0 where

@@ -1,7 +1,7 @@
 -- Lines and words of a text, as bytes: what counts in a text that is read, and how a line is
 -- written.
 -- The text is this crate's own; the WebAssembly specification has none for a type section alone.
-use Rattle.std.specs.Prelude.{ℕ, Bool, true, false, List, [], ◌∷◌, ◌++◌, ◌==◌, map, filter}
+use Rattle.std.specs.Prelude.{ℕ, Bool, true, false, List, [], ◌∷◌, ◌++◌, ◌==◌, map, filter, take}
 use Rattle.std.specs.List.{flat_map, slice_split}
 
 abbrev pub has_items : {X : Type 0} → List X → Bool
@@ -12,10 +12,28 @@ has_items (x ∷ xs) = true
 abbrev pub words_of : List ℕ → List (List ℕ)
 words_of line = filter has_items (slice_split (λ b. b == 32) line)
 
+-- the words of each of these lines that has any
+abbrev pub lines_with_words : List (List ℕ) → List (List (List ℕ))
+lines_with_words lines = filter has_items (map words_of lines)
+
 -- the words of each line of a text that has any; a line ends with a line feed, which the last one
 -- may lack
 abbrev pub lines_of : List ℕ → List (List (List ℕ))
-lines_of text = filter has_items (map words_of (slice_split (λ b. b == 10) text))
+lines_of text = lines_with_words (slice_split (λ b. b == 10) text)
+
+-- these parts of a text without the last one, if that is empty
+abbrev pub without_empty_last : List (List ℕ) → List (List ℕ)
+without_empty_last [] = []
+without_empty_last (part ∷ []) = filter has_items (part ∷ [])
+without_empty_last (part ∷ next ∷ parts) = part ∷ without_empty_last (next ∷ parts)
+
+-- all lines of a text, as bytes: no line begins behind the last line feed unless a byte is there
+abbrev pub all_lines : List ℕ → List (List ℕ)
+all_lines text = without_empty_last (slice_split (λ b. b == 10) text)
+
+-- the words of each of the first lines, so many, that has any
+abbrev pub first_lines : ℕ → List ℕ → List (List (List ℕ))
+first_lines count text = lines_with_words (take count (all_lines text))
 
 -- words, each with a space before it
 abbrev pub space_before_each : List (List ℕ) → List ℕ

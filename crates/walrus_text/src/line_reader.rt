@@ -1,11 +1,11 @@
 //! A section from a reader, one line of text at a time.
-ghost use Rattle.std.specs.Prelude.{◌≡◌, ◌++◌, ◌∷◌, [], ℕ, List, false, IsTrue, IfOk, IfErr, OnOk, IfSome};
+ghost use Rattle.std.specs.Prelude.{◌≡◌, ◌++◌, ◌∷◌, [], ◌+◌, ◌<◌, ◌^◌, ℕ, List, false, length, IsTrue, IfOk, IfErr, OnOk, IfSome};
 ghost use Rattle.walrus_text.specs.Words.{lines_of};
 ghost use Rattle.walrus_text.specs.Steps.Words.{words_if_any};
-ghost use Rattle.walrus_text.specs.Text.{HasSectionIndices, IsSectionText, section_lines};
-ghost use Rattle.walrus_text.specs.Errors.{bad_line};
-ghost use Rattle.walrus_text.specs.Steps.Builder.{BeginsNoSection, HasBuilderIndices, builder_lines};
-ghost use Rattle.walrus_text.specs.Steps.Bytes.{HasReadBytes, HasChecked, IsOneLine};
+ghost use Rattle.walrus_text.specs.Text.{BeginsSection, HasSectionIndices, IsSectionText, section_lines};
+ghost use Rattle.walrus_text.specs.Errors.{IsFirstBadLine, bad_line};
+ghost use Rattle.walrus_text.specs.Steps.Builder.{HasBuilderIndices, builder_lines};
+ghost use Rattle.walrus_text.specs.Steps.Bytes.{Counts, HasReadBytes, HasReadText, HasChecked, IsOneLine};
 
 use crate::error::{BadLine, Expected, TextError};
 use crate::parse::{find_fault, read_line};
@@ -48,10 +48,13 @@ pub fn read_section<R: Read>(alloc: Global, reader: &mut R) -> Result<Vec<GroupA
     // A text with a bad line is not the text of a section.
     ensures refused { IfErr result (λ e. IfSome (R.remaining reader.old) (λ text.
         IfSome (bad_line e) (λ line. ¬ IsSectionText (lines_of text)))) }
+    // The line that is named is the first bad one.
+    ensures first { IfErr result (λ e. IfSome (R.remaining reader.old) (λ text.
+        IfSome (bad_line e) (IsFirstBadLine text))) }
 {
     let mut lines = LineReader::new(alloc);
     let mut block = [0u8; BLOCK];
-    for _ in 0..READ_LIMIT {
+    for turn in 0..READ_LIMIT {
         let Ok(count) = reader.read(&mut block) else {
             return Err(TextError::Stream);
         };
@@ -140,9 +143,11 @@ impl LineReader {
     /// Adds the line to the section, and marks it where it is the first bad one.
     fn check_line(&mut self) -> Result<(), AllocError>
         ensures line { OnOk result (self.new.line.items ≡ self.old.line.items) }
-        ensures checked { OnOk result ((lines : List (List (List ℕ))) →
+        ensures lines { OnOk result (self.new.lines ≡ self.old.lines) }
+        ensures checked { OnOk result ((lines : List (List ℕ)) →
+            Counts self.old.lines (length lines + 1) → HasBuilderIndices self.old.section →
             HasChecked self.old.section self.old.bad lines →
-            HasChecked self.new.section self.new.bad (lines ++ words_if_any self.old.line.items)) }
+            HasChecked self.new.section self.new.bad (lines ++ self.old.line.items ∷ [])) }
         ensures fits { OnOk result (HasBuilderIndices self.old.section →
             HasBuilderIndices self.new.section) }
     {
@@ -156,7 +161,9 @@ impl LineReader {
     }
 
     /// What is wrong with the line, which is bad.
-    fn bad_line(&self) -> BadLine {
+    fn bad_line(&self) -> BadLine
+        ensures { result.line ≡ self.now.lines }
+    {
         let (expected, column) = find_fault(self.line.as_slice(), self.section.is_in_group());
         BadLine {
             line: self.lines,
@@ -168,12 +175,13 @@ impl LineReader {
     /// Adds the line to the section. `false` says that no text of a section has it here.
     fn add_line(&mut self) -> Result<bool, AllocError>
         ensures line { self.new.line.items ≡ self.old.line.items }
+        ensures lines { self.new.lines ≡ self.old.lines }
         ensures bad { self.new.bad ≡ self.old.bad }
         ensures taken { IfOk result (λ taken. IsTrue taken →
             builder_lines self.new.section ≡ builder_lines self.old.section ++
             words_if_any self.old.line.items) }
         ensures refused { IfOk result (λ taken. taken ≡ false →
-            BeginsNoSection (builder_lines self.old.section ++ words_if_any self.old.line.items)) }
+            ¬ BeginsSection (builder_lines self.old.section ++ words_if_any self.old.line.items)) }
         ensures fits { OnOk result (HasBuilderIndices self.old.section →
             HasBuilderIndices self.new.section) }
     {
@@ -185,10 +193,8 @@ impl LineReader {
 
     /// Ends the last line, whose line feed may be missing.
     fn end_last_line(&mut self) -> Result<(), AllocError>
-        ensures checked { OnOk result ((bytes : List ℕ) → HasReadBytes self.old bytes →
-            HasChecked self.new.section self.new.bad (lines_of bytes)) }
-        ensures fits { OnOk result ((bytes : List ℕ) → HasReadBytes self.old bytes →
-            HasBuilderIndices self.new.section) }
+        ensures { OnOk result ((bytes : List ℕ) → HasReadBytes self.old bytes →
+            HasReadText self.new bytes) }
     {
         if self.line.as_slice().is_empty() {
             return Ok(());
@@ -203,7 +209,7 @@ impl LineReader {
         ensures fits { IfOk result (λ groups. (bytes : List ℕ) → HasReadBytes self bytes →
             HasSectionIndices groups.items) }
         ensures refused { IfErr result (λ e. (bytes : List ℕ) → HasReadBytes self bytes →
-            IfSome (bad_line e) (λ line. ¬ IsSectionText (lines_of bytes))) }
+            length bytes < 2 ^ 63 → IfSome (bad_line e) (IsFirstBadLine bytes)) }
     {
         self.end_last_line()?;
         if let Some(bad) = self.bad {

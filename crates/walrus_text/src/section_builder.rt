@@ -3,8 +3,8 @@ ghost use Rattle.std.specs.Prelude.{◌≡◌, ◌↔◌, ◌++◌, ◌∷◌, [
 ghost use Rattle.walrus_ty.specs.Definition.{names_of};
 ghost use Rattle.walrus_ty.specs.Records.{entry_definition};
 ghost use Rattle.walrus_text.specs.Steps.Lines.{HasIndices, line_words_if_any};
-ghost use Rattle.walrus_text.specs.Text.{AreIndices, HasSectionIndices, IsSectionText, entry_words, section_lines};
-ghost use Rattle.walrus_text.specs.Steps.Builder.{BeginsNoSection, HasBuilderIndices, IsInGroup, builder_lines};
+ghost use Rattle.walrus_text.specs.Text.{AreIndices, BeginsSection, HasSectionIndices, IsSectionText, entry_words, section_lines};
+ghost use Rattle.walrus_text.specs.Steps.Builder.{HasBuilderIndices, IsInGroup, builder_lines};
 
 use crate::parse::Line;
 use std::alloc::{AllocError, Global};
@@ -43,7 +43,7 @@ impl SectionBuilder {
         ensures taken { IfOk result (λ taken. IsTrue taken →
             builder_lines self.new ≡ builder_lines self.old ++ line_words_if_any line) }
         ensures refused { IfOk result (λ taken. taken ≡ false →
-            BeginsNoSection (builder_lines self.old ++ line_words_if_any line)) }
+            ¬ BeginsSection (builder_lines self.old ++ line_words_if_any line)) }
         ensures fits { OnOk result (HasIndices line → HasBuilderIndices self.old →
             HasBuilderIndices self.new) }
     {
@@ -62,7 +62,7 @@ impl SectionBuilder {
         ensures taken { IsTrue result → builder_lines self.new ≡ builder_lines self.old ++
             (codes "rec" ∷ []) ∷ [] }
         ensures refused { result ≡ false →
-            BeginsNoSection (builder_lines self.old ++ (codes "rec" ∷ []) ∷ []) }
+            ¬ BeginsSection (builder_lines self.old ++ (codes "rec" ∷ []) ∷ []) }
         ensures fits { HasBuilderIndices self.old → HasBuilderIndices self.new }
     {
         if self.open.is_some() {
@@ -77,7 +77,7 @@ impl SectionBuilder {
         ensures taken { IfOk result (λ taken. IsTrue taken →
             builder_lines self.new ≡ builder_lines self.old ++ (codes "end" ∷ []) ∷ []) }
         ensures refused { IfOk result (λ taken. taken ≡ false →
-            BeginsNoSection (builder_lines self.old ++ (codes "end" ∷ []) ∷ [])) }
+            ¬ BeginsSection (builder_lines self.old ++ (codes "end" ∷ []) ∷ [])) }
         ensures fits { OnOk result (HasBuilderIndices self.old → HasBuilderIndices self.new) }
     {
         let Some(mut entries) = self.open.take() else {

@@ -64,11 +64,16 @@ map_end : (is : List (Instr × ℕ)) (x : Instr × ℕ) →
 map_end [] x = refl
 map_end (i ∷ is) x = ap (λ l. children i.0 ∷ l) (map_end is x)
 
-pub no_child_added : (is : List (Instr × ℕ)) (x : Instr × ℕ) → children x.0 ≡ [] →
+no_child_added : (is : List (Instr × ℕ)) (x : Instr × ℕ) → children x.0 ≡ [] →
     nonempty (map (λ y. children y.0) (is ++ x ∷ [])) ≡ nonempty (map (λ y. children y.0) is)
 no_child_added is x e =
     ap nonempty (map_end is x) ∙ ap (λ l. nonempty (map (λ (y : Instr × ℕ). children y.0) is ++ l ∷ [])) e
     ∙ nonempty_end (map (λ y. children y.0) is)
+
+pub keeps_children_added : (old new : Sequence) (x : Instr × ℕ) → children x.0 ≡ [] →
+    new.id ≡ old.id → new.instrs ≡ old.instrs ++ x ∷ [] → KeepsChildren old new
+keeps_children_added old new x c i e =
+    (i, ap (λ l. nonempty (map (λ (y : Instr × ℕ). children y.0) l)) e ∙ no_child_added old.instrs x c)
 
 pub keeps_children_same : (a b : Sequence) → b ≡ a → KeepsChildren a b
 keeps_children_same a b e = (ap (λ s. s.id) e, ap child_lists e)

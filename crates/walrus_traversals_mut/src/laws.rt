@@ -1,17 +1,26 @@
 //! Laws of walks that change what they visit. Each function does nothing; its clauses are theorems,
 //! which a caller gets by calling it.
-ghost use Rattle.std.specs.Prelude.{◌≡◌, ◌↔◌, ℕ, List, Contains};
+ghost use Rattle.std.specs.Prelude.{◌≡◌, ◌↔◌, ◌++◌, ℕ, List, [], ◌∷◌, Contains};
+ghost use Rattle.instr.specs.Sequence.{Sequence};
+ghost use Rattle.instr.specs.declared.instr.Instr.{Instr};
 ghost use Rattle.walrus_ir.specs.Calls.{Full, Partial};
 ghost use Rattle.walrus_functions.specs.Body.{Body, sequence};
-ghost use Rattle.walrus_functions.specs.Nesting.{IsNested, IsReachable};
+ghost use Rattle.walrus_functions.specs.Nesting.{children, IsNested, IsReachable};
 ghost use Rattle.walrus_traversals_mut.specs.Counting.{CutWalk, CountedWalk, IsFunction};
 ghost use Rattle.walrus_traversals_mut.specs.FieldMaps.{FieldMap, MapsFields, IsMapped};
-ghost use Rattle.walrus_traversals_mut.specs.Premises.{HasSteps, KeepsNesting};
+ghost use Rattle.walrus_traversals_mut.specs.Premises.{HasSteps, KeepsChildren, KeepsNesting};
 ghost use Rattle.walrus_traversals_mut.specs.Renaming.{rename_at, rename_sequence};
 ghost use Rattle.walrus_traversals_mut.specs.Unfolding.{Unfolds, IsTree};
 ghost use Rattle.walrus_traversals_mut.specs.Walks.{Walks};
 
 use crate::{RenameTypes, VisitorMut};
+
+/// A hook at the start or the end of a sequence may add an instruction in which no sequence stands:
+/// with it at the end, the sequence keeps its children, as such a hook has to see to.
+pub fn instrs_without_children_may_be_added()
+    ensures { (old new : Sequence) (added : Instr × ℕ) → children added.0 ≡ [] →
+        new.id ≡ old.id → new.instrs ≡ old.instrs ++ added ∷ [] → KeepsChildren old new }
+{}
 
 /// A walk that stops early makes a number of hook calls, and is the walk that is cut after so many.
 pub fn partial_walks_are_cut<V: VisitorMut>()

@@ -2,8 +2,6 @@
 pub mod WrittenCount
 pub mod SortedGroups
 pub mod OrderFromSort
-pub mod Decoding
-pub mod DecodedTypes
 pub mod WriteLoop
 pub mod WrittenEntries
 pub mod EmittedTables

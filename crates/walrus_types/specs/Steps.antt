@@ -7,6 +7,5 @@ pub mod FreeGroups
 pub mod PendingGroups
 pub mod WrittenGroups
 pub mod SortKeys
-pub mod LosslessKeys
 pub mod ReadSlots
 pub mod Finding

@@ -17,6 +17,7 @@ use crate::{EmitError, GroupAt, IdsToIndices, ModuleTypes, RecGroup};
 use free::is_written_group;
 use order::writing_order;
 use std::alloc::Global;
+use walrus_sections::laws::written_in_order;
 use write::write_groups;
 
 // The least number of types that can't be written.
@@ -101,6 +102,7 @@ fn write_table(
     ensures others { IfOk result (λ r. IsEmpty (func_indices r.1) × IsEmpty (global_indices r.1)) }
     ensures missing { IfErr result (λ e. IsMemoryOrMissing e (MissesFirst table.now)) }
 {
+    written_in_order();
     let pending = writing_order(alloc, table)?;
     write_groups(alloc, table, table.rec_groups(), pending.as_slice())
 }

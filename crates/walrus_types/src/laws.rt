@@ -3,19 +3,18 @@
 //!
 //! A section is the list of the contents of its recursion groups, as `section_of` gives them for a
 //! list of `GroupAt`.
-ghost use Rattle.std.specs.List.{range_with_len};
-ghost use Rattle.std.specs.Prelude.{◌≡◌, ◌≤◌, ◌<◌, ◌^◌, List, false, length, map, ℕ};
+ghost use Rattle.std.specs.Prelude.{◌≡◌, ◌≤◌, ◌<◌, ◌^◌, All, IsSome, List, false, length, map, ℕ};
 ghost use Rattle.walrus_types.specs.TableEmission.{IsEmitted, table_view, written_types};
 ghost use Rattle.walrus_module_types.specs.Indices.{IndexMap};
 ghost use Rattle.walrus_module_types.specs.Lookups.{value_or_zero};
-ghost use Rattle.walrus_sections.specs.NormalForm.{IsNormalForm, image};
+ghost use Rattle.walrus_sections.specs.NormalForm.{IsNormalForm};
 ghost use Rattle.walrus_types.specs.ReaderState.{IsReadInto};
 ghost use Rattle.walrus_sections.specs.Refusal.{IsMissing, NameUse};
 ghost use Rattle.walrus_types.specs.Table.{Table, rec_group_at};
 ghost use Rattle.walrus_ty.specs.declared.records.GroupAt.{GroupAt};
 ghost use Rattle.walrus_ty.specs.Records.{section_of};
 ghost use Rattle.walrus_ty.specs.Groups.{Section};
-ghost use Rattle.walrus_sections.specs.Section.{IsWellNamed, index_space};
+ghost use Rattle.walrus_sections.specs.Section.{IsWellNamed};
 
 pub mod calls;
 
@@ -31,18 +30,23 @@ pub use walrus_sections::laws::{
 };
 
 /// A table that a section was read into is written as the normal form of the section; each index
-/// goes where its slot goes.
+/// goes where its slot goes, which has an index.
 pub fn read_table_is_written()
-    ensures { (s : Section) (t : Table) (ids : List ℕ) (out : List GroupAt) (x : IndexMap) →
+    ensures normal { (s : Section) (t : Table) (ids : List ℕ) (out : List GroupAt) (x : IndexMap) →
         IsReadInto s t ids → IsEmitted t out x →
-        IsNormalForm s (section_of out)
-        (map (λ i. value_or_zero x.index (image ids i)) (range_with_len 0 (index_space s).count)) }
+        IsNormalForm s (section_of out) (map (value_or_zero x.index) ids) }
+    ensures indexed { (s : Section) (t : Table) (ids : List ℕ) (out : List GroupAt)
+        (x : IndexMap) → IsReadInto s t ids → IsEmitted t out x →
+        All (λ id. IsSome (x.index id)) ids }
 {}
 
-/// A table that a section was read into can be written: each name has an index when it is written.
+/// A table that a section was read into can be written: each name has an index when it is written,
+/// and 32 bits count the types.
 pub fn read_table_can_be_written()
-    ensures { (s : Section) (t : Table) (ids : List ℕ) (name : NameUse) → IsReadInto s t ids →
-        ¬ (IsMissing (table_view t) name) }
+    ensures named { (s : Section) (t : Table) (ids : List ℕ) (name : NameUse) →
+        IsReadInto s t ids → ¬ (IsMissing (table_view t) name) }
+    ensures few { (s : Section) (t : Table) (ids : List ℕ) → IsReadInto s t ids →
+        written_types t < 2 ^ 32 }
 {}
 
 /// A table that is emitted is written as a section that can be read: no name points past its own

@@ -6,7 +6,8 @@
 //!   [`IndicesToIds`] and [`IdsToIndices`] lead from one to the other.
 //! - [`SectionReader`] and [`parse_types`] read a section into a table, and [`ModuleTypes::emit`]
 //!   writes a table as a section.
-//! - [`normalise`] returns the normal form of a section, which it makes of the records alone.
+//! - [`normalise`] returns the normal form of a section, which it makes of the records alone, and
+//!   [`normalise_by_table`] the same by reading, then emitting.
 //!   [`is_normal_form`] judges a normal form, and [`same_up_to_moves`] compares two sections.
 //!   [`first_difference`] shows where two normal forms differ.
 //! - [`laws`] and [`record_laws`] have the theorems.
@@ -33,20 +34,23 @@ mod emit;
 mod error;
 pub mod laws;
 mod moves;
+mod read_then_emit;
 mod section_reader;
 mod table;
 
 pub use difference::{entries_before, first_difference};
 pub use error::EmitError;
 pub use moves::same_up_to_moves;
+pub use read_then_emit::normalise_by_table;
 pub use section_reader::{SectionReader, parse_types};
 pub use table::{AddRecGroupError, ModuleTypes, RecGroup, RecGroupId, TypesIter};
 pub use walrus_arena::{HashKeys, Id};
 pub use walrus_module_types::{
     ArrayType, CompositeType, Data, DataId, Element, ElementId, FieldType, FromRecordError,
-    Function, FunctionId, FunctionType, FunctionTypes, Global, GlobalId, HeapType, IdsToIndices,
-    IndicesToIds, Memory, MemoryId, NamedReferenceTypes, NoIndex, RefType, StorageType, StructType,
-    Table, TableId, Tag, TagId, ToRecordError, Type, TypeId, UnknownIndex, ValType, record_laws,
+    Function, FunctionId, FunctionType, FunctionTypes, Global, GlobalId, HasRecord, HeapType,
+    IdsToIndices, IndicesToIds, Memory, MemoryId, NamedReferenceTypes, NoIndex, RefType,
+    StorageType, StructType, Table, TableId, Tag, TagId, ToRecordError, Type, TypeId, UnknownIndex,
+    ValType, record_laws,
 };
 pub use walrus_normal_form::{normalise, normalise_owned};
 pub use walrus_normal_form_check::is_normal_form;

@@ -2,16 +2,30 @@
 mod short_sections;
 
 use crate::assertions::assert_equal;
-use crate::fixtures::{Piece, Shape, section, to};
+use crate::fixtures::{Piece, Shape, entry, section, to};
 use Piece::{Many, One};
 use Shape::{Bytes, Func, Open, Struct};
 use std::alloc::Global;
 use std::process::Abort;
 use walrus_types::{
-    GroupAt, HashKeys, ReadError, ValAt, is_normal_form, normalise, normalise_owned, parse_types,
+    GroupAt, HashKeys, ReadError, ValAt, is_normal_form, normalise, normalise_by_table,
+    normalise_owned, parse_types,
 };
 
-// The normal form of the section is the one that is wanted, and the slow program agrees.
+// The call has returned this section and this map.
+fn is(
+    rt: &impl Abort,
+    returned: Result<(Vec<GroupAt>, Vec<u32>), ReadError>,
+    wanted: &[GroupAt],
+    map: &[u32],
+) {
+    let (output, places) = returned.expect(rt, "memory");
+    assert!(rt; output.as_slice() == wanted);
+    assert_equal(rt, places.as_slice(), map);
+}
+
+// Each way to the normal form of the section gives the one that is wanted, and the slow program
+// agrees.
 fn gives<'x>(
     rt: &impl Abort,
     alloc: Global,
@@ -21,35 +35,26 @@ fn gives<'x>(
 ) {
     let groups = section(alloc, pieces).expect(rt, "memory");
     let wanted = section(alloc, wanted).expect(rt, "memory");
-    let normal = normalise(alloc, HashKeys::fixed(), groups.as_slice());
-    let (output, places) = normal.expect(rt, "memory");
-    assert!(rt; output == wanted);
-    assert_equal(rt, places.as_slice(), map);
-    assert!(rt;
-        is_normal_form(alloc, groups.as_slice(), wanted.as_slice(), map).expect(rt, "memory")
+    let (section, wanted) = (groups.as_slice(), wanted.as_slice());
+    assert!(rt; is_normal_form(alloc, section, wanted, map).expect(rt, "memory"));
+    is(
+        rt,
+        normalise(alloc, HashKeys::fixed(), section),
+        wanted,
+        map,
     );
-    is_written_from_a_table(rt, alloc, groups.as_slice(), wanted.as_slice(), map);
-    let owned = normalise_owned(alloc, HashKeys::fixed(), groups);
-    let (output, places) = owned.expect(rt, "memory");
-    assert!(rt; output == wanted);
-    assert_equal(rt, places.as_slice(), map);
-}
-
-// A table that the section is read into is written as its normal form too.
-fn is_written_from_a_table(
-    rt: &impl Abort,
-    alloc: Global,
-    groups: &[GroupAt],
-    wanted: &[GroupAt],
-    map: &[u32],
-) {
-    let (types, ids) = parse_types(alloc, HashKeys::fixed(), groups).expect(rt, "memory");
-    let (output, indices) = types.emit().expect(rt, "memory");
-    assert!(rt; output.as_slice() == wanted);
-    assert_equal(rt, ids.len(), map.len());
-    for (id, place) in ids.iter().zip(map) {
-        assert_equal(rt, indices.get_type_index(*id).ok(), Some(*place));
-    }
+    is(
+        rt,
+        normalise_by_table(alloc, HashKeys::fixed(), section),
+        wanted,
+        map,
+    );
+    is(
+        rt,
+        normalise_owned(alloc, HashKeys::fixed(), groups),
+        wanted,
+        map,
+    );
 }
 
 // The section is its own normal form.
@@ -57,14 +62,26 @@ fn stays(rt: &impl Abort, alloc: Global, pieces: &[Piece<'_>], map: &[u32]) {
     gives(rt, alloc, pieces, pieces, map);
 }
 
-fn is_refused(rt: &impl Abort, alloc: Global, pieces: &[Piece<'_>], wanted: ReadError) {
-    let groups = section(alloc, pieces).expect(rt, "memory");
-    let refused = normalise(alloc, HashKeys::fixed(), groups.as_slice()).err();
+// Each way to the normal form of the groups is refused with this error.
+fn are_refused(rt: &impl Abort, alloc: Global, groups: Vec<GroupAt>, wanted: ReadError) {
+    let section = groups.as_slice();
+    let refused = normalise(alloc, HashKeys::fixed(), section).err();
     assert_equal(rt, refused, Some(wanted));
-    let refused = parse_types(alloc, HashKeys::fixed(), groups.as_slice()).err();
+    let refused = parse_types(alloc, HashKeys::fixed(), section).err();
+    assert_equal(rt, refused, Some(wanted));
+    let refused = normalise_by_table(alloc, HashKeys::fixed(), section).err();
     assert_equal(rt, refused, Some(wanted));
     let refused = normalise_owned(alloc, HashKeys::fixed(), groups).err();
     assert_equal(rt, refused, Some(wanted));
+}
+
+fn is_refused(rt: &impl Abort, alloc: Global, pieces: &[Piece<'_>], wanted: ReadError) {
+    are_refused(
+        rt,
+        alloc,
+        section(alloc, pieces).expect(rt, "memory"),
+        wanted,
+    );
 }
 
 #[test]
@@ -218,6 +235,19 @@ fn an_index_past_its_group_is_refused(rt: HostRuntime) {
     };
     let rec = Many(&[Struct(&[to(2)]), Func(&[])]);
     is_refused(&rt, rt.alloc(), &[rec], in_rec);
+}
+
+#[test]
+fn a_field_is_refused_before_a_supertype(rt: HostRuntime) {
+    let mut both = entry(rt.alloc(), Struct(&[to(5)])).expect(&rt, "memory");
+    both.supertype = Some(7);
+    let groups = vec![in rt.alloc(); GroupAt::Single(both)].expect(&rt, "memory");
+    let bad = ReadError::BadIndex {
+        entry: 0,
+        index: 5,
+        end: 1,
+    };
+    are_refused(&rt, rt.alloc(), groups, bad);
 }
 
 #[test]

@@ -1,6 +1,6 @@
 //! That sections are read, what is read of them, and which refusal comes.
 use crate::assertions::assert_equal;
-use crate::fixtures::{Piece, Shape, entry, group, section, to};
+use crate::fixtures::{Piece, Shape, group, section, to};
 use Piece::{Many, One};
 use Shape::{Func, Struct};
 use std::alloc::{AllocError, Global};
@@ -107,13 +107,18 @@ fn a_refused_group_leaves_the_reader(rt: HostRuntime) {
 #[test]
 fn an_equal_entry_is_sent_to_the_first(rt: HostRuntime) {
     let alloc = rt.alloc();
+    let mut reader = SectionReader::new(alloc);
     let rec = Many(&[Struct(&[ValAt::I32])]);
-    let groups = section(alloc, &[One(Func(&[])), One(Func(&[])), rec]).expect(&rt, "memory");
-    let (types, ids) = read(&rt, alloc, groups.as_slice());
+    for piece in [One(Func(&[])), One(Func(&[])), rec] {
+        push(&rt, alloc, &mut reader, piece).expect(&rt, "memory");
+    }
+    let (types, ids) = reader.finish();
     assert!(rt; are(ids.as_slice(), &[0, 0, 2]));
-    assert!(rt; types.contains(TypeId::from_index(0)));
+    let groups = types.rec_groups();
+    assert_equal(&rt, groups.len(), 2);
+    assert!(rt; is(&groups[0], &[0], false));
+    assert!(rt; is(&groups[1], &[2], true));
     assert!(rt; !types.contains(TypeId::from_index(1)));
-    assert!(rt; types.contains(TypeId::from_index(2)));
 }
 
 #[test]
@@ -150,20 +155,6 @@ fn an_index_past_its_group_is_refused(rt: HostRuntime) {
     };
     let rec = Many(&[Struct(&[to(2)]), Func(&[])]);
     is_refused(&rt, rt.alloc(), &[rec], in_rec);
-}
-
-#[test]
-fn a_field_is_refused_before_a_supertype(rt: HostRuntime) {
-    let alloc = rt.alloc();
-    let mut both = entry(alloc, Struct(&[to(5)])).expect(&rt, "memory");
-    both.supertype = Some(7);
-    let expected = ReadError::BadIndex {
-        entry: 0,
-        index: 5,
-        end: 1,
-    };
-    let refused = parse_types(alloc, HashKeys::fixed(), &[GroupAt::Single(both)]).err();
-    assert_equal(&rt, refused, Some(expected));
 }
 
 #[test]

@@ -1,9 +1,12 @@
 -- The exit status of a failure, and what it says of the bytes.
-use Rattle.std.proofs.Common.{◌≡◌, ◌≤◌, ℕ, true, List, Result, Ok, Err, refl, sym, subst, arith}
-use Rattle.std.specs.Prelude.{IfErr, IsErrAnd, IsErrOf}
+use Rattle.std.proofs.Common.{◌≡◌, ◌∙◌, ◌≤◌, ◌⊎◌, inl, inr, ℕ, true, List, Option, None, Some, Result, Ok, Err, refl, sym, subst, arith}
+use Rattle.std.specs.Prelude.{IfErr, IfSome, IsErrAnd, IsErrOf}
 use Rattle.walrus_binary.specs.ModuleSections.{HasBadTypesBy}
 use Rattle.walrus_binary.specs.declared.error.DecodeError.{DecodeError}
 use Rattle.walrus_module.specs.declared.faults.FaultKind.TheVariants as kind
+use Rattle.walrus_normalise.specs.Hazards.{IsHazard}
+use Rattle.walrus_normalise.specs.declared.hazards.Hazard.{Hazard}
+use Rattle.walrus_normalise.specs.declared.hazards.Hazard.TheVariants as hazard
 use Rattle.walrus_normalise.specs.declared.options.NormaliseOptions.{NormaliseOptions}
 use Rattle.walrus_sections.specs.declared.error.ReadError.TheVariants as read
 use Rattle.walrus_normalise.specs.NormalModules.{HasFirstError, HasFirstFault, HasTypesError, BecomesTooLong, BecomesOutdated}
@@ -12,16 +15,10 @@ use Rattle.walrus_normalise.specs.declared.error.NormaliseModuleError.TheVariant
 use Rattle.wasmnorm.specs.declared.failure.Failure.{Failure}
 use Rattle.wasmnorm.specs.declared.failure.Failure.TheVariants as failure
 use Rattle.wasmnorm.specs.Judged.{BreaksBehind, whole, before_break, OfJudged, HasWrongTypes, unread, ill_named, IsMalformedAt, first}
-use Rattle.wasmnorm.specs.Runs.{IsRefused, bad_types, malformed, too_long, outdated, IsIllNamed, in_types, elsewhere}
-use Rattle.walrus_snipping.specs.declared.error.SnipError.{SnipError}
-use Rattle.walrus_snipping.specs.declared.error.SnipError.TheVariants as snip
-use Rattle.wasmnorm.specs.declared.snip_failure.SnipFailure.{SnipFailure}
-use Rattle.wasmnorm.specs.declared.snip_failure.SnipFailure.TheVariants as snips
-use Rattle.wasmnorm.specs.Steps.Snips.{refusal_status, snip_status}
-use Rattle.std.specs.declared.alloc.Global.{Global}
-use Rattle.std.specs.declared.string.String.{String}
+use Rattle.wasmnorm.specs.Runs.{IsRefused, bad_types, malformed, too_long, outdated, IsIllNamed, in_types, elsewhere, IsRejected, changed_type, unknown_section}
 use Rattle.wasmnorm.specs.declared.options.RunOptions.{RunOptions}
-use Rattle.wasmnorm.specs.Steps.Failures.{Explains, ExplainsRun, ExplainsError, ExplainsModule, is_of_types, is_of_sections, refused_status, status_of}
+use Rattle.wasmnorm.specs.declared.options.Strictness.TheVariants.{Strict}
+use Rattle.wasmnorm.specs.Steps.Failures.{Explains, ExplainsError, ExplainsModule, IsOfStreams, is_of_types, is_of_sections, refused_status, status_of}
 
 error_range : (e : NormaliseModuleError) → refused_status e ≤ 4
 error_range (error.Types e) = omega arith
@@ -33,25 +30,9 @@ error_range error.TooLong = omega arith
 error_range (error.Outdated offset) = omega arith
 error_range error.Memory = omega arith
 
-refusal_range : (e : SnipError) → refusal_status e ≤ 4
-refusal_range snip.Malformed = omega arith
-refusal_range (snip.Imported k) = omega arith
-refusal_range (snip.UnknownFunction k count) = omega arith
-refusal_range snip.TooLong = omega arith
-refusal_range snip.Memory = omega arith
-
-snip_range : (e : SnipFailure) → snip_status e ≤ 4
-snip_range snips.NoNames = omega arith
-snip_range (snips.NotOne name functions) = omega arith
-snip_range (snips.Refused e) = refusal_range e
-snip_range (snips.Outdated offset context) = omega arith
-snip_range snips.TooLong = omega arith
-snip_range snips.Memory = omega arith
-
 pub status_range : (f : Failure) → status_of f ≤ 4
 status_range (failure.Refused e context advice) = error_range e
 status_range (failure.Rejected h) = omega arith
-status_range (failure.Unsnipped e) = snip_range e
 status_range failure.Memory = omega arith
 status_range failure.Keys = omega arith
 status_range (failure.Input error) = omega arith
@@ -138,29 +119,69 @@ wrong_types options bytes error.TooLong is why = absurd cc
 wrong_types options bytes (error.Outdated offset) is why = absurd cc
 wrong_types options bytes error.Memory is why = absurd cc
 
-pub explains_refused :
-    (options : NormaliseOptions) (bytes : List ℕ) (f : Failure) → Explains options bytes f → status_of f ≡ 1
-    → IsRefused options bytes
+hazard_rejected :
+    (options : RunOptions) (bytes : List ℕ) (h : Hazard) → options.strictness ≡ Strict → IsHazard bytes h
+    → IsRejected options.strictness bytes
+hazard_rejected options bytes (hazard.ChangedType index) strict changes = changed_type index strict changes
+hazard_rejected options bytes (hazard.UnknownSection offset) strict has =
+    unknown_section offset strict has.0 has.1
+
+explains_refused :
+    (options : RunOptions) (bytes : List ℕ) (f : Failure) → Explains options bytes f → status_of f ≡ 1
+    → IsRefused options.normalise bytes ⊎ IsRejected options.strictness bytes
 explains_refused options bytes (failure.Refused e context advice) why is =
-    error_refused options bytes e why.0 is
-explains_refused options bytes (failure.Rejected h) why is = absurd why
-explains_refused options bytes (failure.Unsnipped e) why is = absurd why
+    inl (error_refused options.normalise bytes e why.0 is)
+explains_refused options bytes (failure.Rejected w) why is =
+    inr (hazard_rejected options bytes w.hazard why.0 why.1.0)
 explains_refused options bytes failure.Memory why is = absurd (omega (arith, is))
 explains_refused options bytes failure.Keys why is = absurd (omega (arith, is))
 explains_refused options bytes (failure.Input error) why is = absurd (omega (arith, is))
 explains_refused options bytes (failure.Output error) why is = absurd (omega (arith, is))
 
-pub explains_ill_named :
-    (options : NormaliseOptions) (bytes : List ℕ) (f : Failure) → Explains options bytes f → status_of f ≡ 2
+explains_ill_named :
+    (options : RunOptions) (bytes : List ℕ) (f : Failure) → Explains options bytes f → status_of f ≡ 2
     → IsIllNamed bytes
 explains_ill_named options bytes (failure.Refused e context advice) why is =
-    error_ill_named options bytes e why.0 is
-explains_ill_named options bytes (failure.Rejected h) why is = absurd why
-explains_ill_named options bytes (failure.Unsnipped e) why is = absurd why
+    error_ill_named options.normalise bytes e why.0 is
+explains_ill_named options bytes (failure.Rejected w) why is = absurd (omega (arith, is))
 explains_ill_named options bytes failure.Memory why is = absurd (omega (arith, is))
 explains_ill_named options bytes failure.Keys why is = absurd (omega (arith, is))
 explains_ill_named options bytes (failure.Input error) why is = absurd (omega (arith, is))
 explains_ill_named options bytes (failure.Output error) why is = absurd (omega (arith, is))
+
+pub known_refused :
+    (options : RunOptions) (known : Option (List ℕ)) (f : Failure) (result : ℕ)
+    → IfSome known (λ bytes. Explains options bytes f)
+    → (result ≡ status_of f) ⊎ (result ≡ 4) → result ≡ 1
+    → IfSome known (λ bytes. IsRefused options.normalise bytes ⊎ IsRejected options.strictness bytes)
+known_refused options None f result why status is = tt
+known_refused options (Some bytes) f result why (inl e) is = explains_refused options bytes f why (sym e ∙ is)
+known_refused options (Some bytes) f result why (inr e) is = absurd (omega (arith, sym e ∙ is))
+
+pub known_ill_named :
+    (options : RunOptions) (known : Option (List ℕ)) (f : Failure) (result : ℕ)
+    → IfSome known (λ bytes. Explains options bytes f)
+    → (result ≡ status_of f) ⊎ (result ≡ 4) → result ≡ 2 → IfSome known IsIllNamed
+known_ill_named options None f result why status is = tt
+known_ill_named options (Some bytes) f result why (inl e) is =
+    explains_ill_named options bytes f why (sym e ∙ is)
+known_ill_named options (Some bytes) f result why (inr e) is = absurd (omega (arith, sym e ∙ is))
+
+-- a stream failed, or memory was refused, which says nothing of the bytes
+stream_explains :
+    (options : RunOptions) (bytes : List ℕ) (f : Failure) → IsOfStreams f → Explains options bytes f
+stream_explains options bytes (failure.Refused e context advice) h = absurd h
+stream_explains options bytes (failure.Rejected w) h = absurd h
+stream_explains options bytes failure.Memory h = tt
+stream_explains options bytes failure.Keys h = tt
+stream_explains options bytes (failure.Input e) h = tt
+stream_explains options bytes (failure.Output e) h = tt
+
+pub known_of_streams :
+    (options : RunOptions) (known : Option (List ℕ)) (f : Failure)
+    → IsOfStreams f → IfSome known (λ bytes. Explains options bytes f)
+known_of_streams options None f h = tt
+known_of_streams options (Some bytes) f h = stream_explains options bytes f h
 
 -- what each error says, as the clauses of `normalise_module` have it
 pub explains_each :
@@ -198,11 +219,9 @@ explains_types options bytes error.TooLong why = absurd why
 explains_types options bytes (error.Outdated offset) why = absurd why
 explains_types options bytes error.Memory why = tt
 
--- what ends the search for warnings ends the run
-pub search_ends :
-    {A : Type 0} (options : RunOptions) (snips : List (String Global)) (bytes : List ℕ)
-    (result : Result A Failure) (f : Failure) → IsErrAnd result (λ e. e ≡ f)
-    → ExplainsRun options snips bytes f → IfErr result (ExplainsRun options snips bytes)
-search_ends options snips bytes (Ok new) f is why = tt
-search_ends options snips bytes (Err e) f is why =
-    subst (λ x. ExplainsRun options snips bytes x) (sym is) why
+-- the error that `?` passes on
+pub error_kept :
+    {A : Type 0} (P : Failure → Type 0) (result : Result A Failure) (f : Failure)
+    → IsErrAnd result (λ e. e ≡ f) → P f → IfErr result P
+error_kept P (Ok x) f is why = tt
+error_kept P (Err e) f is why = subst P (sym is) why

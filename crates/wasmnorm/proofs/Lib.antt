@@ -1,4 +1,3 @@
 pub mod Failures
 pub mod Fronts
-pub mod Snips
 pub mod Warnings

@@ -1,13 +1,11 @@
 -- What follows from the first warning of bytes: a line, or why the module is rejected.
 use Rattle.std.proofs.Common.{◌≡◌, ℕ, List, Option, None, Some, inl, inr, subst}
 use Rattle.std.specs.Prelude.{IfSome}
-use Rattle.std.specs.declared.alloc.Global.{Global}
-use Rattle.std.specs.declared.string.String.{String}
 use Rattle.walrus_normalise.specs.Hazards.{IsHazard}
 use Rattle.walrus_normalise.specs.declared.hazards.Hazard.{Hazard}
 use Rattle.walrus_normalise.specs.declared.hazards.Hazard.TheVariants as hazard
 use Rattle.wasmnorm.specs.Runs.{Warns, WarnsAtMost, IsWarned, not_warned, of_changed_type, of_unknown_section}
-use Rattle.wasmnorm.specs.Steps.Failures.{ExplainsRun, of_warning}
+use Rattle.wasmnorm.specs.Steps.Failures.{Explains}
 use Rattle.wasmnorm.specs.Steps.Warnings.{IsFirstWarning, WarnsOf}
 use Rattle.wasmnorm.specs.declared.failure.Failure.TheVariants as failure
 use Rattle.wasmnorm.specs.declared.options.RunOptions.{RunOptions}
@@ -44,8 +42,8 @@ known_warned (Some bytes) read lent w old new is same first warns =
     (subst (λ (b : List ℕ). IsFirstWarning b w) same first)) warns
 
 pub warning_rejected :
-    (options : RunOptions) (snips : List (String Global)) (bytes : List ℕ) (found : Option Warning)
-    (w : Warning) → IsFirstWarning bytes found → found ≡ Some w → options.strictness ≡ Strict
-    → ExplainsRun options snips bytes (failure.Rejected w)
-warning_rejected options snips bytes found w first is strict =
-    of_warning w strict (subst (λ o. IsFirstWarning bytes o) is first)
+    (options : RunOptions) (bytes : List ℕ) (found : Option Warning) (w : Warning)
+    → IsFirstWarning bytes found → found ≡ Some w → options.strictness ≡ Strict
+    → Explains options bytes (failure.Rejected w)
+warning_rejected options bytes found w first is strict =
+    (strict, subst (λ o. IsFirstWarning bytes o) is first)

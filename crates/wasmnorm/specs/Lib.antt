@@ -1,4 +1,3 @@
-pub mod Snips
 pub mod Judged
 pub mod Runs
 pub mod Steps

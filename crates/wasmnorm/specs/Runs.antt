@@ -1,6 +1,6 @@
 -- What a run does: `IsWritten` where its bytes are a module that is normalised, `IsRefused`,
--- `IsIllNamed` and `IsRejected` where not. `IsWarned` says when there is a warning. What stops
--- functions from being snipped is in `Snips`. `IsGiven` says which options the arguments give.
+-- `IsIllNamed` and `IsRejected` where not. `IsWarned` says when there is a warning. `IsGiven` says
+-- which options the arguments give.
 use Rattle.std.specs.Prelude.{◌≡◌, ℕ, ◌⊎◌, true, List, [], ◌∷◌, ◌++◌, Option, bytes_eq, codes}
 use Rattle.std.specs.List.{list_any}
 use Rattle.std.specs.Io.KnownBytes.{Appends, Keeps}
@@ -11,21 +11,22 @@ use Rattle.walrus_binary.specs.ModuleSections.{HasBadTypesBy}
 use Rattle.walrus_binary.specs.declared.error.DecodeError.{DecodeError}
 use Rattle.walrus_module.specs.declared.faults.FaultKind.TheVariants.{UnknownType}
 use Rattle.walrus_module.specs.UnknownCustoms.{HasNoUnknownCustom, HasUnknownCustomAt}
+use Rattle.walrus_normalise.specs.declared.options.Descriptions.TheVariants.{Kept}
 use Rattle.walrus_normalise.specs.declared.options.NormaliseOptions.{NormaliseOptions}
 use Rattle.walrus_normalise.specs.EqualTypes.{ChangesType, KeepsModuleTypes}
-use Rattle.walrus_normalise.specs.NormalModules.{HasFirstError, HasFirstFault, BecomesTooLong, BecomesOutdated}
+use Rattle.walrus_normalise.specs.NormalModules.{IsNormalised, DescriptionsFit, HasFirstError, HasFirstFault, BecomesTooLong, BecomesOutdated}
 use Rattle.walrus_sections.specs.declared.error.ReadError.{ReadError}
 use Rattle.wasmnorm.specs.Judged.{OfJudged, IsMalformedAt}
-use Rattle.wasmnorm.specs.Snips.{BecomesNormal}
 use Rattle.wasmnorm.specs.declared.options.Strictness.{Strictness}
 use Rattle.wasmnorm.specs.declared.options.Strictness.TheVariants.{Strict}
 
 -- The bytes are a module, and a writer gained the same module with its type section in normal form.
--- The functions that the arguments name were snipped before.
-pub record IsWritten (options : NormaliseOptions) (snips : List (String Global)) (bytes : List ℕ)
-    (old new : Option (List ℕ)) : Type 0 where
+-- Where sections that describe other bytes are kept, they still fit.
+pub record IsWritten (options : NormaliseOptions) (bytes : List ℕ) (old new : Option (List ℕ)) :
+    Type 0 where
   pub normal : List ℕ
-  pub becomes : BecomesNormal options snips bytes normal
+  pub is_normalised : IsNormalised options bytes normal
+  pub fit : options.descriptions ≡ Kept → DescriptionsFit bytes normal
   pub written : Appends old new normal
 
 -- ---- warnings

@@ -4,7 +4,7 @@ ghost use Rattle.wasmnorm.specs.Steps.Failures.{Explains, ExplainsModule, HasCon
 
 use crate::custom_section::write_outdated;
 use crate::fault::first_error;
-use crate::snip_failure::{SnipFailure, snip_status};
+use crate::options::RunOptions;
 use crate::warning::Warning;
 use error_context::{Context, context_of, context_of_error};
 use std::alloc::{AllocError, Global};
@@ -27,8 +27,6 @@ pub enum Failure {
     },
     /// The module is rejected, and not just warned of.
     Rejected(Warning),
-    /// The functions were not snipped.
-    Unsnipped(SnipFailure),
     /// Memory was refused.
     Memory,
     /// The system has no random bytes.
@@ -78,7 +76,6 @@ impl fmt::Display for Failure {
                 advice,
             } => write!(f, "{error}{context}{advice}"),
             Failure::Rejected(warning) => write!(f, "{warning}"),
-            Failure::Unsnipped(failure) => write!(f, "{failure}"),
             Failure::Memory => write!(f, "out of memory"),
             Failure::Keys => write!(f, "no random keys"),
             Failure::Input(error) => write!(f, "input failed: {error}"),
@@ -103,17 +100,17 @@ pub fn refusal(
     alloc: Global,
     keys: HashKeys,
     bytes: &[u8],
-    options: NormaliseOptions,
+    options: RunOptions,
     error: NormaliseModuleError,
 ) -> Failure
-    ensures explains { ExplainsModule options bytes.now error →
+    ensures explains { ExplainsModule options.normalise bytes.now error →
         Explains options bytes.now result }
 {
-    let error = first_error(alloc, keys, options, bytes, error);
+    let error = first_error(alloc, keys, options.normalise, bytes, error);
     Failure::Refused {
         error,
         context: context_beside(bytes, error),
-        advice: advice_for(options, error),
+        advice: advice_for(options.normalise, error),
     }
 }
 
@@ -173,7 +170,6 @@ fn status(failure: &Failure) -> u8
     match failure {
         Failure::Refused { error, .. } => refusal_status(*error),
         Failure::Rejected(_) => 1,
-        Failure::Unsnipped(failure) => snip_status(failure),
         Failure::Memory => 3,
         Failure::Keys | Failure::Input(_) | Failure::Output(_) => 4,
     }

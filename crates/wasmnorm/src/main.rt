@@ -5,9 +5,10 @@ ghost use Rattle.std.specs.Prelude.{◌≡◌, ◌<◌, ◌≤◌, ◌⊎◌, If
 ghost use Rattle.std.specs.Io.KnownBytes.{Appends, Keeps};
 ghost use Rattle.walrus_module.specs.UnknownCustoms.{HasNoUnknownCustom};
 ghost use Rattle.walrus_normalise.specs.EqualTypes.{KeepsModuleTypes};
+ghost use Rattle.walrus_normalise.specs.NormalModules.{IsNormalised, DescriptionsFit};
+ghost use Rattle.walrus_normalise.specs.declared.options.Descriptions.TheVariants as descriptions;
 ghost use Rattle.wasmnorm.specs.Runs.{IsWritten, IsWarned, WarnsAtMost, IsRefused, IsIllNamed, IsRejected};
-ghost use Rattle.wasmnorm.specs.Snips.{BecomesNormal, CanNotBeSnipped, MisnamesFunctions};
-ghost use Rattle.wasmnorm.specs.Steps.Failures.{ExplainsRun, status_of};
+ghost use Rattle.wasmnorm.specs.Steps.Failures.{Explains, status_of};
 ghost use Rattle.wasmnorm.specs.Steps.Warnings.{IsFirstWarning};
 ghost use Rattle.wasmnorm.specs.declared.options.Strictness.TheVariants.{Strict};
 
@@ -17,8 +18,6 @@ mod fault;
 mod front;
 mod module;
 mod options;
-mod snip_failure;
-mod snipping;
 mod texts;
 mod warning;
 
@@ -29,12 +28,11 @@ use command_line::{
 use failure::{Failure, failed_input, refusal, report};
 use module::normal_module;
 use options::{RunOptions, run_options};
-use snipping::snipped_module;
-use std::alloc::{AllocError, Global};
+use std::alloc::Global;
 use std::hash::BuildHasher;
 use std::io::{self, Read, Write};
 use std::process::ExitCode;
-use texts::{HELP, KEEP_WIDTHS, OUTPUT, PRUNE, SNIP, STRICT, STRIP, USAGE};
+use texts::{HELP, KEEP_WIDTHS, OUTPUT, PRUNE, STRICT, STRIP, USAGE};
 use walrus_normalise::HashKeys;
 use warning::{Warning, accepted_warning, warn_of};
 
@@ -55,12 +53,6 @@ use warning::{Warning, accepted_warning, warn_of};
 /// `err` warns of it, before the module is written. The line names the type or the place of the
 /// input.
 ///
-/// `snips` are functions whose bodies become a single `unreachable` before that. Each is an index,
-/// in digits alone that write a `u32`, or else the name of one function. A module that is refused
-/// without them is refused in the same way with them, so each place in a message is one of the
-/// input. Where a body changes, a custom section that describes other bytes no longer fits,
-/// whatever it describes.
-///
 /// It returns the exit status. One line on `err` explains each of 1 to 4. At 0 `err` gains nothing
 /// but a warning. At 4 a warning can be before the line.
 ///
@@ -69,14 +61,13 @@ use warning::{Warning, accepted_warning, warn_of};
 ///   holds. Or a section or a function body would be too long. Or a custom section describes bytes
 ///   that would change. Or `Strictness::Strict` rejects the module.
 /// - 2: the type section names a type that it may not name, or has too many entries. Or another
-///   section names a type that the type section does not have. Or one of `snips` is the name of no
-///   function or of several, or the index of an imported function or of none.
+///   section names a type that the type section does not have.
 /// - 3: memory was refused.
 /// - 4: a read or a write failed.
 ///
 /// What is wrong first is reported. Where the bytes are no module, since a section breaks the
-/// framing, the sections before it are judged first. What only `Strictness::Strict`
-/// rejects is reported where nothing else is wrong, and before what is wrong with `snips`.
+/// framing, the sections before it are judged first. What only `Strictness::Strict` rejects is
+/// reported where nothing else is wrong.
 ///
 /// `out` gains nothing at 1 to 3, since the whole module is there before it is written. At 4 it may
 /// have gained the module or a part of it.
@@ -87,14 +78,12 @@ pub fn run<R: Read, W: Write, E: Write>(
     alloc: Global,
     keys: HashKeys,
     options: RunOptions,
-    snips: &[String],
     reader: &mut R,
     out: &mut W,
     err: &mut E,
 ) -> u8
     ensures done { result ≡ 0 → IfSome (R.remaining reader.old)
-        (λ bytes. IsWritten options.normalise snips.now bytes
-        (W.contents out.old) (W.contents out.new)) }
+        (λ bytes. IsWritten options.normalise bytes (W.contents out.old) (W.contents out.new)) }
     ensures kept { result ≡ 0 → options.strictness ≡ Strict →
         IfSome (R.remaining reader.old) KeepsModuleTypes }
     ensures known { result ≡ 0 → options.strictness ≡ Strict →
@@ -105,15 +94,12 @@ pub fn run<R: Read, W: Write, E: Write>(
     ensures silent { result ≡ 0 → options.strictness ≡ Strict →
         Keeps (E.contents err.old) (E.contents err.new) }
     ensures refused { result ≡ 1 → IfSome (R.remaining reader.old)
-        (λ bytes. IsRefused options.normalise bytes ⊎
-        CanNotBeSnipped options.normalise snips.now bytes ⊎
-        IsRejected options.strictness bytes) }
-    ensures ill_named { result ≡ 2 → IfSome (R.remaining reader.old)
-        (λ bytes. IsIllNamed bytes ⊎ MisnamesFunctions snips.now bytes) }
+        (λ bytes. IsRefused options.normalise bytes ⊎ IsRejected options.strictness bytes) }
+    ensures ill_named { result ≡ 2 → IfSome (R.remaining reader.old) IsIllNamed }
     ensures range { result ≤ 4 }
     ensures unwritten { 0 < result → result < 4 → Keeps (W.contents out.old) (W.contents out.new) }
 {
-    match normalise_input(alloc, keys, options, snips, reader, out, err) {
+    match normalise_input(alloc, keys, options, reader, out, err) {
         Ok(()) => 0,
         Err(failure) => report(&failure, err),
     }
@@ -123,14 +109,12 @@ fn normalise_input<R: Read, W: Write, E: Write>(
     alloc: Global,
     keys: HashKeys,
     options: RunOptions,
-    snips: &[String],
     reader: &mut R,
     out: &mut W,
     err: &mut E,
 ) -> Result<(), Failure>
     ensures done { OnOk result (IfSome (R.remaining reader.old)
-        (λ bytes. IsWritten options.normalise snips.now bytes
-        (W.contents out.old) (W.contents out.new))) }
+        (λ bytes. IsWritten options.normalise bytes (W.contents out.old) (W.contents out.new))) }
     ensures kept { OnOk result (options.strictness ≡ Strict →
         IfSome (R.remaining reader.old) KeepsModuleTypes) }
     ensures known { OnOk result (options.strictness ≡ Strict →
@@ -141,7 +125,7 @@ fn normalise_input<R: Read, W: Write, E: Write>(
     ensures silent { OnOk result (options.strictness ≡ Strict →
         Keeps (E.contents err.old) (E.contents err.new)) }
     ensures failed { IfErr result (λ failure.
-        IfSome (R.remaining reader.old) (λ bytes. ExplainsRun options snips.now bytes failure)) }
+        IfSome (R.remaining reader.old) (λ bytes. Explains options bytes failure)) }
     ensures unwritten { IfErr result (λ failure. status_of failure < 4 →
         Keeps (W.contents out.old) (W.contents out.new)) }
 {
@@ -149,7 +133,7 @@ fn normalise_input<R: Read, W: Write, E: Write>(
         Ok(bytes) => bytes,
         Err(error) => return Err(failed_input(error)),
     };
-    let NewModule { module, warning } = new_module(alloc, keys, options, snips, bytes.as_slice())?;
+    let NewModule { module, warning } = new_module(alloc, keys, options, bytes.as_slice())?;
     warn_of(alloc, warning, err)?;
     match write_and_flush(out, module.as_slice()) {
         Ok(()) => Ok(()),
@@ -164,39 +148,29 @@ struct NewModule {
     warning: Option<Warning>,
 }
 
-/// The module that is written. The input is judged before anything is snipped, so each place in a
-/// message is one of the input.
+/// The module that is written, and the warning of it.
 fn new_module(
     alloc: Global,
     keys: HashKeys,
     options: RunOptions,
-    snips: &[String],
     bytes: &[u8],
 ) -> Result<NewModule, Failure>
     ensures normal { IfOk result (λ new.
-        BecomesNormal options.normalise snips.now bytes.now new.module.items) }
+        IsNormalised options.normalise bytes.now new.module.items) }
+    ensures fits { options.normalise.descriptions ≡ descriptions.Kept →
+        IfOk result (λ new. DescriptionsFit bytes.now new.module.items) }
     ensures first { IfOk result (λ new. IsFirstWarning bytes.now new.warning) }
     ensures none { options.strictness ≡ Strict → IfOk result (λ new. new.warning ≡ None) }
     ensures kept { OnOk result (options.strictness ≡ Strict → KeepsModuleTypes bytes.now) }
     ensures known { OnOk result (options.strictness ≡ Strict → HasNoUnknownCustom bytes.now) }
-    ensures refused { IfErr result (ExplainsRun options snips.now bytes.now) }
+    ensures refused { IfErr result (Explains options bytes.now) }
 {
-    let normal = match normal_module(alloc, keys, options.normalise, bytes) {
+    let module = match normal_module(alloc, keys, options.normalise, bytes) {
         Ok(module) => module,
-        Err(error) => return Err(refusal(alloc, keys, bytes, options.normalise, error)),
+        Err(error) => return Err(refusal(alloc, keys, bytes, options, error)),
     };
     let warning = accepted_warning(alloc, keys, options, bytes)?;
-    if snips.is_empty() {
-        return Ok(NewModule {
-            module: normal,
-            warning,
-        });
-    }
-    drop(normal);
-    match snipped_module(alloc, keys, options.normalise, snips, bytes) {
-        Ok(module) => Ok(NewModule { module, warning }),
-        Err(failure) => Err(Failure::Unsnipped(failure)),
-    }
+    Ok(NewModule { module, warning })
 }
 
 /// Writes the whole module, and flushes the writer.
@@ -218,7 +192,7 @@ fn main(rt: HostRuntime) -> ExitCode {
 
 /// Does what the arguments ask for, and returns the exit status.
 fn start<E: Write>(rt: &HostRuntime, err: &mut E) -> Result<u8, Failure> {
-    match parse_arguments(rt, &[KEEP_WIDTHS, PRUNE, STRIP, STRICT], &[OUTPUT, SNIP])? {
+    match parse_arguments(rt, &[KEEP_WIDTHS, PRUNE, STRIP, STRICT], &[OUTPUT])? {
         Request::Help => printed(rt.stdout().write_all(HELP.as_bytes())),
         Request::Version => printed(write_version("wasmnorm", &mut rt.stdout())),
         Request::Work {
@@ -227,35 +201,13 @@ fn start<E: Write>(rt: &HostRuntime, err: &mut E) -> Result<u8, Failure> {
             values,
         } => {
             let options = run_options(options.as_slice());
-            let Values { outputs, snips } = by_option(rt.alloc(), values)?;
-            let (Some(input), Some(output)) = (only_name(&names), only_name(&outputs)) else {
+            let (Some(input), Some(output)) = (only_name(&names), only_value(&values)) else {
                 return Ok(report_usage(USAGE, err));
             };
-            normalise_file(rt, Files { input, output }, options, snips.as_slice(), err)
+            normalise_file(rt, Files { input, output }, options, err)
         }
         Request::Usage => Ok(report_usage(USAGE, err)),
     }
-}
-
-/// The values of options.
-struct Values {
-    /// The names of files to write.
-    outputs: Vec<String>,
-    /// The functions to snip.
-    snips: Vec<String>,
-}
-
-fn by_option(alloc: Global, values: Vec<OptionValue>) -> Result<Values, AllocError> {
-    let mut outputs = Vec::new(alloc);
-    let mut snips = Vec::new(alloc);
-    for OptionValue { option, value } in values {
-        if option.as_str() == OUTPUT {
-            outputs.push(value)?;
-        } else {
-            snips.push(value)?;
-        }
-    }
-    Ok(Values { outputs, snips })
 }
 
 /// The only name, or `-` if there is none.
@@ -263,6 +215,15 @@ fn only_name(names: &[String]) -> Option<&str> {
     match names {
         [] => Some("-"),
         [name] => Some(name.as_str()),
+        _ => None,
+    }
+}
+
+/// The only value of an option, or `-` if there is none.
+fn only_value(values: &[OptionValue]) -> Option<&str> {
+    match values {
+        [] => Some("-"),
+        [OptionValue { value, .. }] => Some(value.as_str()),
         _ => None,
     }
 }
@@ -278,7 +239,6 @@ fn normalise_file<E: Write>(
     rt: &HostRuntime,
     files: Files<'_>,
     options: RunOptions,
-    snips: &[String],
     err: &mut E,
 ) -> Result<u8, Failure> {
     let mut input = match open(rt, files.input, err) {
@@ -293,7 +253,7 @@ fn normalise_file<E: Write>(
         return Err(Failure::Memory);
     };
     let mut out = create(rt, files.output, temporary.as_str());
-    let status = run(rt.alloc(), keys, options, snips, &mut input, &mut out, err);
+    let status = run(rt.alloc(), keys, options, &mut input, &mut out, err);
     if status != 0 {
         out.discard();
         return Ok(status);

@@ -15,27 +15,18 @@ pub const STRICT: &str = "--strict";
 /// The option that names the file to write, which is behind it.
 pub const OUTPUT: &str = "-o";
 
-/// The option that snips a function, with its name or index behind it.
-pub const SNIP: &str = "--snip";
-
 pub const USAGE: &str = "\
-usage: wasmnorm [--snip FUNCTION] [--prune] [--strip] [--strict] [--keep-widths]
-                [-o OUTPUT] [FILE]
+usage: wasmnorm [--prune] [--strip] [--strict] [--keep-widths] [-o OUTPUT] [FILE]
 ";
 
 pub const HELP: &str = "\
-usage: wasmnorm [--snip FUNCTION] [--prune] [--strip] [--strict] [--keep-widths]
-                [-o OUTPUT] [FILE]
+usage: wasmnorm [--prune] [--strip] [--strict] [--keep-widths] [-o OUTPUT] [FILE]
 Writes the WebAssembly module in FILE to standard output, with its type section in normal form and
 every other index of a type written again. Without FILE, or if it is -, the module comes from
 standard input. Custom sections other than the one named name are copied as they are, and a module
 is refused if one of them, such as debug data, describes bytes that would change. There is a warning
 if the new module can be wrong: a type becomes another type, or a custom section is of an unknown
 kind, which may refer to types or to places in the file.
-  --snip FUNCTION
-                 makes the body of a function a single unreachable, so that a call of it traps;
-                 FUNCTION is an index, or a name by which the module exports the function or that
-                 its section name gives it; the option can come several times
   --prune        deletes types that nothing uses outside the type section
   --strip        leaves out custom sections that describe other bytes, such as debug data
   --strict       rejects a module instead of warning of it

@@ -1,13 +1,11 @@
 //! What can be wrong in the new module: a line on standard error, or the end of a strict run.
-ghost use Rattle.std.specs.Prelude.{◌≡◌, ◌++◌, IfErr, IfOk, List, None, OnOk};
+ghost use Rattle.std.specs.Prelude.{◌≡◌, ◌++◌, IfErr, IfOk, None, OnOk};
 ghost use Rattle.std.specs.Io.KnownBytes.{Appends};
-ghost use Rattle.std.specs.declared.alloc.Global.{Global};
-ghost use Rattle.std.specs.declared.string.String.{String};
 ghost use Rattle.walrus_module.specs.UnknownCustoms.{HasNoUnknownCustom};
 ghost use Rattle.walrus_normalise.specs.EqualTypes.{KeepsModuleTypes};
 ghost use Rattle.walrus_normalise.specs.Hazards.{IsHazard};
 ghost use Rattle.wasmnorm.specs.Runs.{Warns, warning_line};
-ghost use Rattle.wasmnorm.specs.Steps.Failures.{Explains, ExplainsRun, IsOfStreams};
+ghost use Rattle.wasmnorm.specs.Steps.Failures.{Explains, IsOfStreams};
 ghost use Rattle.wasmnorm.specs.Steps.Warnings.{IsFirstWarning, IsWarning, WarnsOf};
 ghost use Rattle.wasmnorm.specs.declared.options.Strictness.TheVariants.{Strict};
 
@@ -19,7 +17,7 @@ use std::alloc::Global;
 use std::fmt;
 use std::fmt::Formatter;
 use std::io::{self, Write};
-use walrus_normalise::{HashKeys, Hazard, NormaliseOptions, find_hazard};
+use walrus_normalise::{HashKeys, Hazard, find_hazard};
 
 /// What can be wrong in the new module, with what else is known of the input.
 #[derive(Clone, Copy, PartialEq, Eq, Debug)]
@@ -52,10 +50,9 @@ pub fn accepted_warning(
     ensures none { options.strictness ≡ Strict → IfOk result (λ warning. warning ≡ None) }
     ensures kept { OnOk result (options.strictness ≡ Strict → KeepsModuleTypes bytes.now) }
     ensures known { OnOk result (options.strictness ≡ Strict → HasNoUnknownCustom bytes.now) }
-    ensures refused { (snips : List (String Global)) →
-        IfErr result (ExplainsRun options snips bytes.now) }
+    ensures refused { IfErr result (Explains options bytes.now) }
 {
-    let warning = first_warning(alloc, keys, options.normalise, bytes)?;
+    let warning = first_warning(alloc, keys, options, bytes)?;
     match options.strictness {
         Strictness::Lenient => Ok(warning),
         Strictness::Strict => match warning {
@@ -68,7 +65,7 @@ pub fn accepted_warning(
 fn first_warning(
     alloc: Global,
     keys: HashKeys,
-    options: NormaliseOptions,
+    options: RunOptions,
     bytes: &[u8],
 ) -> Result<Option<Warning>, Failure>
     ensures first { IfOk result (IsFirstWarning bytes.now) }

@@ -1,7 +1,7 @@
 //! Reads a WebAssembly module and writes its type section as text.
 #![tactic(auto)]
 
-ghost use Rattle.std.specs.Prelude.{◌≡◌, ◌⊎◌, ◌<◌, IfErr, OnOk, IfSome};
+ghost use Rattle.std.specs.Prelude.{◌≡◌, ◌⊎◌, ◌<◌, IfErr, IfOk, OnOk, IfSome};
 ghost use Rattle.std.specs.Io.KnownBytes.{Appends, Keeps};
 ghost use Rattle.walrus_text.specs.Words.{text_of};
 ghost use Rattle.walrus_text.specs.Text.{section_lines};
@@ -14,8 +14,8 @@ mod texts;
 
 use command_line::{Request, open, parse_arguments, read_bytes, report_usage, write_version};
 use failure::{Failure, failed_input, refusal, report};
-use std::alloc::Global;
-use std::io::{self, BufWriter, Read, Write};
+use std::alloc::{AllocError, Global};
+use std::io::{self, Read, Write};
 use std::process::ExitCode;
 use texts::{HELP, USAGE};
 use walrus_binary::module_types;
@@ -34,8 +34,8 @@ use walrus_ty::GroupAt;
 /// - 3: memory was refused.
 /// - 4: a read or a write failed.
 ///
-/// `out` gains nothing at 1 and 3, since all is read before it writes. At 4 it may have gained the
-/// text or a part of it.
+/// `out` gains nothing at 1 and 3, since the whole text is there before it is written. At 4 it may
+/// have gained the text or a part of it.
 #[tactic(auto, using(crate::proofs::Failures::known_bad_types))]
 pub fn run<R: Read, W: Write, E: Write>(
     alloc: Global,
@@ -73,18 +73,29 @@ fn print_types<R: Read, W: Write>(alloc: Global, reader: &mut R, out: &mut W) ->
         Ok(groups) => groups,
         Err(error) => return Err(refusal(bytes.as_slice(), error)),
     };
-    match write_and_flush(out, groups.as_slice()) {
+    let text = section_text(alloc, groups.as_slice())?;
+    match write_and_flush(out, text.as_slice()) {
         Ok(()) => Ok(()),
         Err(error) => Err(Failure::Output(error)),
     }
 }
 
-/// Writes the text of the groups, and flushes the writer.
-fn write_and_flush<W: Write>(out: &mut W, groups: &[GroupAt]) -> io::Result<()>
-    ensures { OnOk result (Appends (W.contents out.old) (W.contents out.new)
-        (text_of (section_lines groups.now))) }
+/// The text of the groups.
+fn section_text(alloc: Global, groups: &[GroupAt]) -> Result<Vec<u8>, AllocError>
+    ensures { IfOk result (λ text. text.items ≡ text_of (section_lines groups.now)) }
 {
-    write_section(out, groups)?;
+    let mut text = Vec::new(alloc);
+    match write_section(&mut text, groups) {
+        Ok(()) => Ok(text),
+        Err(_) => Err(AllocError),
+    }
+}
+
+/// Writes the whole text, and flushes the writer.
+fn write_and_flush<W: Write>(out: &mut W, text: &[u8]) -> io::Result<()>
+    ensures { OnOk result (Appends (W.contents out.old) (W.contents out.new) text.now) }
+{
+    out.write_all(text)?;
     out.flush()
 }
 
@@ -116,10 +127,7 @@ fn print_types_of<E: Write>(rt: &HostRuntime, name: &str, err: &mut E) -> Result
         Ok(input) => input,
         Err(error) => return Err(failed_input(error)),
     };
-    let Ok(mut out) = BufWriter::new(rt.alloc(), rt.stdout()) else {
-        return Err(Failure::Memory);
-    };
-    Ok(run(rt.alloc(), &mut input, &mut out, err))
+    Ok(run(rt.alloc(), &mut input, &mut rt.stdout(), err))
 }
 
 fn printed(written: io::Result<()>) -> Result<u8, Failure> {

@@ -4,11 +4,13 @@ Slow and plain, like the modules beside it, which say what the new module is, an
 """
 import functools
 
-from reference import module, snipping, type_equality, type_section
+from reference import module, type_equality, type_section
 from reference.module import CUSTOM, DONE, HEADER, REFUSED, TYPE
 from reference.reader import Reader
 
 KNOWN = (b'name', b'producers', b'target_features', b'dylink.0', b'build_id')
+DESCRIPTIONS = (b'external_debug_info', b'linking', b'signature', b'sourceMappingURL')
+DESCRIPTION_PREFIXES = (b'.debug_', b'metadata.code.', b'reloc.')
 # How many bytes of the name of a section are shown.
 SHOWN = 64
 
@@ -23,7 +25,13 @@ def first_changed_of(content):
 
 def first_changed(text):
     """The same of a module."""
-    return next(map(first_changed_of, snipping.contents(text, TYPE)), None)
+    types = (module.content(section) for code, section in module.sections_of(text) if code == TYPE)
+    return next(map(first_changed_of, types), None)
+
+
+def is_known(name):
+    """Whether a custom section of this name is of a known kind, such as one that describes other bytes of the module."""
+    return name in KNOWN + DESCRIPTIONS or name.startswith(DESCRIPTION_PREFIXES)
 
 
 def unknown_section(text):
@@ -34,7 +42,7 @@ def unknown_section(text):
         if code == CUSTOM:
             content = module.content(section)
             name = Reader(content, 0, len(content)).name()
-            if name not in KNOWN and not snipping.describes(content):
+            if not is_known(name):
                 return name, at
         at += 1 + len(section)
     return None

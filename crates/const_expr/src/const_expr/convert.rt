@@ -11,7 +11,8 @@ use operators::Value;
 use std::alloc::Global;
 use std::marker::Model;
 use walrus_module_types::{
-    FromRecordError, IdsToIndices, IndicesToIds, NoIndex, RefType, ToRecordError, UnknownIndex,
+    FromRecordError, HasRecord, HeapType, IdsToIndices, IndicesToIds, NoIndex, RefType,
+    ToRecordError, UnknownIndex,
 };
 use walrus_ty::{HeapAt, Reference};
 
@@ -132,7 +133,7 @@ fn null_type(heap_type: &HeapAt, ids: &IndicesToIds) -> Result<RefType, UnknownI
 {
     Ok(Reference {
         nullable: true,
-        heap_type: ids.heap_type(heap_type)?,
+        heap_type: HeapType::from_record(heap_type, ids)?,
     })
 }
 
@@ -175,7 +176,7 @@ impl ConstOp {
             ConstOp::F64Const(bits) => ConstOpAt::F64Const(*bits),
             ConstOp::V128Const(bits) => ConstOpAt::V128Const(*bits),
             ConstOp::GlobalGet(id) => ConstOpAt::GlobalGet(indices.get_global_index(*id)?),
-            ConstOp::RefNull(ty) => ConstOpAt::RefNull(indices.heap_record(&ty.heap_type)?),
+            ConstOp::RefNull(ty) => ConstOpAt::RefNull(ty.heap_type.to_record(indices)?),
             ConstOp::RefFunc(id) => ConstOpAt::RefFunc(indices.get_func_index(*id)?),
             ConstOp::I32Add => ConstOpAt::I32Add,
             ConstOp::I32Sub => ConstOpAt::I32Sub,

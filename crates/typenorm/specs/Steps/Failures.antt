@@ -11,9 +11,9 @@ use Rattle.typenorm.specs.Runs.{IsIllNamedText}
 
 -- the failure that a text ends with which could not be read
 abbrev pub text_failure : TextError → Failure
-text_failure (text.BadText bad) = failure.BadText bad
+text_failure (text.BadText bad) = failure.BadText bad.line
 text_failure text.Memory = failure.Memory
-text_failure text.Stream = failure.Input
+text_failure text.Stream = failure.Stream
 
 abbrev pub ExplainsReadError : ReadError → List (List (List ℕ)) → Type 0
 ExplainsReadError (read.BadIndex entry index end) lines = IsIllNamedText lines
@@ -22,13 +22,10 @@ ExplainsReadError read.Memory lines = Unit {0}
 
 -- what a failure says of the lines of the text
 abbrev pub Explains : Failure → List (List (List ℕ)) → Type 0
-Explains (failure.BadText bad) lines = ¬ IsSectionText lines
+Explains (failure.BadText line) lines = ¬ IsSectionText lines
 Explains (failure.Refused refused) lines = ExplainsReadError refused lines
 Explains failure.Memory lines = Unit {0}
-Explains failure.Keys lines = Unit {0}
-Explains (failure.Open error) lines = Unit {0}
-Explains failure.Input lines = Unit {0}
-Explains (failure.Output error) lines = Unit {0}
+Explains failure.Stream lines = Unit {0}
 
 abbrev pub read_error_status : ReadError → ℕ
 read_error_status (read.BadIndex entry index end) = 2
@@ -36,10 +33,7 @@ read_error_status read.TooMany = 2
 read_error_status read.Memory = 3
 
 abbrev pub status_of : Failure → ℕ
-status_of (failure.BadText bad) = 1
+status_of (failure.BadText line) = 1
 status_of (failure.Refused refused) = read_error_status refused
 status_of failure.Memory = 3
-status_of failure.Keys = 4
-status_of (failure.Open error) = 4
-status_of failure.Input = 4
-status_of (failure.Output error) = 4
+status_of failure.Stream = 4

@@ -9,7 +9,7 @@ use walrus_ir::{Id, InstrSeq, InstrSeqId, InstrSeqType};
 
 // Sequences by id. None of them is ever deleted, so contracts see the list of them, and an id is a
 // place in it.
-#[derive(Drop)]
+#[derive(Debug, Drop)]
 pub(super) struct Sequences {
     items: Vec<InstrSeq>,
 }

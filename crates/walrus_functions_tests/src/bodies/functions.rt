@@ -39,6 +39,15 @@ fn the_last_name_stays(rt: HostRuntime) {
 }
 
 #[test]
+fn a_function_can_be_printed(rt: HostRuntime) {
+    let alloc = rt.alloc();
+    let f = begin(alloc).expect(&rt, "memory");
+    let func = f.local_func(Vec::new(alloc));
+    let printed = format!(in alloc; "{func:?}").expect(&rt, "memory");
+    assert!(rt; printed.as_str().starts_with("LocalFunction {"));
+}
+
+#[test]
 fn a_block_is_written(rt: HostRuntime) {
     let mut f = begin(rt.alloc()).expect(&rt, "memory");
     let mut body = f.func_body();

@@ -3,8 +3,8 @@ use crate::assertions::assert_equal;
 use std::alloc::{AllocError, Global};
 use std::test::Fail;
 use walrus_module_types::{
-    CompositeType, FromRecordError, FunctionType, HeapType, IdsToIndices, IndicesToIds, NoIndex,
-    SubType, ToRecordError, ValType,
+    CompositeType, FieldType, FromRecordError, FunctionType, HasRecord, HeapType, IdsToIndices,
+    IndicesToIds, NoIndex, RefType, StorageType, SubType, ToRecordError, ValType,
 };
 use walrus_ty::{
     AbstractHeapType, CompAt, EntryAt, Field, FieldAt, Heap, HeapAt, Id, Listed, RefAt, Reference,
@@ -61,21 +61,21 @@ fn value_types_change_their_names_alone(rt: HostRuntime) {
     let ids = ids(rt.alloc()).expect(&rt, "memory");
     let indices = indices(rt.alloc()).expect(&rt, "memory");
     let exact: HeapAt = Heap::Exact(0);
-    let read = ids.heap_type(&exact);
+    let read = HeapType::from_record(&exact, &ids);
     assert_equal(&rt, read, Ok(Heap::Exact(Id::from_index(10))));
     let val: ValAt = reference(true, Heap::Concrete(2));
-    let read = ids.val_type(&val);
+    let read = ValType::from_record(&val, &ids);
     assert_equal(
         &rt,
         read,
         Ok(reference(true, Heap::Concrete(Id::from_index(30)))),
     );
     let ten: HeapType = Heap::Exact(Id::from_index(10));
-    assert_equal(&rt, indices.heap_record(&ten), Ok(Heap::Exact(2)));
+    assert_equal(&rt, ten.to_record(&indices), Ok(Heap::Exact(2)));
     let thirty: ValType = reference(false, Heap::Concrete(Id::from_index(30)));
     assert_equal(
         &rt,
-        indices.val_record(&thirty),
+        thirty.to_record(&indices),
         Ok(reference(false, Heap::Concrete(0))),
     );
 }
@@ -88,16 +88,16 @@ fn fields_without_names_stay(rt: HostRuntime) {
         nullable: false,
         heap_type: Heap::Abstract(AbstractHeapType::Eq),
     };
-    let read = ids.ref_type(&of).expect(&rt, "memory");
-    assert_equal(&rt, indices.ref_record(&read), Ok(of));
+    let read = RefType::from_record(&of, &ids).expect(&rt, "memory");
+    assert_equal(&rt, read.to_record(&indices), Ok(of));
     let packed: FieldAt = Field {
         element_type: Storage::I8,
         mutable: true,
     };
-    let read = ids.field_type(&packed).expect(&rt, "memory");
-    assert_equal(&rt, indices.field_record(&read), Ok(packed));
-    let read = ids.storage_type(&packed.element_type).expect(&rt, "memory");
-    assert_equal(&rt, indices.storage_record(&read), Ok(Storage::I8));
+    let read = FieldType::from_record(&packed, &ids).expect(&rt, "memory");
+    assert_equal(&rt, read.to_record(&indices), Ok(packed));
+    let read = StorageType::from_record(&packed.element_type, &ids).expect(&rt, "memory");
+    assert_equal(&rt, read.to_record(&indices), Ok(Storage::I8));
 }
 
 #[test]
@@ -174,6 +174,9 @@ fn a_supertype_goes_through_both_maps(rt: HostRuntime) {
     let ids = ids(alloc).expect(&rt, "memory");
     let indices = indices(alloc).expect(&rt, "memory");
     let read = SubType::from_record(alloc, &entry, &ids).expect(&rt, "memory");
+    let read = read.clone().expect(&rt, "memory");
+    let printed = format!(in alloc; "{read:?}").expect(&rt, "memory");
+    assert!(rt; printed.as_str().starts_with("SubType {"));
     assert!(rt; !read.is_final);
     assert_equal(&rt, read.supertype, Some(Id::from_index(30)));
     let written = read.kind.to_record(alloc, &indices).expect(&rt, "memory");

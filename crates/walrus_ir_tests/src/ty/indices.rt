@@ -1,9 +1,25 @@
 //! That the maps can be filled, and what they return then.
 use crate::assertions::assert_equal;
+use std::fmt::Debug;
 use walrus_module_types::{
-    FunctionId, GlobalId, IdsToIndices, IndicesToIds, NoIndex, TypeId, UnknownIndex,
+    Data, Element, Function, FunctionId, Global, GlobalId, IdsToIndices, IndicesToIds, Memory,
+    NoIndex, Table, Tag, TypeId, UnknownIndex,
 };
 use walrus_ty::Id;
+
+// A type for which this can be called is copied and printed.
+fn is_plain_data<T: Copy + Debug>() {}
+
+#[test]
+fn what_an_id_is_of_is_plain_data() {
+    is_plain_data::<Function>();
+    is_plain_data::<Global>();
+    is_plain_data::<Memory>();
+    is_plain_data::<Table>();
+    is_plain_data::<Data>();
+    is_plain_data::<Element>();
+    is_plain_data::<Tag>();
+}
 
 #[test]
 fn an_index_stands_for_the_id_that_was_pushed_then(rt: HostRuntime) {

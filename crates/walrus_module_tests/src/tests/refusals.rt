@@ -6,9 +6,6 @@ use walrus_module::{
     RenameError, ScanError, Widths, body_types, expression_types, find_outdated, named_types,
     rename_module, section_types,
 };
-use walrus_snipping::{
-    SnipError, exported_functions, functions_with_name, named_functions, snip_functions,
-};
 
 // What the call returns when it is made again after a refusal.
 fn named_again(alloc: Global, bytes: &[u8]) -> Result<Vec<u32>, ScanError> {
@@ -37,82 +34,6 @@ fn expression_again(alloc: Global, input: &mut &[u8]) -> Result<Vec<u32>, ScanEr
         Err(ScanError::Memory) => expression_types(alloc, input),
         other => other,
     }
-}
-
-fn snip_again(alloc: Global, bytes: &[u8]) -> Result<Vec<u8>, SnipError> {
-    match snip_functions(alloc, bytes, &[0], Widths::Shortest) {
-        Err(SnipError::Memory) => snip_functions(alloc, bytes, &[0], Widths::Shortest),
-        other => other,
-    }
-}
-
-#[test]
-fn a_refused_module_is_snipped_again(rt: HostRuntime) {
-    // a body with a local
-    let bytes = [
-        0, 0x61, 0x73, 0x6D, 1, 0, 0, 0, 10, 6, 1, 4, 1, 1, 0x7F, 0x0B,
-    ];
-    let expected = [0, 0x61, 0x73, 0x6D, 1, 0, 0, 0, 10, 5, 1, 3, 0, 0, 0x0B];
-    let new = snip_again(rt.alloc(), &bytes)
-        .ok()
-        .expect(&rt, "the second call snips");
-    assert!(rt; new.as_slice() == expected.as_slice());
-}
-
-fn find_again(alloc: Global, bytes: &[u8]) -> Result<Vec<u32>, ScanError> {
-    match exported_functions(alloc, bytes, b"f") {
-        Err(ScanError::Memory) => exported_functions(alloc, bytes, b"f"),
-        other => other,
-    }
-}
-
-#[test]
-fn a_refused_export_is_found_again(rt: HostRuntime) {
-    // function 3 is exported as f
-    let bytes = [0, 0x61, 0x73, 0x6D, 1, 0, 0, 0, 7, 5, 1, 1, 0x66, 0, 3];
-    let found = find_again(rt.alloc(), &bytes)
-        .ok()
-        .expect(&rt, "the second call finds it");
-    assert!(rt; found.as_slice() == [3].as_slice());
-}
-
-fn find_named_again(alloc: Global, bytes: &[u8]) -> Result<Vec<u32>, ScanError> {
-    match named_functions(alloc, bytes, b"f") {
-        Err(ScanError::Memory) => named_functions(alloc, bytes, b"f"),
-        other => other,
-    }
-}
-
-#[test]
-fn a_refused_name_is_found_again(rt: HostRuntime) {
-    // the name section calls function 3 f
-    let bytes = [
-        0, 0x61, 0x73, 0x6D, 1, 0, 0, 0, 0, 11, 4, 0x6E, 0x61, 0x6D, 0x65, 1, 4, 1, 3, 1, 0x66,
-    ];
-    let found = find_named_again(rt.alloc(), &bytes)
-        .ok()
-        .expect(&rt, "the second call finds it");
-    assert!(rt; found.as_slice() == [3].as_slice());
-}
-
-fn find_both_again(alloc: Global, bytes: &[u8]) -> Result<Vec<u32>, ScanError> {
-    match functions_with_name(alloc, bytes, b"f") {
-        Err(ScanError::Memory) => functions_with_name(alloc, bytes, b"f"),
-        other => other,
-    }
-}
-
-#[test]
-fn refused_functions_of_a_name_are_found_again(rt: HostRuntime) {
-    // function 4 is exported as f, and the name section calls function 3 so
-    let bytes = [
-        0, 0x61, 0x73, 0x6D, 1, 0, 0, 0, 7, 5, 1, 1, 0x66, 0, 4, 0, 11, 4, 0x6E, 0x61, 0x6D, 0x65,
-        1, 4, 1, 3, 1, 0x66,
-    ];
-    let found = find_both_again(rt.alloc(), &bytes)
-        .ok()
-        .expect(&rt, "the second call finds them");
-    assert!(rt; found.as_slice() == [3, 4].as_slice());
 }
 
 #[test]

@@ -27,11 +27,11 @@ use Rattle.walrus_normal_form.specs.declared.order.PendingGroup.{PendingGroup}
 use Rattle.walrus_normal_form.specs.declared.slot_group.SlotGroup.{SlotGroup}
 use Rattle.walrus_normal_form.specs.Steps.PendingGroups.{ArePending, IsPending, head, head_at, is_free_at, is_written_at, places_of}
 use Rattle.walrus_normal_form.specs.Steps.ReadSections.{IsReadAs, no_slot_group, slot_group_at, type_group}
-use Rattle.walrus_normal_form.specs.Steps.RunStarts.{IsTurnedRound, StandsBefore}
-use Rattle.walrus_normal_form.specs.Steps.WritingOrders.{IsWritingOrder}
+use Rattle.walrus_sections.specs.RunStarts.{IsTurnedRound, StandsBefore}
+use Rattle.walrus_sections.specs.WritingOrders.{IsWritingOrder}
 use Rattle.walrus_normal_form.proofs.Ordering.SlotGroups.{IsFreeSlot, free_slot, from_free_slots, has_head, head_slot}
-use Rattle.walrus_normal_form.proofs.Ordering.SortedPlaces.{at_place, each_written, onto_written, place_at}
-use Rattle.walrus_normal_form.proofs.Writing.PairsOfGroups.{at_member, to_member}
+use Rattle.walrus_sections.proofs.Ordering.SortedPlaces.{at_place, each_written, onto_written, place_at}
+use Rattle.walrus_sections.proofs.Emission.PairsOfGroups.{at_member, to_member}
 
 some_of : {X : Type 0} (o : Option X) → is_some o ≡ true → (x : X) × (o ≡ Some x)
 some_of None h = cc

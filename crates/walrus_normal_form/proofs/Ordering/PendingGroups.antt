@@ -7,8 +7,8 @@ use Rattle.walrus_ty.specs.declared.records.EntryAt.{EntryAt}
 use Rattle.walrus_normal_form.specs.declared.order.PendingGroup.{PendingGroup}
 use Rattle.walrus_normal_form.specs.declared.slot_group.SlotGroup.{SlotGroup}
 use Rattle.walrus_normal_form.specs.Steps.PendingGroups.{ArePending, IsPending, head_at, is_free_at, is_written_at}
-use Rattle.walrus_normal_form.specs.Steps.RunStarts.{run_start}
-use Rattle.walrus_normal_form.proofs.Ordering.FilteredPlaces.{kept_more, left_out}
+use Rattle.walrus_sections.specs.RunStarts.{run_start}
+use Rattle.walrus_sections.proofs.Ordering.FilteredPlaces.{kept_more, left_out}
 
 module _ (groups : List SlotGroup) (i : ℕ) (ps : List PendingGroup) (so_far : ArePending groups i ps) where
   abbrev free : ℕ → Bool

@@ -24,7 +24,7 @@ use Rattle.walrus_ty.proofs.Names.Definitions.{definitions_total}
 use Rattle.walrus_ty.proofs.Basics.{nat_same, then_less}
 use Rattle.walrus_ty.proofs.Spelling.Tokens.{nat_less, nat_exact}
 
-pub abstract_small : (a : AbstractHeapType) → abstract_index a ≤ 11
+abstract_small : (a : AbstractHeapType) → abstract_index a ≤ 11
 abstract_small abstract.Func = omega arith
 abstract_small abstract.Extern = omega arith
 abstract_small abstract.Any = omega arith
@@ -96,7 +96,7 @@ nullable_small : (m : Bool) (h : Heap ℕ) → 13 * bool_index m + heap_place h 
 nullable_small false h = omega (arith, heap_small h)
 nullable_small true h = omega (arith, heap_small h)
 
-pub val_small : (v : Val ℕ) → val_place v ≤ 30
+val_small : (v : Val ℕ) → val_place v ≤ 30
 val_small val.I32 = omega arith
 val_small val.I64 = omega arith
 val_small val.F32 = omega arith
@@ -144,7 +144,7 @@ val_less (val.Ref r) (val.Ref q) h = nullable_less r.nullable q.nullable r.heap_
     (omega (arith, h))
 
 -- a place that is not that of a reference to a type
-pub unnamed : (i : ℕ) → is_named i ≡ false → (¬ (i ≡ 17)) × (¬ (i ≡ 30))
+unnamed : (i : ℕ) → is_named i ≡ false → (¬ (i ≡ 17)) × (¬ (i ≡ 30))
 unnamed i h = (
   λ e. (let k : true ≡ false = sym (ap is_named e) ∙ h in cc),
   λ e.
@@ -251,7 +251,7 @@ rank_less i j m n h = elim (cases_lt i j) [
 ]
 
 -- the rank of what names a type is known by itself
-pub named_is_open : (i : ℕ) → is_named i ≡ true → is_open (2 * (i + 1) + 0) ≡ true
+named_is_open : (i : ℕ) → is_named i ≡ true → is_open (2 * (i + 1) + 0) ≡ true
 named_is_open i h = elim (named (i == 17) (i == 30) i refl refl h) [
   | inl e ↦ ap (λ (x : ℕ). is_open (2 * (x + 1) + 0)) e
   | inr e ↦ ap (λ (x : ℕ). is_open (2 * (x + 1) + 0)) e
@@ -281,7 +281,7 @@ rank_some : (i : ℕ) (m : Bool) → nat_cmp (rank i m) 0 ≡ Greater
 rank_some i m = let some : 0 < rank i m = omega arith in grind (arith, nat_tests, some)
 
 -- what is asked of a rank, so that lists can be compared by the ranks of their first items
-pub record IsRanking {A : Type 0} (r : A → ℕ) (cmp : A → A → Ordering) : Type 0 where
+record IsRanking {A : Type 0} (r : A → ℕ) (cmp : A → A → Ordering) : Type 0 where
   pub some : (x : A) → nat_cmp (r x) 0 ≡ Greater
   pub less : (x y : A) → nat_cmp (r x) (r y) ≡ Less → cmp x y ≡ Less
   pub same : (x y : A) → r x ≡ r y → is_open (r x) ≡ false → cmp x y ≡ Equal
@@ -340,7 +340,7 @@ module _ {A : Type 0} (r : A → ℕ) (cmp : A → A → Ordering) (ranking : Is
       step o1 (ordering_then o2 (ordering_then o3 (ordering_then o4 o5))) xs ys refl second
       (sym (ap (λ o. ordering_then o all) (nat_same k)) ∙ h)
 
-pub val_ranking : IsRanking val_rank val_cmp
+val_ranking : IsRanking val_rank val_cmp
 val_ranking = record {
   some = λ v. rank_some (val_place v) false;
   less = λ v w h. by_val v w (rank_less (val_place v) (val_place w) false false h);
@@ -351,7 +351,7 @@ val_ranking = record {
     by_val v w (by_place h) = val_less v w h
     by_val v w (by_mutability e f h) = cc
 
-pub field_ranking : IsRanking field_rank field_cmp
+field_ranking : IsRanking field_rank field_cmp
 field_ranking = record {
   some = λ f. rank_some (storage_place f.element_type) f.mutable;
   less = λ f g h. by_field f g (rank_less (storage_place f.element_type) (storage_place g.element_type)
@@ -369,7 +369,7 @@ field_ranking = record {
         (storage_tied f.element_type g.element_type e t) ∙ h
 
 -- the mark is less than each value
-abbrev pub item_cmp : Option (Val ℕ) → Option (Val ℕ) → Ordering
+abbrev item_cmp : Option (Val ℕ) → Option (Val ℕ) → Ordering
 item_cmp None None = Equal
 item_cmp None (Some w) = Less
 item_cmp (Some v) None = Greater
@@ -378,7 +378,7 @@ item_cmp (Some v) (Some w) = val_cmp v w
 value_more : (i : ℕ) → nat_cmp (rank i false) 1 ≡ Greater
 value_more i = let more : 1 < rank i false = omega arith in grind (arith, nat_tests, more)
 
-pub item_ranking : IsRanking item_rank item_cmp
+item_ranking : IsRanking item_rank item_cmp
 item_ranking = record { some = some_item; less = less_item; same = same_item }
   where
     some_item : (x : Option (Val ℕ)) → nat_cmp (item_rank x) 0 ≡ Greater
@@ -499,7 +499,7 @@ tuple_cmp v w = ordering_then (ordering_then
     (ordering_then (ordering_then (ordering_then (nat_cmp v.0 w.0) (nat_cmp v.1 w.1)) (nat_cmp v.2 w.2))
     (nat_cmp v.3 w.3)) (nat_cmp v.4 w.4)) (nat_cmp v.5 w.5)
 
-tuples_are : (v w : SortKey) → tuple_cmp v w ≡ sort_key_cmp v w
+pub tuples_are : (v w : SortKey) → tuple_cmp v w ≡ sort_key_cmp v w
 tuples_are v w = regrouped (nat_cmp v.0 w.0) (nat_cmp v.1 w.1) (nat_cmp v.2 w.2) (nat_cmp v.3 w.3)
     (nat_cmp v.4 w.4) (nat_cmp v.5 w.5)
 

@@ -16,7 +16,7 @@ use Rattle.walrus_sections.specs.NormalForm.{image}
 use Rattle.walrus_sections.specs.SlotMap.{TypeGroup}
 use Rattle.walrus_normal_form.specs.declared.slot_group.SlotGroup.{SlotGroup}
 use Rattle.walrus_normal_form.specs.Steps.ReadSections.{no_slot_group, slot_group_at, type_group}
-use Rattle.walrus_normal_form.specs.Steps.WritingOrders.{IsApart, ids_in}
+use Rattle.walrus_sections.specs.WritingOrders.{IsApart, ids_in}
 use Rattle.walrus_normal_form.specs.Steps.WrittenRecords.{AreNumbered, GroupNames, NameSlotsBefore, groups_at, rename_group, slots_in}
 use Rattle.walrus_normal_form.proofs.Writing.RenamedGroups.{map-agree, rename_group-agree, slots-consecutive}
 use Rattle.walrus_ty.proofs.Basics.{slice_get-left, slice_get-parts, slice_get-right, some_inj}

@@ -19,12 +19,12 @@ use Rattle.walrus_sections.specs.Refusal.{HasIndexBy}
 use Rattle.walrus_sections.proofs.Emission.Emits.{read_then_emitted, names_stand}
 use Rattle.walrus_normal_form.specs.declared.slot_group.SlotGroup.{SlotGroup}
 use Rattle.walrus_normal_form.specs.Steps.ReadSections.{IsReadAs, no_slot_group, slot_group_at, type_group}
-use Rattle.walrus_normal_form.specs.Steps.WritingOrders.{IsApart, IsWritingOrder, ids_in, in_order, written_group}
+use Rattle.walrus_sections.specs.WritingOrders.{IsApart, IsWritingOrder, ids_in, in_order, written_group}
 use Rattle.walrus_normal_form.specs.Steps.WrittenRecords.{AreNumbered, CanBeWritten, GroupNames, NameSlotsBefore, groups_at, slots_in}
-use Rattle.walrus_normal_form.proofs.Writing.IndexOfId.{Home, home}
-use Rattle.walrus_normal_form.proofs.Writing.PairsOfGroups.{emission, has_index, placed_member, same_from}
+use Rattle.walrus_sections.proofs.Emission.IndexOfId.{Home, home}
+use Rattle.walrus_sections.proofs.Emission.PairsOfGroups.{emission, has_index, placed_member, same_from}
 use Rattle.walrus_normal_form.proofs.Writing.RenamedGroups.{map-agree, map-map, renamed-written}
-use Rattle.walrus_normal_form.proofs.Writing.ReadMembers.{member_is, same_member, sent_by_slots, single}
+use Rattle.walrus_sections.proofs.Emission.ReadMembers.{member_is, same_member, sent_by_slots, single}
 use Rattle.walrus_normal_form.proofs.Writing.Numbering.{renamed}
 
 map_take : {X Y : Type 0} (f : X → Y) (n : ℕ) (xs : List X) → map f (take n xs) ≡ take n (map f xs)

@@ -6,7 +6,7 @@ use Rattle.walrus_ty.specs.Groups.{Group, Single, Rec}
 use Rattle.walrus_sections.specs.FirstError.{definitions_of}
 use Rattle.walrus_normal_form.specs.declared.slot_group.SlotGroup.{SlotGroup}
 use Rattle.walrus_normal_form.specs.Steps.ReadSections.{slot_group_at, slots_of}
-use Rattle.walrus_normal_form.specs.Steps.WritingOrders.{written_group}
+use Rattle.walrus_sections.specs.WritingOrders.{written_group}
 use Rattle.walrus_normal_form.specs.Steps.WrittenRecords.{GroupNames, rename_group}
 use Rattle.walrus_ty.proofs.Names.Definitions.{rename_agree}
 

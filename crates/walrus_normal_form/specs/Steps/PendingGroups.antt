@@ -11,7 +11,7 @@ use Rattle.walrus_ty.specs.Records.{entry_definition}
 use Rattle.walrus_normal_form.specs.declared.slot_group.SlotGroup.{SlotGroup}
 use Rattle.walrus_normal_form.specs.declared.order.PendingGroup.{PendingGroup}
 use Rattle.walrus_normal_form.specs.Steps.ReadSections.{slot_group_at}
-use Rattle.walrus_normal_form.specs.Steps.RunStarts.{start_of}
+use Rattle.walrus_sections.specs.RunStarts.{start_of}
 
 abbrev pub is_own : ℕ → ℕ → Bool
 is_own own k = k == own

@@ -9,7 +9,7 @@ use Rattle.walrus_ty.specs.Records.{group_of}
 use Rattle.walrus_sections.specs.FirstError.{definitions_of}
 use Rattle.walrus_normal_form.specs.declared.slot_group.SlotGroup.{SlotGroup}
 use Rattle.walrus_normal_form.specs.Steps.ReadSections.{slot_group_at, type_group}
-use Rattle.walrus_normal_form.specs.Steps.WritingOrders.{IsApart, ids_in}
+use Rattle.walrus_sections.specs.WritingOrders.{IsApart, ids_in}
 
 -- the groups at these places
 abbrev pub groups_at : List SlotGroup → List ℕ → List SlotGroup

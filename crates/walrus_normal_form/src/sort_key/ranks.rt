@@ -6,14 +6,14 @@ ghost use Rattle.walrus_ty.specs.Value.{abstract_index};
 use std::marker::Model;
 use walrus_ty::{AbstractHeapType, Field, Heap, Storage, Val};
 
-/// The place of the first reference type, behind five of numbers and vectors.
-pub const FIRST_REFERENCE: u8 = 5;
+// The place of the first reference type, behind five of numbers and vectors.
+const FIRST_REFERENCE: u8 = 5;
 
-/// The place of the first reference type that may be null, behind those that can't.
-pub const FIRST_NULLABLE: u8 = FIRST_REFERENCE + HEAP_TYPES;
+// The place of the first reference type that may be null, behind those that can't.
+const FIRST_NULLABLE: u8 = FIRST_REFERENCE + HEAP_TYPES;
 
-/// The place of the first packed type, behind the references.
-pub const FIRST_PACKED: u8 = FIRST_NULLABLE + HEAP_TYPES;
+// The place of the first packed type, behind the references.
+const FIRST_PACKED: u8 = FIRST_NULLABLE + HEAP_TYPES;
 
 // The abstract heap types, and one place for all that name a type.
 const HEAP_TYPES: u8 = NAMED_HEAP + 1;
@@ -161,8 +161,8 @@ fn place_of_storage<N>(storage: &Storage<N>) -> u8
     }
 }
 
-/// Whether this is the rank of something that names a type. Such a rank does not say which type.
-pub fn is_open(rank: u8) -> bool
+// Whether this is the rank of something that names a type. Such a rank does not say which type.
+fn is_open(rank: u8) -> bool
     ensures { result ≡ is_open rank }
 {
     rank == NAMED || rank == NAMED_OR_NULL

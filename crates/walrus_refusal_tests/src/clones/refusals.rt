@@ -5,6 +5,7 @@ use Piece::{One, Two};
 use Shape::{Func, Struct};
 use std::alloc::{AllocError, Global};
 use std::process::Abort;
+use walrus_module_types::SubType;
 use walrus_types::{
     AddRecGroupError, CompositeType, FunctionType, Listed, ModuleTypes, RecGroup, StructType, Type,
     TypeId, Val, ValAt, ValType,
@@ -86,6 +87,19 @@ fn a_refused_clone_of_a_type_comes_when_it_is_asked_for_again(rt: HostRuntime) {
     assert!(rt; copy == source);
     assert_equal(&rt, copy.id().index(), 9);
     assert!(rt; copy.name.is_some_and(|name| name.as_str() == "t"));
+}
+
+#[test]
+fn a_refused_clone_of_a_sub_type_comes_when_it_is_asked_for_again(rt: HostRuntime) {
+    let alloc = rt.alloc();
+    let source = SubType {
+        kind: CompositeType::Struct(structure(alloc).expect(&rt, "memory")),
+        is_final: true,
+        supertype: Some(TypeId::from_index(4)),
+    };
+    let copy = clone_again(&source).expect(&rt, "memory");
+    assert!(rt; copy.kind == source.kind && copy.is_final);
+    assert_equal(&rt, copy.supertype, source.supertype);
 }
 
 #[test]

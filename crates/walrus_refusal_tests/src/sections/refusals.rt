@@ -7,7 +7,7 @@ use std::alloc::{AllocError, Global};
 use std::process::Abort;
 use walrus_types::{
     GroupAt, HashKeys, ModuleTypes, ReadError, SectionReader, TypeId, ValAt, is_normal_form,
-    normalise, normalise_owned, parse_types, same_up_to_moves,
+    normalise, normalise_by_table, normalise_owned, parse_types, same_up_to_moves,
 };
 
 // A function type, a `Rec` of two that name each other, the function type again, and a struct type.
@@ -147,6 +147,17 @@ fn normalise_again(
     }
 }
 
+// The same by a table.
+fn normalise_by_table_again(
+    alloc: Global,
+    groups: &[GroupAt],
+) -> Result<(Vec<GroupAt>, Vec<u32>), ReadError> {
+    match normalise_by_table(alloc, HashKeys::fixed(), groups) {
+        Err(ReadError::Memory) => normalise_by_table(alloc, HashKeys::fixed(), groups),
+        answer => answer,
+    }
+}
+
 // The normal form of the section is the one that is wanted.
 fn gives(rt: &impl Abort, alloc: Global, pieces: &[Piece], wanted: &[Piece], map: &[u32]) {
     let groups = section_again(alloc, pieces).expect(rt, "memory");
@@ -162,6 +173,17 @@ fn a_refused_normal_form_comes_when_it_is_asked_for_again(rt: HostRuntime) {
     let section = [int, func, One(Struct(Some(to(0))))];
     let sorted = [func, int, One(Struct(Some(to(1))))];
     gives(&rt, rt.alloc(), &section, &sorted, &[1, 0, 2]);
+}
+
+#[test]
+fn a_refused_normal_form_by_a_table_comes_when_it_is_asked_for_again(rt: HostRuntime) {
+    let (func, int) = (One(Func(None)), One(Struct(Some(ValAt::I32))));
+    let groups = section_again(rt.alloc(), &[int, func]).expect(&rt, "memory");
+    let sorted = section_again(rt.alloc(), &[func, int]).expect(&rt, "memory");
+    let normal = normalise_by_table_again(rt.alloc(), groups.as_slice());
+    let (output, map) = normal.expect(&rt, "memory");
+    assert!(rt; output == sorted);
+    assert_equal(&rt, map.as_slice(), [1, 0].as_slice());
 }
 
 #[test]

@@ -1,19 +1,22 @@
 -- A move down has fewer groups, or as many and fewer pairs out of order.
-use Rattle.std.proofs.Common.{◌≡◌, ℕ, suc, ◌<◌, ◌≤◌, [], ◌∷◌, ◌++◌, length, ap, sym, ◌∙◌, inl, inr, ◌⊎◌, arith, length-append}
+use Rattle.std.proofs.Common.{◌≡◌, ℕ, suc, ◌<◌, ◌≤◌, List, [], ◌∷◌, ◌++◌, length, ap, sym, ◌∙◌, inl, inr, ◌⊎◌, arith, subst, length-append}
 use Rattle.std.specs.declared.cmp.Ordering.{Ordering}
 use Rattle.std.specs.declared.cmp.Ordering.TheVariants.{Less, Greater}
 use Rattle.std.specs.Ordering.{ordering_reverse}
-use Rattle.std.proofs.lemmas.Bool.{cases_eq}
+use Rattle.std.proofs.lemmas.Bool.{cases_lt, cases_eq}
 use Rattle.std.proofs.lemmas.List.{length-map}
 use Rattle.walrus_ty.specs.Definition.{rename, definition_cmp}
-use Rattle.walrus_sections.specs.Section.{IndexSpace, index_space}
+use Rattle.walrus_sections.specs.Section.{IndexSpace, index_space, IsWellNamed}
 use Rattle.walrus_ty.specs.Groups.{Section, Single, Rec}
 use Rattle.walrus_sections.specs.Moves.{exchange, skip, rename_group, DropsEmptyRec, DropsRepeat, SwapsNeighbours, AreOutOfOrder, HasFewerOutOfOrder, IsLower}
+use Rattle.walrus_sections.specs.NormalForm.{IsKept, AreFree, IsNormalForm, image}
+use Rattle.walrus_sections.proofs.Sections.Rows.{laid_out}
+use Rattle.walrus_sections.proofs.NormalForms.Agree.{MergesSame, agree}
 use Rattle.walrus_sections.proofs.Moves.ByIndex.{IsSwapped}
 use Rattle.walrus_sections.proofs.Moves.Exchange.{exchange_first, exchange_second, exchange_one, exchange_order, exchange_within}
 use Rattle.walrus_sections.proofs.Moves.SwappedPlaces.{swapped_by_index}
-use Rattle.walrus_sections.proofs.Moves.Tidy.{AreUnfixed, plain_if, unfixed_goes, cmp_goes}
-use Rattle.walrus_ty.proofs.Names.Definitions.{definitions_total, cmp_same}
+use Rattle.walrus_sections.proofs.Moves.Tidy.{IsFix, AreUnfixed, IsTidy, unfixed_if_plain, unfixed_goes, cmp_goes}
+use Rattle.walrus_ty.proofs.Names.Definitions.{definitions_total, cmp_same, rename_id}
 
 pub fewer_without_empty : (s r : Section) → DropsEmptyRec s r → length r < length s
 fewer_without_empty s r x =
@@ -37,32 +40,56 @@ as_many s r i x =
 less_if_greater : (o p : Ordering) → p ≡ ordering_reverse o → o ≡ Greater → p ≡ Less
 less_if_greater o p e g = e ∙ ap ordering_reverse g
 
-greater_if_less : (o p : Ordering) → o ≡ ordering_reverse p → p ≡ Less → o ≡ Greater
-greater_if_less o p e g = e ∙ ap ordering_reverse g
+tidy_merges : (t : IndexSpace) → IsTidy t → MergesSame t (λ k. k)
+tidy_merges t tidy i j hi hj oi oj e =
+    let f : t.definition i ≡ t.definition j = sym (rename_id (t.definition i))
+    ∙ (e ∙ rename_id (t.definition j)) in
+    elim (cases_lt i j) [
+      | inl x ↦ absurd (tidy i j x hj oi oj f)
+      | inr x ↦ (elim (cases_lt j i) [ inl y ↦ absurd (tidy j i y hi oj oi (sym f)) | inr y ↦ omega arith ])
+    ]
 
-unfixed : (s : IndexSpace) (i j : ℕ) → AreOutOfOrder s i j → AreUnfixed s i j
-unfixed s i j x a u v (inl y) = let p = x.singles a u v in let q = y.1 in absurd cc
-unfixed s i j x a u v (inr y) = y.2 (x.own a u v y.0 y.1)
+-- where no `Single` repeats an earlier one, all indices are kept
+kept_if_tidy :
+    (t n : Section) (m : List ℕ) → IsWellNamed t → IsTidy (index_space t) → IsNormalForm t n m → (i : ℕ) →
+    i < (index_space t).count → IsKept (image m) i
+kept_if_tidy t n m w tidy c i h j g e =
+    let f : j ≡ i = agree (index_space t) (index_space n) (image m) (λ k. k) (laid_out t) w.below_ends c.laws
+    (tidy_merges (index_space t) tidy) j i (omega arith) h e in
+    omega arith
 
-module _ (s r : IndexSpace) (o : ℕ) (sw : IsSwapped s r o)
+-- an index that is kept is an anchor where it is fixed
+free_if_unfixed : (t : IndexSpace) (m : ℕ → ℕ) (i j : ℕ) → AreUnfixed t i j → AreFree t m i j
+free_if_unfixed t m i j f a u v (inl x) = f a u v (inl x)
+free_if_unfixed t m i j f a u v (inr x) = f a u v (inr x.1)
+
+unfixed_if_free :
+    (t : IndexSpace) (m : ℕ → ℕ) (i j : ℕ) → ((a : ℕ) → a < t.count → IsKept m a) → j < t.count →
+    AreFree t m i j → AreUnfixed t i j
+unfixed_if_free t m i j k h f a u v (inl x) = f a u v (inl x)
+unfixed_if_free t m i j k h f a u v (inr x) = f a u v (inr (k a (omega arith), x))
+
+module _ (s r : IndexSpace) (m w : ℕ → ℕ) (o : ℕ) (sw : IsSwapped s r o)
+    (kept : (a : ℕ) → a < s.count → IsKept m a) (kept_after : (a : ℕ) → a < r.count → IsKept w a)
     (gr : definition_cmp (s.definition o) (s.definition (suc o)) ≡ Greater) where
   first_or_second : (a : ℕ) → o ≤ a → a ≤ suc o → (a ≡ o) ⊎ (a ≡ suc o)
   first_or_second a u v = elim (cases_eq a o) [ inl e ↦ inl e | inr n ↦ inr (omega arith) ]
 
-  the_two : AreOutOfOrder s o (suc o)
+  two_unfixed : AreUnfixed s o (suc o)
+  two_unfixed a u v = elim (first_or_second a u v) [
+    | inl e ↦ subst (λ (x : ℕ). ¬ (IsFix s x)) (sym e)
+        (unfixed_if_plain s o (record { single = sw.first_single; own = sw.first_own }))
+    | inr e ↦ subst (λ (x : ℕ). ¬ (IsFix s x)) (sym e)
+        (unfixed_if_plain s (suc o) (record { single = sw.second_single; own = sw.second_own }))
+  ]
+
+  the_two : AreOutOfOrder s m o (suc o)
   the_two = record {
     earlier = omega arith;
     inside = sw.inside;
-    singles = λ a u v. elim (first_or_second a u v) [
-      | inl e ↦ ap s.rec_position e ∙ sw.first_single
-      | inr e ↦
-          ap s.rec_position e ∙ sw.second_single
-    ];
-    own = λ a u v k h. elim (first_or_second a u v) [
-      | inl e ↦ sw.first_own k (rw e at h) ∙ sym e
-      | inr e ↦
-          sw.second_own k (rw e at h) ∙ sym e
-    ];
+    first_kept = kept o (let z = sw.inside in omega arith);
+    second_kept = kept (suc o) sw.inside;
+    free = free_if_unfixed s m o (suc o) two_unfixed;
     less = less_if_greater (definition_cmp (s.definition o) (s.definition (suc o)))
         (definition_cmp (s.definition (suc o)) (s.definition o))
         (definitions_total.antisymm (s.definition (suc o)) (s.definition o)) gr;
@@ -79,14 +106,15 @@ module _ (s r : IndexSpace) (o : ℕ) (sw : IsSwapped s r o)
       (exchange_second o)) in
       cmp_same rj ri ∙ (sym sw.order ∙ gr)
 
-  sent_back : (i j : ℕ) → AreOutOfOrder r i j → AreOutOfOrder s (exchange o i) (exchange o j)
+  sent_back : (i j : ℕ) → AreOutOfOrder r w i j → AreOutOfOrder s m (exchange o i) (exchange o j)
   sent_back i j x =
       let cnt = sw.count in let ins = x.inside in
       let hj : j < s.count = omega arith in
+      let hj' = exchange_within o j s.count sw.inside hj in
+      let un = unfixed_if_free r w i j kept_after x.inside x.free in
       elim (exchange_order o i j x.earlier) [
         | inl up ↦ (
-            let fs = unfixed_goes s r o sw i j x.earlier hj up (unfixed r i j x) in
-            let same = cmp_goes s r o sw i j x.earlier hj up (unfixed r i j x) in
+            let same = cmp_goes s r o sw i j x.earlier hj up un in
             let rev = definitions_total.antisymm (r.definition i) (r.definition j) in
             let rev' = definitions_total.antisymm (s.definition (exchange o j)) (s.definition (exchange o i))
             in
@@ -94,15 +122,17 @@ module _ (s r : IndexSpace) (o : ℕ) (sw : IsSwapped s r o)
             ∙ ap ordering_reverse x.less in
             record {
               earlier = up;
-              inside = exchange_within o j s.count sw.inside hj;
-              singles = λ a u v. (plain_if s a (fs a u v)).single;
-              own = λ a u v. (plain_if s a (fs a u v)).own;
+              inside = hj';
+              first_kept = kept (exchange o i) (omega arith);
+              second_kept = kept (exchange o j) hj';
+              free = free_if_unfixed s m (exchange o i) (exchange o j)
+                  (unfixed_goes s r o sw i j x.earlier hj up un);
               less = rev' ∙ ap ordering_reverse (sym same ∙ g);
             })
         | inr at ↦ absurd (let g = turned_greater i j at.0 at.1 in let l = x.less in cc)
       ]
 
-  pub fewer_once_turned : HasFewerOutOfOrder s r
+  pub fewer_once_turned : HasFewerOutOfOrder s r m w
   fewer_once_turned = record {
     embed = exchange o;
     injective = λ i j e. exchange_one o i j e;
@@ -117,10 +147,12 @@ module _ (s r : IndexSpace) (o : ℕ) (sw : IsSwapped s r o)
   }
 
 pub lower_once_turned :
-    (s r : Section) (o : ℕ) → SwapsNeighbours s r o →
+    (s r : Section) (o : ℕ) → SwapsNeighbours s r o → IsWellNamed s → IsWellNamed r →
+    IsTidy (index_space s) → IsTidy (index_space r) →
     definition_cmp ((index_space s).definition o) ((index_space s).definition (suc o)) ≡ Greater →
     IsLower s r
-lower_once_turned s r o x gr = inr (
+lower_once_turned s r o x ws wr ts tr gr = inr (
   as_many s r o x,
-  fewer_once_turned (index_space s) (index_space r) o (swapped_by_index s r o x) gr,
+  λ n p m w c d. fewer_once_turned (index_space s) (index_space r) (image m) (image w) o
+      (swapped_by_index s r o x) (kept_if_tidy s n m ws ts c) (kept_if_tidy r p w wr tr d) gr,
 )

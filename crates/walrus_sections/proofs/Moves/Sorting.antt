@@ -167,7 +167,7 @@ insert (suc o) b n s f w t pb h c but =
                     record {
                       q = i.q;
                       descent = down s r (swap_neighbours o mv)
-                          (lower_once_turned s r o mv greater) wr i.descent;
+                          (lower_once_turned s r o mv w wr t tr greater) wr i.descent;
                       filled = i.filled;
                       well_named =
                           i.well_named;

@@ -92,6 +92,10 @@ fix_or_plain t i = elim (in_or_out (t.rec_position i)) [
 pub plain_if : (t : IndexSpace) (i : ℕ) → ¬ (IsFix t i) → IsPlain t i
 plain_if t i h = elim (fix_or_plain t i) [ inl x ↦ absurd (h x) | inr x ↦ x ]
 
+pub unfixed_if_plain : (t : IndexSpace) (i : ℕ) → IsPlain t i → ¬ (IsFix t i)
+unfixed_if_plain t i p (inl x) = let o = p.single in let e = x.1 in absurd cc
+unfixed_if_plain t i p (inr x) = x.2 (p.own x.0 x.1)
+
 -- a swap of two that are out of order is a move
 pub order_stays :
     (o : ℕ) (e f : Definition) → ((k : ℕ) → Names e k → k ≡ o) → ((k : ℕ) → Names f k → k ≡ suc o) →

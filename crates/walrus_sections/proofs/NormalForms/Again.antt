@@ -7,6 +7,7 @@ use Rattle.walrus_ty.specs.Definition.{Definition, Names, rename, definition_cmp
 use Rattle.walrus_sections.specs.Section.{IndexSpace, NamesBelowEnds, IsSingle}
 use Rattle.walrus_sections.specs.NormalForm.{IsKept, IsAnchor, AreFree, IsNormal}
 use Rattle.walrus_sections.proofs.Sections.Lying.{IsLaidOut, in_or_out}
+use Rattle.walrus_sections.proofs.NormalForms.Agree.{normal_merges}
 use Rattle.walrus_sections.proofs.NormalForms.Kept.{kept_one, anchor_kept, own_name}
 use Rattle.walrus_ty.proofs.Names.Definitions.{Names-rename, named_before, rename_id, cmp_or_less, cmp_same, definitions_total, definition_exact}
 
@@ -46,16 +47,7 @@ pub kept_differ :
     (s n : IndexSpace) (m : ℕ → ℕ) → IsNormal s n m → (i j : ℕ) → i < j → j < s.count → IsKept m i →
     IsKept m j → IsSingle s i → IsSingle s j → ¬ (s.definition i ≡ s.definition j)
 kept_differ s n m c i j g h ki kj oi oj e =
-    let a = c.single_to_single i (omega arith) oi in let b = c.single_to_single j h oj in
-    let x : n.definition (m i) ≡ n.definition (m j) = c.same i (omega arith)
-    ∙ (ap (rename m) e ∙ sym (c.same j h)) in
-    elim (cases_lt (m i) (m j)) [
-      | inl lt ↦ c.singles_differ (m i) (m j) lt (c.below j h) a b x
-      | inr ge ↦ (elim (cases_eq (m i) (m j)) [
-        | inl y ↦ kj i g y
-        | inr y ↦ c.singles_differ (m j) (m i) (omega arith) (c.below i (omega arith)) b a (sym x)
-      ])
-    ]
+    kj i g (normal_merges s n m c i j (omega arith) h oi oj (ap (rename m) e))
 
 module _ (s n : IndexSpace) (m : ℕ → ℕ) (l : IsLaidOut s) (ln : IsLaidOut n) (wn : NamesBelowEnds s)
     (c : IsNormal s n m) where

@@ -6,7 +6,7 @@ use Rattle.walrus_ty.specs.Groups.{Section}
 use Rattle.walrus_sections.specs.NormalForm.{image, IsNormalForm}
 use Rattle.walrus_sections.proofs.Sections.Rows.{laid_out}
 use Rattle.walrus_sections.proofs.Sections.Rebuild.{cells, rebuild}
-use Rattle.walrus_sections.proofs.NormalForms.Agree.{agree}
+use Rattle.walrus_sections.proofs.NormalForms.Agree.{agree, normal_merges}
 use Rattle.walrus_sections.proofs.NormalForms.Images.{same_image, count_least, same_definition, same_rec_positions}
 
 same_cells :
@@ -31,8 +31,10 @@ pub one_normal_form :
     IsNormalForm s n' w → (n ≡ n') × (m ≡ w)
 one_normal_form s n n' m w wn c d =
     let l = laid_out s in
-    let ag = agree (index_space s) (index_space n) (index_space n') (image m) (image w) l wn c.laws d.laws in
-    let ga = agree (index_space s) (index_space n') (index_space n) (image w) (image m) l wn d.laws c.laws in
+    let ag = agree (index_space s) (index_space n) (image m) (image w) l wn c.laws
+    (normal_merges (index_space s) (index_space n') (image w) d.laws) in
+    let ga = agree (index_space s) (index_space n') (image w) (image m) l wn d.laws
+    (normal_merges (index_space s) (index_space n) (image m) c.laws) in
     let eq = same_image (index_space s) (index_space n) (index_space n') (image m) (image w) c.laws d.laws l
     ag ga in
     let qe : (i : ℕ) → i < (index_space s).count → image w i ≡ image m i = λ i h. sym (eq i h) in

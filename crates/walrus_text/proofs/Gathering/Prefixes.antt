@@ -2,6 +2,7 @@
 use Rattle.std.proofs.Common.{◌≡◌, ◌≢◌, ℕ, Bool, true, false, List, [], ◌∷◌, ◌++◌, map, filter, refl, sym, ◌∙◌, ap, subst, arith, append_assoc, append-nil}
 use Rattle.std.specs.Prelude.{Option, Some, None, IsSome, codes}
 use Rattle.std.proofs.lemmas.Bool.{false≢true}
+use Rattle.std.proofs.lemmas.Grind.{flat_map-append}
 use Rattle.std.specs.List.{AllByRecursion}
 use Rattle.std.specs.declared.vec.Vec.{Vec}
 use Rattle.std.specs.declared.alloc.Global.{Global}
@@ -17,8 +18,8 @@ use Rattle.walrus_text.specs.declared.parse.line.Line.{Line}
 use Rattle.walrus_text.specs.declared.parse.line.Line.TheVariants as line
 use Rattle.walrus_text.specs.Words.{has_items}
 use Rattle.walrus_text.specs.Steps.Lines.{IsLine, line_words, line_words_if_any}
-use Rattle.walrus_text.specs.Steps.Builder.{builder_lines, open_lines, BeginsNoSection}
-use Rattle.walrus_text.specs.Text.{AreIndices, HasGroupIndices, IsSectionText, open_words, supertype_words, composite_words, entry_words, group_lines, rec_lines, section_lines}
+use Rattle.walrus_text.specs.Steps.Builder.{builder_lines, open_lines, HasBuilderIndices, HasOpenIndices}
+use Rattle.walrus_text.specs.Text.{AreIndices, BeginsSection, HasGroupIndices, IsSectionText, open_words, supertype_words, composite_words, entry_words, group_lines, rec_lines, section_lines}
 use Rattle.walrus_text.proofs.Basics.{all_both}
 
 abbrev Lines : Type 0
@@ -163,8 +164,8 @@ bad_first ws X bad (group.Rec fs ∷ s, fits, e) = bad (line.Begin, tt, ap first
 -- `rec` where a recursion group is open
 pub second_rec :
     (g : SectionBuilder) → IsSome g.open →
-    BeginsNoSection (builder_lines g ++ (codes "rec" ∷ []) ∷ [])
-second_rec g some more h =
+    ¬ BeginsSection (builder_lines g ++ (codes "rec" ∷ []) ∷ [])
+second_rec g some (more, h) =
     by_open g.open some (goes_on g ((codes "rec" ∷ []) ∷ more)
     (subst IsSectionText (append_assoc (builder_lines g) ((codes "rec" ∷ []) ∷ []) more) h)) where
       by_open : (o : Option (Vec EntryAt Global)) → IsSome o →
@@ -175,8 +176,8 @@ second_rec g some more h =
 -- `end` where none is
 pub early_end :
     (g : SectionBuilder) → g.open ≡ None →
-    BeginsNoSection (builder_lines g ++ (codes "end" ∷ []) ∷ [])
-early_end g none more h =
+    ¬ BeginsSection (builder_lines g ++ (codes "end" ∷ []) ∷ [])
+early_end g none (more, h) =
     end_first more (subst (λ o. IsSectionText (open_lines o ++ (codes "end" ∷ []) ∷ more)) none
     (goes_on g ((codes "end" ∷ []) ∷ more) (subst IsSectionText
     (append_assoc (builder_lines g) ((codes "end" ∷ []) ∷ []) more) h)))
@@ -202,12 +203,12 @@ some_words (w ∷ ws) some = refl
 -- a line that is none of a section's
 pub bad_line :
     (g : SectionBuilder) (ws : List (List ℕ)) → ¬ IsLine ws →
-    BeginsNoSection (builder_lines g ++ filter has_items (ws ∷ []))
+    ¬ BeginsSection (builder_lines g ++ filter has_items (ws ∷ []))
 bad_line g ws bad =
     let some : ws ≢ [] = λ e. bad (line.Blank, tt, e) in
-    subst (λ ls. BeginsNoSection (builder_lines g ++ ls)) (sym (some_words ws some)) (λ more h.
-    no_bad_line g.open ws more bad (goes_on g (ws ∷ more)
-    (subst IsSectionText (append_assoc (builder_lines g) (ws ∷ []) more) h)))
+    subst (λ ls. ¬ BeginsSection (builder_lines g ++ ls)) (sym (some_words ws some)) (λ k.
+    no_bad_line g.open ws k.0 bad (goes_on g (ws ∷ k.0)
+    (subst IsSectionText (append_assoc (builder_lines g) (ws ∷ []) k.0) k.1)))
 
 -- a line of a section among those that have words
 pub line_words_if_any_is : (l : Line) → line_words_if_any l ≡ filter has_items (line_words l ∷ [])
@@ -215,11 +216,6 @@ line_words_if_any_is line.Blank = refl
 line_words_if_any_is line.Begin = refl
 line_words_if_any_is line.End = refl
 line_words_if_any_is (line.Entry e) = sym (some_words (entry_words e) (not_empty e))
-
--- no more lines help
-pub no_section_more : (lines more : Lines) → BeginsNoSection lines → BeginsNoSection (lines ++ more)
-no_section_more lines more h others k = h (more ++ others)
-    (subst IsSectionText (append_assoc lines more others) k)
 
 -- one more group
 pub groups_more :
@@ -232,3 +228,25 @@ pub entries_more :
     (es : List EntryAt) (e : EntryAt) → AllByRecursion Fits es → Fits e →
     AllByRecursion Fits (es ++ e ∷ [])
 entries_more es e h k = all_both Fits es (e ∷ []) h (k, tt)
+
+begins :
+    (gs : List GroupAt) (o : Option (Vec EntryAt Global)) → AllByRecursion HasGroupIndices gs →
+    HasOpenIndices o → BeginsSection (section_lines gs ++ open_lines o)
+begins gs None fits none =
+    ([], (gs, fits, append-nil (section_lines gs ++ []) ∙ append-nil (section_lines gs)))
+begins gs (Some es) fits unended =
+    let lines = (codes "rec" ∷ []) ∷ map entry_words es.items in
+    let whole : section_lines (gs ++ group.Rec es.items ∷ []) ≡ section_lines gs ++ rec_lines es.items =
+    flat_map-append group_lines gs (group.Rec es.items ∷ [])
+    ∙ ap (λ ls. section_lines gs ++ ls) (append-nil (rec_lines es.items)) in (
+      (codes "end" ∷ []) ∷ [],
+      (
+        gs ++ group.Rec es.items ∷ [],
+        groups_more gs (group.Rec es.items) fits unended,
+        append_assoc (section_lines gs) lines ((codes "end" ∷ []) ∷ []) ∙ sym whole,
+      ),
+    )
+
+-- what a builder was built from begins a section
+pub builder_begins : (g : SectionBuilder) → HasBuilderIndices g → BeginsSection (builder_lines g)
+builder_begins g fits = begins g.groups.items g.open fits.0 fits.1

@@ -1,5 +1,4 @@
--- The lines that a section was built from, `builder_lines`, and the lines with which no section
--- begins.
+-- The lines that a section was built from, `builder_lines`.
 use Rattle.std.specs.Prelude.{ℕ, List, [], ◌∷◌, ◌++◌, map, Option, Some, None, IsSome, codes}
 use Rattle.std.specs.List.{AllByRecursion}
 use Rattle.walrus_ty.specs.Definition.{names_of}
@@ -8,7 +7,7 @@ use Rattle.walrus_ty.specs.declared.records.EntryAt.{EntryAt}
 use Rattle.std.specs.declared.vec.Vec.{Vec}
 use Rattle.std.specs.declared.alloc.Global.{Global}
 use Rattle.walrus_text.specs.declared.section_builder.SectionBuilder.{SectionBuilder}
-use Rattle.walrus_text.specs.Text.{entry_words, section_lines, AreIndices, HasGroupIndices, IsSectionText}
+use Rattle.walrus_text.specs.Text.{entry_words, section_lines, AreIndices, HasGroupIndices}
 
 -- the lines of a recursion group that is open
 abbrev pub open_lines : Option (Vec EntryAt Global) → List (List (List ℕ))
@@ -33,7 +32,3 @@ HasBuilderIndices builder =
 -- a recursion group is open
 abbrev pub IsInGroup : SectionBuilder → Type 0
 IsInGroup builder = IsSome builder.open
-
--- however these lines go on, they are those of no section
-abbrev pub BeginsNoSection : List (List (List ℕ)) → Type 0
-BeginsNoSection lines = (more : List (List (List ℕ))) → ¬ IsSectionText (lines ++ more)

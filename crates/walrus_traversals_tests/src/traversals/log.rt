@@ -63,7 +63,7 @@ fn heap_call(heap_type: &HeapType) -> HookCall {
 }
 
 /// The log has no room for the hook call of this number, counted from zero.
-#[derive(Clone, PartialEq, Eq, Debug, Drop, Error)]
+#[derive(Clone, Copy, PartialEq, Eq, Debug, Error)]
 #[error("no room for call {0}")]
 pub(super) struct Full(pub(super) usize);
 

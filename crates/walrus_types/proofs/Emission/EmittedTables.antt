@@ -1,11 +1,11 @@
 -- What is written for a table obeys the rule on pairs of its groups.
-use Rattle.std.proofs.Common.{◌≡◌, ℕ, ◌+◌, ◌<◌, ◌≤◌, List, take, length, refl, sym, ap, subst, ◌∙◌, arith, Some, None, Option, IsSome, true, false, Bool, [], ◌∷◌, nat_eq, length-append, All, get_or, unwrap_or}
+use Rattle.std.proofs.Common.{◌≡◌, ℕ, ◌+◌, ◌<◌, ◌≤◌, List, map, take, length, refl, sym, ap, subst, ◌∙◌, arith, Some, None, Option, IsSome, true, false, Bool, [], ◌∷◌, nat_eq, length-append, All, get_or, unwrap_or}
 use Rattle.std.specs.List.{slice_get, slice_index, list_any}
 use Rattle.std.proofs.lemmas.Map.Steps.{length-le_from_distinct_below}
 use Rattle.walrus_types.proofs.Tables.Places.{any_has, live_below}
 use Rattle.walrus_types.proofs.Tables.DeadGroup.{distinct_from_once}
 use Rattle.walrus_types.proofs.Emission.WrittenFew.{written-cons}
-use Rattle.walrus_sections.specs.Refusal.{written_count}
+use Rattle.walrus_sections.specs.Refusal.{IsMissing, NameUse, written_count}
 use Rattle.std.proofs.lemmas.List.{get_or_default, get_or-map, length-map}
 use Rattle.std.proofs.lemmas.Option.{slice_get-get_or}
 use Rattle.walrus_arena.specs.Arena.{IsLive}
@@ -13,7 +13,7 @@ use Rattle.walrus_ty.specs.declared.records.GroupAt.{GroupAt}
 use Rattle.walrus_types.specs.declared.table.rec_group.RecGroup.{RecGroup}
 use Rattle.walrus_types.specs.declared.error.EmitError.{EmitError}
 use Rattle.walrus_types.specs.declared.error.EmitError.TheVariants as emit
-use Rattle.walrus_ty.specs.Definition.{Definition}
+use Rattle.walrus_ty.specs.Definition.{Definition, rename}
 use Rattle.walrus_ty.specs.Groups.{Section}
 use Rattle.walrus_sections.specs.SlotMap.{TypeGroup}
 use Rattle.walrus_sections.specs.Emission.{no_group, group_at, IsMember, WrittenMember, IsEmission}
@@ -21,15 +21,15 @@ use Rattle.walrus_module_types.specs.Indices.{IndexMap}
 use Rattle.walrus_module_types.specs.Lookups.{value_or_zero}
 use Rattle.walrus_types.specs.Table as table
 use Rattle.walrus_types.specs.Table.{Table, IsTable}
-use Rattle.walrus_types.specs.TableEmission.{type_groups, definition_at, is_entry_at, table_view, written_types, IfNameMissing, IsWrittenId, IsEmitted, MissesFirst}
+use Rattle.walrus_types.specs.TableEmission.{type_groups, definition_at, is_entry_at, table_view, written_types, IfNameMissing, IsWrittenId, IsEmitted}
 use Rattle.walrus_types.specs.declared.emit.order.PendingGroup.{PendingGroup}
 use Rattle.walrus_types.specs.Steps.PendingGroups.{groups_of, places_of}
 use Rattle.walrus_types.specs.Steps.WrittenGroups.{AreWritten, IsMemoryOrMissing}
-use Rattle.walrus_normal_form.specs.Steps.WritingOrders.{IsApart, IsWritingOrder, ids_in, in_order, id_count}
-use Rattle.walrus_normal_form.specs.Steps.MissingNames.{FirstMissingIs}
+use Rattle.walrus_sections.specs.WritingOrders.{IsApart, IsWritingOrder, ids_in, in_order, id_count, written_group}
+use Rattle.walrus_sections.specs.MissingNames.{IsMissingIn}
 use Rattle.walrus_sections.proofs.Emission.WrittenMembers.{written_member}
-use Rattle.walrus_normal_form.proofs.Writing.IndexOfId.{Home, home, member_at}
-use Rattle.walrus_normal_form.proofs.Writing.PairsOfGroups.{at_member, to_member, emission, none_missing, first_missing, placed_member}
+use Rattle.walrus_sections.proofs.Emission.IndexOfId.{Home, home, member_at}
+use Rattle.walrus_sections.proofs.Emission.PairsOfGroups.{at_member, to_member, placed_member}
 use Rattle.walrus_types.proofs.Emission.OrderFromSort.{live_member, single, same_member}
 
 module _ (t : Table) (known : IsTable t) (order : List ℕ)
@@ -73,15 +73,20 @@ module _ (t : Table) (known : IsTable t) (order : List ℕ)
       h.at ∙ (ap (λ (a : ℕ). length (ids_in (take a (in_order gs order))) + h.place) groups_same
       ∙ (ap (λ (u : ℕ). length (ids_in (take k.group (in_order gs order))) + u) same.1 ∙ sym k.at))
 
-  pub emitted : id_count gs order ≡ written_types t → (out : List GroupAt) (x : IndexMap) →
-      AreWritten def (in_order gs order) out x → IsEmitted t out x
-  emitted many out x w = record {
+  -- by the laws of writing in order
+  pub emitted : ((m : ℕ → ℕ) → ((g : ℕ) → (group_at gs g).is_explicit ≡ false → length (group_at gs g).ids ≤ 1) →
+      ((i p : ℕ) → slice_get (ids_in (in_order gs order)) p ≡ Some i → m i ≡ p) →
+      IsEmission (table_view t) (map (written_group (λ i. rename m (def i))) (in_order gs order)) m) →
+      (((name : NameUse) → ¬ (IsMissingIn def (in_order gs order) name)) → (name : NameUse) →
+      ¬ (IsMissing (table_view t) name)) → id_count gs order ≡ written_types t → (out : List GroupAt)
+      (x : IndexMap) → AreWritten def (in_order gs order) out x → IsEmitted t out x
+  emitted emission complete many out x w = record {
     count = w.indexes.count ∙ many;
     section = subst (λ (n : Section). IsEmission (table_view t) n (value_or_zero x.index)) (sym w.section)
-        (emission (table_view t) order ord (single t known) (value_or_zero x.index) (λ i p h.
+        (emission (value_or_zero x.index) (single t known) (λ i p h.
         ap (λ (o : Option ℕ). unwrap_or o 0) ((w.indexes.index i p).1 h)));
     has_index = λ id. (from id, to id);
-    complete = none_missing (table_view t) order ord w.complete;
+    complete = complete w.complete;
   }
     where
       from : (id : ℕ) → IsSome (x.index id) → IsWrittenId (table_view t) id
@@ -107,12 +112,6 @@ module _ (t : Table) (known : IsTable t) (order : List ℕ)
           let e : x.index y.id ≡ Some (length (ids_in (take o.0 (in_order gs order))) + y.place) =
           (w.indexes.index y.id _).1 (member_at (in_order gs order) o.0 y.place y.id at) in
           subst (λ (k : ℕ). IsSome (x.index k)) g.1 (rw e refl)
-
-  pub misses : (e : EmitError) → IsMemoryOrMissing e (FirstMissingIs def (in_order gs order)) →
-      IsMemoryOrMissing e (MissesFirst t)
-  misses (emit.NoIndex i k) h = first_missing (table_view t) order ord i k h
-  misses emit.TooMany h = h
-  misses emit.Memory h = h
 
 -- each type of a group is live
 pub live_groups :

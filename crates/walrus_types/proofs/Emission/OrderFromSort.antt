@@ -17,19 +17,19 @@ use Rattle.walrus_sections.specs.SlotMap.{TypeGroup}
 use Rattle.walrus_sections.specs.Emission as emission
 use Rattle.walrus_sections.specs.Emission.{TableView, IsMember, IsGrouped, IsWritten, IsFreeGroup, IsInversion, IsWrittenBefore}
 use Rattle.walrus_types.specs.declared.emit.order.PendingGroup.{PendingGroup}
-use Rattle.walrus_normal_form.specs.Steps.RunStarts.{IsTurnedRound, StandsBefore}
+use Rattle.walrus_sections.specs.RunStarts.{IsTurnedRound, StandsBefore}
 use Rattle.walrus_types.specs.Steps.PendingGroups.{pending_groups, places_of}
 use Rattle.walrus_module_types.specs.Types.{ModuleType, type_definition}
 use Rattle.walrus_types.specs.Table as table
 use Rattle.walrus_types.specs.Table.{Table, IsTable}
 use Rattle.walrus_types.specs.TableEmission.{type_groups, slot_definition, definition_at, slot_is_entry, is_entry_at, table_view}
 use Rattle.walrus_types.specs.Steps.FreeGroups.{is_own_or_dead, slot_names_none_other, is_free_of, is_free_at, head, is_written_at}
-use Rattle.walrus_normal_form.specs.Steps.WritingOrders.{IsWritingOrder, id_count}
+use Rattle.walrus_sections.specs.WritingOrders.{IsWritingOrder, id_count}
 use Rattle.walrus_sections.specs.Refusal.{written_count}
-use Rattle.walrus_types.proofs.Emission.SortedGroups.{each_group, each_written, moved, onto_written}
+use Rattle.walrus_types.proofs.Emission.SortedGroups.{each_written, moved, onto_written}
 use Rattle.walrus_types.proofs.Emission.WrittenCount.{count_of_order}
 use Rattle.walrus_module_types.proofs.Orders.Types.{type_cmp, type_is}
-use Rattle.walrus_normal_form.proofs.Writing.PairsOfGroups.{at_member, to_member}
+use Rattle.walrus_sections.proofs.Emission.PairsOfGroups.{at_member, to_member}
 use Rattle.walrus_ty.proofs.Basics.{some_inj, then_less}
 
 -- tests of all and of some elements
@@ -408,13 +408,6 @@ module _ (t : Table) (is : IsTable t) where
           moved free written (λ g. head slots (table.rec_group_at groups g)) (length groups) ps perm in
           count_of_order entry gs written written_tests order
           (subst (λ (n : ℕ). IsPermutation (filter written (range_with_len 0 n)) order) (sym many) all)
-
-      pub heads_from_sort : All (λ (p : PendingGroup).
-          p.head ≡ head slots (table.rec_group_at groups p.place))
-          ps
-      heads_from_sort k d lt = ap (λ (p : PendingGroup). p.head)
-          (each_group free written (λ g. head slots (table.rec_group_at groups g)) (length groups) ps perm k d
-          lt)
 
       pub order_from_sort : ((a b : ℕ) → a < b → b < length order → (x y : ModuleType) →
           head slots (table.rec_group_at groups (slice_index order a)) ≡ Some x →

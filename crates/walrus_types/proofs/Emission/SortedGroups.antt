@@ -10,10 +10,10 @@ use Rattle.std.proofs.lemmas.List.Sorted.{All-permutation}
 use Rattle.std.proofs.lemmas.Option.{slice_get_within, get_or_from_slice_get}
 use Rattle.walrus_module_types.specs.Types.{ModuleType}
 use Rattle.walrus_types.specs.declared.emit.order.PendingGroup.{PendingGroup}
-use Rattle.walrus_normal_form.specs.Steps.RunStarts.{StandsBefore, run_start, start_of}
+use Rattle.walrus_sections.specs.RunStarts.{StandsBefore, run_start, start_of}
 use Rattle.walrus_types.specs.Steps.PendingGroups.{places_of}
-use Rattle.walrus_normal_form.proofs.Ordering.FilteredPlaces.{kept_more, left_out}
-use Rattle.walrus_normal_form.proofs.Ordering.SortedPlaces as sorted
+use Rattle.walrus_sections.proofs.Ordering.FilteredPlaces.{kept_more, left_out}
+use Rattle.walrus_sections.proofs.Ordering.SortedPlaces as sorted
 
 module _ (free written : ℕ → Bool) (head : ℕ → Option ModuleType) (n : ℕ) where
   abbrev group : ℕ → PendingGroup

@@ -1,5 +1,5 @@
 -- Groups are written one after the other, each by the indices given out so far.
-use Rattle.std.proofs.Common.{◌≡◌, ℕ, zero, suc, ◌+◌, ◌<◌, ◌≤◌, ◌^◌, List, [], ◌∷◌, ◌++◌, map, take, drop, length, refl, sym, ap, subst, ◌∙◌, arith, Some, None, Option, Bool, true, false, cond, get_or, Contains, All, nat_eq, eqb-true, unwrap_or, IfSome, IsSomeAnd, length-append, take-append-drop, ◌⊎◌, inl, inr}
+use Rattle.std.proofs.Common.{◌≡◌, ℕ, zero, suc, ◌+◌, ◌<◌, ◌≤◌, ◌^◌, List, [], ◌∷◌, ◌++◌, map, take, drop, length, refl, sym, ap, subst, ◌∙◌, arith, Some, None, Option, Bool, true, false, cond, get_or, Contains, All, nat_eq, eqb-true, unwrap_or, length-append, take-append-drop, ◌⊎◌, inl, inr}
 use Rattle.std.specs.List.{slice_get, slice_index, find, IsDistinct}
 use Rattle.std.specs.Option.{is_none}
 use Rattle.std.proofs.lemmas.Grind.{flat_map-append}
@@ -21,18 +21,14 @@ use Rattle.walrus_module_types.specs.Types.{ModuleType}
 use Rattle.walrus_types.specs.TypesById.{TypeSlots}
 use Rattle.walrus_types.specs.Table.{no_rec_group, rec_group_at}
 use Rattle.walrus_types.specs.TableEmission.{contents, type_groups}
-use Rattle.walrus_types.specs.Steps.FreeGroups.{head}
-use Rattle.walrus_types.specs.Steps.LosslessKeys.{IsLosslessKey}
 use Rattle.walrus_types.specs.Steps.PendingGroups.{groups_of, places_of}
-use Rattle.walrus_normal_form.specs.SortKeys.{SortKey}
-use Rattle.walrus_types.proofs.Emission.DecodedTypes.{head_key}
 use Rattle.walrus_ty.specs.Records.{group_of, section_of}
 use Rattle.walrus_sections.specs.Refusal.{NameUse}
-use Rattle.walrus_types.specs.Steps.WrittenGroups.{AllIndexed, AreWritten, IsMemoryOrMissing, IsFirstUnindexed, DecodesToType}
-use Rattle.walrus_normal_form.specs.Steps.WritingOrders.{IsApart, ids_in, with_indices, written_group}
-use Rattle.walrus_normal_form.specs.Steps.MissingNames.{FirstMissingIs, IsMissingIn, IndexPrecedes}
+use Rattle.walrus_types.specs.Steps.WrittenGroups.{AllIndexed, AreWritten, IsMemoryOrMissing, IsFirstUnindexed}
+use Rattle.walrus_sections.specs.WritingOrders.{IsApart, ids_in, with_indices, written_group}
+use Rattle.walrus_sections.specs.MissingNames.{FirstMissingIs, IsMissingIn, IndexPrecedes}
 use Rattle.walrus_ty.proofs.Names.Definitions.{rename_agree}
-use Rattle.walrus_normal_form.proofs.Writing.IndexOfId.{member_at}
+use Rattle.walrus_sections.proofs.Emission.IndexOfId.{member_at}
 use Rattle.walrus_ty.proofs.Basics.{some_inj, slice_get-left}
 
 pub IsMemoryOrMissing-weaker :
@@ -438,18 +434,6 @@ module _ (groups : List RecGroup) (ps : List PendingGroup) (j : ℕ) (p : Pendin
   pub filled_of : All (λ (w : TypeGroup). 0 < length w.ids) (groups_of groups ps) → 0 < length g.types
   filled_of each = subst (λ (w : TypeGroup). 0 < length w.ids) picked
       (each j no_group (omega (arith, lt, groups_count groups ps)))
-
-  pub key_of : (slots : TypeSlots) (o : Option SortKey) →
-      All (λ (q : PendingGroup). q.head ≡ head slots (rec_group_at groups q.place)) ps →
-      IfSome o (λ w. IsSomeAnd p.head (IsLosslessKey w)) → DecodesToType slots (slice_index g.types 0) o
-  key_of slots o heads key =
-      let there : p.head ≡ head slots (rec_group_at groups p.place) =
-      subst (λ (q : PendingGroup). q.head ≡ head slots (rec_group_at groups q.place)) (sym p_is)
-      (heads j p lt) in
-      let here : p.head ≡ head slots g = there ∙ ap (head slots)
-      (get_or_default groups p.place no_rec_group g in_groups ∙ sym g_is) in
-      head_key slots g.types o (subst (λ (t : Option ModuleType).
-      IfSome o (λ w. IsSomeAnd t (IsLosslessKey w))) here key)
 
 pub empty_same : (old new : IndexMap) → IsEmpty old → IsSame old new → IsEmpty new
 empty_same old new e s = record { count = s.count ∙ e.count; index = λ id. s.index id ∙ e.index id }

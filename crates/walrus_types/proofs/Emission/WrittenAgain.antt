@@ -1,6 +1,7 @@
 -- A table that a section was read into: what its groups hold, that it can be written, and what is
 -- written.
-use Rattle.std.proofs.Common.{◌≡◌, ℕ, ◌∙◌, refl, sym, ap, subst, inl, inr, Some, false, List}
+use Rattle.std.proofs.Common.{◌≡◌, ℕ, ◌<◌, ◌∙◌, refl, sym, ap, subst, arith, inl, inr, Some, false, List, map, All, IsSome}
+use Rattle.std.proofs.lemmas.List.{get_or_default}
 use Rattle.std.proofs.lemmas.Option.{slice_get_within, get_or_from_slice_get}
 use Rattle.walrus_arena.specs.Arena.{get}
 use Rattle.walrus_ty.specs.Definition.{Definition, Names, names_of}
@@ -9,7 +10,7 @@ use Rattle.walrus_sections.specs.Section.{index_space}
 use Rattle.walrus_sections.specs.NormalForm.{image, IsNormalForm}
 use Rattle.walrus_sections.specs.SlotMap.{TypeGroup, read_definition, read_groups}
 use Rattle.walrus_sections.specs.Emission.{TableView, IsMember, IsEmission}
-use Rattle.walrus_types.specs.TableEmission.{definition_at, slot_definition, is_entry_at, table_view, IsEmitted}
+use Rattle.walrus_types.specs.TableEmission.{definition_at, slot_definition, is_entry_at, table_view, IsEmitted, IsWrittenId}
 use Rattle.walrus_module_types.specs.Indices.{IndexMap}
 use Rattle.walrus_module_types.specs.Lookups.{value_or_zero}
 use Rattle.walrus_sections.specs.Refusal.{NameUse, HasIndexBy, IsMissing}
@@ -18,9 +19,11 @@ use Rattle.walrus_types.specs.ReaderState.{IsReadInto}
 use Rattle.walrus_ty.specs.Records.{section_of}
 use Rattle.walrus_types.specs.Table.{Table}
 use Rattle.walrus_ty.specs.declared.records.GroupAt.{GroupAt}
-use Rattle.walrus_normal_form.proofs.Writing.ReadMembers.{member_is}
-use Rattle.walrus_sections.proofs.Emission.Emits.{slots_through, read_then_emitted, names_stand}
+use Rattle.walrus_sections.proofs.Emission.ReadMembers.{member_is, member_of, sent_by_slots}
+use Rattle.walrus_sections.proofs.Emission.Emits.{read_then_emitted, names_stand}
+use Rattle.walrus_sections.proofs.Emission.Made.{down, twice}
 use Rattle.walrus_sections.proofs.Emission.SameMembers.{same_emission, same_stands}
+use Rattle.walrus_sections.proofs.Emission.WrittenMembers.{written_member}
 use Rattle.walrus_types.proofs.Reading.Section.{stored_definition}
 
 module _ (s : Section) (t : Table) (ids : List ℕ) (has : IsReadInto s t ids) where
@@ -52,14 +55,28 @@ module _ (s : Section) (t : Table) (ids : List ℕ) (has : IsReadInto s t ids) w
 
   -- what is written is the normal form, and each index goes where its slot goes
   pub normal_again : (out : List GroupAt) (x : IndexMap) → IsEmitted t out x →
-      IsNormalForm s (section_of out) (slots_through s r (value_or_zero x.index))
+      IsNormalForm s (section_of out) (map (value_or_zero x.index) ids)
   normal_again out x em =
       let on : IsEmission (seen S) (section_of out) (value_or_zero x.index) =
       subst (λ (gs : List TypeGroup). IsEmission (seen gs) (section_of out) (value_or_zero x.index))
       has.grouping em.section in
-      read_then_emitted s (section_of out) r (value_or_zero x.index) has.well_named has.rule
+      subst (IsNormalForm s (section_of out)) (sym (sent_by_slots s ids has.one_each (value_or_zero x.index)))
+      (read_then_emitted s (section_of out) r (value_or_zero x.index) has.well_named has.rule
       (same_emission S (definition_at t.types.slots) (read_definition (index_space s) r)
-      (is_entry_at t.types.slots) (λ i. false) defines (section_of out) (value_or_zero x.index) no_entry on)
+      (is_entry_at t.types.slots) (λ i. false) defines (section_of out) (value_or_zero x.index) no_entry on))
+
+  -- the slot of each index has an index in what is written
+  pub each_indexed : (out : List GroupAt) (x : IndexMap) → IsEmitted t out x → All (λ id. IsSome (x.index id)) ids
+  each_indexed out x em i d below =
+      let within : i < (index_space s).count = omega (arith, below, has.one_each) in
+      let lower = down (index_space s) r has.rule i within in
+      let home = member_of s r has.rule (r i) (omega (arith, within, lower))
+      (twice (index_space s) r has.rule i within) in
+      let written : IsWrittenId (seen S) (r i) =
+      (written_member (home.1, r i, home.2, no_entry home.0 home.1 (r i) home.2) home.2, refl) in
+      let there : IsWrittenId (table_view t) (r i) =
+      subst (λ (gs : List TypeGroup). IsWrittenId (seen gs) (r i)) (sym has.grouping) written in
+      subst (λ (k : ℕ). IsSome (x.index k)) (get_or_default ids i 0 d below) ((em.has_index (r i)).1 there)
 
   -- what a member names has an index by the time its group is written
   named_has_index : (g u i k : ℕ) → IsMember S g u i → Names (read_definition (index_space s) r i) k →

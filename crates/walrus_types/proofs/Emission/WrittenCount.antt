@@ -10,7 +10,7 @@ use Rattle.walrus_sections.specs.SlotMap.{TypeGroup}
 use Rattle.walrus_sections.specs.Emission.{no_group, group_at}
 use Rattle.walrus_types.specs.TableEmission.{type_groups}
 use Rattle.walrus_sections.specs.Refusal.{written_count}
-use Rattle.walrus_normal_form.specs.Steps.WritingOrders.{ids_in, in_order, id_count}
+use Rattle.walrus_sections.specs.WritingOrders.{ids_in, in_order, id_count}
 
 module _ (is_entry : ℕ → Bool) where
   abbrev is_written : List ℕ → Bool

@@ -7,10 +7,10 @@ use Rattle.walrus_types.specs.declared.emit.order.PendingGroup.{PendingGroup}
 use Rattle.walrus_types.specs.declared.table.rec_group.RecGroup.{RecGroup}
 use Rattle.walrus_types.specs.TypesById.{TypeSlots}
 use Rattle.walrus_types.specs.Table.{rec_group_at}
-use Rattle.walrus_normal_form.specs.Steps.RunStarts.{start_of}
+use Rattle.walrus_sections.specs.RunStarts.{start_of}
 use Rattle.walrus_sections.specs.SlotMap.{TypeGroup}
 use Rattle.walrus_types.specs.TableEmission.{type_groups}
-use Rattle.walrus_normal_form.specs.Steps.WritingOrders.{in_order}
+use Rattle.walrus_sections.specs.WritingOrders.{in_order}
 use Rattle.walrus_types.specs.Steps.FreeGroups.{head, is_free_at, is_written_at}
 
 -- the group at this place, with what it is sorted by

@@ -1,7 +1,7 @@
 -- Groups that are written one after the other, and the indices that their ids get.
 -- Of this crate's own working; it serves the writing of a table as a type section. WebAssembly core
 -- specification, "Modules", types.
-use Rattle.std.specs.Prelude.{◌≡◌, ℕ, IsSomeAnd, true, false, [], ◌∷◌, ◌<◌, List, map, slice_get, Option, Some, None}
+use Rattle.std.specs.Prelude.{◌≡◌, ℕ, true, false, [], ◌∷◌, ◌<◌, List, map, slice_get, Option, Some, None}
 use Rattle.walrus_ty.specs.Definition.{Definition, names_of}
 use Rattle.walrus_sections.specs.SlotMap.{TypeGroup}
 use Rattle.walrus_ty.specs.Records.{section_of}
@@ -15,16 +15,8 @@ use Rattle.walrus_module_types.specs.declared.error.NoIndex.TheVariants.{OfType,
 use Rattle.walrus_module_types.specs.Indices.{IndexMap, Indexes}
 use Rattle.walrus_module_types.specs.Lookups.{first_missing}
 use Rattle.walrus_sections.specs.Refusal.{NameUse}
-use Rattle.walrus_normal_form.specs.Steps.WritingOrders.{ids_in, with_indices, written_group}
-use Rattle.walrus_normal_form.specs.Steps.MissingNames.{IsMissingIn}
-use Rattle.walrus_types.specs.TypesById.{TypeSlots, live_type}
-use Rattle.walrus_types.specs.Steps.LosslessKeys.{IsLosslessKey}
-use Rattle.walrus_normal_form.specs.SortKeys.{SortKey}
-
--- where there is a key, it is a lossless one of the type of this id
-abbrev pub DecodesToType : TypeSlots → ℕ → Option SortKey → Type 0
-DecodesToType slots id lossless_key =
-    (key : SortKey) → lossless_key ≡ Some key → IsSomeAnd (live_type slots id) (IsLosslessKey key)
+use Rattle.walrus_sections.specs.WritingOrders.{ids_in, with_indices, written_group}
+use Rattle.walrus_sections.specs.MissingNames.{IsMissingIn}
 
 -- the id of a group that isn't explicit, which has one; none for an explicit group
 abbrev pub IsLone : Option ℕ → RecGroup → Type 0

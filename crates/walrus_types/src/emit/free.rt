@@ -49,7 +49,7 @@ pub(super) fn is_free_group(table: &ModuleTypes, group: &RecGroup) -> bool
 }
 
 // This one and those below say whether something names no live type but `own`.
-#[tactic(auto, using(walrus_normal_form::proofs::Ordering::FreeNames::list_all_both))]
+#[tactic(auto, using(walrus_sections::proofs::Ordering::FreeNames::list_all_both))]
 fn type_names_none_other(table: &ModuleTypes, own: TypeId, ty: &Type) -> bool
     ensures { result ≡ names_none_other table.now.types.slots own
         (names_of (type_definition ty.now)) }
@@ -57,7 +57,7 @@ fn type_names_none_other(table: &ModuleTypes, own: TypeId, ty: &Type) -> bool
     composite_names_none_other(table, own, ty.kind()) && is_none_other(table, own, ty.supertype)
 }
 
-#[tactic(auto, using(walrus_normal_form::proofs::Ordering::FreeNames::list_all_flat_map, walrus_normal_form::proofs::Ordering::FreeNames::list_all_both))]
+#[tactic(auto, using(walrus_sections::proofs::Ordering::FreeNames::list_all_flat_map, walrus_sections::proofs::Ordering::FreeNames::list_all_both))]
 fn composite_names_none_other(table: &ModuleTypes, own: TypeId, kind: &CompositeType) -> bool
     ensures { result ≡ names_none_other table.now.types.slots own
         (composite_names (kind_composite kind.now)) }

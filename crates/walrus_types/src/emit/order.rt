@@ -1,21 +1,16 @@
 //! The groups that are written, and their order.
-ghost use Rattle.std.specs.Prelude.{◌≡◌, cond, length, All, IfOk, IfSome, IsSomeAnd};
+ghost use Rattle.std.specs.Prelude.{◌≡◌, cond, length, All, IfOk};
 ghost use Rattle.walrus_sections.specs.Refusal.{written_count};
 ghost use Rattle.walrus_types.specs.TypesById.{IsLive};
-ghost use Rattle.walrus_types.specs.Table.{rec_group_at};
 ghost use Rattle.walrus_types.specs.TableEmission.{type_groups, is_entry_at, table_view};
 ghost use Rattle.walrus_types.specs.declared.table.rec_group.RecGroup.{RecGroup};
-ghost use Rattle.walrus_types.specs.declared.emit.order.PendingGroup.{PendingGroup};
-ghost use Rattle.walrus_types.specs.Steps.FreeGroups.{head};
-ghost use Rattle.walrus_types.specs.Steps.LosslessKeys.{IsLosslessKey};
 ghost use Rattle.walrus_types.specs.Steps.PendingGroups.{pending_groups, places_of};
-ghost use Rattle.walrus_normal_form.specs.Steps.WritingOrders.{IsWritingOrder, id_count};
+ghost use Rattle.walrus_sections.specs.WritingOrders.{IsWritingOrder, id_count};
 
 use super::free::{head_of, is_free_group, is_written_group};
 use super::sort_key::KeyedType;
 use crate::{ModuleTypes, RecGroup};
 use std::alloc::{AllocError, Global};
-use walrus_normal_form::sort_key::SortKey;
 
 // A group that is to be written: where its run begins, its first type, and its place. They are
 // sorted by these in turn: each run of free groups by their first types. All others stay.
@@ -24,18 +19,6 @@ pub(super) struct PendingGroup<'a> {
     start: usize,
     head: Option<KeyedType<'a>>,
     pub(super) place: usize,
-}
-
-impl<'a> PendingGroup<'a> {
-    // The key of its first type, where that is lossless.
-    pub(super) fn lossless_key(&self) -> Option<SortKey>
-        ensures { IfSome result (λ w. IsSomeAnd self.now.head (IsLosslessKey w)) }
-    {
-        match &self.head {
-            Some(ty) => ty.lossless_key(),
-            None => None,
-        }
-    }
 }
 
 // The groups that are written, in the order in which they are.
@@ -48,9 +31,6 @@ pub(super) fn writing_order<'a>(
     ensures count { IfOk result
         (λ v. id_count (type_groups table.now.groups) (places_of v.items) ≡
         written_count (is_entry_at table.now.types.slots) (type_groups table.now.groups)) }
-    ensures heads { IfOk result
-        (λ v. All (λ (p : PendingGroup).
-        p.head ≡ head table.now.types.slots (rec_group_at table.now.groups p.place)) v.items) }
 {
     let mut pending = pending_groups(alloc, table, table.rec_groups())?;
     pending.sort()?;

@@ -1,66 +1,44 @@
-//! Types with their sort keys.
-//!
-//! Of two types the one with the lesser key is less. A lossless key has all of its type: `decode`
-//! makes the type's record from the key alone.
-ghost use Rattle.std.specs.Prelude.{◌≡◌, IfSome};
+//! Types with their sort keys. Of two types the one with the lesser key is less.
+ghost use Rattle.std.specs.Prelude.{◌≡◌};
 ghost use Rattle.walrus_module_types.specs.contracts.ty.TypeEq.TheImpl.Laws as type_eq;
 ghost use Rattle.walrus_module_types.specs.contracts.ty.TypeOrd.TheImpl.Laws as type_ord;
 ghost use Rattle.walrus_module_types.specs.contracts.ty.TypePartialEq.TheImpl.Laws as type_partial_eq;
 ghost use Rattle.walrus_module_types.specs.contracts.ty.TypePartialOrd.TheImpl.Laws as type_partial_ord;
-ghost use Rattle.walrus_types.specs.Steps.LosslessKeys.{IsLosslessKey};
+ghost use Rattle.walrus_types.specs.Steps.SortKeys.{type_sort_key};
 
-mod decoding;
-mod encoding;
-
-use crate::Type;
-pub(super) use decoding::decode;
-use encoding::{encode, has_lossless_key};
+use crate::{CompositeType, Type};
 use std::cmp::Ordering;
 use std::marker::Model;
-use walrus_normal_form::sort_key::SortKey;
+use walrus_normal_form::sort_key::{
+    SortKey, array_sort_key, compare_keys, function_sort_key, struct_sort_key,
+};
 
-// A type with its key, and whether this is lossless. It compares as the type does.
+// A type with its key. It compares as the type does.
 #[derive(Drop)]
 pub(super) struct KeyedType<'a> {
     key: SortKey,
-    is_lossless: bool,
     ty: &'a Type,
 }
 
 impl<'a> Model for KeyedType<'a> {
     ghost use Rattle.std.specs.Prelude.{◌≡◌};
-    ghost use Rattle.walrus_types.specs.Steps.LosslessKeys.{has_lossless_key};
     ghost use Rattle.walrus_types.specs.Steps.SortKeys.{type_sort_key};
-    ghost use Rattle.walrus_module_types.specs.Types.{ModuleType, type_definition};
+    ghost use Rattle.walrus_module_types.specs.Types.{ModuleType};
 
     ghost Value = { ModuleType };
 
     ghost view = { λ s. s.ty.now };
 
-    ghost invariant = { λ s. (s.key ≡ type_sort_key s.ty.now) ×
-        (s.is_lossless ≡ has_lossless_key (type_definition s.ty.now)) };
+    ghost invariant = { λ s. s.key ≡ type_sort_key s.ty.now };
 }
 
 impl<'a> KeyedType<'a> {
     pub(super) fn new(ty: &'a Type) -> KeyedType<'a>
         ensures { result ≡ ty.now }
     {
-        let key = encode(ty);
         KeyedType {
-            key,
-            is_lossless: has_lossless_key(ty, key),
+            key: sort_key_of(ty),
             ty,
-        }
-    }
-
-    // Its key, where that is lossless.
-    pub(super) fn lossless_key(&self) -> Option<SortKey>
-        ensures { IfSome result (λ w. IsLosslessKey w self.now) }
-    {
-        if self.is_lossless {
-            Some(self.key)
-        } else {
-            None
         }
     }
 }
@@ -99,11 +77,23 @@ impl<'a> Ord for KeyedType<'a> {
     ghost matches_eq = { type_ord.matches_eq-law };
 
     fn cmp(&self, other: &Self) -> Ordering {
-        match self.key.cmp(&other.key) {
+        match compare_keys(self.key, other.key) {
             Ordering::Equal => compare_types(self.ty, other.ty),
             Ordering::Less => Ordering::Less,
             Ordering::Greater => Ordering::Greater,
         }
+    }
+}
+
+fn sort_key_of(ty: &Type) -> SortKey
+    ensures { result ≡ type_sort_key ty.now }
+{
+    match ty.kind() {
+        CompositeType::Function(function) => {
+            function_sort_key(function.params(), function.results())
+        }
+        CompositeType::Struct(of) => struct_sort_key(of.fields.as_slice()),
+        CompositeType::Array(of) => array_sort_key(&of.field),
     }
 }
 

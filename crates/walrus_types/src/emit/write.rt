@@ -1,30 +1,26 @@
 //! Records of groups, and the indices that their types get.
-ghost use Rattle.std.specs.Prelude.{◌≡◌, ◌<◌, ◌≤◌, ◌^◌, IfOk, IfErr, OnOk, None, Some, All, map, length, false, slice_index};
+ghost use Rattle.std.specs.Prelude.{◌≡◌, ◌<◌, ◌≤◌, ◌^◌, IfOk, IfErr, OnOk, None, Some, All, map, length, false};
 ghost use Rattle.walrus_types.specs.TypesById.{IsLive};
 ghost use Rattle.walrus_types.specs.declared.table.rec_group.RecGroup.{RecGroup};
 ghost use Rattle.walrus_types.specs.declared.emit.order.PendingGroup.{PendingGroup};
-ghost use Rattle.walrus_types.specs.Steps.FreeGroups.{head};
 ghost use Rattle.walrus_types.specs.Steps.PendingGroups.{groups_of};
 ghost use Rattle.walrus_module_types.specs.declared.error.ToRecordError.TheVariants as to_record;
 ghost use Rattle.walrus_ty.specs.Definition.{names_of};
-ghost use Rattle.walrus_types.specs.Table.{rec_group_at};
 ghost use Rattle.walrus_types.specs.TableEmission.{contents, definition_at};
 ghost use Rattle.walrus_module_types.specs.Indices.{IsEmpty, type_index, type_indices, func_indices, global_indices};
 ghost use Rattle.walrus_module_types.specs.Lookups.{first_missing};
 ghost use Rattle.walrus_sections.specs.SlotMap.{TypeGroup};
 ghost use Rattle.walrus_ty.specs.Records.{entry_definition, group_of};
-ghost use Rattle.walrus_types.specs.Steps.WrittenGroups.{AllIndexed, AreWritten, IsMemoryOrMissing, IsFirstUnindexed, IsLone, RefusesType, DecodesToType, emit_error};
-ghost use Rattle.walrus_normal_form.specs.Steps.WritingOrders.{IsApart, ids_in, with_indices, written_group};
-ghost use Rattle.walrus_normal_form.specs.Steps.MissingNames.{FirstMissingIs};
+ghost use Rattle.walrus_types.specs.Steps.WrittenGroups.{AllIndexed, AreWritten, IsMemoryOrMissing, IsFirstUnindexed, IsLone, RefusesType, emit_error};
+ghost use Rattle.walrus_sections.specs.WritingOrders.{IsApart, ids_in, with_indices, written_group};
+ghost use Rattle.walrus_sections.specs.MissingNames.{FirstMissingIs};
 
 use super::order::PendingGroup;
-use super::sort_key::decode;
 use crate::{
     EmitError, EntryAt, GroupAt, IdsToIndices, Listed, ModuleTypes, NoIndex, RecGroup,
     ToRecordError, TypeId,
 };
 use std::alloc::{AllocError, Global};
-use walrus_normal_form::sort_key::SortKey;
 
 // The records of these groups in order. Each type of a group has its index before the group is
 // written.
@@ -38,8 +34,6 @@ pub(super) fn write_groups(
     requires single { All (λ (g : RecGroup). g.is_explicit ≡ false → length g.types ≤ 1)
         groups.now }
     requires within { All (λ (p : PendingGroup). p.place < length groups.now) pending.now }
-    requires heads { All (λ (p : PendingGroup).
-        p.head ≡ head table.now.types.slots (rec_group_at groups.now p.place)) pending.now }
     requires filled { All (λ (g : TypeGroup). 0 < length g.ids)
         (groups_of groups.now pending.now) }
     requires apart { IsApart (ids_in (groups_of groups.now pending.now)) }
@@ -57,7 +51,7 @@ pub(super) fn write_groups(
     for item in pending {
         let group = &groups[item.place];
         indices.push_all_types(group.types.as_slice())?;
-        let record = record_of(alloc, table, group, item.lossless_key(), &indices)?;
+        let record = record_of(alloc, table, group, &indices)?;
         written.push(record)?;
     }
     Ok((written, indices))
@@ -67,14 +61,11 @@ fn record_of(
     alloc: Global,
     table: &ModuleTypes,
     group: &RecGroup,
-    lossless_key: Option<SortKey>,
     indices: &IdsToIndices,
 ) -> Result<GroupAt, EmitError>
     requires live { All (IsLive table.now.types.slots) group.now.types }
     requires filled { 0 < length group.now.types }
     requires single { group.now.is_explicit ≡ false → length group.now.types ≤ 1 }
-    requires lossless_key { DecodesToType table.now.types.slots (slice_index group.now.types 0)
-        lossless_key }
     ensures renamed { IfOk result
         (λ g. group_of g ≡ written_group
         (with_indices (type_index indices.now) (definition_at table.now.types.slots))
@@ -88,7 +79,7 @@ fn record_of(
 {
     match lone_id(group) {
         Some(id) => {
-            let entry = lone_entry(alloc, table, id, lossless_key, indices)?;
+            let entry = entry_of(alloc, table, id, indices)?;
             Ok(GroupAt::Single(entry))
         }
         None => {
@@ -108,33 +99,6 @@ fn lone_id(group: &RecGroup) -> Option<TypeId>
         None
     } else {
         Some(group.types.as_slice()[0])
-    }
-}
-
-// The record of the type of a live id, from its key where there is a lossless one.
-fn lone_entry(
-    alloc: Global,
-    table: &ModuleTypes,
-    id: TypeId,
-    lossless_key: Option<SortKey>,
-    indices: &IdsToIndices,
-) -> Result<EntryAt, EmitError>
-    requires live { IsLive table.now.types.slots id }
-    requires lossless_key { DecodesToType table.now.types.slots id lossless_key }
-    ensures renamed { IfOk result
-        (λ e. entry_definition e ≡
-        with_indices (type_index indices.now) (definition_at table.now.types.slots) id) }
-    ensures complete { OnOk result
-        (first_missing (type_index indices.now)
-        (names_of (definition_at table.now.types.slots id)) ≡ None) }
-    ensures missing { IfErr result
-        (λ e. IsMemoryOrMissing e (λ i k. (i ≡ id) ×
-        (first_missing (type_index indices.now)
-        (names_of (definition_at table.now.types.slots id)) ≡ Some k))) }
-{
-    match lossless_key {
-        Some(key) => Ok(decode(alloc, key)?),
-        None => entry_of(alloc, table, id, indices),
     }
 }
 

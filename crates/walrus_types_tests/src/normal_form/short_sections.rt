@@ -4,7 +4,7 @@ use std::alloc::{AllocError, Global};
 use std::slice;
 use walrus_types::{
     CompAt, EntryAt, GroupAt, HashKeys, HeapAt, Listed, ReadError, StorageAt, ValAt,
-    is_normal_form, normalise,
+    is_normal_form, normalise, normalise_by_table,
 };
 
 // Of each entry: which it is, and whether it is a lone type, begins a `Rec`, or goes on with the
@@ -117,21 +117,20 @@ fn first_error(groups: &[GroupAt]) -> Option<ReadError> {
     None
 }
 
-// Whether the section has the normal form that it is to have, or else is refused as it is to be.
+// Whether the section has the normal form that it is to have, by records and by a table, or else is
+// refused as it is to be.
 fn is_right(alloc: Global, choices: &[u32]) -> Result<bool, AllocError> {
     let groups = section_of(alloc, choices)?;
-    let refusal = first_error(groups.as_slice());
-    match normalise(alloc, HashKeys::fixed(), groups.as_slice()) {
-        Ok((output, map)) => {
-            let normal = is_normal_form(
-                alloc,
-                groups.as_slice(),
-                output.as_slice(),
-                map.as_slice(),
-            );
-            Ok(normal? && refusal.is_none())
+    let groups = groups.as_slice();
+    let refusal = first_error(groups);
+    let plain = normalise_by_table(alloc, HashKeys::fixed(), groups);
+    match (normalise(alloc, HashKeys::fixed(), groups), plain) {
+        (Ok((output, map)), Ok((plain, plain_map))) => {
+            let normal = is_normal_form(alloc, groups, output.as_slice(), map.as_slice())?;
+            Ok(normal && refusal.is_none() && plain == output && plain_map == map)
         }
-        Err(refused) => Ok(refusal == Some(refused)),
+        (Err(refused), Err(plain)) => Ok(refusal == Some(refused) && plain == refused),
+        _ => Ok(false),
     }
 }
 

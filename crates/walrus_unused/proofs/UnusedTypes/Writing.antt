@@ -10,7 +10,7 @@ use Rattle.walrus_types.specs.declared.table.rec_group.RecGroup.{RecGroup}
 use Rattle.walrus_types.specs.TypesById.{TypeSlots, live_type, IsLive}
 use Rattle.walrus_types.specs.Table.{Table, IsTable, IsIdAt, rec_group_at, DeletesAll}
 use Rattle.walrus_types.specs.TableEmission.{type_groups, slot_definition, definition_at, slot_is_entry, table_view}
-use Rattle.walrus_normal_form.proofs.Writing.PairsOfGroups.{at_member, to_member}
+use Rattle.walrus_sections.proofs.Emission.PairsOfGroups.{at_member, to_member}
 use Rattle.walrus_unused.specs.NeededTypes.{IsNeeded, named, grouped, AreUnused, Keeps}
 use Rattle.walrus_unused.specs.AllIndices.{HasAllIndices}
 use Rattle.walrus_unused.proofs.UnusedTypes.Elements.{contains_from_get}

@@ -28,7 +28,6 @@ use Rattle.walrus_unused.specs.NeededTypes.{IsNeeded, named, AreUnused, Keeps}
 use Rattle.walrus_unused.specs.UsedSections.{IsUsed, IsWrittenAs, KeepsAll, KeepsUsed}
 use Rattle.walrus_unused.proofs.IndexMaps.{through}
 use Rattle.walrus_types.proofs.Emission.WrittenAgain.{normal_again}
-use Rattle.walrus_normal_form.proofs.Writing.ReadMembers.{sent_by_slots}
 use Rattle.walrus_unused.proofs.UnusedTypes.Elements.{contains_first}
 use Rattle.walrus_unused.proofs.UnusedTypes.Writing.{in_table, names_at}
 use Rattle.walrus_unused.proofs.UsedSections.ReadTables.{explicit_at, live_below, live_own, defines, kind_of, rec_own, rec_kind, recs_apart, one_group, one_home}
@@ -367,5 +366,5 @@ module _ (s : Section) (t left : Table) (ids roots : List ℕ) (has : IsReadInto
       subst (λ (u : Table). IsEmitted u out w.indices) same w.written in
       let numbers : map (λ n. unwrap_or n 0) new ≡ map m ids =
       ap (map (λ n. unwrap_or n 0)) w.sent ∙ or_zero index ids in
-      subst (IsNormalForm s (section_of out)) (sym (numbers ∙ sent_by_slots s ids has.one_each m))
+      subst (IsNormalForm s (section_of out)) (sym numbers)
       (normal_again s t ids has out w.indices written)

@@ -1,23 +1,27 @@
+use Rattle.std.specs.Prelude.{IfSome}
+use Rattle.wasmnorm.specs.Steps.Failures.{Explains}
 use Rattle.wasmnorm.specs.declared.failure.Failure.TheVariants as failure
-use Rattle.wasmnorm.proofs.Snips.{known_of_streams, streams_end}
+use Rattle.wasmnorm.proofs.Failures.{error_kept, known_of_streams}
 use Rattle.wasmnorm.proofs.Warnings.{known_warned, warns_at_most}
 use Rattle.wasmnorm.proofs.normalise_input.Goals as goal
 
 pub returns-in-Err-clause-failed : goal.returns-in-Err-clause-failed
 returns-in-Err-clause-failed g c =
-    known_of_streams c.args.options c.args.snips.now (g.R.Read.remaining c.args.reader.now)
+    known_of_streams c.args.options (g.R.Read.remaining c.args.reader.now)
     c.failed_input.result c.failed_input.ensures
 
 pub returns-clause-failed : goal.returns-clause-failed
 returns-clause-failed g c =
-    known_of_streams c.args.options c.args.snips.now (g.R.Read.remaining c.args.reader.now)
+    known_of_streams c.args.options (g.R.Read.remaining c.args.reader.now)
     (failure.Output c.in-Err-write_and_flush.error) tt
 
 pub returns-in_err-warn_of-clause-failed : goal.returns-in_err-warn_of-clause-failed
 returns-in_err-warn_of-clause-failed g c =
-    streams_end c.args.options c.args.snips.now (g.R.Read.remaining c.args.reader.now)
+    error_kept (λ e. IfSome (g.R.Read.remaining c.args.reader.now) (λ bytes. Explains c.args.options bytes e))
     c.from_residual-in_err-warn_of.result c.in_err-warn_of.field-0.0
-    c.from_residual-in_err-warn_of.ensures.1 c.in_err-warn_of.ensures.failed
+    c.from_residual-in_err-warn_of.ensures.1
+    (known_of_streams c.args.options (g.R.Read.remaining c.args.reader.now) c.in_err-warn_of.field-0.0
+    c.in_err-warn_of.ensures.failed)
 
 pub returns-in-Ok-write_and_flush-clause-warned : goal.returns-in-Ok-write_and_flush-clause-warned
 returns-in-Ok-write_and_flush-clause-warned g c =

@@ -1,7 +1,5 @@
 -- What a failure says of the bytes, `Explains`, and the exit status that it has.
-use Rattle.std.specs.Prelude.{◌≡◌, ℕ, ◌-◌, Bool, true, false, List, []}
-use Rattle.std.specs.declared.alloc.Global.{Global}
-use Rattle.std.specs.declared.string.String.{String}
+use Rattle.std.specs.Prelude.{◌≡◌, ℕ, ◌-◌, Bool, true, false, List}
 use Rattle.walrus_binary.specs.ModuleSections.{HasBadTypesBy}
 use Rattle.walrus_module.specs.declared.faults.FaultKind.TheVariants as fault
 use Rattle.walrus_normalise.specs.declared.options.NormaliseOptions.{NormaliseOptions}
@@ -13,13 +11,10 @@ use Rattle.error_context.specs.declared.context.Context.{Context}
 use Rattle.error_context.specs.Contexts.{IsContext, IsErrorContext}
 use Rattle.wasmnorm.specs.Judged.{OfJudged, IsMalformedAt}
 use Rattle.wasmnorm.specs.Steps.Warnings.{IsWarning}
-use Rattle.wasmnorm.specs.Steps.Snips.{ExplainsSnip, snip_status}
-use Rattle.wasmnorm.specs.declared.snip_failure.SnipFailure.{SnipFailure}
 use Rattle.wasmnorm.specs.declared.failure.Failure.{Failure}
 use Rattle.wasmnorm.specs.declared.failure.Failure.TheVariants as failure
 use Rattle.wasmnorm.specs.declared.options.RunOptions.{RunOptions}
 use Rattle.wasmnorm.specs.declared.options.Strictness.TheVariants.{Strict}
-use Rattle.wasmnorm.specs.declared.warning.Warning.{Warning}
 
 -- what an error says of the bytes where all of them are judged
 abbrev pub ExplainsModule : NormaliseOptions → List ℕ → NormaliseModuleError → Type 0
@@ -83,28 +78,15 @@ HasContext bytes error.TooLong context = Unit {0}
 HasContext bytes (error.Outdated offset) context = IsContext context bytes offset
 HasContext bytes error.Memory context = Unit {0}
 
--- what a failure to normalise the bytes says of them
-abbrev pub Explains : NormaliseOptions → List ℕ → Failure → Type 0
+-- what a failure says of the bytes and of the options
+abbrev pub Explains : RunOptions → List ℕ → Failure → Type 0
 Explains options bytes (failure.Refused e context advice) =
-    ExplainsError options bytes e × HasContext bytes e context
-Explains options bytes (failure.Rejected w) = ⊥
-Explains options bytes (failure.Unsnipped e) = ⊥
+    ExplainsError options.normalise bytes e × HasContext bytes e context
+Explains options bytes (failure.Rejected w) = (options.strictness ≡ Strict) × IsWarning bytes w
 Explains options bytes failure.Memory = Unit {0}
 Explains options bytes failure.Keys = Unit {0}
 Explains options bytes (failure.Input error) = Unit {0}
 Explains options bytes (failure.Output error) = Unit {0}
-
--- what a failure says of the bytes, of the options and of the arguments that name functions
-pub data ExplainsRun (options : RunOptions) (snips : List (String Global)) (bytes : List ℕ) :
-    Failure → Type 0 where
-  of_module :
-      (f : Failure) → Explains options.normalise bytes f → ExplainsRun options snips bytes f
-  of_warning :
-      (w : Warning) → options.strictness ≡ Strict → IsWarning bytes w
-      → ExplainsRun options snips bytes (failure.Rejected w)
-  of_functions :
-      (e : SnipFailure) → (snips ≡ [] → ⊥) → ExplainsSnip options.normalise snips bytes e
-      → ExplainsRun options snips bytes (failure.Unsnipped e)
 
 abbrev pub refused_status : NormaliseModuleError → ℕ
 refused_status (error.Types e) = 1
@@ -119,7 +101,6 @@ refused_status error.Memory = 3
 abbrev pub status_of : Failure → ℕ
 status_of (failure.Refused e context advice) = refused_status e
 status_of (failure.Rejected w) = 1
-status_of (failure.Unsnipped e) = snip_status e
 status_of failure.Memory = 3
 status_of failure.Keys = 4
 status_of (failure.Input error) = 4
@@ -129,7 +110,6 @@ status_of (failure.Output error) = 4
 abbrev pub IsOfStreams : Failure → Type 0
 IsOfStreams (failure.Refused e context advice) = ⊥
 IsOfStreams (failure.Rejected w) = ⊥
-IsOfStreams (failure.Unsnipped e) = ⊥
 IsOfStreams failure.Memory = Unit {0}
 IsOfStreams failure.Keys = Unit {0}
 IsOfStreams (failure.Input error) = Unit {0}

@@ -1,8 +1,7 @@
 //! Streams.
-use crate::alloc::AllocError;
-use std::io::{BufWriter, Write};
+use std::io::{self, BufWriter, Write};
 
 /// A writer that collects what it is given, and writes much at once.
-pub fn buf_writer<W: Write>(writer: W) -> Result<BufWriter<W>, AllocError> {
+pub fn buf_writer<W: Write>(writer: W) -> io::Result<BufWriter<W>> {
     Ok(BufWriter::new(writer))
 }

@@ -14,9 +14,11 @@ pub fn try_clone(item: &Item, bound: Option<&str>) -> String {
         )
     };
     let arms: String = item.variants.iter().map(arm).collect();
+    // Rust sees that an enum has no value only at the enum itself.
+    let value = if arms.is_empty() { "*self" } else { "self" };
     format!(
         "{} {{ fn try_clone(&self) -> ::core::result::Result<Self, ::rattle_std::alloc::AllocError> \
-         {{ match self {{ {arms} }} }} }}",
+         {{ match {value} {{ {arms} }} }} }}",
         item.header("::rattle_std::TryClone", bound)
     )
 }

@@ -4,7 +4,7 @@ use Rattle.walrus_normal_form.specs.declared.slot_group.SlotGroup.{SlotGroup}
 use Rattle.walrus_normal_form.specs.Steps.PendingGroups.{head, is_free, is_free_at}
 use Rattle.walrus_normal_form.specs.Steps.ReadSections.{no_slot_group, slot_group_at}
 use Rattle.walrus_normal_form.proofs.Ordering.PendingGroups.{group_left, group_more}
-use Rattle.walrus_normal_form.proofs.Ordering.RunStarts.{run_more}
+use Rattle.walrus_sections.proofs.Ordering.RunStarts.{run_more}
 use Rattle.walrus_normal_form.proofs.order.pending_groups.Goals as goal
 use Rattle.walrus_normal_form.proofs.order.pending_groups.Goals.{in-Some+in_ok-push, in_default}
 

@@ -1,6 +1,6 @@
 use Rattle.std.proofs.Common.{◌≡◌}
 use Rattle.walrus_normal_form.specs.Steps.PendingGroups.{ArePending, is_free_at}
-use Rattle.walrus_normal_form.specs.Steps.RunStarts.{run_start}
+use Rattle.walrus_sections.specs.RunStarts.{run_start}
 use Rattle.walrus_normal_form.proofs.order.pending_groups.Given as goal
 
 abbrev pub invariant-loop-place : goal.invariant-loop-place

@@ -6,9 +6,9 @@ use Rattle.walrus_sections.specs.NormalForm.{image}
 use Rattle.walrus_normal_form.specs.contracts.order.PendingGroupOrd.TheImpl.Laws as pending_ord
 use Rattle.walrus_normal_form.specs.declared.order.PendingGroup.{PendingGroup}
 use Rattle.walrus_normal_form.specs.Steps.PendingGroups.{is_free_at, is_written_at, places_of}
-use Rattle.walrus_normal_form.specs.Steps.WritingOrders.{IsWritingOrder}
+use Rattle.walrus_sections.specs.WritingOrders.{IsWritingOrder}
 use Rattle.walrus_normal_form.proofs.Ordering.OrderFromSort.{entry_cmp, order_from_sort}
-use Rattle.walrus_normal_form.proofs.Ordering.SortedPlaces.{stands_sorted}
+use Rattle.walrus_sections.proofs.Ordering.SortedPlaces.{stands_sorted}
 use Rattle.walrus_normal_form.proofs.order.writing_order.Goals as goal
 
 pub returns : goal.returns

@@ -3,7 +3,7 @@ use Rattle.walrus_ty.specs.Records.{section_of}
 use Rattle.walrus_sections.specs.Emission.{read_table}
 use Rattle.walrus_sections.specs.NormalForm.{image, IsNormalForm}
 use Rattle.walrus_normal_form.specs.Steps.ReadSections.{IsReadAs}
-use Rattle.walrus_normal_form.specs.Steps.WritingOrders.{IsWritingOrder}
+use Rattle.walrus_sections.specs.WritingOrders.{IsWritingOrder}
 use Rattle.walrus_normal_form.specs.Steps.WrittenRecords.{CanBeWritten}
 use Rattle.walrus_normal_form.proofs.Writing.ReadOrder.{can_be_written, normal}
 use Rattle.walrus_normal_form.proofs.write.write_section.Goals as goal

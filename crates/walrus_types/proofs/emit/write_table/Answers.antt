@@ -4,15 +4,14 @@ use Rattle.walrus_arena.specs.Arena.{IsLive}
 use Rattle.walrus_types.specs.declared.emit.order.PendingGroup.{PendingGroup}
 use Rattle.walrus_types.specs.declared.table.rec_group.RecGroup.{RecGroup}
 use Rattle.walrus_sections.specs.SlotMap.{TypeGroup}
-use Rattle.walrus_types.specs.Table.{rec_group_at}
-use Rattle.walrus_types.specs.TableEmission.{definition_at}
+use Rattle.walrus_types.specs.TableEmission.{definition_at, table_view}
 use Rattle.walrus_module_types.specs.Indices.{type_indices}
-use Rattle.walrus_types.specs.Steps.FreeGroups.{head}
 use Rattle.walrus_types.specs.Steps.PendingGroups.{places_of}
 use Rattle.walrus_types.specs.Steps.WrittenGroups.{AreWritten, IsMemoryOrMissing}
-use Rattle.walrus_normal_form.specs.Steps.WritingOrders.{IsApart, ids_in}
-use Rattle.walrus_normal_form.specs.Steps.MissingNames.{FirstMissingIs}
-use Rattle.walrus_types.proofs.Emission.EmittedTables.{within, singles, places_within, carried, apart, emitted, misses, as_ordered, live_groups, filled_in_order}
+use Rattle.walrus_sections.specs.WritingOrders.{IsApart, ids_in}
+use Rattle.walrus_sections.specs.MissingNames.{FirstMissingIs}
+use Rattle.walrus_types.proofs.Emission.EmittedTables.{within, singles, places_within, carried, apart, emitted, as_ordered, live_groups, filled_in_order}
+use Rattle.walrus_types.proofs.Emission.WriteLoop.{IsMemoryOrMissing-weaker}
 use Rattle.walrus_types.proofs.emit.write_table.Goals as goal
 
 pub write_groups-requires-clause-filled : goal.write_groups-requires-clause-filled
@@ -46,9 +45,12 @@ returns-clause-written c =
     IfOk-weaker c.write_groups.result _ _ (λ r h.
     (let P : List TypeGroup → Type 0 = λ ws. AreWritten (definition_at t.types.slots) ws r.0.items
     (type_indices r.1) in
-    emitted t c.rec_groups.ensures.grouping (places_of c.in_ok-pending.pending.items)
-    c.in_ok-pending.ensures.order c.in_ok-pending.ensures.count r.0.items (type_indices r.1)
-    (subst P given h))) c.write_groups.ensures.written
+    let order = places_of c.in_ok-pending.pending.items in
+    let ord = c.in_ok-pending.ensures.order in
+    emitted t c.rec_groups.ensures.grouping order ord
+    (λ m. c.written_in_order.ensures.emission (table_view t) order m ord)
+    (c.written_in_order.ensures.complete (table_view t) order ord) c.in_ok-pending.ensures.count r.0.items
+    (type_indices r.1) (subst P given h))) c.write_groups.ensures.written
 
 pub returns-clause-missing : goal.returns-clause-missing
 returns-clause-missing c =
@@ -58,8 +60,9 @@ returns-clause-missing c =
     IfErr-weaker c.write_groups.result _ _ (λ e h.
     (let P : List TypeGroup → Type 0 = λ ws. IsMemoryOrMissing e
     (FirstMissingIs (definition_at t.types.slots) ws) in
-    misses t c.rec_groups.ensures.grouping (places_of c.in_ok-pending.pending.items)
-    c.in_ok-pending.ensures.order e (subst P given h))) c.write_groups.ensures.missing
+    let order = places_of c.in_ok-pending.pending.items in
+    IsMemoryOrMissing-weaker _ _ (λ from to. c.written_in_order.ensures.missing (table_view t) order from to
+    c.in_ok-pending.ensures.order) e (subst P given h))) c.write_groups.ensures.missing
 
 pub write_groups-requires-clause-live : goal.write_groups-requires-clause-live
 write_groups-requires-clause-live c =
@@ -84,11 +87,3 @@ write_groups-requires-clause-within c =
     (sym c.as_slice.ensures.value) (places_within
     ps (length t.groups) (within t c.rec_groups.ensures.grouping (places_of ps)
     c.in_ok-pending.ensures.order))
-
-pub write_groups-requires-clause-heads : goal.write_groups-requires-clause-heads
-write_groups-requires-clause-heads c =
-    let t = c.args.table.now in
-    let P : List RecGroup → List PendingGroup → Type 0 = λ groups qs.
-    All (λ (p : PendingGroup). p.head ≡ head t.types.slots (rec_group_at groups p.place)) qs in
-    carried P t.groups c.rec_groups.result.now c.in_ok-pending.pending.items c.as_slice.result.now
-    (sym c.rec_groups.ensures.groups) (sym c.as_slice.ensures.value) c.in_ok-pending.ensures.heads

@@ -1,5 +1,9 @@
 use Rattle.walrus_types.proofs.Emission.WrittenAgain.{never_missing}
+use Rattle.walrus_types.proofs.Emission.WrittenFew.{written_few}
 use Rattle.walrus_types.proofs.laws.read_table_can_be_written.Goals as goal
 
-pub returns : goal.returns
-returns c = λ s t ids name has. never_missing s t ids has name
+pub returns-clause-named : goal.returns-clause-named
+returns-clause-named c = λ s t ids name has. never_missing s t ids has name
+
+pub returns-clause-few : goal.returns-clause-few
+returns-clause-few c = written_few

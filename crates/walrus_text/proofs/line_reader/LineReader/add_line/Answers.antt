@@ -2,7 +2,8 @@ use Rattle.std.proofs.Common.{◌≡◌, ◌++◌, ◌∷◌, [], filter, false,
 use Rattle.std.specs.Prelude.{IfOk, IsTrue}
 use Rattle.walrus_text.specs.Words.{has_items, words_of}
 use Rattle.walrus_text.specs.Steps.Words.{words_if_any}
-use Rattle.walrus_text.specs.Steps.Builder.{BeginsNoSection, builder_lines}
+use Rattle.walrus_text.specs.Text.{BeginsSection}
+use Rattle.walrus_text.specs.Steps.Builder.{builder_lines}
 use Rattle.walrus_text.specs.Steps.Lines.{IsLine, line_words, line_words_if_any}
 use Rattle.walrus_text.proofs.Gathering.Prefixes.{line_words_if_any_is, bad_line}
 use Rattle.walrus_text.proofs.line_reader.LineReader.add_line.Goals as goal
@@ -25,7 +26,7 @@ returns-in-Some-clause-refused c =
     line_words_if_any_is c.in-Some.line ∙ ap (λ ws. filter has_items (ws ∷ [])) (sym words
     ∙ ap words_of c.as_slice.ensures.value) in
     subst (λ ls. IfOk c.add.result (λ taken. taken ≡ false →
-    BeginsNoSection (builder_lines c.args.self.now.section ++ ls))) same c.add.ensures.refused
+    ¬ BeginsSection (builder_lines c.args.self.now.section ++ ls))) same c.add.ensures.refused
 
 pub returns-in-None-clause-refused : goal.returns-in-None-clause-refused
 returns-in-None-clause-refused c =

@@ -3,7 +3,7 @@ use Rattle.std.proofs.lemmas.List.{get_or_default}
 use Rattle.walrus_module_types.specs.Types.{ModuleType}
 use Rattle.walrus_types.specs.Table.{no_rec_group, rec_group_at}
 use Rattle.walrus_types.specs.Steps.FreeGroups.{head, is_free, is_free_at, is_written_at, is_written_group}
-use Rattle.walrus_normal_form.proofs.Ordering.RunStarts.{run_more}
+use Rattle.walrus_sections.proofs.Ordering.RunStarts.{run_more}
 use Rattle.walrus_types.proofs.Emission.SortedGroups.{group_more, group_left}
 use Rattle.walrus_types.proofs.emit.order.pending_groups.Goals as goal
 use Rattle.walrus_types.proofs.emit.order.pending_groups.Goals.{then-is_written_group+in_ok-push, else-is_written_group}

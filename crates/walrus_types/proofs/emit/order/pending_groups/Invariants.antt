@@ -1,6 +1,6 @@
 use Rattle.std.proofs.Common.{◌≡◌}
 use Rattle.walrus_types.specs.Steps.FreeGroups.{is_free_at}
-use Rattle.walrus_normal_form.specs.Steps.RunStarts.{run_start}
+use Rattle.walrus_sections.specs.RunStarts.{run_start}
 use Rattle.walrus_types.specs.Steps.PendingGroups.{pending_groups}
 use Rattle.walrus_types.proofs.emit.order.pending_groups.Given as goal
 

@@ -3,7 +3,7 @@ use Rattle.walrus_module_types.specs.contracts.ty.TypeOrd.TheImpl.Laws as type_o
 use Rattle.walrus_types.specs.contracts.emit.order.PendingGroupOrd.TheImpl.Laws as pending_ord
 use Rattle.walrus_types.specs.Table.{rec_group_at}
 use Rattle.walrus_types.specs.Steps.FreeGroups.{head, is_free_at, is_written_at}
-use Rattle.walrus_types.proofs.Emission.OrderFromSort.{sorted_from, order_from_sort, count_from_sort, heads_from_sort}
+use Rattle.walrus_types.proofs.Emission.OrderFromSort.{sorted_from, order_from_sort, count_from_sort}
 use Rattle.walrus_types.proofs.Emission.SortedGroups.{stands_sorted}
 use Rattle.walrus_types.proofs.emit.order.writing_order.Goals as goal
 
@@ -23,13 +23,5 @@ returns-clause-count c =
     let t = c.args.table.now in
     let ps = c.sort.new.self.items in
     count_from_sort t c.rec_groups.ensures.grouping ps
-    (sorted_from t c.rec_groups.result.now c.rec_groups.ensures.groups c.in_ok-pending.pending.items ps
-    c.in_ok-pending.ensures c.in_ok-sort.ensures.permutation)
-
-pub returns-clause-heads : goal.returns-clause-heads
-returns-clause-heads c =
-    let t = c.args.table.now in
-    let ps = c.sort.new.self.items in
-    heads_from_sort t c.rec_groups.ensures.grouping ps
     (sorted_from t c.rec_groups.result.now c.rec_groups.ensures.groups c.in_ok-pending.pending.items ps
     c.in_ok-pending.ensures c.in_ok-sort.ensures.permutation)

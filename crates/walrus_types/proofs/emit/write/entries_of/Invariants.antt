@@ -5,7 +5,7 @@ use Rattle.walrus_types.specs.TableEmission.{definition_at}
 use Rattle.walrus_module_types.specs.Indices.{type_index}
 use Rattle.walrus_module_types.specs.Lookups.{first_missing}
 use Rattle.walrus_ty.specs.Records.{entry_definition}
-use Rattle.walrus_normal_form.specs.Steps.WritingOrders.{with_indices}
+use Rattle.walrus_sections.specs.WritingOrders.{with_indices}
 use Rattle.walrus_types.proofs.emit.write.entries_of.Given as goal
 
 abbrev pub invariant-loop-id : goal.invariant-loop-id

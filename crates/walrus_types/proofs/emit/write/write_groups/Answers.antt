@@ -7,7 +7,7 @@ use Rattle.walrus_module_types.specs.Indices.{Indexes, GivesAll, type_indices, f
 use Rattle.walrus_module_types.proofs.IndexMaps.NextIndex.{indexes_all}
 use Rattle.walrus_types.specs.declared.table.rec_group.RecGroup.{RecGroup}
 use Rattle.walrus_types.specs.Steps.PendingGroups.{groups_of}
-use Rattle.walrus_types.proofs.Emission.WriteLoop.{all_of, filled_of, groups_count, key_of, picked, IsMemoryOrMissing-weaker, advances, distinct, empty_same, filled_at, finishes, fresh, room, stops}
+use Rattle.walrus_types.proofs.Emission.WriteLoop.{all_of, filled_of, groups_count, picked, IsMemoryOrMissing-weaker, advances, distinct, empty_same, filled_at, finishes, fresh, room, stops}
 use Rattle.walrus_types.proofs.emit.write.write_groups.Goals as goal
 
 pub push_all_types-requires-clause-fresh : goal.push_all_types-requires-clause-fresh
@@ -146,9 +146,3 @@ pub record_of-requires-clause-filled : goal.record_of-requires-clause-filled
 record_of-requires-clause-filled c = filled_of c.args.groups.now c.args.pending.now c.loop-item.item-index
     c.item-item.result c.index-groups-item.result c.loop-item-test.true c.item-item.is c.index-groups-item.is
     c.requires.within c.requires.filled
-
-pub record_of-requires-clause-lossless_key : goal.record_of-requires-clause-lossless_key
-record_of-requires-clause-lossless_key c = key_of c.args.groups.now c.args.pending.now c.loop-item.item-index
-    c.item-item.result c.index-groups-item.result c.loop-item-test.true c.item-item.is c.index-groups-item.is
-    c.requires.within c.args.table.now.types.slots c.lossless_key.result c.requires.heads
-    c.lossless_key.ensures

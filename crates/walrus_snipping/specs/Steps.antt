@@ -1,4 +1,0 @@
--- What private functions promise one another.
-pub mod Counting
-pub mod Snipping
-pub mod Exporting
