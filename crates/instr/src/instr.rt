@@ -18,10 +18,9 @@ use crate::{
     TableGrow, TableInit, TableSet, TableSize, TernOp, Throw, ThrowRef, Try, TryTable, Unop,
     Unreachable, V128Bitselect,
 };
-use std::fmt;
 
 /// An instruction: for each kind a struct of the same name with its fields. `Drop` has `DropInstr`.
-#[derive(Drop)]
+#[derive(Debug, Drop)]
 pub enum Instr {
     // Control and branches.
     Block(Block),
@@ -139,13 +138,6 @@ pub enum Instr {
     Throw(Throw),
     ThrowRef(ThrowRef),
     Rethrow(Rethrow),
-}
-
-// The type's name alone: nothing is promised about the text.
-impl fmt::Debug for Instr {
-    fn fmt<W: fmt::Write>(&self, f: &mut fmt::Formatter<W>) -> fmt::Result {
-        f.write_str("Instr")
-    }
 }
 
 impl Instr {

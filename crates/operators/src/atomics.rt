@@ -3,10 +3,8 @@
 ghost use Rattle.std.specs.Prelude.{◌≡◌};
 ghost use Rattle.operators.specs.Atomics.{atomic_width};
 
-use std::fmt;
-
 /// What an atomic instruction does with the value in memory and the one that it takes.
-#[derive(Clone, Copy)]
+#[derive(Clone, Copy, Debug)]
 pub enum AtomicOp {
     Add,
     Sub,
@@ -14,13 +12,6 @@ pub enum AtomicOp {
     Or,
     Xor,
     Xchg,
-}
-
-// The type's name alone: nothing is promised about the text.
-impl fmt::Debug for AtomicOp {
-    fn fmt<W: fmt::Write>(&self, f: &mut fmt::Formatter<W>) -> fmt::Result {
-        f.write_str("AtomicOp")
-    }
 }
 
 /// The type of an atomic instruction's values, and how many bits of memory it touches if that is

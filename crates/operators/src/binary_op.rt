@@ -1,13 +1,11 @@
 //! Operators on two values.
 //! WebAssembly core specification, "Numeric Instructions" and "Vector Instructions".
 
-use std::fmt;
-
 /// An operator on two values.
 ///
 /// Names follow the text format: `I32DivS` is `i32.div_s`, `I8x16NarrowI16x8U` is
 /// `i8x16.narrow_i16x8_u`. An `idx` is the number of a lane.
-#[derive(Clone, Copy)]
+#[derive(Clone, Copy, Debug)]
 pub enum BinaryOp {
     // Comparisons of integers.
     I32Eq,
@@ -258,11 +256,4 @@ pub enum BinaryOp {
     F64x2RelaxedMax,
     I16x8RelaxedQ15mulrS,
     I16x8RelaxedDotI8x16I7x16S,
-}
-
-// The type's name alone: nothing is promised about the text.
-impl fmt::Debug for BinaryOp {
-    fn fmt<W: fmt::Write>(&self, f: &mut fmt::Formatter<W>) -> fmt::Result {
-        f.write_str("BinaryOp")
-    }
 }

@@ -1,12 +1,10 @@
 //! Operators on three values.
 //! WebAssembly core specification, "Vector Instructions".
 
-use std::fmt;
-
 /// An operator on three values.
 ///
 /// Names follow the text format: `F32x4RelaxedMadd` is `f32x4.relaxed_madd`.
-#[derive(Clone, Copy)]
+#[derive(Clone, Copy, Debug)]
 pub enum TernaryOp {
     // Products with a third vector added, or taken from it, whose rounding may differ between
     // machines.
@@ -23,11 +21,4 @@ pub enum TernaryOp {
 
     // Sums of neighbouring products with a third vector added.
     I32x4RelaxedDotI8x16I7x16AddS,
-}
-
-// The type's name alone: nothing is promised about the text.
-impl fmt::Debug for TernaryOp {
-    fn fmt<W: fmt::Write>(&self, f: &mut fmt::Formatter<W>) -> fmt::Result {
-        f.write_str("TernaryOp")
-    }
 }

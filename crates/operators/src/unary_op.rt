@@ -1,15 +1,13 @@
 //! Operators on one value.
 //! WebAssembly core specification, "Numeric Instructions" and "Vector Instructions".
 
-use std::fmt;
-
 /// An operator on one value.
 ///
 /// Names follow the text format: `I32Clz` is `i32.clz`. In a conversion of numbers the sign comes
 /// before the type that it is of: `I32TruncSF64` is `i32.trunc_f64_s`, `I64TruncUSatF32` is
 /// `i64.trunc_sat_f32_u`. `I16x8WidenLowI8x16S` is `i16x8.extend_low_i8x16_s`. An `idx` is the
 /// number of a lane.
-#[derive(Clone, Copy)]
+#[derive(Clone, Copy, Debug)]
 pub enum UnaryOp {
     // Tests and bit counts of integers.
     I32Eqz,
@@ -183,11 +181,4 @@ pub enum UnaryOp {
     I32x4RelaxedTruncF32x4U,
     I32x4RelaxedTruncF64x2SZero,
     I32x4RelaxedTruncF64x2UZero,
-}
-
-// The type's name alone: nothing is promised about the text.
-impl fmt::Debug for UnaryOp {
-    fn fmt<W: fmt::Write>(&self, f: &mut fmt::Formatter<W>) -> fmt::Result {
-        f.write_str("UnaryOp")
-    }
 }
