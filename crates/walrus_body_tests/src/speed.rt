@@ -3,10 +3,9 @@
 use crate::assertions::assert_equal;
 use std::alloc::Global;
 use std::process::Abort;
-use walrus_functions::LocalFunction;
-use walrus_ir::{Id, InstrSeqId};
-use walrus_traversals::{Nesting, check_nesting, dfs_in_order};
-use walrus_traversals_mut::dfs_pre_order_mut;
+use walrus_arena::Id;
+use walrus_body::{LocalFunction, Nesting, check_nesting, dfs_in_order, dfs_pre_order_mut};
+use walrus_ir::InstrSeqId;
 
 mod counter;
 mod shapes;

@@ -1,11 +1,10 @@
 //! Worked collections of ids.
 use super::*;
-use crate::assertions::assert_equal;
+use walrus_body::{UsedIds, used_ids};
 use walrus_ir::{
     BrIf, Call, CallIndirect, LocalGet, MemoryInit, RefCast, RefNull, TableInit, Throw, TryTable,
     TryTableCatch,
 };
-use walrus_traversals::{UsedIds, used_ids};
 use walrus_types::{HeapType, Listed, RefType};
 
 fn reference(index: usize) -> RefType {

@@ -1,43 +1,18 @@
-//! The functions of the worked walks.
-ghost use Rattle.walrus_functions.specs.Building.{function_of, IsKnown, Stays, StayKnown};
+//! The functions of the worked walks, as the calls of a builder make them.
+ghost use Rattle.walrus_body.specs.Building.{function_of, IsKnown, Stays, StayKnown};
 
-use super::*;
-use walrus_functions::InstrSeqBuilder;
-use walrus_ir::{Const, LegacyCatch, Try, Value};
+use crate::bodies::{NOTHING, add, block, empty, id, number, with_locations};
+use std::alloc::{AllocError, Global};
+use std::process::Abort;
+use walrus_body::{BuildError, FunctionBuilder, InstrSeqBuilder, LocalFunction};
+use walrus_ir::{
+    Instr, InstrSeqId, InstrSeqType, LegacyCatch, TagId, Try, TryTable, TryTableCatch,
+};
 use walrus_types::{Listed, ModuleTypes, TypeId};
 
-// Adds a sequence with these instructions. Sequences have the ids 0, 1, and so on.
-fn add(
-    alloc: Global,
-    f: &mut FunctionBuilder,
-    instrs: Vec<Instr>,
-) -> Result<InstrSeqId, BuildError> {
-    add_typed(alloc, f, NOTHING, instrs)
-}
-
-// The same with this type.
-pub(super) fn add_typed(
-    alloc: Global,
-    f: &mut FunctionBuilder,
-    ty: InstrSeqType,
-    instrs: Vec<Instr>,
-) -> Result<InstrSeqId, BuildError> {
-    let located = with_locations(alloc, instrs)?;
-    let mut b = f.dangling_instr_seq(ty)?;
-    *b.instrs_mut() = located;
-    Ok(b.id())
-}
-
-fn with_locations(
-    alloc: Global,
-    instrs: Vec<Instr>,
-) -> Result<Vec<(Instr, InstrLocId)>, AllocError> {
-    let mut list = Vec::new(alloc);
-    for instr in instrs {
-        list.push((instr, InstrLocId::default()))?;
-    }
-    Ok(list)
-}
+/// The words of a walk in order over the test function.
+pub(crate) const IN_ORDER: &str =
+    "start 1 drop block start 2 drop if-else start 3 drop end start 4 drop end 5 drop end 6 drop try tag start 7 drop end start 8 drop end start 9 drop end 10 drop end";
 
 // The builder of a function that takes and leaves nothing. It has the type 0, and its entry, the
 // sequence 0, has the type 1 and these instructions.
@@ -48,16 +23,6 @@ fn begin(alloc: Global, entry: Vec<Instr>) -> Result<FunctionBuilder, AllocError
     let mut body = f.func_body();
     *body.instrs_mut() = located;
     Ok(f)
-}
-
-fn number(n: i32) -> Instr {
-    Instr::from(Const {
-        value: Value::I32(n),
-    })
-}
-
-fn block(index: usize) -> Instr {
-    Instr::from(Block { seq: id(index) })
 }
 
 // Adds the number, and takes it away.
@@ -92,7 +57,7 @@ fn begin_typed(alloc: Global) -> Result<(FunctionBuilder, TypeId), AllocError> {
 
 // A block with an `if` in it, and a `try` with two handlers, among numbers. The three sequences of
 // the `try` are made before all else.
-pub(super) fn test_function(rt: &impl Abort, alloc: Global) -> LocalFunction {
+pub(crate) fn test_function(rt: &impl Abort, alloc: Global) -> LocalFunction {
     let (mut f, ty) = begin_typed(alloc).expect(rt, "memory");
     let attempt = attempt(rt, alloc, &mut f, ty);
     assert!(rt; f.entry().is_some());
@@ -105,10 +70,8 @@ fn attempt(rt: &impl Abort, alloc: Global, f: &mut FunctionBuilder, ty: TypeId) 
     let seq = add_dangling(f, ty, 7).expect(rt, "memory");
     let handler = add_dangling(f, ty, 8).expect(rt, "memory");
     let other = add_dangling(f, ty, 9).expect(rt, "memory");
-    let caught = LegacyCatch::Catch {
-        tag: id(0),
-        handler,
-    };
+    let tag = TagId::from_index(0);
+    let caught = LegacyCatch::Catch { tag, handler };
     let all = LegacyCatch::CatchAll { handler: other };
     let catches = vec![in alloc; caught, all].expect(rt, "memory");
     Try {
@@ -140,40 +103,51 @@ fn fill_block(block: &mut InstrSeqBuilder<'_>, ty: TypeId) -> Result<(), BuildEr
 }
 
 // Two blocks of the entry name the sequence 1, which holds the constant 5.
-pub(super) fn shared(rt: &impl Abort, alloc: Global) -> LocalFunction {
+pub(crate) fn shared(rt: &impl Abort, alloc: Global) -> LocalFunction {
     let entry = vec![in alloc; block(1), block(1)].expect(rt, "memory");
     let mut f = begin(alloc, entry).expect(rt, "memory");
     let inside = vec![in alloc; number(5)].expect(rt, "memory");
-    add(alloc, &mut f, inside).expect(rt, "memory");
+    add(alloc, &mut f, NOTHING, inside).expect(rt, "memory");
     f.local_func(Vec::new(alloc))
 }
 
 // An entry without instructions.
-pub(super) fn empty_entry(rt: &impl Abort, alloc: Global) -> LocalFunction {
-    let mut f = FunctionBuilder::without_entry(alloc, id(0));
-    let entry = add(alloc, &mut f, Vec::new(alloc)).expect(rt, "memory");
+pub(crate) fn empty_entry(rt: &impl Abort, alloc: Global) -> LocalFunction {
+    let mut f = empty(alloc);
+    let entry = f.dangling_instr_seq(NOTHING).expect(rt, "memory").id();
     assert!(rt; f.contains_seq(entry));
     f.set_entry(entry);
     f.local_func(Vec::new(alloc))
 }
 
-// So many sequences, each with one block of the next, and a last empty one.
-pub(super) fn chain(rt: &impl Abort, alloc: Global, count: usize) -> LocalFunction {
-    let mut f = FunctionBuilder::without_entry(alloc, id(0));
-    for index in 0..count {
-        let next = vec![in alloc; block(index + 1)].expect(rt, "memory");
-        add(alloc, &mut f, next).expect(rt, "memory");
-    }
-    add(alloc, &mut f, Vec::new(alloc)).expect(rt, "memory");
+/// A `try_table` among numbers, with a label for the tag 0 and one for all else. Its sequence and
+/// both labels are made before all else.
+pub(crate) fn try_table_function(rt: &impl Abort, alloc: Global) -> LocalFunction {
+    let (mut f, ty) = begin_typed(alloc).expect(rt, "memory");
+    let table = try_table(rt, alloc, &mut f, ty);
+    assert!(rt; f.entry().is_some());
+    let mut entry = f.func_body();
+    add_number(&mut entry, 1).expect(rt, "memory");
+    entry.instr(table).expect(rt, "memory");
+    add_number(&mut entry, 99).expect(rt, "memory");
     f.local_func(Vec::new(alloc))
 }
 
-// The instructions of a sequence, if it is known.
-pub(super) fn instrs_of(func: &LocalFunction, index: usize) -> Option<&[(Instr, InstrLocId)]> {
-    let seq: InstrSeqId = id(index);
-    if func.contains_block(seq) {
-        Some(func.block(seq).instrs.as_slice())
-    } else {
-        None
+fn add_empty(rt: &impl Abort, f: &mut FunctionBuilder, ty: TypeId) -> InstrSeqId {
+    let seq = f.dangling_instr_seq(InstrSeqType::MultiValue(ty));
+    seq.expect(rt, "memory").id()
+}
+
+fn try_table(rt: &impl Abort, alloc: Global, f: &mut FunctionBuilder, ty: TypeId) -> TryTable {
+    let seq = add_dangling(f, ty, 5).expect(rt, "memory");
+    let label = add_empty(rt, f, ty);
+    let other = add_empty(rt, f, ty);
+    let tag = TagId::from_index(0);
+    let caught = TryTableCatch::Catch { tag, label };
+    let all = TryTableCatch::CatchAll { label: other };
+    let catches = vec![in alloc; caught, all].expect(rt, "memory");
+    TryTable {
+        seq,
+        catches: Listed::from_vec(catches),
     }
 }

@@ -1,8 +1,10 @@
 //! Worked answers of the nesting check.
-use super::*;
 use crate::assertions::assert_equal;
-use walrus_ir::{Br, IfElse, LegacyCatch, Loop, Try, TryTable, TryTableCatch};
-use walrus_traversals::{Nesting, check_nesting};
+use crate::bodies::{NOTHING, add, begun_by_first, block, chain, empty, id};
+use std::alloc::Global;
+use std::process::Abort;
+use walrus_body::{FunctionBuilder, LocalFunction, Nesting, check_nesting};
+use walrus_ir::{Br, IfElse, Instr, InstrSeqId, LegacyCatch, Loop, Try, TryTable, TryTableCatch};
 use walrus_types::Listed;
 
 // The answer for the function, from this sequence on.
@@ -10,9 +12,9 @@ fn check(rt: &impl Abort, alloc: Global, func: &LocalFunction, start: usize) -> 
     check_nesting(alloc, func, id(start)).expect(rt, "memory")
 }
 
-// The answer for what was built is this one.
+// The answer for what was built is this one, where sequence 0 is the entry.
 fn answers(rt: &impl Abort, alloc: Global, f: FunctionBuilder, start: usize, want: Nesting) {
-    let func = f.local_func(Vec::new(alloc));
+    let func = begun_by_first(rt, alloc, f);
     assert_equal(rt, check(rt, alloc, &func, start), want);
 }
 

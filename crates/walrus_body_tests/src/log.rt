@@ -1,84 +1,40 @@
-//! A visitor that writes hook calls down.
+//! A visitor of the walk in order that writes hook calls down.
 ghost use Rattle.std.specs.Prelude.{◌≡◌, OnErr};
 
-use super::*;
+use crate::assertions::assert_equal;
+use crate::bodies::id;
+use crate::calls::{HookCall, call_of, heap_call, words};
+use std::alloc::Global;
 use std::marker::Model;
+use std::process::Abort;
 use thiserror::Error;
+use walrus_body::{LocalFunction, Nesting, Visitor, WalkError, check_nesting, dfs_in_order};
 use walrus_ir::{
-    DataId, ElementId, FunctionId, GlobalId, InstrSeq, LocalId, MemoryId, TableId, TagId, TypeId,
-    Value,
+    DataId, ElementId, FunctionId, GlobalId, Instr, InstrLocId, InstrSeq, InstrSeqId, LocalId,
+    MemoryId, TableId, TagId, TypeId, Value,
 };
-use walrus_traversals::{Nesting, Visitor, WalkError, check_nesting, dfs_in_order};
-use walrus_types::{AbstractHeapType, HeapType};
+use walrus_types::HeapType;
 
-/// A hook call, as far as the tests look.
-#[derive(Clone, Copy, PartialEq, Debug)]
-pub(super) enum HookCall {
-    Start(usize),
-    End(usize),
-    Number(i32),
-    Dropping,
-    Block,
-    IfElse,
-    TryTable,
-    Try,
-    Other,
-    Seq(usize),
-    Local(usize),
-    Memory(usize),
-    Table(usize),
-    Global(usize),
-    Function(usize),
-    Data(usize),
-    Element(usize),
-    Tag(usize),
-    Ty(usize),
-    Value(Value),
-    AbstractHeap(AbstractHeapType),
-    ConcreteHeap(usize),
-    ExactHeap(usize),
-}
-
-fn call_of(instr: &Instr) -> HookCall {
-    match instr {
-        Instr::Const(x) => match x.value {
-            Value::I32(n) => HookCall::Number(n),
-            _ => HookCall::Other,
-        },
-        Instr::Drop(_) => HookCall::Dropping,
-        Instr::Block(_) => HookCall::Block,
-        Instr::IfElse(_) => HookCall::IfElse,
-        Instr::TryTable(_) => HookCall::TryTable,
-        Instr::Try(_) => HookCall::Try,
-        _ => HookCall::Other,
-    }
-}
-
-fn heap_call(heap_type: &HeapType) -> HookCall {
-    match heap_type {
-        HeapType::Abstract(of) => HookCall::AbstractHeap(*of),
-        HeapType::Concrete(of) => HookCall::ConcreteHeap(of.index()),
-        HeapType::Exact(of) => HookCall::ExactHeap(of.index()),
-    }
-}
+/// More than any walk of the tests makes.
+pub(crate) const ALL: usize = 1_000_000;
 
 /// The log has no room for the hook call of this number, counted from zero.
 #[derive(Clone, Copy, PartialEq, Eq, Debug, Error)]
 #[error("no room for call {0}")]
-pub(super) struct Full(pub(super) usize);
+pub(crate) struct Full(pub(crate) usize);
 
 /// The hook calls so far. A call past the limit is refused.
 #[derive(Drop)]
-pub(super) struct Log {
-    pub(super) calls: Vec<HookCall>,
-    pub(super) limit: usize,
+pub(crate) struct Log {
+    pub(crate) calls: Vec<HookCall>,
+    limit: usize,
     // How many hook calls came, those that were refused among them.
     came: usize,
 }
 
 impl Model for Log {
     ghost use Rattle.std.specs.Prelude.{List};
-    ghost use Rattle.walrus_traversals_tests.specs.declared.traversals.log.HookCall.{HookCall};
+    ghost use Rattle.walrus_body_tests.specs.declared.calls.HookCall.{HookCall};
 
     ghost Value = { List HookCall };
 
@@ -86,7 +42,17 @@ impl Model for Log {
 }
 
 impl Log {
-    fn add(&mut self, call: HookCall) -> Result<(), Full>
+    /// A log for so many calls.
+    pub(crate) fn new(alloc: Global, limit: usize) -> Log {
+        Log {
+            calls: Vec::new(alloc),
+            limit,
+            came: 0,
+        }
+    }
+
+    /// Writes a call down.
+    pub(crate) fn add(&mut self, call: HookCall) -> Result<(), Full>
         ensures err { OnErr result (self.new ≡ self.old) }
     {
         let number = self.came;
@@ -169,17 +135,13 @@ impl Visitor for Log {
 
 /// What a walk from sequence 0 of a nested body wrote down before a call was refused, and what it
 /// answered.
-pub(super) fn walk(
+pub(crate) fn walk(
     rt: &impl Abort,
     alloc: Global,
     func: &LocalFunction,
     limit: usize,
 ) -> (Log, Result<(), WalkError<Full>>) {
-    let mut log = Log {
-        calls: Vec::new(alloc),
-        limit,
-        came: 0,
-    };
+    let mut log = Log::new(alloc, limit);
     let start = id(0);
     match check_nesting(alloc, func, start).expect(rt, "memory") {
         Nesting::Nested(_) => {
@@ -189,4 +151,17 @@ pub(super) fn walk(
         Nesting::Cycle { .. } => panic!(rt; "a cycle"),
         Nesting::Unknown(_) => panic!(rt; "an unknown sequence"),
     }
+}
+
+/// The log of a whole walk.
+pub(crate) fn walk_whole(rt: &impl Abort, alloc: Global, func: &LocalFunction) -> Log {
+    let (log, answer) = walk(rt, alloc, func, ALL);
+    assert_equal(rt, answer, Ok(()));
+    log
+}
+
+/// The calls have these words.
+pub(crate) fn say(rt: &impl Abort, alloc: Global, calls: &[HookCall], text: &str) {
+    let said = words(alloc, calls).expect(rt, "memory");
+    assert_equal(rt, said.as_str(), text);
 }

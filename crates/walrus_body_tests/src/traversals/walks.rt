@@ -1,26 +1,20 @@
 //! Worked walks.
-use super::functions::{test_function, try_table_function};
-use super::log::{Full, HookCall, Log, walk};
 use super::*;
-use crate::assertions::assert_equal;
-use walrus_ir::{BrOnCast, Const, Select, Value};
-use walrus_traversals::WalkError;
+use crate::calls::HookCall;
+use crate::functions::{IN_ORDER, test_function, try_table_function};
+use crate::log::{Full, say, walk, walk_whole};
+use walrus_body::WalkError;
+use walrus_ir::{BrOnCast, Select};
 use walrus_types::{AbstractHeapType, HeapType, ModuleTypes, RefType, ValType};
-
-const ALL: usize = 1_000_000;
-
-// The log of a whole walk.
-fn walk_whole(rt: &impl Abort, alloc: Global, func: &LocalFunction) -> Log {
-    let (log, answer) = walk(rt, alloc, func, ALL);
-    assert_equal(rt, answer, Ok(()));
-    log
-}
 
 // A whole walk has these words.
 fn says(rt: &impl Abort, alloc: Global, func: &LocalFunction, text: &str) {
-    let log = walk_whole(rt, alloc, func);
-    let said = words(alloc, log.calls.as_slice()).expect(rt, "memory");
-    assert_equal(rt, said.as_str(), text);
+    say(
+        rt,
+        alloc,
+        walk_whole(rt, alloc, func).calls.as_slice(),
+        text,
+    );
 }
 
 // Adds a sequence of this type with these instructions.
@@ -34,41 +28,6 @@ fn add_sequence(
     add(alloc, f, ty, instrs).expect(rt, "memory");
 }
 
-// The words of the worked rows: starts and ends, instructions and tags.
-fn words(alloc: Global, calls: &[HookCall]) -> Result<String, AllocError> {
-    let mut text = String::new(alloc);
-    for call in calls {
-        add_word(alloc, &mut text, *call)?;
-    }
-    Ok(text)
-}
-
-fn add_word(alloc: Global, text: &mut String, call: HookCall) -> Result<(), AllocError> {
-    let word = match call {
-        HookCall::Start(_) => "start ",
-        HookCall::End(_) => "end ",
-        HookCall::Number(n) => {
-            text.push_str(format!(in alloc; "{n} ")?.as_str())?;
-            return Ok(());
-        }
-        HookCall::Dropping => "drop ",
-        HookCall::Block => "block ",
-        HookCall::IfElse => "if-else ",
-        HookCall::TryTable => "try-table ",
-        HookCall::Try => "try ",
-        HookCall::Tag(_) => "tag ",
-        _ => return Ok(()),
-    };
-    text.push_str(word)?;
-    Ok(())
-}
-
-fn number(n: i32) -> Instr {
-    Instr::from(Const {
-        value: Value::I32(n),
-    })
-}
-
 // Inner sequences have the type 0, the entry has the type 1.
 const INNER: usize = 0;
 
@@ -77,9 +36,6 @@ const OUTER: usize = 1;
 fn typed(ty: usize) -> InstrSeqType {
     InstrSeqType::MultiValue(id(ty))
 }
-
-const IN_ORDER: &str =
-    "start 1 drop block start 2 drop if-else start 3 drop end start 4 drop end 5 drop end 6 drop try tag start 7 drop end start 8 drop end start 9 drop end 10 drop end ";
 
 #[test]
 fn sequences_are_visited_in_order(rt: HostRuntime) {
@@ -113,7 +69,7 @@ fn a_walk_error_can_be_copied(rt: HostRuntime) {
 fn labels_of_a_try_table_are_not_entered(rt: HostRuntime) {
     let alloc = rt.alloc();
     let func = try_table_function(&rt, alloc);
-    let text = "start 1 drop try-table tag start 5 drop end 99 drop end ";
+    let text = "start 1 drop try-table tag start 5 drop end 99 drop end";
     says(&rt, alloc, &func, text);
 }
 
@@ -169,11 +125,11 @@ fn heap_types_are_reported_whole(rt: HostRuntime) {
     let want = [
         HookCall::Start(0),
         HookCall::AbstractHeap(AbstractHeapType::Func),
-        HookCall::Other,
+        HookCall::BrOnCast,
         HookCall::Seq(0),
         HookCall::AbstractHeap(AbstractHeapType::Any),
         HookCall::ConcreteHeap(3),
-        HookCall::Other,
+        HookCall::Select,
         HookCall::End(0),
     ];
     assert!(rt; log.calls.as_slice() == want.as_slice());
@@ -193,7 +149,7 @@ fn a_shared_sequence_is_visited_each_time(rt: HostRuntime) {
         &rt,
         alloc,
         &func,
-        "start block start 5 end block start 5 end end ",
+        "start block start 5 end block start 5 end end",
     );
 }
 

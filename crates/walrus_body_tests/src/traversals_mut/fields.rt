@@ -5,18 +5,9 @@
 mod objects;
 mod plain;
 
-use super::functions::add_typed;
 use super::*;
-use crate::assertions::assert_equal;
 use std::convert::Infallible;
 use std::marker::Model;
-use walrus_ir::{
-    DataId, ElementId, FunctionId, GlobalId, InstrSeq, LocalId, MemoryId, TableId, TagId, TypeId,
-    Value,
-};
-use walrus_traversals::{Nesting, check_nesting};
-use walrus_traversals_mut::{VisitorMut, dfs_pre_order_mut};
-use walrus_types::HeapType;
 
 // A visitor that begins a line for each instruction and writes down what is reported of it. A field
 // that it may change becomes the number of its report, counted from zero.
@@ -194,10 +185,10 @@ impl Rows {
     // A walk reports them. A second walk sees at each report what the first one wrote there.
     fn are_reported(self, rt: &impl Abort, alloc: Global) {
         let Rows { instrs, wanted } = self;
-        let mut f = FunctionBuilder::without_entry(alloc, id(0));
-        add_typed(alloc, &mut f, NOTHING, instrs).expect(rt, "memory");
+        let mut f = empty(alloc);
+        add(alloc, &mut f, NOTHING, instrs).expect(rt, "memory");
         for _ in 0..3 {
-            add_typed(alloc, &mut f, NOTHING, Vec::new(alloc)).expect(rt, "memory");
+            add(alloc, &mut f, NOTHING, Vec::new(alloc)).expect(rt, "memory");
         }
         let mut func = f.local_func(Vec::new(alloc));
         let first = reports(rt, alloc, &mut func);

@@ -1,14 +1,11 @@
 //! Types of a body change places.
-use super::functions::add_typed;
 use super::*;
-use crate::assertions::assert_equal;
-use walrus_ir::{CallIndirect, CallRef, HeapType, InstrSeqType, RefTest, TypeId};
-use walrus_traversals::used_ids;
-use walrus_traversals_mut::{Nesting, RenameTypes, check_nesting, dfs_pre_order_mut};
+use walrus_body::{RenameTypes, used_ids};
+use walrus_ir::{CallIndirect, CallRef, InstrSeqType, RefTest};
 
 // The block of sequence 0 has the type 0. The types 1, 0 and 2 are named before it, 0 and 1 in it.
 fn body(rt: &impl Abort, alloc: Global) -> LocalFunction {
-    let mut f = FunctionBuilder::without_entry(alloc, id(0));
+    let mut f = empty(alloc);
     let entry = vec![in alloc;
         Instr::from(CallRef { ty: id(1) }),
         Instr::from(RefTest {
@@ -22,9 +19,9 @@ fn body(rt: &impl Abort, alloc: Global) -> LocalFunction {
         Instr::from(Block { seq: id(1) }),
     ]
     .expect(rt, "memory");
-    add_typed(alloc, &mut f, NOTHING, entry).expect(rt, "memory");
+    add(alloc, &mut f, NOTHING, entry).expect(rt, "memory");
     let inside = vec![in alloc; Instr::from(CallRef { ty: id(1) })].expect(rt, "memory");
-    add_typed(alloc, &mut f, InstrSeqType::MultiValue(id(0)), inside).expect(rt, "memory");
+    add(alloc, &mut f, InstrSeqType::MultiValue(id(0)), inside).expect(rt, "memory");
     f.local_func(Vec::new(alloc))
 }
 

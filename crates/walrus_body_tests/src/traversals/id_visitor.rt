@@ -1,11 +1,9 @@
 //! Visitors with one hook for ids.
-ghost use Rattle.walrus_functions.specs.Nesting.{IsNested};
+ghost use Rattle.walrus_body.specs.Nesting.{IsNested};
 
 use super::used_ids::{body, hold};
 use super::*;
-use walrus_traversals::{
-    AnyId, IdVisitor, Nesting, OnlyIds, WalkError, check_nesting, dfs_in_order,
-};
+use walrus_body::{AnyId, IdVisitor, Nesting, OnlyIds, WalkError, check_nesting, dfs_in_order};
 use walrus_types::{FunctionId, Listed, TypeId};
 
 // Collects types and functions.

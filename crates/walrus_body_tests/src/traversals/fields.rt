@@ -5,10 +5,10 @@
 mod objects;
 mod plain;
 
-use super::log::{HookCall, walk};
 use super::*;
-use crate::assertions::assert_equal;
-use walrus_ir::{MemArg, Value};
+use crate::calls::HookCall;
+use crate::log::walk_whole;
+use walrus_ir::{Block, MemArg, Value};
 use walrus_types::{AbstractHeapType, HeapType, RefType};
 
 const ARG: MemArg = MemArg {
@@ -41,8 +41,7 @@ fn reported(rt: &impl Abort, alloc: Global, instr: Instr) -> String {
         add(alloc, &mut f, NOTHING, Vec::new(alloc)).expect(rt, "memory");
     }
     let func = f.local_func(Vec::new(alloc));
-    let (log, answer) = walk(rt, alloc, &func, 100);
-    assert_equal(rt, answer, Ok(()));
+    let log = walk_whole(rt, alloc, &func);
     let mut text = String::new(alloc);
     for call in &log.calls {
         add_field(alloc, &mut text, *call).expect(rt, "memory");

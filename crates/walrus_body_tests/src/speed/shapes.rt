@@ -1,7 +1,7 @@
 //! The two shapes of a body: all instructions in one sequence, and ten in each of many, each
 //! sequence in the one before.
 use super::*;
-use walrus_functions::{BuildError, FunctionBuilder};
+use walrus_body::{BuildError, FunctionBuilder};
 use walrus_ir::{BinaryOp, Block, InstrSeqType, LocalId};
 
 // A body of one sequence, ten instructions for each of the tens.

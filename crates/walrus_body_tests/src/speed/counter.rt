@@ -1,11 +1,10 @@
 //! A visitor of both walks that counts.
 use std::alloc::AllocError;
+use walrus_body::{Visitor, VisitorMut};
 use walrus_ir::{
     DataId, ElementId, FunctionId, GlobalId, Instr, InstrLocId, InstrSeq, InstrSeqId, LocalId,
     MemoryId, TableId, TagId, TypeId, Value,
 };
-use walrus_traversals::Visitor;
-use walrus_traversals_mut::VisitorMut;
 use walrus_types::HeapType;
 
 // How many sequences began, and how many instructions and locals were reported.

@@ -1,8 +1,7 @@
 //! Visitors with one hook.
 use super::*;
-use crate::assertions::assert_equal;
 use std::convert::Infallible;
-use walrus_traversals::{InstrVisitor, Nesting, OnlyInstrs, check_nesting, dfs_in_order};
+use walrus_body::{InstrVisitor, Nesting, OnlyInstrs, check_nesting, dfs_in_order};
 
 // Counts instructions, and those of them that are blocks.
 #[derive(Drop)]

@@ -1,0 +1,29 @@
+//! Tests of the nesting check and of the walks through the public calls of `walrus_body`, and
+//! functions of a user with contracts of their own.
+//!
+//! The crate depends on `walrus_arena`, `walrus_types`, `walrus_ir` and `walrus_body` alone, as a
+//! user's crate does, and its clauses find all definitions in the specs of these four. The tests
+//! are in a crate of their own, since tests inside a crate have the gate prove that crate a second
+//! time.
+#![tactic(auto)]
+
+#[cfg(test)]
+mod assertions;
+#[cfg(test)]
+mod bodies;
+#[cfg(test)]
+mod calls;
+#[cfg(test)]
+mod contracts;
+#[cfg(test)]
+mod functions;
+#[cfg(test)]
+mod log;
+#[cfg(test)]
+mod nesting;
+#[cfg(test)]
+mod speed;
+#[cfg(test)]
+mod traversals;
+#[cfg(test)]
+mod traversals_mut;

@@ -1,0 +1,14 @@
+//! The walk in order, on worked bodies.
+mod fields;
+mod id_visitor;
+mod instr_visitor;
+mod used_ids;
+mod walks;
+
+use crate::assertions::assert_equal;
+use crate::bodies::{NOTHING, add, block, chain, empty, id, number};
+use std::alloc::{AllocError, Global};
+use std::process::Abort;
+use walrus_arena::Id;
+use walrus_body::{FunctionBuilder, LocalFunction};
+use walrus_ir::{Instr, InstrLocId, InstrSeqType};

@@ -1,0 +1,18 @@
+//! The changing walk, on worked bodies.
+mod adder;
+mod dropper;
+mod fields;
+mod rename_types;
+mod walks;
+
+use crate::assertions::assert_equal;
+use crate::bodies::{NOTHING, add, chain, empty, id, instrs_of};
+use std::alloc::{AllocError, Global};
+use std::process::Abort;
+use walrus_arena::Id;
+use walrus_body::{LocalFunction, Nesting, VisitorMut, check_nesting, dfs_pre_order_mut};
+use walrus_ir::{
+    Block, DataId, ElementId, FunctionId, GlobalId, Instr, InstrLocId, InstrSeq, InstrSeqId,
+    LocalId, MemoryId, TableId, TagId, TypeId, Value,
+};
+use walrus_types::HeapType;
