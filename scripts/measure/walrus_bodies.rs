@@ -1,4 +1,4 @@
-//! What walrus does with the bodies of the module `speed` in walrus_traversals_mut_tests.
+//! What walrus does with the bodies of the module `speed` in walrus_body_tests.
 //!
 //! `bodies --beside PROGRAM` runs what this file compiles to in a Cargo project that depends
 //! on walrus 0.28.0. Its arguments are a shape and a step: `flat` or `nested`, and `built`, `walked`
