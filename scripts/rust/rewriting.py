@@ -54,6 +54,9 @@ RULES = [
     (r'^pub mod ((?:record_)?laws);', r'#[doc(hidden)]\npub mod \1;'),
     (r'\b(?:record_laws|laws as \w+),\s*|,\s*laws as \w+(?=\s*\})', ''),
     (r'^pub use \w+::laws as \w+;\n', ''),
+    # Where a crate exports those of another one in Rattle, their calls go too: they do nothing.
+    (r'^use \w+::\w+_laws;\n', ''),
+    (r'^ *\w+_laws::\w+\(\);\n', ''),
     # What is random comes from Rust's standard library.
     (r'\bsource: &impl RandomSource', ''),
     (r'^use std::random::RandomSource;\n', ''),

@@ -14,16 +14,16 @@ mod bodies;
 #[cfg(test)]
 mod calls;
 #[cfg(test)]
+mod changing;
+#[cfg(test)]
 mod contracts;
 #[cfg(test)]
 mod functions;
+#[cfg(test)]
+mod in_order;
 #[cfg(test)]
 mod log;
 #[cfg(test)]
 mod nesting;
 #[cfg(test)]
 mod speed;
-#[cfg(test)]
-mod traversals;
-#[cfg(test)]
-mod traversals_mut;
