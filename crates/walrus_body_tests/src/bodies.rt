@@ -1,8 +1,12 @@
 //! Bodies that are made of lists of instructions.
+ghost use Rattle.std.specs.Prelude.{◌↔◌, IfOk};
+ghost use Rattle.walrus_body.specs.Nesting.{IsNested};
+ghost use Rattle.walrus_body.specs.Certificates.{SaysNested};
+
 use std::alloc::{AllocError, Global};
 use std::process::Abort;
 use walrus_arena::Id;
-use walrus_body::{BuildError, FunctionBuilder, LocalFunction};
+use walrus_body::{BuildError, FunctionBuilder, LocalFunction, Nesting, check_nesting};
 use walrus_ir::{Block, Const, Instr, InstrLocId, InstrSeqId, InstrSeqType, Value};
 
 pub(crate) const NOTHING: InstrSeqType = InstrSeqType::Simple(None);
@@ -81,5 +85,57 @@ pub(crate) fn instrs_of(func: &LocalFunction, index: usize) -> Option<&[(Instr, 
         Some(func.block(seq).instrs.as_slice())
     } else {
         None
+    }
+}
+
+// Blocks of these sequences.
+fn blocks(alloc: Global, children: &[usize]) -> Result<Vec<Instr>, AllocError> {
+    let mut instrs = Vec::new(alloc);
+    for child in children {
+        instrs.push(block(*child))?;
+    }
+    Ok(instrs)
+}
+
+// Adds a sequence of this function type with blocks of these sequences.
+fn add_blocks(
+    alloc: Global,
+    f: &mut FunctionBuilder,
+    ty: usize,
+    children: &[usize],
+) -> Result<(), BuildError> {
+    let instrs = blocks(alloc, children)?;
+    add(alloc, f, InstrSeqType::MultiValue(id(ty)), instrs)?;
+    Ok(())
+}
+
+fn body(alloc: Global, sequences: &[&[usize]]) -> Result<LocalFunction, BuildError> {
+    let mut f = empty(alloc);
+    for (index, children) in sequences.iter().enumerate() {
+        add_blocks(alloc, &mut f, index, children)?;
+    }
+    Ok(f.local_func(Vec::new(alloc)))
+}
+
+/// A function with these sequences: each is said by the sequences that its blocks name, and has the
+/// function type of its own number. It is built again after a refusal.
+pub(crate) fn body_again(
+    alloc: Global,
+    sequences: &[&[usize]],
+) -> Result<LocalFunction, BuildError> {
+    match body(alloc, sequences) {
+        Ok(func) => Ok(func),
+        Err(_) => body(alloc, sequences),
+    }
+}
+
+/// The answer of the check from sequence 0. It is asked for again after a refusal.
+pub(crate) fn check_again(alloc: Global, func: &LocalFunction) -> Result<Nesting, AllocError>
+    ensures { IfOk result (λ n. SaysNested n ↔ IsNested func.now.body 0) }
+{
+    let start: InstrSeqId = id(0);
+    match check_nesting(alloc, func, start) {
+        Ok(answer) => Ok(answer),
+        Err(_) => check_nesting(alloc, func, start),
     }
 }

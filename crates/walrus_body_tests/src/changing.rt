@@ -2,6 +2,7 @@
 mod adder;
 mod dropper;
 mod fields;
+mod refusals;
 mod rename_types;
 mod walks;
 

@@ -2,6 +2,7 @@
 mod fields;
 mod id_visitor;
 mod instr_visitor;
+mod refusals;
 mod used_ids;
 mod walks;
 

@@ -5,6 +5,9 @@
 //! user's crate does, and its clauses find all definitions in the specs of these four. The tests
 //! are in a crate of their own, since tests inside a crate have the gate prove that crate a second
 //! time.
+//!
+//! In the modules `refusals`, each request for memory may be refused, one in a run: what a refused
+//! call leaves is as it has to be, and the call goes through when it is made again.
 #![tactic(auto)]
 
 #[cfg(test)]
@@ -21,6 +24,8 @@ mod contracts;
 mod functions;
 #[cfg(test)]
 mod in_order;
+#[cfg(test)]
+mod lists;
 #[cfg(test)]
 mod log;
 #[cfg(test)]

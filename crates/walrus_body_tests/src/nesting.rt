@@ -1,4 +1,6 @@
 //! Worked answers of the nesting check.
+mod refusals;
+
 use crate::assertions::assert_equal;
 use crate::bodies::{NOTHING, add, begun_by_first, block, chain, empty, id};
 use std::alloc::Global;

@@ -3,7 +3,7 @@
 //!
 //! Each request for memory of these tests may be refused, one in a run, and they still pass. They
 //! are in a crate of their own, since tests inside a crate have the gate prove that crate a second
-//! time; tests of the nesting check and of walks are in `walrus_walk_refusal_tests`.
+//! time; tests of the nesting check and of walks are in `walrus_body_tests`.
 #![tactic(auto)]
 
 #[cfg(test)]

@@ -4,7 +4,7 @@ use crate::bodies::{body_again, check_again};
 use crate::lists::are;
 use std::alloc::{AllocError, Global};
 use std::process::Abort;
-use walrus_traversals::Nesting;
+use walrus_body::Nesting;
 
 // The answer for a function with these sequences.
 fn answer(rt: &impl Abort, alloc: Global, sequences: &[&[usize]]) -> Nesting {

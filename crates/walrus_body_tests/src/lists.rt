@@ -1,6 +1,6 @@
 //! Lists of ids.
 use std::alloc::{AllocError, Global};
-use walrus_types::Id;
+use walrus_arena::Id;
 
 /// Whether these are the ids of the first of these indices.
 pub(crate) fn begin<T>(ids: &[Id<T>], indices: &[usize]) -> bool {

@@ -1,2 +1,0 @@
-//! The nesting check.
-mod refusals;

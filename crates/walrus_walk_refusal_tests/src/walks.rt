@@ -1,2 +1,0 @@
-//! The walk in order, and the changing walk.
-mod refusals;
