@@ -56,7 +56,8 @@ RULES = [
     (r'^pub use \w+::laws as \w+;\n', ''),
     # Where a crate exports those of another one in Rattle, their calls go too: they do nothing.
     (r'^use \w+::\w+_laws;\n', ''),
-    (r'^ *\w+_laws::\w+\(\);\n', ''),
+    (r'^(use \w+::\{[^}]*),\s*\w+_laws(?=\s*\};)', r'\1'),
+    (r'^ *\w+_laws::\w+(?:::<\w+>)?\(\);\n', ''),
     # What is random comes from Rust's standard library.
     (r'\bsource: &impl RandomSource', ''),
     (r'^use std::random::RandomSource;\n', ''),
