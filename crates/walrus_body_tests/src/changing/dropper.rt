@@ -32,12 +32,11 @@ impl Model for Dropper {
 fn add_drop(seq: &mut InstrSeq)
     ensures { KeepsChildren seq.old seq.new }
 {
-    traversals_mut_laws::instrs_without_children_may_be_added();
     let located = (Instr::Drop(DropInstr {}), InstrLocId::default());
-    match seq.instrs.push(located) {
-        Ok(()) => {}
-        Err(_) => {}
+    if let Err(_) = seq.instrs.push(located) {
+        return;
     }
+    traversals_mut_laws::instrs_without_children_may_be_added();
 }
 
 impl VisitorMut for Dropper {
