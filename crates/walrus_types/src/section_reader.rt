@@ -83,8 +83,10 @@ impl SectionReader {
             → OnOk result (IsReadInto (s ++ group_of group.now ∷ []) self.new.table self.new.ids) }
         ensures refusal { MatchResult result
             (λ _. group_error (length self.old.ids) (definitions_of (group_of group.now)) ≡ None)
-            (λ e. (e ≡ error.Memory) ⊎
-            (group_error (length self.old.ids) (definitions_of (group_of group.now)) ≡ Some e)) }
+            (λ e.
+            (group_error (length self.old.ids) (definitions_of (group_of group.now)) ≡ Some e) ⊎
+            ((e ≡ error.Memory) ×
+            (group_error (length self.old.ids) (definitions_of (group_of group.now)) ≡ None))) }
         ensures err { OnErr result (IsSameState self.old self.new) }
         ensures keys { self.new.table.types.keys ≡ self.old.table.types.keys }
         ensures kept { (s : Section) → IsReadInto s self.old.table self.old.ids
@@ -111,8 +113,10 @@ impl SectionReader {
             (s ++ Single (entry_definition entry.now) ∷ []) self.new.table self.new.ids) }
         ensures refusal { MatchResult result
             (λ _. group_error (length self.old.ids) (entry_definition entry.now ∷ []) ≡ None)
-            (λ e. (e ≡ error.Memory) ⊎
-            (group_error (length self.old.ids) (entry_definition entry.now ∷ []) ≡ Some e)) }
+            (λ e.
+            (group_error (length self.old.ids) (entry_definition entry.now ∷ []) ≡ Some e) ⊎
+            ((e ≡ error.Memory) ×
+            (group_error (length self.old.ids) (entry_definition entry.now ∷ []) ≡ None))) }
         ensures err { OnErr result (IsSameState self.old self.new) }
         ensures keys { self.new.table.types.keys ≡ self.old.table.types.keys }
     {
@@ -140,8 +144,10 @@ impl SectionReader {
             (s ++ Rec (map entry_definition entries.now) ∷ []) self.new.table self.new.ids) }
         ensures refusal { MatchResult result
             (λ _. group_error (length self.old.ids) (map entry_definition entries.now) ≡ None)
-            (λ e. (e ≡ error.Memory) ⊎
-            (group_error (length self.old.ids) (map entry_definition entries.now) ≡ Some e)) }
+            (λ e.
+            (group_error (length self.old.ids) (map entry_definition entries.now) ≡ Some e) ⊎
+            ((e ≡ error.Memory) ×
+            (group_error (length self.old.ids) (map entry_definition entries.now) ≡ None))) }
         ensures err { OnErr result (IsSameState self.old self.new) }
         ensures keys { self.new.table.types.keys ≡ self.old.table.types.keys }
     {

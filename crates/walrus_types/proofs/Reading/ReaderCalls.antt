@@ -115,10 +115,11 @@ section_more gs i g h at = ap section_of (groups_more gs i g h at) ∙ map-appen
 pub first_error :
     (gs : List GroupAt) (i : ℕ) (g : GroupAt) (t : Table) (ids : List ℕ) (e : ReadError) →
     i < length gs → g ≡ get_or gs i g → IsReadInto (section_of (take i gs)) t ids →
-    (e ≡ Memory) ⊎ (group_error (length ids) (definitions_of (group_of g)) ≡ Some e) →
+    (group_error (length ids) (definitions_of (group_of g)) ≡ Some e) ⊎
+    ((e ≡ Memory) × (group_error (length ids) (definitions_of (group_of g)) ≡ None)) →
     (e ≡ Memory) ⊎ IsFirstError (section_of gs) e
-first_error gs i g t ids e h at is (inl m) = inl m
-first_error gs i g t ids e h at is (inr f) = inr (record {
+first_error gs i g t ids e h at is (inr m) = inl m.0
+first_error gs i g t ids e h at is (inl f) = inr (record {
   before = section_of (take i gs);
   group = group_of g;
   after = section_of (drop (i + 1) gs);

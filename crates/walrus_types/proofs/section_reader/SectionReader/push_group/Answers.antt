@@ -1,5 +1,9 @@
+use Rattle.std.proofs.Common.{rules}
 use Rattle.walrus_types.proofs.Reading.ReaderCalls.{read_kept}
 use Rattle.walrus_types.proofs.section_reader.SectionReader.push_group.Goals as goal
+
+pub returns-in-Single-clause-refusal : goal.returns-in-Single-clause-refusal
+returns-in-Single-clause-refusal c = search rules
 
 pub returns-in-Single-clause-kept : goal.returns-in-Single-clause-kept
 returns-in-Single-clause-kept c = λ s is. read_kept s c.args.self.now c.push_single.new.self
