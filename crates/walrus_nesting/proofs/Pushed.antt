@@ -1,7 +1,8 @@
 -- What a stack holds once the children of instructions were pushed.
-use Rattle.std.proofs.lemmas.List.{reverse-append, reverse-reverse}
-use Rattle.std.proofs.Common.{◌≡◌, ℕ, suc, ◌<◌, List, [], ◌∷◌, ◌++◌, length, drop, get_or, drop-cons, map, reverse, refl, sym, ap, ◌∙◌, subst, flat_map}
-use Rattle.walrus_nesting.specs.Pushing.{Pushes}
+use Rattle.std.proofs.lemmas.List.{reverse-append, reverse-reverse, take-append-drop}
+use Rattle.std.proofs.lemmas.Grind.{flat_map-append}
+use Rattle.std.proofs.Common.{◌≡◌, ℕ, suc, ◌<◌, List, [], ◌∷◌, ◌++◌, length, take, drop, get_or, drop-cons, map, reverse, refl, sym, ap, ◌∙◌, subst, append_assoc, flat_map, Result, Ok, Err, OnErr}
+use Rattle.walrus_nesting.specs.Pushing.{Pushes, PushesBehind}
 use Rattle.walrus_nesting.specs.declared.nesting.search.Work.{Work}
 use Rattle.walrus_nesting.specs.declared.nesting.search.Work.TheVariants.{Enter}
 
@@ -21,6 +22,62 @@ module _ {X T : Type 0} (gives : X → T → Type 0) where
       let G : ℕ → Type 0 = λ n. Pushes gives (flat_map f (drop n cs)) old between in
       subst F (ap (flat_map f) (ap (λ z. z ∷ drop (suc i) cs) e ∙ sym (drop-cons cs i c lt)))
       (pushes_append (f c) (flat_map f (drop (suc i) cs)) old between new (subst G next h) k)
+
+  -- the push for the first was refused
+  pub behind_first : (x : X) (xs : List X) (old new : List T) → Pushes gives xs old new →
+      PushesBehind gives (x ∷ xs) old new
+  behind_first x xs old new h = record { before = []; refused = x; behind = xs; list_is = refl; pushed = h }
+
+  -- or that for another
+  pub behind_later : (xs ys : List X) (old new : List T) → PushesBehind gives ys old new →
+      PushesBehind gives (xs ++ ys) old new
+  behind_later xs ys old new h = record {
+    before = xs ++ h.before;
+    refused = h.refused;
+    behind = h.behind;
+    list_is =
+        ap (λ l. xs ++ l) h.list_is ∙ sym (append_assoc xs h.before (h.refused ∷ h.behind));
+    pushed = h.pushed;
+  }
+
+  pub behind_append : (xs ys : List X) (old between new : List T) →
+      Pushes gives ys old between → PushesBehind gives xs between new → PushesBehind gives (xs ++ ys) old new
+  behind_append xs ys old between new h k = record {
+    before = k.before;
+    refused = k.refused;
+    behind = k.behind ++ ys;
+    list_is = ap (λ l. l ++ ys) k.list_is ∙ append_assoc k.before (k.refused ∷ k.behind) ys;
+    pushed = pushes_append k.behind ys old between new h k.pushed;
+  }
+
+  -- a call that pushes for both lists is refused at the second one
+  pub refused_later : {A E : Type 0} (r : Result A E) (xs ys all : List X) (old new : List T) →
+      all ≡ xs ++ ys → PushesBehind gives ys old new → OnErr r (PushesBehind gives all old new)
+  refused_later (Ok a) xs ys all old new e h = tt
+  refused_later (Err a) xs ys all old new e h =
+      subst (λ l. PushesBehind gives l old new) (sym e) (behind_later xs ys old new h)
+
+  -- or at the first one, once it has pushed for the second
+  pub refused_sooner : {A E : Type 0} (r : Result A E) (xs ys all : List X) (old between new : List T) →
+      all ≡ xs ++ ys → Pushes gives ys old between → OnErr r (PushesBehind gives xs between new) →
+      OnErr r (PushesBehind gives all old new)
+  refused_sooner (Ok a) xs ys all old between new e h k = tt
+  refused_sooner (Err a) xs ys all old between new e h k =
+      subst (λ l. PushesBehind gives l old new) (sym e) (behind_append xs ys old between new h k)
+
+  -- a call that pushes for one place after the other, from the last on, is refused at this one
+  pub refused_at : {A E C : Type 0} (r : Result A E) (f : C → List X) (cs : List C) (c : C) (i j : ℕ)
+      (old between new : List T) → j ≡ suc i → i < length cs → c ≡ get_or cs i c →
+      Pushes gives (flat_map f (drop j cs)) old between → PushesBehind gives (f c) between new →
+      OnErr r (PushesBehind gives (flat_map f cs) old new)
+  refused_at r f cs c i j old between new next lt e h k =
+      let rest = drop (suc i) cs in
+      refused_later r (flat_map f (take i cs)) (f c ++ flat_map f rest) (flat_map f cs) old new
+      (ap (flat_map f) (sym (take-append-drop i cs)
+      ∙ ap (λ l. take i cs ++ l) (drop-cons cs i c lt ∙ ap (λ z. z ∷ rest) (sym e)))
+      ∙ flat_map-append f (take i cs) (c ∷ rest))
+      (behind_append (f c) (flat_map f rest) old between new
+      (subst (λ n. Pushes gives (flat_map f (drop n cs)) old between) next h) k)
 
   -- where an item gives one thing alone
   pub pushed_reversed : (g : X → T) → ((x : X) (t : T) → gives x t → t ≡ g x) →

@@ -7,3 +7,11 @@ Pushes gives [] old new = new ≡ old
 Pushes {T = T} gives (x ∷ xs) old new =
     (between : List T) × (top : T) × Pushes gives xs old between × gives x top
     × (new ≡ between ++ top ∷ [])
+
+-- memory was refused for an item of the list: just those behind it were pushed
+pub record PushesBehind {X T : Type 0} (gives : X → T → Type 0) (xs : List X) (old new : List T) : Type 0 where
+  pub before : List X
+  pub refused : X
+  pub behind : List X
+  pub list_is : xs ≡ before ++ refused ∷ behind
+  pub pushed : Pushes gives behind old new

@@ -1,8 +1,8 @@
 //! The sequences inside an instruction.
-ghost use Rattle.std.specs.Prelude.{◌≡◌, [], ◌∷◌, OnOk};
+ghost use Rattle.std.specs.Prelude.{◌≡◌, [], ◌∷◌, OnOk, OnErr};
 ghost use Rattle.std.specs.List.{flat_map};
 ghost use Rattle.walrus_functions.specs.Nesting.{children, handlers};
-ghost use Rattle.walrus_nesting.specs.Pushing.{Pushes};
+ghost use Rattle.walrus_nesting.specs.Pushing.{Pushes, PushesBehind};
 
 use std::alloc::AllocError;
 use walrus_ir::{Instr, InstrSeqId, LegacyCatch};
@@ -17,7 +17,8 @@ use walrus_ir::{Instr, InstrSeqId, LegacyCatch};
 ///
 /// # Errors
 ///
-/// Where memory is refused. Some of the children may then be on the stack.
+/// Where memory is refused. Then what was on the stack is still there, below the children that were
+/// pushed before: some of the last ones, or none.
 ///
 /// # The children in order
 ///
@@ -34,6 +35,8 @@ pub fn push_children<T: From<InstrSeqId> + Drop>(
 ) -> Result<(), AllocError>
     ensures pushed { OnOk result
         (Pushes T.from_gives (children instr.now) stack.old.items stack.new.items) }
+    ensures refused { OnErr result
+        (PushesBehind T.from_gives (children instr.now) stack.old.items stack.new.items) }
 {
     match instr {
         Instr::Block(x) => push(stack, x.seq),
@@ -56,7 +59,9 @@ fn push_handlers<T: From<InstrSeqId> + Drop>(
     stack: &mut Vec<T>,
     clauses: &[LegacyCatch],
 ) -> Result<(), AllocError>
-    ensures { OnOk result (Pushes T.from_gives (flat_map handlers clauses.now)
+    ensures pushed { OnOk result
+        (Pushes T.from_gives (flat_map handlers clauses.now) stack.old.items stack.new.items) }
+    ensures refused { OnErr result (PushesBehind T.from_gives (flat_map handlers clauses.now)
         stack.old.items stack.new.items) }
 {
     let mut left = clauses.len();
@@ -71,7 +76,10 @@ fn push_handler<T: From<InstrSeqId> + Drop>(
     stack: &mut Vec<T>,
     clause: LegacyCatch,
 ) -> Result<(), AllocError>
-    ensures { OnOk result (Pushes T.from_gives (handlers clause) stack.old.items stack.new.items) }
+    ensures pushed { OnOk result
+        (Pushes T.from_gives (handlers clause) stack.old.items stack.new.items) }
+    ensures refused { OnErr result
+        (PushesBehind T.from_gives (handlers clause) stack.old.items stack.new.items) }
 {
     match clause {
         LegacyCatch::Catch { handler, .. } => push(stack, handler),
@@ -80,8 +88,12 @@ fn push_handler<T: From<InstrSeqId> + Drop>(
     }
 }
 
+#[tactic(auto, using(crate::proofs::Pushed::behind_first))]
 fn push<T: From<InstrSeqId> + Drop>(stack: &mut Vec<T>, id: InstrSeqId) -> Result<(), AllocError>
-    ensures { OnOk result (Pushes T.from_gives (id ∷ []) stack.old.items stack.new.items) }
+    ensures pushed { OnOk result
+        (Pushes T.from_gives (id ∷ []) stack.old.items stack.new.items) }
+    ensures refused { OnErr result
+        (PushesBehind T.from_gives (id ∷ []) stack.old.items stack.new.items) }
 {
     stack.push(T::from(id))?;
     Ok(())

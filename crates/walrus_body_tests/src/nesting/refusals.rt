@@ -1,7 +1,7 @@
-//! Answers of the check, nested and not.
+//! Answers of the check, nested and not, and stacks of children.
 use crate::assertions::assert_equal;
 use crate::bodies::{body_again, check_again};
-use crate::lists::are;
+use crate::lists::{are, list};
 use std::alloc::{AllocError, Global};
 use std::process::Abort;
 use walrus_body::Nesting;
@@ -63,4 +63,39 @@ fn a_refused_clone_of_an_answer_comes_when_it_is_asked_for_again(rt: HostRuntime
         }
         _ => panic!(rt; "no cycle"),
     }
+}
+
+// A `try` of the sequence 1, with the handlers 2 and 3.
+fn attempt(alloc: Global) -> Result<Instr, AllocError> {
+    let [first, second] = [2, 3].map(|index| LegacyCatch::CatchAll {
+        handler: Id::from_index(index),
+    });
+    Ok(Instr::Try(Try {
+        seq: Id::from_index(1),
+        catches: Listed::from_vec(list(alloc, &[first, second])?),
+    }))
+}
+
+// A stack of the sequence 9, with room for one more.
+fn stack_again(alloc: Global) -> Result<Vec<InstrSeqId>, AllocError> {
+    let mut stack = match Vec::with_capacity(alloc, 2) {
+        Ok(stack) => stack,
+        Err(_) => Vec::with_capacity(alloc, 2)?,
+    };
+    stack.push(Id::from_index(9))?;
+    Ok(stack)
+}
+
+// After a refusal what stood on the stack is below the child that had room, and the others are
+// pushed by another call.
+#[test]
+fn a_refused_push_of_children_leaves_what_stands_below(rt: HostRuntime) {
+    let instr = attempt(rt.alloc()).expect(&rt, "memory");
+    let mut stack = stack_again(rt.alloc()).expect(&rt, "memory");
+    if let Err(_) = push_children(&mut stack, &instr) {
+        assert!(rt; are(stack.as_slice(), &[9, 3]));
+        stack.truncate(1);
+        push_children(&mut stack, &instr).expect(&rt, "memory");
+    }
+    assert!(rt; are(stack.as_slice(), &[9, 3, 2, 1]));
 }
