@@ -4,7 +4,9 @@ use crate::bodies::{body_again, check_again};
 use crate::lists::{are, list};
 use std::alloc::{AllocError, Global};
 use std::process::Abort;
-use walrus_body::Nesting;
+use walrus_body::{Nesting, push_children};
+use walrus_ir::{Instr, InstrSeqId, LegacyCatch, Try};
+use walrus_types::{Id, Listed};
 
 // The answer for a function with these sequences.
 fn answer(rt: &impl Abort, alloc: Global, sequences: &[&[usize]]) -> Nesting {
