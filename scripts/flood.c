@@ -1,10 +1,7 @@
 /* flood COUNT BITS [ordinary]: prints COUNT different structs, a line each, whose hashes under fixed keys have the same low
    BITS bits, all of them 0. So a map with fixed keys seeks all of them from a few places of its table. With a third word it
-   prints as many that are as far apart, and takes each 2^BITS-th struct whatever its hash is.
-
-   A type is hashed by std's FoldHasher. `fed` is what the hasher does with a number of this many bytes. The numbers are the
-   ones that the derived `Hash` of `walrus_module_types::Type` feeds: for an enum the place of its variant in 8 bytes, for
-   a list its length in 8 bytes before its items, and for a bool one byte. */
+   prints as many that are as far apart, and takes each 2^BITS-th struct whatever its hash is. scripts/check/runs and
+   scripts/measure/text build it. */
 #include <stdint.h>
 #include <stdio.h>
 #include <stdlib.h>
@@ -13,6 +10,9 @@ enum { FIELDS = 10, VALUES = 5, STRUCT = 1 };
 
 static const char *const values[VALUES] = {"i32", "i64", "f32", "f64", "v128"};
 
+/* A type is hashed by std's FoldHasher. This is what the hasher does with a number of this many bytes. The numbers are the
+   ones that the derived `Hash` of `walrus_module_types::Type` feeds: for an enum the place of its variant in 8 bytes, for
+   a list its length in 8 bytes before its items, and for a bool one byte. */
 static uint64_t fed(uint64_t hash, uint64_t number, unsigned bytes)
 {
     uint64_t read = bytes == 1 ? number * 0x010101 : number;

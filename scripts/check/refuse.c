@@ -1,6 +1,6 @@
-/* Loaded before the C library by LD_PRELOAD, it refuses requests for memory: the one with the number REFUSE, or with
-   REFUSE_FROM all from that number on. Requests count from 1. With REFUSE_COUNT it refuses none. When the program ends, it
-   writes the number of requests to the file descriptor with the number REFUSE_COUNT. */
+/* Loaded before the C library by LD_PRELOAD, it refuses requests for memory, for scripts/check/refuse: the one with the
+   number REFUSE, or with REFUSE_FROM all from that number on. Requests count from 1. With REFUSE_COUNT it refuses none. When
+   the program ends, it writes the number of requests to the file descriptor with the number REFUSE_COUNT. */
 #define _GNU_SOURCE
 #include <errno.h>
 #include <stddef.h>

@@ -1,10 +1,15 @@
-/* Loaded before the C library by LD_PRELOAD, it makes streams fail: the read with the number STREAMS_READ, the write
-   to the standard output with the number STREAMS_OUT, and the one to the standard error with the number STREAMS_ERR;
-   and with STREAMS_READ_FROM, STREAMS_OUT_FROM and STREAMS_ERR_FROM all from that number on. They count from 1, and
-   each fails with EIO. With STREAMS_LITTLE a read or a write moves at most one byte. With STREAMS_DRY there are no
-   random bytes. With STREAMS_FILE each write to a file fails. With STREAMS_NAME no file gets another name, and with
-   STREAMS_MODE none gets other permissions. With STREAMS_COPY no file gets another name, and from then on each write to
-   a file fails. */
+/* Loaded before the C library by LD_PRELOAD, it makes streams fail, for scripts/check/runs. What fails, fails with
+   EIO. Reads and writes count from 1. The environment says what happens:
+
+     STREAMS_READ     the read with this number fails, and with STREAMS_READ_FROM all from this number on
+     STREAMS_OUT      the same for writes to the standard output, as STREAMS_OUT_FROM
+     STREAMS_ERR      the same for writes to the standard error, as STREAMS_ERR_FROM
+     STREAMS_LITTLE   a read or a write moves at most one byte
+     STREAMS_DRY      there are no random bytes
+     STREAMS_FILE     each write to a file fails
+     STREAMS_NAME     no file gets another name
+     STREAMS_MODE     no file gets other permissions
+     STREAMS_COPY     no file gets another name, and from then on each write to a file fails */
 #define _GNU_SOURCE
 #include <errno.h>
 #include <fcntl.h>
