@@ -133,7 +133,7 @@ pub(crate) fn body_again(
 pub(crate) fn check_again(alloc: Global, func: &LocalFunction) -> Result<Nesting, AllocError>
     ensures { IfOk result (λ n. SaysNested n ↔ IsNested func.now.body 0) }
 {
-    let start: InstrSeqId = id(0);
+    let start: InstrSeqId = Id::from_index(0);
     match check_nesting(alloc, func, start) {
         Ok(answer) => Ok(answer),
         Err(_) => check_nesting(alloc, func, start),
