@@ -11,7 +11,7 @@ enum { FIELDS = 10, VALUES = 5, STRUCT = 1 };
 static const char *const values[VALUES] = {"i32", "i64", "f32", "f64", "v128"};
 
 /* A type is hashed by std's FoldHasher. This is what the hasher does with a number of this many bytes. The numbers are the
-   ones that the derived `Hash` of `walrus_module_types::Type` feeds: for an enum the place of its variant in 8 bytes, for
+   ones that the derived `Hash` of `walrus_ty::Type` feeds: for an enum the place of its variant in 8 bytes, for
    a list its length in 8 bytes before its items, and for a bool one byte. */
 static uint64_t fed(uint64_t hash, uint64_t number, unsigned bytes)
 {

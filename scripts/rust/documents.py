@@ -3,7 +3,7 @@ import re
 
 import contracts
 import guards
-import twins
+import fallible
 import wording
 
 LAWS = re.compile(r'(^|/)(record_)?laws(/|\.rt$)')
@@ -21,10 +21,10 @@ def is_exported(function, exported, path):
 
 
 def docs_of(function, is_law, call, then=''):
-    """The lines that the docs of a function get at their end. It may be a call with a twin, of which something may be
-    said for the time after it panics."""
-    panics = ([] if is_law else guards.panics(function)) + (twins.panics(function, call) if call else [])
-    note = twins.note(function, call) if call else []
+    """The lines that the docs of a function get at their end. It may be a call with a fallible form, of which something
+    may be said for the time after it panics."""
+    panics = ([] if is_law else guards.panics(function)) + (fallible.panics(function, call) if call else [])
+    note = fallible.note(function, call) if call else []
     parts = [
         ['# Panics', '', f'Panics if {", or if ".join(panics)}. {then}'.rstrip()] if panics else [],
         ['# Contract', '', *note, '```text', *function.lines, '```'] if function.lines else [],
@@ -33,7 +33,7 @@ def docs_of(function, is_law, call, then=''):
 
 
 def fill(text, number, function, is_law, call):
-    """Ends the docs of a public function, at its mark. It may be a call with a twin."""
+    """Ends the docs of a public function, at its mark. It may be a call with a fallible form."""
     found = re.search(rf'^(?P<before>(?: *///.*\n)*)(?P<indent> *){contracts.docs_mark(number)}\n', text, re.M)
     before, then = wording.without_errors(found['before']) if call and call.error else (found['before'], '')
     lines = docs_of(function, is_law, call, then)

@@ -1,5 +1,5 @@
 //! What a call requires is tested: a call that breaks it panics, and says what is required. So does
-//! a call to which memory is refused, where its twin returns an error.
+//! a call to which memory is refused, where its fallible form returns an error.
 use ruffdresser::alloc::AllocError;
 use ruffdresser::*;
 use std::convert::Infallible;
@@ -293,7 +293,7 @@ fn a_call_panics_where_memory_is_refused() {
 }
 
 #[test]
-fn a_twin_returns_an_error_where_memory_is_refused() {
+fn a_fallible_form_returns_an_error_where_memory_is_refused() {
     let mut ids = IndicesToIds::new();
     assert_eq!(ids.try_push_types(0, usize::MAX), Err(AllocError));
     assert_eq!(ids.type_count(), 0);
@@ -360,7 +360,7 @@ impl FunctionTypes for OneType {
 }
 
 #[test]
-fn a_table_of_function_types_needs_no_twins() {
+fn a_table_of_function_types_needs_no_fallible_forms() {
     let two = [ValType::I32, ValType::I64];
     let ty = InstrSeqType::new(&mut OneType, &two, &[]);
     assert_eq!(ty, InstrSeqType::MultiValue(TypeId::from_index(7)));

@@ -4,8 +4,8 @@
 //! is the first type that becomes another one, if there is one. At the end is the first fault of the
 //! module, if it has one.
 use ruffdresser::{
-    Descriptions, Fault, FaultKind, HashKeys, NormaliseModuleError, NormaliseOptions, UnusedTypes,
-    Widths, find_changed_type, find_module_fault, normalise_module,
+    DecodeError, Descriptions, HashKeys, NormaliseModuleError, NormaliseOptions, RenameError,
+    UnusedTypes, Widths, check_module, find_changed_type, normalise_module, section_around, sections,
 };
 use std::error::Error;
 use std::io::{self, BufWriter, Write};
@@ -77,16 +77,27 @@ fn status(error: NormaliseModuleError) -> u8 {
 }
 
 fn first_fault(module: &[u8]) -> String {
-    match catch_unwind(|| find_module_fault(module, TYPES)) {
-        Ok(Some(fault)) => format!(", {}", message(fault)),
-        Ok(None) => String::new(),
+    let Some(front) = sections_before_break(module) else {
+        return String::new();
+    };
+    match catch_unwind(|| check_module(front, TYPES)) {
+        Ok(Err(RenameError::Malformed { offset })) => format!(", malformed at {offset}"),
+        Ok(Err(RenameError::UnknownType { index, offset })) => {
+            format!(", no type {index} at {offset}")
+        }
+        Ok(Err(error)) => format!(", {error}"),
+        Ok(Ok(())) => String::new(),
         Err(_) => String::from(", panic"),
     }
 }
 
-fn message(fault: Fault) -> String {
-    match fault.kind {
-        FaultKind::Malformed => format!("malformed at {}", fault.offset),
-        FaultKind::UnknownType { index, .. } => format!("no type {index} at {}", fault.offset),
+/// The module, or where a section breaks its framing, what is before this section.
+fn sections_before_break(module: &[u8]) -> Option<&[u8]> {
+    match sections(module) {
+        Ok(_) => Some(module),
+        Err(DecodeError::Malformed { offset, .. }) => {
+            Some(&module[..section_around(module, offset)?.offset])
+        }
+        Err(_) => None,
     }
 }

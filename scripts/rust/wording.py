@@ -52,7 +52,7 @@ def rewrite(text):
 
 
 def without_errors(docs):
-    """The docs of a call that panics where its twin returns `AllocError`, and what they say of the time after it."""
+    """The docs of a call that panics where its fallible form returns `AllocError`, and what they say of later calls."""
     found = ERRORS.search(docs)
     text = ' '.join(found['text'].replace('///', ' ').split()) if found else ''
     if not REFUSED.match(text):

@@ -10,7 +10,7 @@ import examples
 import facade
 import guards
 import rewriting
-import twins
+import fallible
 import wording
 
 HERE = os.path.dirname(os.path.abspath(__file__))
@@ -86,7 +86,7 @@ def is_library(crate):
 
 @functools.cache
 def rewritten(crate, path):
-    """A file of a crate in Rust, with marks and without guards, docs and twins."""
+    """A file of a crate in Rust, with marks and without guards, docs and fallible forms."""
     stripped = contracts.strip(read(f'{ROOT}/crates/{crate}/{path}'))
     return contracts.Stripped(rewriting.rewrite(stripped.text), stripped.functions)
 
@@ -96,28 +96,28 @@ def is_exported(crate, path, function):
     return documents.is_exported(function, exports(crate) if is_library(crate) else set(), path)
 
 
-def calls_with_twins():
-    """For each library, and file: the calls that have twins, by the number of their functions."""
+def calls_with_fallible_forms():
+    """For each library, and file: the calls that have fallible forms, by the number of their functions."""
     found = {}
     for crate in (it for it in crates() if is_library(it)):
         for path in (it for it in sources(crate) if not documents.is_law(it)):
             text, functions = rewritten(crate, path).text, rewritten(crate, path).functions
-            calls = {at: twins.call_of(it, text[slice(*twins.signature_of(text, at))])
+            calls = {at: fallible.call_of(it, text[slice(*fallible.signature_of(text, at))])
                      for at, it in enumerate(functions) if is_exported(crate, path, it) or it.is_of_trait}
             found[crate, path] = {at: call for at, call in calls.items() if call}
     return found
 
 
 def rust_text(crate, path, calls, renaming):
-    """A file of a crate in Rust, given the calls of the file that have twins."""
+    """A file of a crate in Rust, given the calls of the file that have fallible forms."""
     text, is_law = rewritten(crate, path).text, documents.is_law(path)
     text = wording.rewrite(examples.rewrite(renaming.uses(renaming.calls(text))))
     for number, function in enumerate(rewritten(crate, path).functions):
         is_public = is_exported(crate, path, function)
         if number in calls:
-            text = twins.add_call(text, number, function, calls[number])
+            text = fallible.add_call(text, number, function, calls[number])
         elif renaming.is_of_name(function) and not is_public:
-            text = twins.rename(text, number, function)
+            text = fallible.rename(text, number, function)
         if is_public:
             text = documents.fill(text, number, function, is_law, calls.get(number))
         text = without_mark(text, number)
@@ -169,8 +169,8 @@ def write_workspace(out):
         shutil.copytree(f'{HERE}/{crate}', f'{out}/{crate}', dirs_exist_ok=True)
     all_crates = crates()
     guards.check_paths({path for crate in all_crates for path in sources(crate)})
-    calls = calls_with_twins()
-    renaming = twins.Renaming({call for of_file in calls.values() for call in of_file.values()})
+    calls = calls_with_fallible_forms()
+    renaming = fallible.Renaming({call for of_file in calls.values() for call in of_file.values()})
     for crate, below in all_crates.items():
         for path in sources(crate):
             write(f'{out}/{crate}/{path[:-3]}.rs', rust_text(crate, path, calls.get((crate, path), {}), renaming))

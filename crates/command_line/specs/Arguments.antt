@@ -20,6 +20,7 @@ HasNames request.Help = Unit {0}
 HasNames request.Version = Unit {0}
 HasNames (request.Work names options values) = All (λ name. IsName (string_bytes name)) names.items
 HasNames request.Usage = Unit {0}
+HasNames request.NotUtf8 = Unit {0}
 
 -- no work is asked for
 abbrev pub IsNoWork : Request → Type 0
@@ -27,6 +28,7 @@ IsNoWork request.Help = Unit {0}
 IsNoWork request.Version = Unit {0}
 IsNoWork (request.Work names options values) = ⊥
 IsNoWork request.Usage = Unit {0}
+IsNoWork request.NotUtf8 = Unit {0}
 
 -- where work is asked for, each option in it is one that the program has
 abbrev pub HasOptionsOf : (List ℕ → Type 0) → Request → Type 0
@@ -34,6 +36,7 @@ HasOptionsOf IsOwn request.Help = Unit {0}
 HasOptionsOf IsOwn request.Version = Unit {0}
 HasOptionsOf IsOwn (request.Work names options values) = All (λ o. IsOwn (string_bytes o)) options.items
 HasOptionsOf IsOwn request.Usage = Unit {0}
+HasOptionsOf IsOwn request.NotUtf8 = Unit {0}
 
 -- where work is asked for, each option with a value in it is one that the program has
 abbrev pub HasValuesOf : (List ℕ → Type 0) → Request → Type 0
@@ -42,3 +45,4 @@ HasValuesOf IsOwn request.Version = Unit {0}
 HasValuesOf IsOwn (request.Work names options values) =
     All (λ v. IsOwn (string_bytes v.option)) values.items
 HasValuesOf IsOwn request.Usage = Unit {0}
+HasValuesOf IsOwn request.NotUtf8 = Unit {0}

@@ -1,5 +1,5 @@
 //! What the arguments of a program ask for.
-ghost use Rattle.std.specs.Prelude.{◌≡◌, ◌↔◌, IfOk, IsTrue, bytes_eq};
+ghost use Rattle.std.specs.Prelude.{◌≡◌, ◌≤◌, ◌↔◌, All, IfOk, IsTrue, OnOk, bytes_eq};
 ghost use Rattle.std.specs.List.{Any, list_any};
 ghost use Rattle.std.specs.String.{string_bytes};
 ghost use Rattle.command_line.specs.Arguments.{HasNames, HasOptionsOf, HasValuesOf, IsName, IsNoWork};
@@ -36,13 +36,19 @@ pub enum Request {
     },
     /// Nothing that any program does: the arguments are wrong.
     Usage,
+    /// Nothing either: an argument is not UTF-8. [`NOT_UTF8`] says so.
+    NotUtf8,
 }
+
+/// The line for an argument that is not UTF-8.
+pub const NOT_UTF8: &str = "an argument is not UTF-8\n";
 
 /// Returns what the arguments ask for. `options` are the options that the program has besides
 /// `--help` and `--version`, and `with_value` are the ones that have a value: the argument behind
 /// them, whatever it is. Without that argument they are wrong, and so is any other argument that
 /// begins with `-` and is longer. The first argument that is wrong, or is `--help` or `--version`,
-/// decides. One that is not UTF-8 is wrong wherever it is.
+/// decides. One that is not UTF-8 is wrong wherever it is. All arguments behind `--` are names of
+/// files. Such a name that begins with `-` and is longer is returned with `./` before it.
 ///
 /// # Errors
 ///
@@ -62,7 +68,7 @@ pub fn parse_arguments<R: Env + AllocGlobal>(
     let mut arguments = match env::args(rt) {
         Ok(arguments) => arguments,
         Err(error) if error.kind() == ErrorKind::OutOfMemory => return Err(AllocError),
-        Err(_) => return Ok(Request::Usage),
+        Err(_) => return Ok(Request::NotUtf8),
     };
     let _program = arguments.next();
     work(rt.alloc(), arguments, options, with_value)
@@ -108,6 +114,8 @@ fn work(
             })?;
         } else if is_name(argument.as_str()) {
             names.push(argument)?;
+        } else if argument.as_str() == "--" {
+            push_names(alloc, &mut left, &mut names)?;
         } else {
             return Ok(without_work(argument.as_str()));
         }
@@ -117,6 +125,28 @@ fn work(
         options,
         values,
     })
+}
+
+/// Takes the arguments that are left, which are all names of files.
+fn push_names(alloc: Global, left: &mut Args, names: &mut Vec<String>) -> Result<(), AllocError>
+    ensures names { All (λ name. IsName (string_bytes name)) names.old.items →
+        OnOk result (All (λ name. IsName (string_bytes name)) names.new.items) }
+    ensures shorter { left.new.rest.len ≤ left.old.rest.len }
+{
+    while let Some(argument) = left.next() {
+        names.push(as_name(alloc, argument)?)?;
+    }
+    Ok(())
+}
+
+/// The argument as a name of a file: `./` goes before one that begins with `-` and is longer.
+fn as_name(alloc: Global, argument: String) -> Result<String, AllocError>
+    ensures { IfOk result (λ name. IsName (string_bytes name)) }
+{
+    if is_name(argument.as_str()) {
+        return Ok(argument);
+    }
+    format!(in alloc; "./{argument}")
 }
 
 /// What an argument asks for that is no name and no option of the program.

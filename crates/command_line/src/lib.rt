@@ -16,7 +16,7 @@ mod output;
 mod output_file;
 
 pub use about::{report_usage, write_version};
-pub use arguments::{OptionValue, Request, has_option, parse_arguments};
+pub use arguments::{NOT_UTF8, OptionValue, Request, has_option, parse_arguments};
 pub use input::{Input, open, read_bytes};
 pub use output::{Output, create};
 pub use output_file::{OutputFile, OutputNames, temporary_name};

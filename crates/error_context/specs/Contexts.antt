@@ -1,15 +1,15 @@
 -- What is known of the input beside an error, `IsContext`: what it looks like, or the section that
 -- a byte is in. `IsErrorContext` says for an error of reading the types which byte that is.
 use Rattle.std.specs.Prelude.{◌≡◌, ℕ, ◌+◌, ◌-◌, ◌≤◌, ◌⊎◌, List, take, drop, IfNone, IfSome}
-use Rattle.walrus_binary.specs.declared.error.DecodeError.{DecodeError}
-use Rattle.walrus_binary.specs.declared.error.DecodeError.TheVariants as decode
-use Rattle.walrus_binary.specs.declared.error.Expected.{Expected}
-use Rattle.walrus_binary.specs.declared.error.Expected.TheVariants as expected
-use Rattle.walrus_binary.specs.declared.error.NotHeld.TheVariants as held
-use Rattle.walrus_binary.specs.declared.module.around.SectionPlace.{SectionPlace}
-use Rattle.walrus_binary.specs.CustomSections.{BeginsCustom}
-use Rattle.walrus_binary.specs.Modules.{Section, IsModule}
-use Rattle.walrus_binary.specs.Sections.{IsSectionHead, IsSizeAt, NoneEndsBetween, HasNoHeaderBy, EndsBy}
+use Rattle.wasm_binary.specs.declared.error.DecodeError.{DecodeError}
+use Rattle.wasm_binary.specs.declared.error.DecodeError.TheVariants as decode
+use Rattle.wasm_binary.specs.declared.error.Expected.{Expected}
+use Rattle.wasm_binary.specs.declared.error.Expected.TheVariants as expected
+use Rattle.wasm_binary.specs.declared.error.NotHeld.TheVariants as held
+use Rattle.wasm_binary.specs.declared.module.around.SectionPlace.{SectionPlace}
+use Rattle.wasm_binary.specs.CustomSections.{BeginsCustom}
+use Rattle.wasm_binary.specs.Modules.{Section, IsModule}
+use Rattle.wasm_binary.specs.Sections.{IsSectionHead, IsSizeAt, NoneEndsBetween, HasNoHeaderBy, EndsBy}
 use Rattle.error_context.specs.declared.lookalike.Lookalike.{Lookalike}
 use Rattle.error_context.specs.declared.context.Context.{Context}
 use Rattle.error_context.specs.declared.context.Context.TheVariants as context

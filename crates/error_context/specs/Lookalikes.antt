@@ -3,7 +3,7 @@
 -- version field is of the component model's binary format.
 use Rattle.std.specs.Prelude.{◌≡◌, ℕ, List, [], ◌∷◌, ◌++◌, drop, codes}
 use Rattle.std.specs.Str.{IsTrimAsciiStart}
-use Rattle.walrus_binary.specs.Modules.{magic}
+use Rattle.wasm_binary.specs.Modules.{magic}
 use Rattle.error_context.specs.declared.lookalike.Lookalike.{Lookalike}
 use Rattle.error_context.specs.declared.lookalike.Lookalike.TheVariants as lookalike
 

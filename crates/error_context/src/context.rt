@@ -1,6 +1,6 @@
 //! What is known of the input beside an error.
 ghost use Rattle.std.specs.Prelude.{◌≡◌, ℕ, List, drop, IfNone, IfSome};
-ghost use Rattle.walrus_binary.specs.CustomSections.{BeginsCustom};
+ghost use Rattle.wasm_binary.specs.CustomSections.{BeginsCustom};
 ghost use Rattle.error_context.specs.Contexts.{IsContext, IsErrorContext, IsCodeContext, HasShownName, IsWithProposal, place_within};
 
 use crate::lookalike::{Lookalike, looks_like};
@@ -8,7 +8,7 @@ use crate::proposal::{ProposedPart, proposal_at};
 use crate::shown_name::{ShownName, shown_name};
 use std::fmt;
 use std::fmt::Formatter;
-use walrus_binary::{
+use wasm_binary::{
     DecodeError, Expected, NotHeld, SectionPlace, custom_section_name, section_around,
 };
 

@@ -10,20 +10,20 @@ pub use Rattle.walrus_arena.specs.Slot
 -- Types and sections.
 pub use Rattle.walrus_ty.specs.Value
 pub use Rattle.walrus_ty.specs.Definition
-pub use Rattle.walrus_module_types.specs.Signature
-pub use Rattle.walrus_module_types.specs.Types
+pub use Rattle.walrus_ty.specs.Signature
+pub use Rattle.walrus_ty.specs.Types
 pub use Rattle.walrus_ty.specs.Records
-pub use Rattle.walrus_module_types.specs.IdLists
-pub use Rattle.walrus_module_types.specs.Indices
+pub use Rattle.walrus_ty.specs.IdLists
+pub use Rattle.walrus_ty.specs.Indices
 pub use Rattle.walrus_ty.specs.Text as TypeText
-pub use Rattle.walrus_module_types.specs.Views
-pub use Rattle.walrus_module_types.specs.SubTypes
-pub use Rattle.walrus_module_types.specs.SameTypes
-pub use Rattle.walrus_module_types.specs.Comparison
-pub use Rattle.walrus_module_types.specs.HashInput
+pub use Rattle.walrus_ty.specs.Views
+pub use Rattle.walrus_ty.specs.SubTypes
+pub use Rattle.walrus_ty.specs.SameTypes
+pub use Rattle.walrus_ty.specs.Comparison
+pub use Rattle.walrus_ty.specs.HashInput
 pub use Rattle.walrus_ty.specs.Groups
 pub use Rattle.walrus_ty.specs.Lists
-pub use Rattle.walrus_module_types.specs.Lookups
+pub use Rattle.walrus_ty.specs.Lookups
 pub use Rattle.walrus_sections.specs.Section
 pub use Rattle.walrus_sections.specs.NormalForm
 pub use Rattle.walrus_sections.specs.Moves
@@ -43,12 +43,12 @@ pub use Rattle.walrus_types.specs.TableCalls
 pub use Rattle.walrus_types.specs.FunctionTypes
 pub use Rattle.walrus_types.specs.ReadResult
 pub use Rattle.walrus_types.specs.ReaderState
-pub use Rattle.walrus_module_types.specs.declared.error.NoIndex
-pub use Rattle.walrus_module_types.specs.declared.error.FromRecordError
-pub use Rattle.walrus_module_types.specs.declared.error.ToRecordError
+pub use Rattle.walrus_ty.specs.declared.error.NoIndex
+pub use Rattle.walrus_ty.specs.declared.error.FromRecordError
+pub use Rattle.walrus_ty.specs.declared.error.ToRecordError
 pub use Rattle.walrus_ty.specs.declared.records.CompAt
 pub use Rattle.walrus_ty.specs.declared.records.GroupAt
-pub use Rattle.walrus_module_types.specs.declared.ty.composite.CompositeType
+pub use Rattle.walrus_ty.specs.declared.ty.composite.CompositeType
 pub use Rattle.walrus_ty.specs.declared.ty.value.AbstractHeapType
 pub use Rattle.walrus_ty.specs.declared.ty.value.Heap
 pub use Rattle.walrus_ty.specs.declared.ty.value.Val
@@ -57,38 +57,38 @@ pub use Rattle.walrus_sections.specs.declared.error.ReadError
 pub use Rattle.walrus_types.specs.declared.error.EmitError
 pub use Rattle.walrus_types.specs.declared.table.rec_group.AddRecGroupError
 -- Instructions.
-pub use Rattle.operators.specs.Values
-pub use Rattle.operators.specs.Atomics
-pub use Rattle.operators.specs.Loads
-pub use Rattle.operators.specs.Stores
-pub use Rattle.instr.specs.BlockTypes
-pub use Rattle.instr.specs.Sequence
-pub use Rattle.instr.specs.Locals
-pub use Rattle.instr.specs.LocalParts
-pub use Rattle.instr.specs.LocalLends
-pub use Rattle.instr.specs.Locations
-pub use Rattle.instr.specs.Reachability
-pub use Rattle.const_expr.specs.ConstExpr
+pub use Rattle.ir_operators.specs.Values
+pub use Rattle.ir_operators.specs.Atomics
+pub use Rattle.ir_operators.specs.Loads
+pub use Rattle.ir_operators.specs.Stores
+pub use Rattle.ir_instr.specs.BlockTypes
+pub use Rattle.ir_instr.specs.Sequence
+pub use Rattle.ir_instr.specs.Locals
+pub use Rattle.ir_instr.specs.LocalParts
+pub use Rattle.ir_instr.specs.LocalLends
+pub use Rattle.ir_instr.specs.Locations
+pub use Rattle.ir_instr.specs.Reachability
+pub use Rattle.ir_const_expr.specs.ConstExpr
 pub use Rattle.walrus_ir.specs.Calls as HookCalls
 pub use Rattle.walrus_ir.specs.Fields
 pub use Rattle.walrus_ir.specs.Hooks
-pub use Rattle.operators.specs.declared.atomics.AtomicOp
-pub use Rattle.operators.specs.declared.atomics.AtomicWidth
-pub use Rattle.operators.specs.declared.binary_op.BinaryOp
-pub use Rattle.operators.specs.declared.kinds.ExtendedLoad
-pub use Rattle.operators.specs.declared.kinds.LoadKind
-pub use Rattle.operators.specs.declared.kinds.StoreKind
-pub use Rattle.operators.specs.declared.kinds.LoadSimdKind
-pub use Rattle.operators.specs.declared.ternary_op.TernaryOp
-pub use Rattle.operators.specs.declared.unary_op.UnaryOp
-pub use Rattle.operators.specs.declared.value.Value as ConstantValue
-pub use Rattle.instr.specs.declared.exceptions.TryTableCatch
-pub use Rattle.instr.specs.declared.exceptions.LegacyCatch
-pub use Rattle.instr.specs.declared.instr.Instr
-pub use Rattle.const_expr.specs.declared.const_expr.ConstExpr as ConstExprType
-pub use Rattle.const_expr.specs.declared.const_expr.ConstOp
-pub use Rattle.const_expr.specs.declared.const_expr.ConstOpAt
-pub use Rattle.instr.specs.declared.instr_seq_type.InstrSeqType
+pub use Rattle.ir_operators.specs.declared.atomics.AtomicOp
+pub use Rattle.ir_operators.specs.declared.atomics.AtomicWidth
+pub use Rattle.ir_operators.specs.declared.binary_op.BinaryOp
+pub use Rattle.ir_operators.specs.declared.kinds.ExtendedLoad
+pub use Rattle.ir_operators.specs.declared.kinds.LoadKind
+pub use Rattle.ir_operators.specs.declared.kinds.StoreKind
+pub use Rattle.ir_operators.specs.declared.kinds.LoadSimdKind
+pub use Rattle.ir_operators.specs.declared.ternary_op.TernaryOp
+pub use Rattle.ir_operators.specs.declared.unary_op.UnaryOp
+pub use Rattle.ir_operators.specs.declared.value.Value as ConstantValue
+pub use Rattle.ir_instr.specs.declared.exceptions.TryTableCatch
+pub use Rattle.ir_instr.specs.declared.exceptions.LegacyCatch
+pub use Rattle.ir_instr.specs.declared.instr.Instr
+pub use Rattle.ir_const_expr.specs.declared.const_expr.ConstExpr as ConstExprType
+pub use Rattle.ir_const_expr.specs.declared.const_expr.ConstOp
+pub use Rattle.ir_const_expr.specs.declared.const_expr.ConstOpAt
+pub use Rattle.ir_instr.specs.declared.instr_seq_type.InstrSeqType
 -- Builders and walks.
 pub use Rattle.walrus_functions.specs.Beginning
 pub use Rattle.walrus_functions.specs.Body
@@ -136,52 +136,46 @@ pub use Rattle.walrus_passes.specs.Conversions
 pub use Rattle.walrus_passes.specs.ConvertingAdapters
 pub use Rattle.walrus_unused.specs.declared.error.NormaliseUsedError
 -- Binary.
-pub use Rattle.walrus_binary.specs.Leb128
-pub use Rattle.walrus_binary.specs.Grammar
-pub use Rattle.walrus_binary.specs.Faults
-pub use Rattle.walrus_binary.specs.SectionProgress
-pub use Rattle.walrus_binary.specs.Modules
-pub use Rattle.walrus_binary.specs.ModuleSections
-pub use Rattle.walrus_binary.specs.Replacement
-pub use Rattle.walrus_binary.specs.Sections as SectionPlaces
-pub use Rattle.walrus_binary.specs.CustomSections
-pub use Rattle.walrus_module.specs.Sections
-pub use Rattle.walrus_module.specs.Opcodes
-pub use Rattle.walrus_module.specs.Immediates
-pub use Rattle.walrus_module.specs.Contents
-pub use Rattle.walrus_module.specs.Bodies as CodeBodies
-pub use Rattle.walrus_module.specs.Renaming as CodeRenaming
-pub use Rattle.walrus_module.specs.NamedTypes
-pub use Rattle.walrus_module.specs.Changes as CodeChanges
-pub use Rattle.walrus_module.specs.RenamedSections
-pub use Rattle.walrus_module.specs.NameSections
-pub use Rattle.walrus_module.specs.RenamedModules
-pub use Rattle.walrus_module.specs.Customs
-pub use Rattle.walrus_module.specs.Composition as IndicesInTurn
-pub use Rattle.walrus_module.specs.CustomNames
-pub use Rattle.walrus_module.specs.RenamedNames
-pub use Rattle.walrus_module.specs.Lengths
-pub use Rattle.walrus_module.specs.UnknownCustoms
-pub use Rattle.walrus_module.specs.Outdated
-pub use Rattle.walrus_module.specs.IntegerFaults
-pub use Rattle.walrus_module.specs.ContentFaults
-pub use Rattle.walrus_module.specs.CustomFaults
-pub use Rattle.walrus_module.specs.ModuleFaults
-pub use Rattle.walrus_normalise.specs.NormalModules
-pub use Rattle.walrus_normalise.specs.Moved as MovedModules
-pub use Rattle.walrus_normalise.specs.Relisted
-pub use Rattle.walrus_binary.specs.declared.error.Expected
-pub use Rattle.walrus_binary.specs.declared.error.NotHeld
-pub use Rattle.walrus_binary.specs.declared.error.DecodeError
-pub use Rattle.walrus_binary.specs.declared.error.EncodeError
-pub use Rattle.walrus_binary.specs.declared.error.ReplaceError
-pub use Rattle.walrus_module.specs.declared.scan.ScanError
-pub use Rattle.walrus_module.specs.declared.renaming.RenameError
-pub use Rattle.walrus_module.specs.declared.renaming.Widths
-pub use Rattle.walrus_module.specs.declared.description_kinds.DescriptionKind
-pub use Rattle.walrus_module.specs.declared.faults.Fault
-pub use Rattle.walrus_module.specs.declared.faults.FaultKind
-pub use Rattle.walrus_normalise.specs.declared.error.NormaliseModuleError
+pub use Rattle.wasm_binary.specs.Leb128
+pub use Rattle.wasm_binary.specs.Grammar
+pub use Rattle.wasm_binary.specs.Faults
+pub use Rattle.wasm_binary.specs.SectionProgress
+pub use Rattle.wasm_binary.specs.Modules
+pub use Rattle.wasm_binary.specs.ModuleSections
+pub use Rattle.wasm_binary.specs.Replacement
+pub use Rattle.wasm_binary.specs.Sections as SectionPlaces
+pub use Rattle.wasm_binary.specs.CustomSections
+pub use Rattle.wasm_module.specs.Sections
+pub use Rattle.wasm_module.specs.Opcodes
+pub use Rattle.wasm_module.specs.Immediates
+pub use Rattle.wasm_module.specs.Contents
+pub use Rattle.wasm_module.specs.Bodies as CodeBodies
+pub use Rattle.wasm_module.specs.Renaming as CodeRenaming
+pub use Rattle.wasm_module.specs.NamedTypes
+pub use Rattle.wasm_module.specs.Changes as CodeChanges
+pub use Rattle.wasm_module.specs.RenamedSections
+pub use Rattle.wasm_module.specs.NameSections
+pub use Rattle.wasm_module.specs.RenamedModules
+pub use Rattle.wasm_module.specs.Customs
+pub use Rattle.wasm_module.specs.Composition as IndicesInTurn
+pub use Rattle.wasm_module.specs.CustomNames
+pub use Rattle.wasm_module.specs.RenamedNames
+pub use Rattle.wasm_module.specs.Lengths
+pub use Rattle.wasm_module.specs.UnknownCustoms
+pub use Rattle.wasm_module.specs.Outdated
+pub use Rattle.wasm_normalise.specs.NormalModules
+pub use Rattle.wasm_normalise.specs.Moved as MovedModules
+pub use Rattle.wasm_normalise.specs.Relisted
+pub use Rattle.wasm_binary.specs.declared.error.Expected
+pub use Rattle.wasm_binary.specs.declared.error.NotHeld
+pub use Rattle.wasm_binary.specs.declared.error.DecodeError
+pub use Rattle.wasm_binary.specs.declared.error.EncodeError
+pub use Rattle.wasm_binary.specs.declared.error.ReplaceError
+pub use Rattle.wasm_module.specs.declared.scan.ScanError
+pub use Rattle.wasm_module.specs.declared.renaming.RenameError
+pub use Rattle.wasm_module.specs.declared.renaming.Widths
+pub use Rattle.wasm_module.specs.declared.description_kinds.DescriptionKind
+pub use Rattle.wasm_normalise.specs.declared.error.NormaliseModuleError
 -- Text.
 pub use Rattle.walrus_text.specs.Words
 pub use Rattle.walrus_text.specs.Spacing

@@ -38,154 +38,152 @@ pub use walrus_arena::{ArenaSet, IdHashMap, IdHashSet, Iter, TombstoneArena, law
 pub use walrus_id::{HashKeys, Id, Key, Tombstone};
 
 // Types, and the table of a module's types.
-pub use walrus_module_types::{
-    ArrayType, CompositeType, Data, DataId, Element, ElementId, FieldType, Function, FunctionId,
-    FunctionType, FunctionTypes, Global, GlobalId, HeapType, Memory, MemoryId, NamedReferenceTypes,
-    RefType, StorageType, StructType, SubType, Table, TableId, Tag, TagId, Type, TypeId, ValType,
-    laws as type_laws,
+pub use walrus_ty::{
+    AbstractHeapType, ArrayType, CompositeType, Data, DataId, Element, ElementId, Field, FieldType,
+    Function, FunctionId, FunctionType, FunctionTypes, Global, GlobalId, Heap, HeapType, Listed,
+    Memory, MemoryId, RefType, Reference, Storage, StorageType, StructType, SubType, Table,
+    TableId, Tag, TagId, Type, TypeId, Val, ValType, laws as type_laws,
 };
-pub use walrus_ty::{AbstractHeapType, Field, Heap, Listed, Reference, Storage, Val};
 pub use walrus_types::{
     AddRecGroupError, ModuleTypes, RecGroup, RecGroupId, TypesIter, laws as table_laws,
 };
 
 // Sections: the records of a type section, and its normal form.
-pub use walrus_module_types::{
-    FromRecordError, HasRecord, IdsToIndices, IndicesToIds, NoIndex, ToRecordError, UnknownIndex,
-    record_laws,
-};
 pub use walrus_normal_form_check::is_normal_form;
 pub use walrus_sections::{ReadError, first_error, laws as section_laws};
-pub use walrus_ty::{CompAt, EntryAt, FieldAt, GroupAt, HeapAt, RefAt, StorageAt, ValAt};
+pub use walrus_ty::{
+    CompAt, EntryAt, FieldAt, FromRecordError, GroupAt, HeapAt, IdsToIndices, IndicesToIds,
+    NoIndex, RefAt, StorageAt, ToRecordError, UnknownIndex, ValAt, record_laws,
+};
 pub use walrus_types::{
     EmitError, SectionReader, entries_before, first_difference, normalise, normalise_by_table,
     normalise_owned, parse_types, same_up_to_moves,
 };
 
 // Instructions, with their operators, locals and sequences; constant expressions.
-pub use const_expr::ConstExpr;
-pub use const_expr::ConstOp;
-pub use const_expr::ConstOpAt;
-pub use const_expr::laws as const_expr_laws;
-pub use instr::AnyConvertExtern;
-pub use instr::ArrayCopy;
-pub use instr::ArrayFill;
-pub use instr::ArrayGet;
-pub use instr::ArrayGetS;
-pub use instr::ArrayGetU;
-pub use instr::ArrayInitData;
-pub use instr::ArrayInitElem;
-pub use instr::ArrayLen;
-pub use instr::ArrayNew;
-pub use instr::ArrayNewData;
-pub use instr::ArrayNewDefault;
-pub use instr::ArrayNewElem;
-pub use instr::ArrayNewFixed;
-pub use instr::ArraySet;
-pub use instr::AtomicFence;
-pub use instr::AtomicNotify;
-pub use instr::AtomicRmw;
-pub use instr::AtomicWait;
-pub use instr::Binop;
-pub use instr::Block;
-pub use instr::Br;
-pub use instr::BrIf;
-pub use instr::BrOnCast;
-pub use instr::BrOnCastFail;
-pub use instr::BrOnNonNull;
-pub use instr::BrOnNull;
-pub use instr::BrTable;
-pub use instr::Call;
-pub use instr::CallIndirect;
-pub use instr::CallRef;
-pub use instr::Cmpxchg;
-pub use instr::Const;
-pub use instr::DataDrop;
-pub use instr::DropInstr;
-pub use instr::ElemDrop;
-pub use instr::ExternConvertAny;
-pub use instr::GlobalGet;
-pub use instr::GlobalSet;
-pub use instr::I8x16Shuffle;
-pub use instr::I8x16Swizzle;
-pub use instr::I31GetS;
-pub use instr::I31GetU;
-pub use instr::I64Add128;
-pub use instr::I64MulWideS;
-pub use instr::I64MulWideU;
-pub use instr::I64Sub128;
-pub use instr::IfElse;
-pub use instr::Instr;
-pub use instr::InstrLocId;
-pub use instr::InstrSeq;
-pub use instr::InstrSeqId;
-pub use instr::InstrSeqType;
-pub use instr::LegacyCatch;
-pub use instr::Load;
-pub use instr::LoadSimd;
-pub use instr::Local;
-pub use instr::LocalGet;
-pub use instr::LocalId;
-pub use instr::LocalSet;
-pub use instr::LocalTee;
-pub use instr::LocalsIter;
-pub use instr::Loop;
-pub use instr::MemArg;
-pub use instr::MemoryCopy;
-pub use instr::MemoryFill;
-pub use instr::MemoryGrow;
-pub use instr::MemoryInit;
-pub use instr::MemorySize;
-pub use instr::ModuleLocals;
-pub use instr::RefAsNonNull;
-pub use instr::RefCast;
-pub use instr::RefEq;
-pub use instr::RefFunc;
-pub use instr::RefI31;
-pub use instr::RefIsNull;
-pub use instr::RefNull;
-pub use instr::RefTest;
-pub use instr::Rethrow;
-pub use instr::Return;
-pub use instr::ReturnCall;
-pub use instr::ReturnCallIndirect;
-pub use instr::ReturnCallRef;
-pub use instr::Select;
-pub use instr::ShuffleIndices;
-pub use instr::Store;
-pub use instr::StructGet;
-pub use instr::StructGetS;
-pub use instr::StructGetU;
-pub use instr::StructNew;
-pub use instr::StructNewDefault;
-pub use instr::StructSet;
-pub use instr::TableCopy;
-pub use instr::TableFill;
-pub use instr::TableGet;
-pub use instr::TableGrow;
-pub use instr::TableInit;
-pub use instr::TableSet;
-pub use instr::TableSize;
-pub use instr::TernOp;
-pub use instr::Throw;
-pub use instr::ThrowRef;
-pub use instr::Try;
-pub use instr::TryTable;
-pub use instr::TryTableCatch;
-pub use instr::Unop;
-pub use instr::Unreachable;
-pub use instr::V128Bitselect;
-pub use instr::laws as local_laws;
-pub use operators::AtomicOp;
-pub use operators::AtomicWidth;
-pub use operators::BinaryOp;
-pub use operators::ExtendedLoad;
-pub use operators::LoadKind;
-pub use operators::LoadSimdKind;
-pub use operators::StoreKind;
-pub use operators::TernaryOp;
-pub use operators::UnaryOp;
-pub use operators::Value;
+pub use ir_const_expr::ConstExpr;
+pub use ir_const_expr::ConstOp;
+pub use ir_const_expr::ConstOpAt;
+pub use ir_const_expr::laws as const_expr_laws;
+pub use ir_instr::AnyConvertExtern;
+pub use ir_instr::ArrayCopy;
+pub use ir_instr::ArrayFill;
+pub use ir_instr::ArrayGet;
+pub use ir_instr::ArrayGetS;
+pub use ir_instr::ArrayGetU;
+pub use ir_instr::ArrayInitData;
+pub use ir_instr::ArrayInitElem;
+pub use ir_instr::ArrayLen;
+pub use ir_instr::ArrayNew;
+pub use ir_instr::ArrayNewData;
+pub use ir_instr::ArrayNewDefault;
+pub use ir_instr::ArrayNewElem;
+pub use ir_instr::ArrayNewFixed;
+pub use ir_instr::ArraySet;
+pub use ir_instr::AtomicFence;
+pub use ir_instr::AtomicNotify;
+pub use ir_instr::AtomicRmw;
+pub use ir_instr::AtomicWait;
+pub use ir_instr::Binop;
+pub use ir_instr::Block;
+pub use ir_instr::Br;
+pub use ir_instr::BrIf;
+pub use ir_instr::BrOnCast;
+pub use ir_instr::BrOnCastFail;
+pub use ir_instr::BrOnNonNull;
+pub use ir_instr::BrOnNull;
+pub use ir_instr::BrTable;
+pub use ir_instr::Call;
+pub use ir_instr::CallIndirect;
+pub use ir_instr::CallRef;
+pub use ir_instr::Cmpxchg;
+pub use ir_instr::Const;
+pub use ir_instr::DataDrop;
+pub use ir_instr::DropInstr;
+pub use ir_instr::ElemDrop;
+pub use ir_instr::ExternConvertAny;
+pub use ir_instr::GlobalGet;
+pub use ir_instr::GlobalSet;
+pub use ir_instr::I8x16Shuffle;
+pub use ir_instr::I8x16Swizzle;
+pub use ir_instr::I31GetS;
+pub use ir_instr::I31GetU;
+pub use ir_instr::I64Add128;
+pub use ir_instr::I64MulWideS;
+pub use ir_instr::I64MulWideU;
+pub use ir_instr::I64Sub128;
+pub use ir_instr::IfElse;
+pub use ir_instr::Instr;
+pub use ir_instr::InstrLocId;
+pub use ir_instr::InstrSeq;
+pub use ir_instr::InstrSeqId;
+pub use ir_instr::InstrSeqType;
+pub use ir_instr::LegacyCatch;
+pub use ir_instr::Load;
+pub use ir_instr::LoadSimd;
+pub use ir_instr::Local;
+pub use ir_instr::LocalGet;
+pub use ir_instr::LocalId;
+pub use ir_instr::LocalSet;
+pub use ir_instr::LocalTee;
+pub use ir_instr::LocalsIter;
+pub use ir_instr::Loop;
+pub use ir_instr::MemArg;
+pub use ir_instr::MemoryCopy;
+pub use ir_instr::MemoryFill;
+pub use ir_instr::MemoryGrow;
+pub use ir_instr::MemoryInit;
+pub use ir_instr::MemorySize;
+pub use ir_instr::ModuleLocals;
+pub use ir_instr::RefAsNonNull;
+pub use ir_instr::RefCast;
+pub use ir_instr::RefEq;
+pub use ir_instr::RefFunc;
+pub use ir_instr::RefI31;
+pub use ir_instr::RefIsNull;
+pub use ir_instr::RefNull;
+pub use ir_instr::RefTest;
+pub use ir_instr::Rethrow;
+pub use ir_instr::Return;
+pub use ir_instr::ReturnCall;
+pub use ir_instr::ReturnCallIndirect;
+pub use ir_instr::ReturnCallRef;
+pub use ir_instr::Select;
+pub use ir_instr::ShuffleIndices;
+pub use ir_instr::Store;
+pub use ir_instr::StructGet;
+pub use ir_instr::StructGetS;
+pub use ir_instr::StructGetU;
+pub use ir_instr::StructNew;
+pub use ir_instr::StructNewDefault;
+pub use ir_instr::StructSet;
+pub use ir_instr::TableCopy;
+pub use ir_instr::TableFill;
+pub use ir_instr::TableGet;
+pub use ir_instr::TableGrow;
+pub use ir_instr::TableInit;
+pub use ir_instr::TableSet;
+pub use ir_instr::TableSize;
+pub use ir_instr::TernOp;
+pub use ir_instr::Throw;
+pub use ir_instr::ThrowRef;
+pub use ir_instr::Try;
+pub use ir_instr::TryTable;
+pub use ir_instr::TryTableCatch;
+pub use ir_instr::Unop;
+pub use ir_instr::Unreachable;
+pub use ir_instr::V128Bitselect;
+pub use ir_instr::laws as local_laws;
+pub use ir_operators::AtomicOp;
+pub use ir_operators::AtomicWidth;
+pub use ir_operators::BinaryOp;
+pub use ir_operators::ExtendedLoad;
+pub use ir_operators::LoadKind;
+pub use ir_operators::LoadSimdKind;
+pub use ir_operators::StoreKind;
+pub use ir_operators::TernaryOp;
+pub use ir_operators::UnaryOp;
+pub use ir_operators::Value;
 pub use walrus_ir::laws as ir_laws;
 
 // Builders: functions that have a body, and how they are built.
@@ -197,7 +195,7 @@ pub use walrus_functions::{
 pub use walrus_nesting::{Nesting, WalkError, check_nesting, laws as nesting_laws, push_children};
 pub use walrus_traversals::{
     AnyId, IdVisitor, InstrVisitor, OnlyIds, OnlyInstrs, UsedIds, Visitor, dfs_in_order,
-    laws as traversals_laws, used_ids,
+    laws as traversals_laws, report_fields, used_ids,
 };
 pub use walrus_traversals_mut::{
     RenameTypes, VisitorMut, dfs_pre_order_mut, laws as traversals_mut_laws,
@@ -213,19 +211,18 @@ pub use walrus_unused::{
 };
 
 // Binary: the sections of a module, its type section, and modules in normal form.
-pub use walrus_binary::{
+pub use wasm_binary::{
     DecodeError, EncodeError, Expected, NotHeld, ReplaceError, SectionPlace, TypeSectionReader,
     custom_section_name, decode_types, encode_types, laws as binary_laws, module_types,
     replace_type_section, section_around, type_section,
 };
-pub use walrus_module::{
-    DescriptionKind, Fault, FaultKind, RenameError, ScanError, Section, SectionIter, Widths,
-    body_types, description_kind, expression_types, find_content_fault, find_description,
-    find_module_fault, find_outdated, find_unknown_custom, laws as module_laws, named_types,
-    rename_body, rename_custom_section, rename_expression, rename_module, rename_section,
-    section_types, sections, strip_descriptions,
+pub use wasm_module::{
+    DescriptionKind, RenameError, ScanError, Section, SectionIter, Widths, body_types,
+    check_module, description_kind, expression_types, find_description, find_outdated,
+    find_unknown_custom, laws as module_laws, named_types, rename_body, rename_custom_section,
+    rename_expression, rename_module, rename_section, section_types, sections, strip_descriptions,
 };
-pub use walrus_normalise::{
+pub use wasm_normalise::{
     Descriptions, Hazard, NormaliseModuleError, NormaliseOptions, StrictError, UnusedTypes,
     find_changed_type, find_hazard, laws as normal_module_laws, normalise_module,
     normalise_strictly,

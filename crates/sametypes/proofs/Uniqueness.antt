@@ -5,14 +5,14 @@ use Rattle.std.proofs.lemmas.List.{map-append}
 use Rattle.std.proofs.lemmas.List.Elements.{All-head, All-same, All-drop}
 use Rattle.std.proofs.Math.Seq.{take-append_seam, drop-append_seam}
 use Rattle.walrus_ty.specs.declared.records.GroupAt.{GroupAt}
-use Rattle.walrus_binary.specs.Grammar.{IsTypes}
-use Rattle.walrus_binary.specs.Modules.{Section, section, ids, AreInOrder, no_more, custom, later, header, IsModule, framed, IsTypeSectionAt, IsOther, HasNoTypeSection}
-use Rattle.walrus_binary.specs.ModuleSections.{HasTypes, in_section, without_section}
-use Rattle.walrus_binary.specs.Steps.Framing.{place_of, place_after}
-use Rattle.walrus_binary.proofs.Modules.Orders.{place_is, order_parts}
-use Rattle.walrus_binary.proofs.Modules.Faulting.{module_parts}
-use Rattle.walrus_binary.proofs.Modules.Uniqueness.{one_module, located_types}
-use Rattle.walrus_binary.proofs.Sections as groups
+use Rattle.wasm_binary.specs.Grammar.{IsTypes}
+use Rattle.wasm_binary.specs.Modules.{Section, section, ids, AreInOrder, no_more, custom, later, header, IsModule, framed, IsTypeSectionAt, IsOther, HasNoTypeSection}
+use Rattle.wasm_binary.specs.ModuleSections.{HasTypes, in_section, without_section}
+use Rattle.wasm_binary.specs.Steps.Framing.{place_of, place_after}
+use Rattle.wasm_binary.proofs.Modules.Orders.{place_is, order_parts}
+use Rattle.wasm_binary.proofs.Modules.Faulting.{module_parts}
+use Rattle.wasm_binary.proofs.Modules.Uniqueness.{one_module, located_types}
+use Rattle.wasm_binary.proofs.Sections as groups
 use Rattle.walrus_text.specs.Words.{lines_of}
 use Rattle.walrus_text.specs.Text.{section_lines}
 use Rattle.walrus_text.proofs.Texts.Uniqueness as texts

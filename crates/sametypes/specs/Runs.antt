@@ -4,7 +4,7 @@ use Rattle.std.specs.Prelude.{◌≡◌, ℕ, List, [], ◌∷◌, ◌++◌, tak
 use Rattle.walrus_ty.specs.declared.records.GroupAt.{GroupAt}
 use Rattle.walrus_ty.specs.Groups.{Section}
 use Rattle.walrus_ty.specs.Records.{section_of}
-use Rattle.walrus_binary.specs.ModuleSections.{HasTypes}
+use Rattle.wasm_binary.specs.ModuleSections.{HasTypes}
 use Rattle.walrus_text.specs.Text.{IsTextOf}
 use Rattle.walrus_sections.specs.Section.{index_space, IsWellNamed}
 use Rattle.walrus_sections.specs.NormalForm.{IsOutput}

@@ -5,9 +5,9 @@ use error_context::Context;
 use std::fmt;
 use std::fmt::Formatter;
 use std::io::{self, ErrorKind, Write};
-use walrus_binary::DecodeError;
 use walrus_normal_form::ReadError;
 use walrus_text::TextError;
+use wasm_binary::DecodeError;
 
 /// The exit status of a run without a result, as the command `cmp` has it.
 pub const STATUS: u8 = 2;

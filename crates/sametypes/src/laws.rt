@@ -2,7 +2,7 @@
 //! a caller gets by calling it.
 ghost use Rattle.std.specs.Prelude.{◌≡◌, ◌≢◌, ℕ, List};
 ghost use Rattle.walrus_ty.specs.declared.records.GroupAt.{GroupAt};
-ghost use Rattle.walrus_binary.specs.Modules.{IsModule, Section};
+ghost use Rattle.wasm_binary.specs.Modules.{IsModule, Section};
 ghost use Rattle.walrus_text.specs.Text.{section_lines};
 ghost use Rattle.walrus_text.specs.Words.{lines_of};
 ghost use Rattle.sametypes.specs.Runs.{HasSection};

@@ -13,7 +13,7 @@ pub mod laws;
 mod normal_form;
 mod texts;
 
-use command_line::{Input, Request, open, parse_arguments, report_usage, write_version};
+use command_line::{Input, NOT_UTF8, Request, open, parse_arguments, report_usage, write_version};
 use failure::{Failure, InputError, Names, report};
 use normal_form::{index_of_difference, read_normal_form};
 use std::alloc::Global;
@@ -141,6 +141,7 @@ fn start<E: Write>(rt: &HostRuntime, err: &mut E) -> u8 {
         Request::Version => write_version("sametypes", &mut rt.stdout()),
         Request::Work { names, .. } => return compare_named(rt, names.as_slice(), err),
         Request::Usage => return report_usage(USAGE, err),
+        Request::NotUtf8 => return report_usage(NOT_UTF8, err),
     };
     match done {
         Ok(()) => 0,

@@ -1,7 +1,7 @@
 //! The normal form of what a reader gives, and where two of them differ.
 ghost use Rattle.std.specs.Prelude.{◌≡◌, ◌↔◌, ◌<◌, ◌^◌, IfOk, IfSome, None};
 ghost use Rattle.walrus_ty.specs.Records.{section_of};
-ghost use Rattle.walrus_binary.specs.ModuleSections.{HasTypes};
+ghost use Rattle.wasm_binary.specs.ModuleSections.{HasTypes};
 ghost use Rattle.walrus_sections.specs.Section.{index_space, IsWellNamed};
 ghost use Rattle.sametypes.specs.Runs.{HasSection, IsFirstDifference};
 ghost use Rattle.sametypes.specs.Steps.Verdicts.{HasNormalForm};
@@ -11,10 +11,10 @@ use command_line::read_bytes;
 use error_context::context_of_error;
 use std::alloc::Global;
 use std::io::Read;
-use walrus_binary::module_types;
 use walrus_normal_form::{GroupAt, HashKeys, normalise_owned};
 use walrus_text::read_section;
 use walrus_types::{entries_before, first_difference};
+use wasm_binary::module_types;
 
 /// The four bytes with which each module begins, and no text of a section.
 const MAGIC: [u8; 4] = [0x00, 0x61, 0x73, 0x6D];

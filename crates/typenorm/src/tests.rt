@@ -1,7 +1,9 @@
-//! Runs over a reader and two writers in memory.
+//! Runs over a reader and two writers in memory, and the calls of `walrus_text`.
+mod refusals;
 mod rows;
 mod short_texts;
 mod streams;
+mod texts;
 
 use crate::run;
 use std::alloc::Global;

@@ -11,7 +11,7 @@ module _ (Item Alloc : RattleType) (allocation : Ghosts Alloc.Denot)
   abbrev pub LendsItem : MutBor Item.Denot → Fml
   LendsItem item = Lends (the_row Item Alloc allocation) Item arena item (with_value arena.now id)
 
-  -- the same where there is an item, and at `None` the arena stays as it is
+  -- what the id has once the borrow ends, where there is an item; at `None` the arena stays as it is
   abbrev pub LendsItemIf : Option (MutBor Item.Denot) → Fml
   LendsItemIf item =
       LendsIf (the_row Item Alloc allocation) Item arena item (with_value arena.now id) arena.now

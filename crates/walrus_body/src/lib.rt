@@ -21,7 +21,7 @@ pub use walrus_nesting::{Nesting, WalkError, check_nesting, laws as nesting_laws
 // The in-order walk.
 pub use walrus_traversals::{
     AnyId, IdVisitor, InstrVisitor, OnlyIds, OnlyInstrs, UsedIds, Visitor, dfs_in_order,
-    laws as traversals_laws, used_ids,
+    laws as traversals_laws, report_fields, used_ids,
 };
 
 // The walk that changes bodies.

@@ -7,7 +7,7 @@ use std::alloc::{AllocError, Global};
 use std::process::Abort;
 use walrus_arena::Id;
 use walrus_body::{BuildError, FunctionBuilder, LocalFunction, Nesting, check_nesting};
-use walrus_ir::{Block, Const, Instr, InstrLocId, InstrSeqId, InstrSeqType, Value};
+use walrus_ir::{Block, Const, Instr, InstrLocId, InstrSeqId, InstrSeqType, Loop, Value};
 
 pub(crate) const NOTHING: InstrSeqType = InstrSeqType::Simple(None);
 
@@ -54,19 +54,6 @@ pub(crate) fn with_locations(
     Ok(list)
 }
 
-/// Makes the sequence 0 the one that runs first, and ends the function.
-pub(crate) fn begun_by_first(
-    rt: &impl Abort,
-    alloc: Global,
-    builder: FunctionBuilder,
-) -> LocalFunction {
-    let mut f = builder;
-    let entry: InstrSeqId = id(0);
-    assert!(rt; f.contains_seq(entry));
-    f.set_entry(entry);
-    f.local_func(Vec::new(alloc))
-}
-
 /// So many sequences, each with one block of the next, and a last empty one.
 pub(crate) fn chain(rt: &impl Abort, alloc: Global, count: usize) -> LocalFunction {
     let mut f = empty(alloc);
@@ -88,45 +75,62 @@ pub(crate) fn instrs_of(func: &LocalFunction, index: usize) -> Option<&[(Instr, 
     }
 }
 
-// Blocks of these sequences.
-fn blocks(alloc: Global, children: &[usize]) -> Result<Vec<Instr>, AllocError> {
-    let mut instrs = Vec::new(alloc);
-    for child in children {
-        instrs.push(block(*child))?;
-    }
-    Ok(instrs)
-}
-
-// Adds a sequence of this function type with blocks of these sequences.
-fn add_blocks(
+/// Adds a sequence of this function type with a block of each of these sequences, or a loop.
+pub(crate) fn add_blocks(
     alloc: Global,
     f: &mut FunctionBuilder,
     ty: usize,
     children: &[usize],
+    are_loops: bool,
 ) -> Result<(), BuildError> {
-    let instrs = blocks(alloc, children)?;
+    let mut instrs = Vec::new(alloc);
+    for child in children {
+        instrs.push(child_of(*child, are_loops))?;
+    }
     add(alloc, f, InstrSeqType::MultiValue(id(ty)), instrs)?;
     Ok(())
 }
 
-fn body(alloc: Global, sequences: &[&[usize]]) -> Result<LocalFunction, BuildError> {
+fn child_of(index: usize, is_loop: bool) -> Instr {
+    if is_loop {
+        return Instr::Loop(Loop { seq: id(index) });
+    }
+    block(index)
+}
+
+/// A function with these sequences: each is said by the sequences that its blocks or loops name, and
+/// has the function type of its own number.
+pub(crate) fn body(
+    alloc: Global,
+    sequences: &[&[usize]],
+    are_loops: bool,
+) -> Result<LocalFunction, BuildError> {
     let mut f = empty(alloc);
     for (index, children) in sequences.iter().enumerate() {
-        add_blocks(alloc, &mut f, index, children)?;
+        add_blocks(alloc, &mut f, index, children, are_loops)?;
     }
     Ok(f.local_func(Vec::new(alloc)))
 }
 
-/// A function with these sequences: each is said by the sequences that its blocks name, and has the
-/// function type of its own number. It is built again after a refusal.
+/// The same with blocks. It is built again after a refusal.
 pub(crate) fn body_again(
     alloc: Global,
     sequences: &[&[usize]],
 ) -> Result<LocalFunction, BuildError> {
-    match body(alloc, sequences) {
+    match body(alloc, sequences, false) {
         Ok(func) => Ok(func),
-        Err(_) => body(alloc, sequences),
+        Err(_) => body(alloc, sequences, false),
     }
+}
+
+/// The body is nested, from the sequence 0 on.
+pub(crate) fn assert_nested(rt: &impl Abort, alloc: Global, func: &LocalFunction)
+    ensures { IsNested func.now.body 0 }
+{
+    let Nesting::Nested(_) = check_nesting(alloc, func, Id::from_index(0)).expect(rt, "memory")
+    else {
+        panic!(rt; "not nested");
+    };
 }
 
 /// The answer of the check from sequence 0. It is asked for again after a refusal.

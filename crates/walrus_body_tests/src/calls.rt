@@ -1,10 +1,11 @@
 //! Hook calls, as the visitors of the tests write them down.
 use std::alloc::{AllocError, Global};
+use std::process::Abort;
 use walrus_ir::{Instr, Value};
 use walrus_types::{AbstractHeapType, HeapType};
 
 /// A hook call, as far as the tests look.
-#[derive(Clone, Copy, PartialEq, Debug)]
+#[derive(Clone, Copy, PartialEq)]
 pub(crate) enum HookCall {
     Start(usize),
     End(usize),
@@ -58,6 +59,38 @@ pub(crate) fn heap_call(heap_type: &HeapType) -> HookCall {
         HeapType::Concrete(of) => HookCall::ConcreteHeap(of.index()),
         HeapType::Exact(of) => HookCall::ExactHeap(of.index()),
     }
+}
+
+/// A line for each instruction, with the fields that were reported of it.
+pub(crate) fn fields_of(rt: &impl Abort, alloc: Global, calls: &[HookCall]) -> String {
+    let mut text = String::new(alloc);
+    for call in calls {
+        add_field(rt, &mut text, *call);
+    }
+    text
+}
+
+fn add_field(rt: &impl Abort, text: &mut String, call: HookCall) {
+    let (kind, number) = match call {
+        HookCall::Start(_) | HookCall::End(_) => return,
+        HookCall::Seq(index) => (" seq ", index),
+        HookCall::Local(index) => (" local ", index),
+        HookCall::Memory(index) => (" memory ", index),
+        HookCall::Table(index) => (" table ", index),
+        HookCall::Global(index) => (" global ", index),
+        HookCall::Function(index) => (" function ", index),
+        HookCall::Data(index) => (" data ", index),
+        HookCall::Element(index) => (" element ", index),
+        HookCall::Tag(index) => (" tag ", index),
+        HookCall::Ty(index) => (" type ", index),
+        HookCall::ConcreteHeap(index) => (" heap ", index),
+        HookCall::AbstractHeap(_) | HookCall::ExactHeap(_) => (" heap ", 90),
+        HookCall::Value(Value::I32(1)) => (" value ", 1),
+        HookCall::Value(Value::F64(bits)) => (" value ", bits as usize),
+        HookCall::Value(_) => (" value ", 90),
+        _ => return text.push('\n').expect(rt, "memory"),
+    };
+    write!(text, "{kind}{number}").expect(rt, "memory");
 }
 
 /// The words of the worked walks, one space between two: starts and ends, instructions and tags.

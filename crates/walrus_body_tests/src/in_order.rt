@@ -1,5 +1,4 @@
 //! The walk in order, on worked bodies.
-mod fields;
 mod id_visitor;
 mod instr_visitor;
 mod refusals;
@@ -7,7 +6,8 @@ mod used_ids;
 mod walks;
 
 use crate::assertions::assert_equal;
-use crate::bodies::{NOTHING, add, block, chain, empty, id, number};
+use crate::bodies::{NOTHING, add, assert_nested, block, chain, empty, id, number};
+use crate::lists::hold;
 use std::alloc::{AllocError, Global};
 use std::process::Abort;
 use walrus_arena::Id;

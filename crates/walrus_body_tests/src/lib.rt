@@ -21,6 +21,8 @@ mod changing;
 #[cfg(test)]
 mod contracts;
 #[cfg(test)]
+mod fields;
+#[cfg(test)]
 mod functions;
 #[cfg(test)]
 mod in_order;

@@ -1,5 +1,6 @@
 //! Lists of ids.
 use std::alloc::{AllocError, Global};
+use std::process::Abort;
 use walrus_arena::Id;
 
 /// Whether these are the ids of the first of these indices.
@@ -14,6 +15,11 @@ pub(crate) fn begin<T>(ids: &[Id<T>], indices: &[usize]) -> bool {
 /// Whether these are the ids of these indices.
 pub(crate) fn are<T>(ids: &[Id<T>], indices: &[usize]) -> bool {
     ids.len() == indices.len() && begin(ids, indices)
+}
+
+/// These are the ids of these indices, in this order.
+pub(crate) fn hold<T>(rt: &impl Abort, ids: &[Id<T>], indices: &[usize]) {
+    assert!(rt; are(ids, indices));
 }
 
 /// A list of these items. It is made again after a refusal.

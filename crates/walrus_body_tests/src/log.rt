@@ -2,13 +2,14 @@
 ghost use Rattle.std.specs.Prelude.{◌≡◌, OnErr};
 
 use crate::assertions::assert_equal;
-use crate::bodies::id;
+use crate::bodies::assert_nested;
 use crate::calls::{HookCall, call_of, heap_call, words};
 use std::alloc::Global;
 use std::marker::Model;
 use std::process::Abort;
 use thiserror::Error;
-use walrus_body::{LocalFunction, Nesting, Visitor, WalkError, check_nesting, dfs_in_order};
+use walrus_arena::Id;
+use walrus_body::{LocalFunction, Visitor, WalkError, dfs_in_order};
 use walrus_ir::{
     DataId, ElementId, FunctionId, GlobalId, Instr, InstrLocId, InstrSeq, InstrSeqId, LocalId,
     MemoryId, TableId, TagId, TypeId, Value,
@@ -133,8 +134,7 @@ impl Visitor for Log {
     }
 }
 
-/// What a walk from sequence 0 of a nested body wrote down before a call was refused, and what it
-/// answered.
+/// What a walk from the sequence 0 wrote down before a call was refused, and what it answered.
 pub(crate) fn walk(
     rt: &impl Abort,
     alloc: Global,
@@ -142,15 +142,9 @@ pub(crate) fn walk(
     limit: usize,
 ) -> (Log, Result<(), WalkError<Full>>) {
     let mut log = Log::new(alloc, limit);
-    let start = id(0);
-    match check_nesting(alloc, func, start).expect(rt, "memory") {
-        Nesting::Nested(_) => {
-            let answer = dfs_in_order(alloc, &mut log, func, start);
-            (log, answer)
-        }
-        Nesting::Cycle { .. } => panic!(rt; "a cycle"),
-        Nesting::Unknown(_) => panic!(rt; "an unknown sequence"),
-    }
+    assert_nested(rt, alloc, func);
+    let answer = dfs_in_order(alloc, &mut log, func, Id::from_index(0));
+    (log, answer)
 }
 
 /// The log of a whole walk.

@@ -3,9 +3,9 @@ use Rattle.std.proofs.Common.{◌≡◌, ℕ, zero, suc, ◌<◌, List, [], ◌�
 use Rattle.std.proofs.lemmas.List.{get_or_append_left}
 use Rattle.std.proofs.lemmas.List.Elements.{Contains-append_left}
 use Rattle.walrus_types.specs.declared.table.rec_group.RecGroup.{RecGroup}
-use Rattle.walrus_module_types.specs.Types.{ModuleType}
+use Rattle.walrus_ty.specs.Types.{ModuleType}
 use Rattle.walrus_types.specs.TypesById.{TypeSlots, live_type, found_id}
-use Rattle.walrus_module_types.specs.SameTypes.{IsSameType}
+use Rattle.walrus_ty.specs.SameTypes.{IsSameType}
 use Rattle.walrus_types.specs.Table.{Table, own_group, IsSameTable, AddsType, FindsOrAdds, HoldsAlone}
 
 live_below : (s : TypeSlots) (id : ℕ) (P : ModuleType → Type 0) → IsSomeAnd (live_type s id) P → id < length s

@@ -1,6 +1,6 @@
 -- Lemmas on nested forms.
 use Rattle.std.proofs.Common.{◌≡◌, ℕ, ◌⊎◌, Result, Ok, Err, IfErr, inr, subst}
-use Rattle.instr.specs.declared.instr_seq_type.InstrSeqType.{InstrSeqType}
+use Rattle.ir_instr.specs.declared.instr_seq_type.InstrSeqType.{InstrSeqType}
 use Rattle.walrus_functions.specs.declared.error.BuildError.{BuildError}
 use Rattle.walrus_functions.specs.Body.{Body}
 use Rattle.walrus_functions.specs.NestedForms.{Post, Fills, FailsToFill}

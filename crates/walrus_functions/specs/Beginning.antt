@@ -1,11 +1,11 @@
 -- A new function: what is added to the table of types, and what the function is.
 use Rattle.std.specs.Prelude.{◌≡◌, ℕ, List, [], ◌∷◌, ◌⊎◌, Some, None, true}
 use Rattle.walrus_ty.specs.declared.ty.value.Val.{Val}
-use Rattle.walrus_module_types.specs.Types.{ModuleType, unnamed_type, function}
+use Rattle.walrus_ty.specs.Types.{ModuleType, unnamed_type, function}
 use Rattle.walrus_types.specs.Table.{Table, next_id, FindsOrAdds, HoldsAlone, IsSameTable}
 use Rattle.walrus_types.specs.FunctionTypes.{new_function}
-use Rattle.instr.specs.Sequence.{empty_sequence}
-use Rattle.instr.specs.declared.instr_seq_type.InstrSeqType.TheVariants.{MultiValue}
+use Rattle.ir_instr.specs.Sequence.{empty_sequence}
+use Rattle.ir_instr.specs.declared.instr_seq_type.InstrSeqType.TheVariants.{MultiValue}
 use Rattle.walrus_functions.specs.Body.{Body}
 
 -- the type that stands for a function body with these results, as it is added to the table

@@ -1,10 +1,10 @@
 -- What contracts see of a function under construction.
 use Rattle.std.specs.Prelude.{ℕ, ◌<◌, List, [], ◌∷◌, ◌++◌, take, drop, length, Option, None, slice_index_or, slice_set}
-use Rattle.instr.specs.Locations.{no_location}
-use Rattle.instr.specs.Sequence.{Sequence, empty_sequence}
-use Rattle.instr.specs.declared.instr_seq_type.InstrSeqType.{InstrSeqType}
-use Rattle.instr.specs.declared.instr_seq_type.InstrSeqType.TheVariants.{Simple}
-use Rattle.instr.specs.declared.instr.Instr.{Instr}
+use Rattle.ir_instr.specs.Locations.{no_location}
+use Rattle.ir_instr.specs.Sequence.{Sequence, empty_sequence}
+use Rattle.ir_instr.specs.declared.instr_seq_type.InstrSeqType.{InstrSeqType}
+use Rattle.ir_instr.specs.declared.instr_seq_type.InstrSeqType.TheVariants.{Simple}
+use Rattle.ir_instr.specs.declared.instr.Instr.{Instr}
 
 -- the sequences by id, the id of the one that is run first, the id of the function's type, and the
 -- bytes of its name

@@ -1,8 +1,8 @@
 -- What contracts see of a builder of a sequence, and what adding to the sequence does to the
 -- function.
-use Rattle.std.specs.Prelude.{◌≡◌, ◌≤◌, ℕ}
+use Rattle.std.specs.Prelude.{◌≡◌, ◌≤◌, ℕ, OnOk, IfErr, Result}
 use Rattle.std.specs.Borrow.{GName}
-use Rattle.instr.specs.declared.instr.Instr.{Instr}
+use Rattle.ir_instr.specs.declared.instr.Instr.{Instr}
 use Rattle.walrus_functions.specs.declared.function_builder.instr_seq_builder.InstrSeqBuilder.{InstrSeqBuilder}
 use Rattle.walrus_functions.specs.declared.error.BuildError.{BuildError}
 use Rattle.walrus_functions.specs.declared.error.BuildError.TheVariants.{Memory}
@@ -50,3 +50,10 @@ module _ (old new : InstrSeqBuilder) where
   -- memory was refused, and the function is as it was
   abbrev pub AddsNothing : BuildError → Type 0
   AddsNothing e = (e ≡ Memory) × (function_of new ≡ function_of old)
+
+  -- what a call leaves that adds the instruction where there is memory for it, and returns r
+  pub record AddsOrNothing (r : Result (Unit {0}) BuildError) (i : Instr) : Type 0 where
+    pub same : Stays
+    pub known : StayKnown (function_of old) (function_of new)
+    pub ok : OnOk r (Adds i)
+    pub err : IfErr r AddsNothing

@@ -1,8 +1,8 @@
 -- What functions end as, where a `&mut` into them is returned.
 use Rattle.std.specs.Prelude.{ℕ}
 use Rattle.std.specs.Borrow.{Lends, Fml, MutBor}
-use Rattle.instr.specs.contracts.instr_seq.InstrSeq.{the_row as seq_row}
-use Rattle.instr.specs.Sequence.{Sequence}
+use Rattle.ir_instr.specs.contracts.instr_seq.InstrSeq.{the_row as seq_row}
+use Rattle.ir_instr.specs.Sequence.{Sequence}
 use Rattle.walrus_functions.specs.contracts.local_function.LocalFunction.{the_row as function_row}
 use Rattle.walrus_functions.specs.contracts.local_functions.LocalFunctions.{the_row as functions_row}
 use Rattle.walrus_functions.specs.Body.{with_sequence}

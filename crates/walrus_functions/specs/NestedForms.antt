@@ -1,8 +1,8 @@
 -- Adding an instruction whose sequences are made by closures.
-use Rattle.std.specs.Prelude.{◌≡◌, ℕ, ◌⊎◌, ◌<◌, ◌≤◌, List, [], ◌∷◌, length, Option, Some, None, Result, Ok, Err}
+use Rattle.std.specs.Prelude.{◌≡◌, ℕ, ◌⊎◌, ◌<◌, ◌≤◌, List, [], ◌∷◌, length, Result, Ok, Err}
 use Rattle.std.specs.Borrow.{MutBor}
-use Rattle.instr.specs.declared.instr_seq_type.InstrSeqType.{InstrSeqType}
-use Rattle.instr.specs.declared.instr.Instr.{Instr}
+use Rattle.ir_instr.specs.declared.instr_seq_type.InstrSeqType.{InstrSeqType}
+use Rattle.ir_instr.specs.declared.instr.Instr.{Instr}
 use Rattle.walrus_functions.specs.declared.function_builder.instr_seq_builder.InstrSeqBuilder.{InstrSeqBuilder}
 use Rattle.walrus_functions.specs.declared.error.BuildError.{BuildError}
 use Rattle.walrus_functions.specs.declared.error.BuildError.TheVariants.{NoParent, Position, Memory}
@@ -47,27 +47,30 @@ pub record Fills (post : Post) (ty : InstrSeqType) (old : Body)
 abbrev pub FailsToFill : Post → InstrSeqType → Body → BuildError → Body → Type 0
 FailsToFill post ty old e new = ((e ≡ Memory) × (new ≡ old)) ⊎ Fills post ty old (Err e) new
 
--- The place of an instruction in its parent: at the end, or behind so many others.
+-- the place of an instruction in its parent: at the end, or behind so many others
+pub data Place : Type 0 where
+  at_end : (parent : ℕ) → Place
+  behind : (parent position : ℕ) → Place
 
 -- the parent is known and has the place, and the instruction was put there
-abbrev pub Attaches : Body → ℕ → Option ℕ → Instr → Body → Type 0
-Attaches old parent None i new = Knows old parent × (new ≡ with_instr old parent i)
-Attaches old parent (Some position) i new =
+abbrev pub Attaches : Body → Place → Instr → Body → Type 0
+Attaches old (at_end parent) i new = Knows old parent × (new ≡ with_instr old parent i)
+Attaches old (behind parent position) i new =
     Knows old parent × (position ≤ length (instrs_of old parent))
     × (new ≡ with_instr_at old parent position i)
 
 -- the parent is not known, or it has fewer instructions, or memory was refused
-abbrev pub FailsToAttach : Body → ℕ → Option ℕ → BuildError → Type 0
-FailsToAttach f parent None e =
+abbrev pub FailsToAttach : Body → Place → BuildError → Type 0
+FailsToAttach f (at_end parent) e =
     ((e ≡ NoParent) × ¬ Knows f parent) ⊎ ((e ≡ Memory) × Knows f parent)
-FailsToAttach f parent (Some position) e =
+FailsToAttach f (behind parent position) e =
     ((e ≡ NoParent) × ¬ Knows f parent)
     ⊎ (((e ≡ Position) × Knows f parent × (length (instrs_of f parent) < position))
     ⊎ ((e ≡ Memory) × Knows f parent × (position ≤ length (instrs_of f parent))))
 
--- The forms: each closure fills a new sequence of this type, one after the other, and then the parent
--- of this id, as it is by then, gains at the place the instruction that `make` gives for the ids of
--- the sequences. After a refusal what was made stays, and the parent gains nothing.
+-- The forms: each closure fills a new sequence of this type, one after the other, and then the parent,
+-- as it is by then, gains at the place the instruction that `make` gives for the ids of the
+-- sequences. After a refusal what was made stays, and the parent gains nothing.
 
 -- an instruction, given the id of a sequence for each closure
 abbrev pub Makes : List Post → Type 0
@@ -75,17 +78,17 @@ Makes [] = Instr
 Makes (post ∷ others) = ℕ → Makes others
 
 abbrev pub Nests :
-    (closures : List Post) → InstrSeqType → ℕ → Option ℕ → Makes closures → Body → Body → Type 0
-Nests [] ty parent place instr old new = Attaches old parent place instr new
-Nests (post ∷ others) ty parent place make old new =
+    (closures : List Post) → InstrSeqType → Place → Makes closures → Body → Body → Type 0
+Nests [] ty place instr old new = Attaches old place instr new
+Nests (post ∷ others) ty place make old new =
     (mid : Body) × Fills post ty old (Ok tt) mid
-    × Nests others ty parent place (make (next_seq old)) mid new
+    × Nests others ty place (make (next_seq old)) mid new
 
-abbrev pub FailsToNest : List Post → InstrSeqType → ℕ → Option ℕ → Body → BuildError → Body → Type 0
-FailsToNest [] ty parent place old e new = (new ≡ old) × FailsToAttach old parent place e
-FailsToNest (post ∷ others) ty parent place old e new =
+abbrev pub FailsToNest : List Post → InstrSeqType → Place → Body → BuildError → Body → Type 0
+FailsToNest [] ty place old e new = (new ≡ old) × FailsToAttach old place e
+FailsToNest (post ∷ others) ty place old e new =
     FailsToFill post ty old e new
-    ⊎ ((mid : Body) × Fills post ty old (Ok tt) mid × FailsToNest others ty parent place mid e new)
+    ⊎ ((mid : Body) × Fills post ty old (Ok tt) mid × FailsToNest others ty place mid e new)
 
 -- this holds of whatever function the closure of a new sequence may leave
 abbrev pub AfterFilling : Post → InstrSeqType → Body → (Body → Type 0) → Type 0

@@ -3,10 +3,10 @@
 -- sequences of instructions. Here it holds their ids, so a body may be no tree; it is nested where
 -- unfolding it ends.
 use Rattle.std.specs.Prelude.{ℕ, ◌<◌, List, [], ◌∷◌, Contains, flat_map}
-use Rattle.instr.specs.declared.instr.Instr.{Instr}
-use Rattle.instr.specs.declared.instr.Instr.TheVariants as instr
-use Rattle.instr.specs.declared.exceptions.LegacyCatch.{LegacyCatch}
-use Rattle.instr.specs.declared.exceptions.LegacyCatch.TheVariants.{Catch, CatchAll, Delegate}
+use Rattle.ir_instr.specs.declared.instr.Instr.{Instr}
+use Rattle.ir_instr.specs.declared.instr.Instr.TheVariants as instr
+use Rattle.ir_instr.specs.declared.exceptions.LegacyCatch.{LegacyCatch}
+use Rattle.ir_instr.specs.declared.exceptions.LegacyCatch.TheVariants.{Catch, CatchAll, Delegate}
 use Rattle.walrus_functions.specs.Body.{Body, Knows, sequence}
 
 -- the sequence that a clause of `try` runs

@@ -6,8 +6,8 @@ use Rattle.std.specs.Prelude.{[], ◌∷◌}
 use Rattle.std.specs.contracts.alloc.Global as global
 use Rattle.std.specs.contracts.vec.Vec as vec
 use Rattle.std.specs.contracts.impls.GlobalAllocator.TheImpl.{ghosts}
-use Rattle.instr.specs.contracts.instr.Instr.{the_row as instr_row}
-use Rattle.instr.specs.contracts.instr_loc_id.InstrLocId.{the_row as location_row}
+use Rattle.ir_instr.specs.contracts.instr.Instr.{the_row as instr_row}
+use Rattle.ir_instr.specs.contracts.instr_loc_id.InstrLocId.{the_row as location_row}
 use Rattle.walrus_functions.specs.contracts.function_builder.FunctionBuilder.{the_row as fn_row}
 use Rattle.walrus_functions.specs.contracts.function_builder.instr_seq_builder.InstrSeqBuilder.{the_row as builder_row}
 

@@ -328,7 +328,7 @@ impl Clone for FunctionBuilder {
     }
 }
 
-ghost use Rattle.instr.specs.contracts.instr_seq.InstrSeq.{the_row as seq_row};
+ghost use Rattle.ir_instr.specs.contracts.instr_seq.InstrSeq.{the_row as seq_row};
 ghost use Rattle.walrus_functions.specs.Rows.{instrs_row};
 
 // The instructions of a sequence, for writing.

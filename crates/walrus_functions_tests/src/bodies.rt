@@ -12,15 +12,17 @@ mod functions;
 mod nested;
 mod plain;
 mod refusals;
+mod texts;
 mod walrus_examples;
 
 use crate::assertions::assert_equal;
 use std::alloc::{AllocError, Global};
 use std::process::Abort;
+use texts::has;
 use walrus_functions::{
     BuildError, FunctionBuilder, InstrSeqBuilder, LocalFunction, LocalFunctions,
 };
-use walrus_ir::{InstrSeq, InstrSeqType};
+use walrus_ir::{BinaryOp, Block, DropInstr, Instr, InstrSeqType, UnaryOp, Unreachable, Value};
 use walrus_types::{Id, ModuleTypes};
 
 const NOTHING: InstrSeqType = InstrSeqType::Simple(None);
@@ -38,9 +40,9 @@ fn begin(alloc: Global) -> Result<FunctionBuilder, AllocError>
 fn builds<F: FnOnce(&mut InstrSeqBuilder<'_>) -> Result<(), BuildError>>(
     rt: &impl Abort,
     alloc: Global,
-    fill: F,
-    outcome: Result<(), BuildError>,
     text: &str,
+    outcome: Result<(), BuildError>,
+    fill: F,
 )
     requires { (b : MutBor Builder) → IsKnown b.now → IsSome (function_of b.now).entry
         → F.pre fill b }
@@ -49,29 +51,5 @@ fn builds<F: FnOnce(&mut InstrSeqBuilder<'_>) -> Result<(), BuildError>>(
     let mut entry = f.func_body();
     let answer = fill(&mut entry);
     assert_equal(rt, answer, outcome);
-    prints(rt, alloc, &f.local_func(Vec::new(alloc)), text);
-}
-
-// The function has this text.
-fn prints(rt: &impl Abort, alloc: Global, func: &LocalFunction, text: &str) {
-    let printed = to_text(alloc, func).expect(rt, "memory");
-    assert_equal(rt, printed.as_str(), text);
-}
-
-// A line for each sequence: its id, and what each of its instructions prints.
-fn to_text(alloc: Global, func: &LocalFunction) -> Result<String, AllocError> {
-    let mut text = String::new(alloc);
-    for index in 0..func.block_count() {
-        write!(text, "{index}:")?;
-        write_instrs(&mut text, func.block(Id::from_index(index)))?;
-        text.push('\n')?;
-    }
-    Ok(text)
-}
-
-fn write_instrs(text: &mut String, seq: &InstrSeq) -> Result<(), AllocError> {
-    for (instr, _) in &seq.instrs {
-        write!(text, " {instr:?}")?;
-    }
-    Ok(())
+    has(rt, alloc, &f.local_func(Vec::new(alloc)), text);
 }

@@ -3,14 +3,14 @@
 use Rattle.std.proofs.lemmas.List.{drop-set-lt}
 use Rattle.std.proofs.Math.ListN.{set, length-set}
 use Rattle.std.proofs.Common.{Some, None, zero, suc, ◌+◌, ◌<◌, inl, inr, length, take, drop, get_or, map, add-one, arith, ◌∙◌, ◌≡◌, ℕ, List, [], ◌∷◌, ◌++◌, refl, sym, ap, subst}
-use Rattle.instr.specs.declared.exceptions.LegacyCatch.TheVariants as legacy
-use Rattle.instr.specs.declared.exceptions.TryTableCatch.TheVariants as clause
-use Rattle.instr.specs.declared.instr.Instr.{Instr}
-use Rattle.instr.specs.declared.instr.Instr.TheVariants as instr
+use Rattle.ir_instr.specs.declared.exceptions.LegacyCatch.TheVariants as legacy
+use Rattle.ir_instr.specs.declared.exceptions.TryTableCatch.TheVariants as clause
+use Rattle.ir_instr.specs.declared.instr.Instr.{Instr}
+use Rattle.ir_instr.specs.declared.instr.Instr.TheVariants as instr
 use Rattle.walrus_ty.specs.declared.ty.value.Val.TheVariants as val
-use Rattle.instr.specs.Sequence.{Sequence}
-use Rattle.instr.specs.declared.instr_seq_type.InstrSeqType.{InstrSeqType}
-use Rattle.instr.specs.declared.instr_seq_type.InstrSeqType.TheVariants.{Simple, MultiValue}
+use Rattle.ir_instr.specs.Sequence.{Sequence}
+use Rattle.ir_instr.specs.declared.instr_seq_type.InstrSeqType.{InstrSeqType}
+use Rattle.ir_instr.specs.declared.instr_seq_type.InstrSeqType.TheVariants.{Simple, MultiValue}
 use Rattle.walrus_ir.specs.Hooks.{Hook, Given, end_instr_seq, visit_instr}
 use Rattle.walrus_ir.specs.Fields.{fields, type_fields, clause_fields, legacy_fields, instr_calls, sequence_calls}
 use Rattle.walrus_ir.specs.Calls.{Calls, leaves, call, and_then, each, unchanged, Extent, Full, Partial, StepRelation, Visits}

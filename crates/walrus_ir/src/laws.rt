@@ -1,14 +1,14 @@
 //! What block types are in a module's table of types, and the laws of block types, of constant
 //! expressions and of locals.
 ghost use Rattle.std.specs.Prelude.{◌≡◌, Some, None, IfSome, IfOk, OnErr, Ok, MatchOption};
-ghost use Rattle.instr.specs.BlockTypes.{simple_result, IsMultiValue};
-ghost use Rattle.instr.specs.declared.instr_seq_type.InstrSeqType.TheVariants.{Simple};
+ghost use Rattle.ir_instr.specs.BlockTypes.{simple_result, IsMultiValue};
+ghost use Rattle.ir_instr.specs.declared.instr_seq_type.InstrSeqType.TheVariants.{Simple};
 ghost use Rattle.walrus_types.specs.FunctionTypes.{new_function};
 ghost use Rattle.walrus_types.specs.Table.{FindsOrAdds, HoldsAlone, IsSameTable, IsFirst, IsPlainFunction};
 
 use crate::{InstrSeqType, ModuleTypes, ValType};
-pub use const_expr::laws::operations_come_back;
-pub use instr::laws::{
+pub use ir_const_expr::laws::operations_come_back;
+pub use ir_instr::laws::{
     equal_block_types_are_the_same, equal_locals_are_the_same, local_hashes_agree,
 };
 use std::alloc::AllocError;

@@ -28,19 +28,19 @@
 pub mod laws;
 
 // Instructions, sequences of them, and locals.
-pub use instr::{
+pub use ir_instr::{
     Instr, InstrLocId, InstrSeq, InstrSeqId, InstrSeqType, Local, LocalId, LocalsIter, ModuleLocals,
 };
 
 // Control and calls.
-pub use instr::{
+pub use ir_instr::{
     Block, Br, BrIf, BrOnCast, BrOnCastFail, BrOnNonNull, BrOnNull, BrTable, Call, CallIndirect,
     CallRef, IfElse, LegacyCatch, Loop, Rethrow, Return, ReturnCall, ReturnCallIndirect,
     ReturnCallRef, Throw, ThrowRef, Try, TryTable, TryTableCatch, Unreachable,
 };
 
 // Numbers, vectors and memory.
-pub use instr::{
+pub use ir_instr::{
     AtomicFence, AtomicNotify, AtomicRmw, AtomicWait, Binop, Cmpxchg, Const, DataDrop, DropInstr,
     GlobalGet, GlobalSet, I8x16Shuffle, I8x16Swizzle, I64Add128, I64MulWideS, I64MulWideU,
     I64Sub128, Load, LoadSimd, LocalGet, LocalSet, LocalTee, MemArg, MemoryCopy, MemoryFill,
@@ -48,7 +48,7 @@ pub use instr::{
 };
 
 // References, structs, arrays and tables.
-pub use instr::{
+pub use ir_instr::{
     AnyConvertExtern, ArrayCopy, ArrayFill, ArrayGet, ArrayGetS, ArrayGetU, ArrayInitData,
     ArrayInitElem, ArrayLen, ArrayNew, ArrayNewData, ArrayNewDefault, ArrayNewElem, ArrayNewFixed,
     ArraySet, ElemDrop, ExternConvertAny, I31GetS, I31GetU, RefAsNonNull, RefCast, RefEq, RefFunc,
@@ -58,13 +58,13 @@ pub use instr::{
 };
 
 // Operators, what memory accesses touch, and constants.
-pub use instr::{
+pub use ir_instr::{
     AtomicOp, AtomicWidth, BinaryOp, ExtendedLoad, LoadKind, LoadSimdKind, StoreKind, TernaryOp,
     UnaryOp, Value,
 };
 
 // Constant expressions.
-pub use const_expr::{ConstExpr, ConstOp, ConstOpAt};
+pub use ir_const_expr::{ConstExpr, ConstOp, ConstOpAt};
 
 // The types of a module.
 pub use walrus_types::{

@@ -1,13 +1,7 @@
 //! Instructions, locals and constant expressions: worked values beside the contracts, and what no
-//! contract says, such as how many operators there are, that clones succeed with ample memory, and
-//! printed texts.
-use std::alloc::Global;
-use std::collections::HashSet;
-use std::fmt;
-use std::process::Abort;
-
+//! contract says, such as how many operators there are, what a refused call leaves, and printed
+//! texts.
 mod binary_ops;
-mod clones;
 mod const_exprs;
 mod conversions;
 mod examples;
@@ -22,10 +16,9 @@ mod unary_ops;
 mod value;
 mod widths;
 
-/// Adds the printed names of operators to those seen. None of them may be there.
-fn see<T: fmt::Debug>(rt: &impl Abort, alloc: Global, seen: &mut HashSet<String>, ops: &[T]) {
-    for op in ops {
-        let name = format!(in alloc; "{op:?}").expect(rt, "memory");
-        assert!(rt; seen.insert(name).expect(rt, "memory"));
-    }
+/// Whether no two of these operators are equal.
+fn all_differ<T: PartialEq>(ops: &[T]) -> bool {
+    ops.iter()
+        .enumerate()
+        .all(|(at, op)| ops.iter().take(at).all(|before| before != op))
 }

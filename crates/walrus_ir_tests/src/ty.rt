@@ -6,6 +6,7 @@ mod error;
 mod indices;
 mod listed;
 mod referenced;
+mod refusals;
 mod value;
 mod views;
 mod walrus_examples;

@@ -1,5 +1,5 @@
 //! Reading a type section into groups whose records name slots.
-ghost use Rattle.std.specs.Prelude.{◌≡◌, ◌<◌, ◌+◌, ◌^◌, ◌⊎◌, ◌++◌, ◌∷◌, [], ℕ, List, Some, length, map, slice_set, IfOk, IfErr, OnOk, if◌then◌else◌};
+ghost use Rattle.std.specs.Prelude.{◌≡◌, ◌<◌, ◌+◌, ◌^◌, ◌⊎◌, ◌++◌, ◌∷◌, [], ℕ, List, None, Some, length, map, slice_set, IfOk, IfErr, OnOk, if◌then◌else◌};
 ghost use Rattle.std.specs.List.{range_with_len};
 ghost use Rattle.std.specs.Option.{unwrap_or};
 ghost use Rattle.walrus_ty.specs.Groups.{Section, Single, Rec};
@@ -71,9 +71,10 @@ impl Reader {
     fn push_group(&mut self, alloc: Global, group: GroupAt) -> Result<(), ReadError>
         ensures ok { (s : Section) → IsReaderOf s self.old →
             OnOk result (IsReaderOf (s ++ group_of group ∷ []) self.new) }
-        ensures err { IfErr result (λ e. (e ≡ read.Memory) ⊎
-            (group_error (length self.old.slots.items)
-            (definitions_of (group_of group)) ≡ Some e)) }
+        ensures err { IfErr result (λ e.
+            ((e ≡ read.Memory) ×
+            (group_error (length self.old.slots.items) (definitions_of (group_of group)) ≡ None)) ⊎
+            (group_error (length self.old.slots.items) (definitions_of (group_of group)) ≡ Some e)) }
     {
         match group {
             GroupAt::Single(entry) => self.push_single(alloc, entry),
@@ -84,7 +85,9 @@ impl Reader {
     fn push_single(&mut self, alloc: Global, mut entry: EntryAt) -> Result<(), ReadError>
         ensures ok { (s : Section) → IsReaderOf s self.old →
             OnOk result (IsReaderOf (s ++ Single (entry_definition entry) ∷ []) self.new) }
-        ensures err { IfErr result (λ e. (e ≡ read.Memory) ⊎
+        ensures err { IfErr result (λ e.
+            ((e ≡ read.Memory) ×
+            (group_error (length self.old.slots.items) (entry_definition entry ∷ []) ≡ None)) ⊎
             (group_error (length self.old.slots.items) (entry_definition entry ∷ []) ≡ Some e)) }
     {
         let index = self.slots.len();
@@ -104,7 +107,9 @@ impl Reader {
     fn push_rec(&mut self, mut entries: Listed<EntryAt>) -> Result<(), ReadError>
         ensures ok { (s : Section) → IsReaderOf s self.old →
             OnOk result (IsReaderOf (s ++ Rec (map entry_definition entries) ∷ []) self.new) }
-        ensures err { IfErr result (λ e. (e ≡ read.Memory) ⊎
+        ensures err { IfErr result (λ e.
+            ((e ≡ read.Memory) ×
+            (group_error (length self.old.slots.items) (map entry_definition entries) ≡ None)) ⊎
             (group_error (length self.old.slots.items) (map entry_definition entries) ≡ Some e)) }
     {
         let first = self.slots.len();

@@ -35,7 +35,7 @@ pub not_each :
     ((k : ℕ) → k < n → P k) → IsTrue false
 not_each P n i b below sees fails all = absurd (not_held b sees fails (all i below))
 
--- the same of pairs, of which a test looks at all with j as the later
+-- where the test of j says no, it does not hold of each pair below n; it looks at all with j as the later
 pub not_each_pair :
     (P : ℕ → ℕ → Type 0) (n j : ℕ) (b : Bool) → j < n → (((i : ℕ) → i < j → P i j) → IsTrue b) →
     b ≡ false → ((i k : ℕ) → i < k → k < n → P i k) → IsTrue false

@@ -4,13 +4,13 @@ use Rattle.std.specs.List.{range_with_len}
 use Rattle.std.specs.Option.{IsSomeAnd}
 use Rattle.std.proofs.lemmas.List.{set-set, take_all, map_more}
 use Rattle.walrus_ty.specs.declared.ty.value.Val.{Val}
-use Rattle.walrus_module_types.specs.Signature.{Signature}
-use Rattle.instr.specs.Locals.{unnamed_locals}
-use Rattle.instr.specs.Locations.{no_location}
-use Rattle.instr.specs.Sequence.{Sequence, empty_sequence}
-use Rattle.instr.specs.declared.instr_seq_type.InstrSeqType.TheVariants.{Simple}
-use Rattle.instr.specs.declared.instr.Instr.{Instr}
-use Rattle.instr.specs.declared.instr.Instr.TheVariants.{Call}
+use Rattle.walrus_ty.specs.Signature.{Signature}
+use Rattle.ir_instr.specs.Locals.{unnamed_locals}
+use Rattle.ir_instr.specs.Locations.{no_location}
+use Rattle.ir_instr.specs.Sequence.{Sequence, empty_sequence}
+use Rattle.ir_instr.specs.declared.instr_seq_type.InstrSeqType.TheVariants.{Simple}
+use Rattle.ir_instr.specs.declared.instr.Instr.{Instr}
+use Rattle.ir_instr.specs.declared.instr.Instr.TheVariants.{Call}
 use Rattle.walrus_functions.specs.Body.{Body, Knows, sequence, with_sequence, with_instrs, with_instr}
 use Rattle.walrus_passes.specs.Adapters.{get_of, call_with}
 

@@ -3,9 +3,9 @@ use Rattle.std.proofs.Common.{◌≡◌, ℕ, Bool, true, false, nat_eq, List, [
 use Rattle.std.specs.List.{AllZip, list_any}
 use Rattle.std.proofs.lemmas.Bool.{eq-eqb}
 use Rattle.std.proofs.lemmas.List.Folds.{list_any_at}
-use Rattle.instr.specs.declared.instr.Instr.{Instr}
-use Rattle.instr.specs.declared.instr.Instr.TheVariants as instr
-use Rattle.instr.specs.Sequence.{Sequence}
+use Rattle.ir_instr.specs.declared.instr.Instr.{Instr}
+use Rattle.ir_instr.specs.declared.instr.Instr.TheVariants as instr
+use Rattle.ir_instr.specs.Sequence.{Sequence}
 use Rattle.walrus_functions.specs.FunctionWithArgs.{FunctionWithArgs}
 use Rattle.walrus_passes.specs.MappedInstrs.{IsMapped, IsMappedSequence, IsMappedItem}
 use Rattle.walrus_passes.specs.ChangedCalls.{named_function, is_one_of, snipped, redirected, redirected_id}

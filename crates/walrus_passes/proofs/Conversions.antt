@@ -5,22 +5,21 @@ use Rattle.std.specs.Option.{option_map_or}
 use Rattle.std.proofs.lemmas.List.{take_more, length-take-le, set-set, length-set, map-append}
 use Rattle.std.proofs.lemmas.Option.{slice_get-get_or}
 use Rattle.std.proofs.lemmas.Fn.{FoldsTo-push}
-use Rattle.walrus_ty.specs.declared.ty.value.Val.{Val}
-use Rattle.walrus_types.specs.Table.{Table, FindsOrAdds}
-use Rattle.instr.specs.Sequence.{Sequence, empty_sequence}
-use Rattle.instr.specs.declared.instr_seq_type.InstrSeqType.TheVariants.{Simple}
-use Rattle.instr.specs.declared.instr.Instr.{Instr}
-use Rattle.instr.specs.declared.instr.Instr.TheVariants.{Call}
-use Rattle.instr.specs.Locations.{no_location}
+use Rattle.walrus_types.specs.Table.{Table}
+use Rattle.ir_instr.specs.Sequence.{Sequence, empty_sequence}
+use Rattle.ir_instr.specs.declared.instr_seq_type.InstrSeqType.TheVariants.{Simple}
+use Rattle.ir_instr.specs.declared.instr.Instr.{Instr}
+use Rattle.ir_instr.specs.declared.instr.Instr.TheVariants.{Call}
+use Rattle.ir_instr.specs.Locations.{no_location}
 use Rattle.walrus_functions.specs.declared.error.BuildError.{BuildError}
 use Rattle.walrus_functions.specs.Body.{Body, Knows, sequence, with_sequence, with_instrs, instrs_of}
-use Rattle.walrus_functions.specs.Beginning.{begun, new_entry_type}
+use Rattle.walrus_functions.specs.Beginning.{begun}
 use Rattle.walrus_functions.specs.FunctionWithArgs.{FunctionWithArgs}
 use Rattle.walrus_functions.specs.Building.{seq_id, function_of}
 use Rattle.walrus_functions.proofs.BodyLemmas.{same_instrs}
 use Rattle.walrus_passes.specs.Conversions.{Step, Reaches, AddsEach, Converts, ConvertsEach, FailsToConvert, with_more, for_each}
 use Rattle.walrus_passes.specs.Conversions.Reaches.{at_start, after}
-use Rattle.walrus_passes.specs.ConvertingAdapters.{ConvertsCall, FailsToConvertCall, ConvertsAndCalls, FailsToAdapt, HasInstrs, call_and_store, converted_call, read_of, set_of}
+use Rattle.walrus_passes.specs.ConvertingAdapters.{StoredCall, BothConversions, ConvertsCall, FailsToConvertCall, ConvertsAndCalls, HasInstrs, call_and_store, results_of, converted_call, read_of, set_of}
 use Rattle.walrus_passes.specs.Adapters.{get_of, call_with}
 
 -- one local more is converted
@@ -155,38 +154,45 @@ adds-all step instrs count seq start adds n (local ∷ locals) old new reached k
 
 -- the steps of a converting adapter, put together
 
+results-there :
+    (Holds : ℕ → Body → Type 0) (seq second third : ℕ) (mid called : Body) (instrs : List (Instr × ℕ)) →
+    second ≡ seq → third ≡ second → called ≡ with_more mid second instrs → Holds third called →
+    Holds seq (with_more mid seq instrs)
+results-there Holds seq second third mid called instrs one two calls holds =
+    let At : ℕ → Type 0 = λ n. Holds n called in
+    subst (Holds seq) (calls ∙ ap (λ (n : ℕ). with_more mid n instrs) one) (subst At (two ∙ one) holds)
+
 pub call-converted :
-    {P R : Type 0} (param_step : Step P) (param : P) (result_step : Step R) (res : R)
-    (seq second third func : ℕ) (params results : List ℕ) (old mid called new : Body) →
-    (last : P) × ConvertsEach param_step seq params (param, old) (last, mid) →
-    second ≡ seq → third ≡ second → called ≡ with_more mid second (call_and_store func results) →
-    (last : R) × ConvertsEach result_step third results (res, called) (last, new) →
-    ConvertsCall param_step param result_step res seq func params results old new
-call-converted param_step param result_step res seq second third func params results old mid called new
-    before one two calls behind =
-    let stored_there = calls ∙ ap (λ (n : ℕ). with_more mid n (call_and_store func results)) one in
-    let At : ℕ → Type 0 = λ n. ConvertsEach result_step n results (res, called) (behind.0, new) in
-    let From : Body → Type 0 = λ b. ConvertsEach result_step seq results (res, b) (behind.0, new) in
-    record {
-      before_call = (before.0, mid);
-      last = behind.0;
-      converted_params = before.1;
-      converted_results = subst From stored_there (subst At (two ∙ one) behind.1);
-    }
+    {P R : Type 0} (by : BothConversions P R) (seq second third : ℕ) (call : StoredCall)
+    (old mid called new : Body) →
+    (last : P) × ConvertsEach by.param_step seq call.params (by.param, old) (last, mid) →
+    second ≡ seq → third ≡ second → called ≡ with_more mid second (call_and_store call.func call.results) →
+    (last : R) × ConvertsEach by.result_step third call.results (by.res, called) (last, new) →
+    ConvertsCall by seq call old new
+call-converted by seq second third call old mid called new before one two calls behind = record {
+  before_call = (before.0, mid);
+  last = behind.0;
+  converted_params = before.1;
+  converted_results = results-there
+      (λ n b. ConvertsEach by.result_step n call.results (by.res, b) (behind.0, new))
+      seq second third mid called (call_and_store call.func call.results) one two calls behind.1;
+}
 
 pub call-failed :
-    {P R : Type 0} (param_step : Step P) (param : P) (result_step : Step R) (res : R)
-    (seq second third func : ℕ) (params results : List ℕ) (old mid called : Body) (e : BuildError) →
-    (last : P) × ConvertsEach param_step seq params (param, old) (last, mid) →
-    second ≡ seq → third ≡ second → called ≡ with_more mid second (call_and_store func results) →
-    FailsToConvert result_step third results (res, called) e →
-    FailsToConvertCall param_step param result_step res seq func params results old e
-call-failed param_step param result_step res seq second third func params results old mid called e
-    before one two calls fails =
-    let stored_there = calls ∙ ap (λ (n : ℕ). with_more mid n (call_and_store func results)) one in
-    let At : ℕ → Type 0 = λ n. FailsToConvert result_step n results (res, called) e in
-    let From : Body → Type 0 = λ b. FailsToConvert result_step seq results (res, b) e in
-    inr (inr ((before.0, mid), before.1, subst From stored_there (subst At (two ∙ one) fails)))
+    {P R : Type 0} (by : BothConversions P R) (seq second third : ℕ) (call : StoredCall)
+    (old mid called : Body) (e : BuildError) →
+    (last : P) × ConvertsEach by.param_step seq call.params (by.param, old) (last, mid) →
+    second ≡ seq → third ≡ second → called ≡ with_more mid second (call_and_store call.func call.results) →
+    FailsToConvert by.result_step third call.results (by.res, called) e →
+    FailsToConvertCall by seq call old e
+call-failed by seq second third call old mid called e before one two calls fails =
+    inr (inr (
+      (before.0, mid),
+      before.1,
+      results-there
+          (λ n b. FailsToConvert by.result_step n call.results (by.res, b) e)
+          seq second third mid called (call_and_store call.func call.results) one two calls fails,
+    ))
 
 pub if-err : {T E : Type 0} (Q : E → Type 0) (r : Result T E) (e : E) → r ≡ Err e → Q e → IfErr r Q
 if-err {T} {E} Q r e is holds =
@@ -200,106 +206,62 @@ pub entry-first :
 entry-first f ty entry_ty id is at =
     ap (λ (o : Option ℕ). option_map_or (λ n. n) o 0) (sym at ∙ ap (λ (b : Body). b.entry) is)
 
-pub adapter-made :
-    {P R : Type 0} (param_step : Step P) (param : P) (result_step : Step R) (res : R) (old new : Table)
-    (func ty seq entry_ty : ℕ) (types : List (Val ℕ)) (params results ids : List ℕ) (f g last : Body)
-    (adapter : FunctionWithArgs) →
-    FindsOrAdds old new (new_entry_type old types) entry_ty → f ≡ begun ty entry_ty → g ≡ f →
-    f.entry ≡ Some seq → params ≡ adapter.args → results ≡ ids → last ≡ adapter.body →
-    ConvertsCall param_step param result_step res seq func params results g last →
-    ConvertsAndCalls param_step param result_step res old new func ty types ids adapter
-adapter-made {P} {R} param_step param result_step res old new func ty seq entry_ty types params results
-    ids f g last adapter entry begins same at args_are ids_are body_is does =
-    let Seq : ℕ → Type 0 = λ n. ConvertsCall param_step param result_step res n func params results g last in
-    let Args : List ℕ → Type 0 = λ xs.
-    ConvertsCall param_step param result_step res 0 func xs results g last in
-    let Ids : List ℕ → Type 0 = λ xs.
-    ConvertsCall param_step param result_step res 0 func adapter.args xs g last in
-    let From : Body → Type 0 = λ b.
-    ConvertsCall param_step param result_step res 0 func adapter.args ids b last in
-    let To : Body → Type 0 = λ b. ConvertsCall param_step param result_step res 0 func adapter.args ids
-    (begun ty entry_ty) b in
-    record {
-      entry_ty = entry_ty;
-      entry = entry;
-      body = subst To body_is (subst From (same ∙ begins) (subst Ids ids_are (subst Args args_are
-          (subst Seq (entry-first f ty entry_ty seq begins at) does))));
-    }
-
-pub adapter-failed :
-    {P R : Type 0} (param_step : Step P) (param : P) (result_step : Step R) (res : R) (old new : Table)
-    (func ty seq entry_ty : ℕ) (types : List (Val ℕ)) (params results args ids : List ℕ) (f g : Body)
-    (e : BuildError) →
-    FindsOrAdds old new (new_entry_type old types) entry_ty → f ≡ begun ty entry_ty → g ≡ f →
-    f.entry ≡ Some seq → params ≡ args → results ≡ ids →
-    FailsToConvertCall param_step param result_step res seq func params results g e →
-    FailsToAdapt param_step param result_step res old new func ty types args ids e
-adapter-failed param_step param result_step res old new func ty seq entry_ty types params results args ids
-    f g e entry begins same at args_are ids_are fails =
-    let Seq : ℕ → Type 0 = λ n.
-    FailsToConvertCall param_step param result_step res n func params results g e in
-    let Args : List ℕ → Type 0 = λ xs.
-    FailsToConvertCall param_step param result_step res 0 func xs results g e in
-    let Ids : List ℕ → Type 0 = λ xs.
-    FailsToConvertCall param_step param result_step res 0 func args xs g e in
-    let From : Body → Type 0 = λ b.
-    FailsToConvertCall param_step param result_step res 0 func args ids b e in
-    inr (
-      entry_ty,
-      entry,
-      subst From (same ∙ begins) (subst Ids ids_are (subst Args args_are
-          (subst Seq (entry-first f ty entry_ty seq begins at) fails))),
-    )
+-- what holds of the sequence, the call and the body holds of the entry of the function that was begun
+pub at-entry :
+    (Holds : ℕ → StoredCall → Body → Type 0) (ty entry_ty seq : ℕ) (here call : StoredCall) (f g : Body) →
+    f ≡ begun ty entry_ty → g ≡ f → f.entry ≡ Some seq → here ≡ call → Holds seq here g →
+    Holds 0 call (begun ty entry_ty)
+at-entry Holds ty entry_ty seq here call f g begins same at is holds =
+    let Seq : ℕ → Type 0 = λ n. Holds n here g in
+    let Of : StoredCall → Type 0 = λ k. Holds 0 k g in
+    subst (Holds 0 call) (same ∙ begins) (subst Of is (subst Seq (entry-first f ty entry_ty seq begins at) holds))
 
 -- all that a converting adapter does, where its conversions add these instructions
 
 pub call-exact :
-    {P R : Type 0} (param_step : Step P) (param : P) (result_step : Step R) (res : R) (seq func : ℕ)
-    (params results : List ℕ) (old new : Body) (for_param for_result : ℕ → ℕ → List (Instr × ℕ)) →
-    ConvertsCall param_step param result_step res seq func params results old new →
-    AddsEach param_step (length params) param for_param →
-    AddsEach result_step (length results) res for_result → Knows old seq →
-    new ≡ with_more old seq (converted_call for_param for_result func params results)
-call-exact param_step param result_step res seq func params results old new for_param for_result
-    call adds_params adds_results known =
-    let before = call.before_call.1 in
-    let xs = for_each for_param params in
-    let ys = call_and_store func results in
-    let zs = for_each for_result results in
+    {P R : Type 0} (by : BothConversions P R) (seq : ℕ) (call : StoredCall) (old new : Body)
+    (for_param for_result : ℕ → ℕ → List (Instr × ℕ)) → ConvertsCall by seq call old new →
+    AddsEach by.param_step (length call.params) by.param for_param →
+    AddsEach by.result_step (length call.results) by.res for_result → Knows old seq →
+    new ≡ with_more old seq (converted_call for_param for_result call)
+call-exact by seq call old new for_param for_result does adds_params adds_results known =
+    let before = does.before_call.1 in
+    let xs = for_each for_param call.params in
+    let ys = call_and_store call.func call.results in
+    let zs = for_each for_result call.results in
     let first : before ≡ with_more old seq xs =
-    adds-all param_step for_param (length params) seq param adds_params 0 params (param, old)
-    call.before_call at_start known (omega arith) call.converted_params in
+    adds-all by.param_step for_param (length call.params) seq by.param adds_params 0 call.params
+    (by.param, old) does.before_call at_start known (omega arith) does.converted_params in
     let called : with_more before seq ys ≡ with_more old seq (xs ++ ys) =
     ap (λ (g : Body). with_more g seq ys) first ∙ more-more old seq xs ys known in
     let KnownIn : Body → Type 0 = λ g. Knows g seq in
     let known_before : Knows before seq = subst KnownIn (sym first) (more-known old seq xs known) in
-    adds-all result_step for_result (length results) seq res adds_results 0 results
-    (res, with_more before seq ys) (call.last, new) at_start
+    adds-all by.result_step for_result (length call.results) seq by.res adds_results 0 call.results
+    (by.res, with_more before seq ys) (does.last, new) at_start
     (more-known before seq ys known_before) (omega arith)
-    call.converted_results
+    does.converted_results
     ∙ ap (λ (g : Body). with_more g seq zs) called
     ∙ more-more old seq (xs ++ ys) zs known
 
 pub adapter-instrs :
-    {P R : Type 0} (param_step : Step P) (param : P) (result_step : Step R) (res : R) (old new : Table)
-    (func ty : ℕ) (types : List (Val ℕ)) (results : List ℕ) (adapter : FunctionWithArgs)
-    (param_count result_count : ℕ) →
-    ConvertsAndCalls param_step param result_step res old new func ty types results adapter →
-    length adapter.args ≡ param_count → length results ≡ result_count →
+    {P R : Type 0} (by : BothConversions P R) (call : StoredCall) (old new : Table) (ty : ℕ)
+    (adapter : FunctionWithArgs) (param_count result_count : ℕ) →
+    ConvertsAndCalls by call old new ty adapter →
+    length call.params ≡ param_count → length call.results ≡ result_count →
     (for_param for_result : ℕ → ℕ → List (Instr × ℕ)) →
-    AddsEach param_step param_count param for_param →
-    AddsEach result_step result_count res for_result →
-    HasInstrs old new ty types (converted_call for_param for_result func adapter.args results) adapter
-adapter-instrs param_step param result_step res old new func ty types results adapter param_count
-    result_count made params_are results_are for_param for_result adds_params adds_results =
-    let AddsParams : ℕ → Type 0 = λ n. AddsEach param_step n param for_param in
-    let AddsResults : ℕ → Type 0 = λ n. AddsEach result_step n res for_result in
+    AddsEach by.param_step param_count by.param for_param →
+    AddsEach by.result_step result_count by.res for_result →
+    HasInstrs old new ty (results_of old ty) (converted_call for_param for_result call) adapter
+adapter-instrs by call old new ty adapter param_count result_count made params_are results_are
+    for_param for_result adds_params adds_results =
+    let AddsParams : ℕ → Type 0 = λ n. AddsEach by.param_step n by.param for_param in
+    let AddsResults : ℕ → Type 0 = λ n. AddsEach by.result_step n by.res for_result in
     record {
       entry_ty = made.entry_ty;
       entry = made.entry;
-      body = call-exact param_step param result_step res 0 func adapter.args results (begun ty made.entry_ty)
-          adapter.body for_param for_result made.body (subst AddsParams (sym params_are) adds_params)
-          (subst AddsResults (sym results_are) adds_results) (omega arith);
+      body = call-exact by 0 call (begun ty made.entry_ty) adapter.body for_param for_result made.body
+          (subst AddsParams (sym params_are) adds_params) (subst AddsResults (sym results_are) adds_results)
+          (omega arith);
     }
 
 -- conversions that read their locals
@@ -312,7 +274,7 @@ reads-all n (local ∷ locals) = ap (λ (xs : List (Instr × ℕ)). get_of local
 
 pub plain-call :
     (func : ℕ) (params results : List ℕ) →
-    converted_call read_of read_of func params results ≡
+    converted_call read_of read_of (record { func = func; params = params; results = results }) ≡
     call_with params func ++ (map set_of (reverse results) ++ map get_of results)
 plain-call func params results =
     let sets = map set_of (reverse results) in
@@ -326,5 +288,5 @@ plain-call func params results =
 
 pub plain-call-no_results :
     (func : ℕ) (params : List ℕ) →
-    converted_call read_of read_of func params [] ≡ call_with params func
+    converted_call read_of read_of (record { func = func; params = params; results = [] }) ≡ call_with params func
 plain-call-no_results func params = plain-call func params [] ∙ append-nil (call_with params func)

@@ -4,9 +4,10 @@ use Rattle.std.specs.List.{range_with_len}
 use Rattle.std.proofs.lemmas.List.FromFn.{length-range_with_len}
 use Rattle.std.specs.Option.{IsSomeAnd, option_map_or}
 use Rattle.walrus_ty.specs.declared.ty.value.Val.{Val}
-use Rattle.walrus_module_types.specs.Signature.{Signature}
-use Rattle.instr.specs.Locals.{LocalVariable, unnamed_local, unnamed_locals}
-use Rattle.walrus_passes.specs.ConvertingAdapters.{new_params, new_results}
+use Rattle.walrus_ty.specs.Signature.{Signature}
+use Rattle.ir_instr.specs.Locals.{LocalVariable, unnamed_local, unnamed_locals}
+use Rattle.walrus_types.specs.Table.{Table, signature_at}
+use Rattle.walrus_passes.specs.ConvertingAdapters.{StoredCall, new_params, new_results, params_of, call_between}
 use Rattle.walrus_passes.proofs.Calling.{new_ids}
 
 -- what is read of a function type
@@ -79,20 +80,21 @@ results-count o old params results ids slice are is same =
     ∙ ap length (types-are (λ f. f.results) o results are)
 
 -- they are the ones of the two function types
-
-pub params-new :
-    (o : Option Signature) (old : List LocalVariable) (params : List (Val ℕ)) (ids : List ℕ) →
-    IsSomeAnd o (λ f. params ≡ f.params) → ids ≡ new_params old params →
-    ids ≡ new_params old (option_map_or (λ f. f.params) o [])
-params-new o old params ids are is = is ∙ ap (new_params old) (types-are (λ f. f.params) o params are)
-
-pub results-new :
-    (o q : Option Signature) (old : List LocalVariable) (params results : List (Val ℕ)) (ids : List ℕ) →
-    IsSomeAnd o (λ f. params ≡ f.params) → IsSomeAnd q (λ f. results ≡ f.results) →
-    ids ≡ new_results old params results →
-    ids ≡ new_results old (option_map_or (λ f. f.params) o []) (option_map_or (λ f. f.results) q [])
-results-new o q old params results ids params_are results_are is =
-    is
-    ∙ ap (λ (ts : List (Val ℕ)). new_results old ts results) (types-are (λ f. f.params) o params params_are)
-    ∙ ap (λ (ts : List (Val ℕ)). new_results old (option_map_or (λ f. f.params) o []) ts)
-    (types-are (λ f. f.results) q results results_are)
+pub call-between :
+    (t : Table) (old : List LocalVariable) (func func_ty ty : ℕ) (params results : List (Val ℕ))
+    (args ids first second : List ℕ) →
+    IsSomeAnd (signature_at t ty) (λ f. params ≡ f.params) →
+    IsSomeAnd (signature_at t func_ty) (λ f. results ≡ f.results) →
+    args ≡ new_params old params → ids ≡ new_results old params results → first ≡ args → second ≡ ids →
+    ◌≡◌ {A = StoredCall} (record { func = func; params = first; results = second })
+    (call_between t old func func_ty ty)
+call-between t old func func_ty ty params results args ids first second params_are results_are args_are
+    ids_are same also =
+    let ps = types-are (λ f. f.params) (signature_at t ty) params params_are in
+    let rs = types-are (λ f. f.results) (signature_at t func_ty) results results_are in
+    λ i. record {
+      func = func;
+      params = (same ∙ args_are ∙ ap (new_params old) ps) i;
+      results = (also ∙ ids_are ∙ ap (λ (ts : List (Val ℕ)). new_results old ts results) ps
+          ∙ ap (new_results old (params_of t ty)) rs) i;
+    }

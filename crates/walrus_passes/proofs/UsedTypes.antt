@@ -1,50 +1,130 @@
 -- What is listed is what a function uses.
-use Rattle.std.proofs.Common.{◌≡◌, ℕ, ◌+◌, ◌<◌, inl, inr, List, [], ◌∷◌, ◌++◌, length, take, get_or, refl, sym, ap, subst, ◌∙◌, Option, Some, None, Contains, ◌↔◌}
-use Rattle.std.specs.List.{flat_map, slice_get}
+use Rattle.std.proofs.Common.{◌≡◌, ℕ, ◌+◌, ◌<◌, inl, inr, List, [], ◌∷◌, ◌++◌, length, take, get_or, sym, ap, subst, ◌∙◌, append_assoc, append-nil, Option, Some, None, Contains, ◌↔◌}
+use Rattle.std.specs.List.{flat_map, slice_get, FoldsTo}
 use Rattle.std.proofs.lemmas.List.{take_more, flat_map_more}
 use Rattle.std.proofs.lemmas.Option.{get_or_from_slice_get}
 use Rattle.std.proofs.lemmas.List.Elements.{Contains-append_left, Contains-append_right, Contains-append_cases}
 use Rattle.walrus_ty.specs.Definition.{supertype_names}
-use Rattle.instr.specs.BlockTypes.{block_type_name}
-use Rattle.instr.specs.Locals.{LocalVariable}
-use Rattle.instr.specs.Sequence.{Sequence, empty_sequence}
-use Rattle.instr.specs.declared.instr_seq_type.InstrSeqType.TheVariants.{Simple}
-use Rattle.instr.specs.declared.instr.Instr.{Instr}
+use Rattle.walrus_ty.specs.declared.ty.value.Heap.TheVariants.{Abstract, Concrete, Exact}
+use Rattle.ir_instr.specs.BlockTypes.{block_type_name}
+use Rattle.ir_instr.specs.Locals.{LocalVariable}
+use Rattle.ir_instr.specs.Sequence.{Sequence, empty_sequence}
+use Rattle.ir_instr.specs.declared.instr_seq_type.InstrSeqType.TheVariants.{Simple}
+use Rattle.ir_instr.specs.declared.instr.Instr.{Instr}
 use Rattle.walrus_functions.specs.Body.{Body, sequence}
 use Rattle.walrus_functions.specs.FunctionWithArgs.{FunctionWithArgs}
-use Rattle.instr.specs.declared.exceptions.LegacyCatch.{LegacyCatch}
-use Rattle.instr.specs.declared.exceptions.LegacyCatch.TheVariants as legacy
-use Rattle.instr.specs.declared.exceptions.Try.{Try}
-use Rattle.instr.specs.declared.exceptions.TryTable.{TryTable}
-use Rattle.instr.specs.declared.exceptions.TryTableCatch.{TryTableCatch}
-use Rattle.instr.specs.declared.exceptions.TryTableCatch.TheVariants as clause
-use Rattle.instr.specs.declared.instr.Instr.TheVariants as instr
-use Rattle.walrus_ir.specs.Calls.{each, reported}
-use Rattle.walrus_ir.specs.Fields.{clause_fields, legacy_fields}
-use Rattle.walrus_ir.proofs.Reported.{reported_put}
-use Rattle.walrus_passes.specs.UsedTypes.{IsInBody, UsesType, own, parameter, block, instruction, local_types, field_types, instr_types}
-use Rattle.walrus_passes.specs.Steps.UsedTypes.{seq_types, function_types}
+use Rattle.walrus_ir.specs.Calls.{Event, at, reported}
+use Rattle.walrus_ir.specs.Fields.{fields}
+use Rattle.walrus_ir.specs.Hooks.{start_instr_seq, end_instr_seq, visit_instr, visit_instr_seq_id, visit_local_id, visit_memory_id, visit_table_id, visit_global_id, visit_function_id, visit_data_id, visit_element_id, visit_tag_id, visit_type_id, visit_value, visit_heap_type}
+use Rattle.walrus_traversals.specs.AnyIds.{id_in}
+use Rattle.walrus_traversals.specs.OneHook.{step_at}
+use Rattle.walrus_traversals.specs.declared.id_visitor.AnyId.{AnyId}
+use Rattle.walrus_traversals.specs.declared.id_visitor.OnlyIds.{OnlyIds}
+use Rattle.walrus_passes.specs.UsedTypes.{IsInBody, UsesType, own, parameter, block, instruction, local_types, field_types, unvisited_types, instr_types}
+use Rattle.walrus_passes.specs.Steps.UsedTypes.{Lists, id_types, seq_types, function_types}
+use Rattle.walrus_passes.specs.declared.roots.Roots.{Roots}
 use Rattle.walrus_unused.proofs.UnusedTypes.Elements.{contains_none, contains_first, contains_rest, contains_cases}
+
+-- both one behind the other
+more : (old now new : Roots) (xs ys : List ℕ) → Lists old xs now → Lists now ys new → Lists old (xs ++ ys) new
+more old now new xs ys first next = record {
+  locals = next.locals ∙ first.locals;
+  used = next.used ∙ ap (λ (ns : List ℕ). ns ++ ys) first.used ∙ append_assoc old.used xs ys;
+}
+
+nothing : (old new : Roots) → new ≡ old → Lists old [] new
+nothing old new same = record {
+  locals = ap (λ (r : Roots). r.locals.now) same;
+  used = ap (λ (r : Roots). r.used) same ∙ sym (append-nil old.used);
+}
 
 -- the types of one sequence more are listed
 pub seqs_more :
-    (locals : List LocalVariable) (f : Body) (ids : List ℕ) (k id : ℕ) (s : Sequence)
-    (old now new : List ℕ) → k < length ids → id ≡ get_or ids k id →
-    slice_get f.seqs id ≡ Some s →
-    now ≡ old ++ flat_map (λ q. seq_types locals (sequence f q)) (take k ids) →
-    new ≡ now ++ seq_types locals s →
-    new ≡ old ++ flat_map (λ q. seq_types locals (sequence f q)) (take (k + 1) ids)
-seqs_more locals f ids k id s old now new below is there before after =
-    let g : ℕ → List ℕ = λ q. seq_types locals (sequence f q) in
+    (f : Body) (ids : List ℕ) (k id : ℕ) (s : Sequence) (old now new : Roots) → k < length ids →
+    id ≡ get_or ids k id → slice_get f.seqs id ≡ Some s →
+    Lists old (flat_map (λ q. seq_types old.locals.now (sequence f q)) (take k ids)) now →
+    Lists now (seq_types now.locals.now s) new →
+    Lists old (flat_map (λ q. seq_types old.locals.now (sequence f q)) (take (k + 1) ids)) new
+seqs_more f ids k id s old now new below is there before after =
+    let g : ℕ → List ℕ = λ q. seq_types old.locals.now (sequence f q) in
     let here : sequence f id ≡ s = get_or_from_slice_get f.seqs id s (empty_sequence id (Simple None)) there
     in
-    let more : take (k + 1) ids ≡ take k ids ++ id ∷ [] = take_more ids k id below
+    let types : seq_types now.locals.now s ≡ g id =
+    ap (λ (ls : List LocalVariable). seq_types ls s) before.locals
+    ∙ ap (λ (q : Sequence). seq_types old.locals.now q) (sym here) in
+    let items : take (k + 1) ids ≡ take k ids ++ id ∷ [] = take_more ids k id below
     ∙ ap (λ (n : ℕ). take k ids ++ n ∷ []) (sym is) in
-    after
-    ∙ ap (λ (xs : List ℕ). xs ++ seq_types locals s) before
-    ∙ ap (λ (q : Sequence). (old ++ flat_map g (take k ids)) ++ seq_types locals q) (sym here)
-    ∙ flat_map_more g old (take k ids) id
-    ∙ ap (λ (ns : List ℕ). old ++ flat_map g ns) (sym more)
+    subst (λ (ns : List ℕ). Lists old ns new)
+    (flat_map_more g [] (take k ids) id ∙ ap (flat_map g) (sym items))
+    (more old now new (flat_map g (take k ids)) (g id) before
+    (subst (λ (ns : List ℕ). Lists now ns new) types after))
+
+-- the types of one instruction more are listed
+pub instrs_more : (b : Option ℕ) (items : List (Instr × ℕ)) (k : ℕ) (x : Instr × ℕ) (old now new : Roots) →
+    k < length items → x ≡ get_or items k x →
+    Lists old (supertype_names b ++ flat_map (λ y. instr_types old.locals.now y.0) (take k items)) now →
+    Lists now (instr_types now.locals.now x.0) new →
+    Lists old (supertype_names b ++ flat_map (λ y. instr_types old.locals.now y.0) (take (k + 1) items)) new
+instrs_more b items k x old now new below is before after =
+    let f : Instr × ℕ → List ℕ = λ y. instr_types old.locals.now y.0 in
+    let names = supertype_names b in
+    let types : instr_types now.locals.now x.0 ≡ f x =
+    ap (λ (ls : List LocalVariable). instr_types ls x.0) before.locals in
+    let next : take (k + 1) items ≡ take k items ++ x ∷ [] = take_more items k x below
+    ∙ ap (λ (y : Instr × ℕ). take k items ++ y ∷ []) (sym is) in
+    subst (λ (ns : List ℕ). Lists old ns new)
+    (append_assoc names (flat_map f (take k items)) (f x)
+    ∙ ap (λ (ns : List ℕ). names ++ ns) (flat_map_more f [] (take k items) x ∙ ap (flat_map f) (sym next)))
+    (more old now new (names ++ flat_map f (take k items)) (f x) before
+    (subst (λ (ns : List ℕ). Lists now ns new) types after))
+
+-- what a walk reports is listed
+
+abbrev Step : Roots → AnyId → Roots → Type 0
+Step old id new = Lists old (id_types old.locals.now id) new
+
+one_listed : (e : Event) (old new : Roots) → step_at id_in Step old e new →
+    Lists old (field_types old.locals.now e) new
+one_listed (at start_instr_seq x) old new h = nothing old new h
+one_listed (at end_instr_seq x) old new h = nothing old new h
+one_listed (at visit_instr x) old new h = nothing old new h
+one_listed (at visit_instr_seq_id id) old new h = h
+one_listed (at visit_local_id id) old new h = h
+one_listed (at visit_memory_id id) old new h = h
+one_listed (at visit_table_id id) old new h = h
+one_listed (at visit_global_id id) old new h = h
+one_listed (at visit_function_id id) old new h = h
+one_listed (at visit_data_id id) old new h = h
+one_listed (at visit_element_id id) old new h = h
+one_listed (at visit_tag_id id) old new h = h
+one_listed (at visit_type_id id) old new h = h
+one_listed (at visit_value x) old new h = nothing old new h
+one_listed (at visit_heap_type (Abstract x)) old new h = nothing old new h
+one_listed (at visit_heap_type (Concrete id)) old new h = h
+one_listed (at visit_heap_type (Exact id)) old new h = h
+
+all_listed : (es : List Event) (old new : OnlyIds Roots) →
+    FoldsTo (λ (v : OnlyIds Roots) (e : Event) (w : OnlyIds Roots). step_at id_in Step v.visitor e w.visitor)
+    old es new → Lists old.visitor (flat_map (field_types old.visitor.locals.now) es) new.visitor
+all_listed [] old new h = nothing old.visitor new.visitor (ap (λ (v : OnlyIds Roots). v.visitor) (sym h))
+all_listed (e ∷ es) old new h =
+    let now : Roots = h.0.visitor in
+    let first = one_listed e old.visitor now h.1 in
+    more old.visitor now new.visitor (field_types old.visitor.locals.now e)
+    (flat_map (field_types old.visitor.locals.now) es) first
+    (subst (λ (ls : List LocalVariable). Lists now (flat_map (field_types ls) es) new.visitor) first.locals
+    (all_listed es h.0 new h.2))
+
+-- and then what it does not report
+pub instr_listed :
+    (i : Instr) (old now : OnlyIds Roots) (new : Roots) →
+    FoldsTo (λ (v : OnlyIds Roots) (e : Event) (w : OnlyIds Roots). step_at id_in Step v.visitor e w.visitor)
+    old (reported (fields i)) now → Lists now.visitor (unvisited_types i) new →
+    Lists old.visitor (instr_types old.visitor.locals.now i) new
+instr_listed i old now new h rest =
+    more old.visitor now.visitor new
+    (flat_map (field_types old.visitor.locals.now) (reported (fields i))) (unvisited_types i)
+    (all_listed (reported (fields i)) old now h) rest
 
 -- what is in the lists of some elements
 
@@ -137,63 +217,3 @@ uses_listed locals f seqs ids all is id = (
   λ c. listed_used locals f seqs all id (subst (λ (xs : List ℕ). Contains xs id) is c),
   λ u. subst (λ (xs : List ℕ). Contains xs id) (sym is) (used_listed locals f seqs all id u),
 )
-
--- the list in the order in which it comes
-pub in_turn :
-    (locals : List LocalVariable) (f : FunctionWithArgs) (ty : ℕ) (args seqs shown first more all : List ℕ) →
-    ty ≡ f.body.ty → first ≡ ty ∷ [] → args ≡ f.args →
-    more ≡ first ++ flat_map (local_types locals) args → shown ≡ seqs →
-    all ≡ more ++ flat_map (λ id. seq_types locals (sequence f.body id)) shown →
-    all ≡ function_types locals f seqs
-in_turn locals f ty args seqs shown first more all own_is first_is args_are more_is shown_are all_is =
-    let of_args : List ℕ → List ℕ = λ xs. flat_map (local_types locals) xs in
-    let of_seqs : List ℕ → List ℕ = λ xs. flat_map (λ id. seq_types locals (sequence f.body id)) xs in
-    let head : more ≡ f.body.ty ∷ of_args f.args =
-    more_is
-    ∙ ap (λ (xs : List ℕ). xs ++ of_args args) (first_is ∙ ap (λ (n : ℕ). n ∷ []) own_is)
-    ∙ ap (λ (xs : List ℕ). f.body.ty ∷ of_args xs) args_are in
-    all_is ∙ ap (λ (xs : List ℕ). xs ++ of_seqs shown) head
-    ∙ ap (λ (xs : List ℕ). (f.body.ty ∷ of_args f.args) ++ of_seqs xs) shown_are
-
--- clauses name tags, and no types
-module _ (locals : List LocalVariable) where
-  clauses-none : (clauses : List TryTableCatch) →
-      flat_map (field_types locals) (reported (each clause_fields clauses)) ≡ []
-  clauses-none [] = refl
-  clauses-none (clause.Catch tag label ∷ rest) =
-      ap (flat_map (field_types locals)) (reported_put (each clause_fields rest) (λ ys.
-      clause.Catch tag label ∷ ys)) ∙ clauses-none rest
-  clauses-none (clause.CatchRef tag label ∷ rest) =
-      ap (flat_map (field_types locals)) (reported_put (each clause_fields rest) (λ ys.
-      clause.CatchRef tag label ∷ ys)) ∙ clauses-none rest
-  clauses-none (clause.CatchAll label ∷ rest) =
-      ap (flat_map (field_types locals)) (reported_put (each clause_fields rest) (λ ys.
-      clause.CatchAll label ∷ ys)) ∙ clauses-none rest
-  clauses-none (clause.CatchAllRef label ∷ rest) =
-      ap (flat_map (field_types locals)) (reported_put (each clause_fields rest) (λ ys.
-      clause.CatchAllRef label ∷ ys)) ∙ clauses-none rest
-
-  legacies-none : (clauses : List LegacyCatch) →
-      flat_map (field_types locals) (reported (each legacy_fields clauses)) ≡ []
-  legacies-none [] = refl
-  legacies-none (legacy.Catch tag handler ∷ rest) =
-      ap (flat_map (field_types locals)) (reported_put (each legacy_fields rest) (λ ys.
-      legacy.Catch tag handler ∷ ys)) ∙ legacies-none rest
-  legacies-none (legacy.CatchAll handler ∷ rest) =
-      ap (flat_map (field_types locals)) (reported_put (each legacy_fields rest) (λ ys.
-      legacy.CatchAll handler ∷ ys)) ∙ legacies-none rest
-  legacies-none (legacy.Delegate depth ∷ rest) =
-      ap (flat_map (field_types locals)) (reported_put (each legacy_fields rest) (λ ys.
-      legacy.Delegate depth ∷ ys)) ∙ legacies-none rest
-
-  pub try_table-none : (x : TryTable) → instr_types locals (instr.TryTable x) ≡ []
-  try_table-none x =
-      ap (λ events. flat_map (field_types locals) events ++ [])
-      (reported_put (each clause_fields x.catches) (λ b. instr.TryTable (record x { catches = b })))
-      ∙ ap (λ types. types ++ []) (clauses-none x.catches)
-
-  pub try-none : (x : Try) → instr_types locals (instr.Try x) ≡ []
-  try-none x =
-      ap (λ events. flat_map (field_types locals) events ++ [])
-      (reported_put (each legacy_fields x.catches) (λ b. instr.Try (record x { catches = b })))
-      ∙ ap (λ types. types ++ []) (legacies-none x.catches)

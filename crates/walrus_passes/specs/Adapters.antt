@@ -4,11 +4,11 @@
 use Rattle.std.specs.Prelude.{◌≡◌, ℕ, List, [], ◌∷◌, ◌++◌, length, map, Some, None, ◌⊎◌}
 use Rattle.walrus_ty.specs.declared.ty.value.Val.{Val}
 use Rattle.walrus_types.specs.Table.{Table, FindsOrAdds, IsSameTable}
-use Rattle.instr.specs.Locals.{LocalVariable, unnamed_locals}
-use Rattle.instr.specs.Locations.{no_location}
-use Rattle.instr.specs.declared.instr_seq_type.InstrSeqType.TheVariants.{MultiValue}
-use Rattle.instr.specs.declared.instr.Instr.{Instr}
-use Rattle.instr.specs.declared.instr.Instr.TheVariants.{LocalGet, Call}
+use Rattle.ir_instr.specs.Locals.{LocalVariable, unnamed_locals}
+use Rattle.ir_instr.specs.Locations.{no_location}
+use Rattle.ir_instr.specs.declared.instr_seq_type.InstrSeqType.TheVariants.{MultiValue}
+use Rattle.ir_instr.specs.declared.instr.Instr.{Instr}
+use Rattle.ir_instr.specs.declared.instr.Instr.TheVariants.{LocalGet, Call}
 use Rattle.walrus_functions.specs.Beginning.{new_entry_type}
 use Rattle.walrus_functions.specs.Body.{Body}
 use Rattle.walrus_functions.specs.FunctionWithArgs.{FunctionWithArgs}

@@ -3,8 +3,8 @@
 -- "Reference Instructions", `ref.func`. That they are changed is of this crate's own.
 use Rattle.std.specs.Prelude.{◌≡◌, ℕ, List, Bool, false, if◌then◌else◌, nat_eq, Option, Some, None}
 use Rattle.std.specs.List.{list_any}
-use Rattle.instr.specs.declared.instr.Instr.{Instr}
-use Rattle.instr.specs.declared.instr.Instr.TheVariants.{Call, ReturnCall, RefFunc, Unreachable}
+use Rattle.ir_instr.specs.declared.instr.Instr.{Instr}
+use Rattle.ir_instr.specs.declared.instr.Instr.TheVariants.{Call, ReturnCall, RefFunc, Unreachable}
 use Rattle.walrus_functions.specs.FunctionWithArgs.{FunctionWithArgs}
 use Rattle.walrus_passes.specs.MappedInstrs.{IsMapped}
 

@@ -2,7 +2,7 @@
 use Rattle.std.specs.Prelude.{◌≡◌, ℕ, ◌<◌, List, ◌++◌, take, OnOk, Result, Ok, Err, Some, slice_get}
 use Rattle.std.specs.List.{FoldsTo, enumerate_from, flat_map}
 use Rattle.std.specs.Borrow.{MutBor}
-use Rattle.instr.specs.declared.instr.Instr.{Instr}
+use Rattle.ir_instr.specs.declared.instr.Instr.{Instr}
 use Rattle.walrus_functions.specs.declared.function_builder.instr_seq_builder.InstrSeqBuilder.{InstrSeqBuilder}
 use Rattle.walrus_functions.specs.declared.error.BuildError.{BuildError}
 use Rattle.walrus_functions.specs.Body.{Body, with_instrs, instrs_of}

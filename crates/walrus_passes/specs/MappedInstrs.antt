@@ -4,8 +4,8 @@
 use Rattle.std.specs.Prelude.{◌≡◌, ℕ}
 use Rattle.std.specs.List.{AllZip}
 use Rattle.std.specs.Borrow.{MutBor}
-use Rattle.instr.specs.Sequence.{Sequence}
-use Rattle.instr.specs.declared.instr.Instr.{Instr}
+use Rattle.ir_instr.specs.Sequence.{Sequence}
+use Rattle.ir_instr.specs.declared.instr.Instr.{Instr}
 use Rattle.walrus_functions.specs.FunctionWithArgs.{FunctionWithArgs}
 
 -- an instruction with its location became one that is so related to it, at the same location

@@ -2,10 +2,10 @@
 -- WebAssembly core specification, "Functions"; "Control Instructions", `unreachable`. That a body
 -- is replaced is of this crate's own.
 use Rattle.std.specs.Prelude.{◌≡◌, ℕ, List, [], ◌∷◌, Option, Some, None, IsSomeAnd}
-use Rattle.instr.specs.Locations.{no_location}
-use Rattle.instr.specs.declared.instr_seq_type.InstrSeqType.{InstrSeqType}
-use Rattle.instr.specs.declared.instr_seq_type.InstrSeqType.TheVariants.{Simple}
-use Rattle.instr.specs.declared.instr.Instr.TheVariants.{Unreachable}
+use Rattle.ir_instr.specs.Locations.{no_location}
+use Rattle.ir_instr.specs.declared.instr_seq_type.InstrSeqType.{InstrSeqType}
+use Rattle.ir_instr.specs.declared.instr_seq_type.InstrSeqType.TheVariants.{Simple}
+use Rattle.ir_instr.specs.declared.instr.Instr.TheVariants.{Unreachable}
 use Rattle.walrus_functions.specs.Body.{Body, sequence}
 use Rattle.walrus_functions.specs.Functions.{Functions, function_at, with_function}
 use Rattle.walrus_functions.specs.FunctionWithArgs.{FunctionWithArgs}

@@ -4,7 +4,7 @@
 use Rattle.std.specs.Prelude.{◌≡◌, ℕ, List}
 use Rattle.walrus_ty.specs.declared.ty.value.Val.{Val}
 use Rattle.walrus_types.specs.Table.{Table, FindsOrAdds}
-use Rattle.instr.specs.declared.instr_seq_type.InstrSeqType.TheVariants.{MultiValue}
+use Rattle.ir_instr.specs.declared.instr_seq_type.InstrSeqType.TheVariants.{MultiValue}
 use Rattle.walrus_functions.specs.Beginning.{new_entry_type}
 use Rattle.walrus_functions.specs.FunctionWithArgs.{FunctionWithArgs}
 use Rattle.walrus_passes.specs.SnippedFunctions.{unreachable_body}

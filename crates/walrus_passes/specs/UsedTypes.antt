@@ -5,13 +5,13 @@ use Rattle.std.specs.Prelude.{◌≡◌, ℕ, List, [], ◌∷◌, ◌++◌, Opt
 use Rattle.walrus_ty.specs.declared.ty.value.Val.{Val}
 use Rattle.walrus_ty.specs.Value.{heap_names, reference_names, val_names}
 use Rattle.std.specs.List.{flat_map}
-use Rattle.instr.specs.BlockTypes.{block_type_name}
+use Rattle.ir_instr.specs.BlockTypes.{block_type_name}
 use Rattle.walrus_ir.specs.Calls.{Event, at, reported}
 use Rattle.walrus_ir.specs.Fields.{fields}
 use Rattle.walrus_ir.specs.Hooks.{visit_type_id, visit_heap_type, visit_local_id}
-use Rattle.instr.specs.Locals.{LocalVariable}
-use Rattle.instr.specs.declared.instr.Instr.{Instr}
-use Rattle.instr.specs.declared.instr.Instr.TheVariants as instr
+use Rattle.ir_instr.specs.Locals.{LocalVariable}
+use Rattle.ir_instr.specs.declared.instr.Instr.{Instr}
+use Rattle.ir_instr.specs.declared.instr.Instr.TheVariants as instr
 use Rattle.walrus_functions.specs.Body.{Body, sequence, instrs_of}
 use Rattle.walrus_functions.specs.FunctionWithArgs.{FunctionWithArgs}
 use Rattle.walrus_functions.specs.Nesting.{IsNested, IsReachable}

@@ -1,14 +1,14 @@
 //! Functions that call another one, and convert what they pass on and what they return.
 ghost use Rattle.std.specs.Prelude.{◌≡◌, ℕ, ◌∷◌, ◌++◌, List, length, IfOk, IfErr, OnOk, OnErr, IsSome};
-ghost use Rattle.instr.specs.Locals.{unnamed_locals};
-ghost use Rattle.instr.specs.declared.instr.Instr.{Instr};
+ghost use Rattle.ir_instr.specs.Locals.{unnamed_locals};
+ghost use Rattle.ir_instr.specs.declared.instr.Instr.{Instr};
 ghost use Rattle.walrus_types.specs.Table.{signature_at, FindsOrAdds};
 ghost use Rattle.walrus_functions.specs.Beginning.{begun, new_entry_type};
 ghost use Rattle.walrus_functions.specs.declared.error.BuildError.TheVariants.{Memory};
 ghost use Rattle.walrus_functions.specs.Building.{function_of, seq_id, IsKnown, Stays, StayKnown};
 ghost use Rattle.walrus_passes.specs.Adapters.{AddsEntryOrNone};
 ghost use Rattle.walrus_passes.specs.Conversions.{TakesEach, KeepsBuilder, AddsEach, ConvertsEach, FailsToConvert, with_more};
-ghost use Rattle.walrus_passes.specs.ConvertingAdapters.{params_of, results_of, new_params, new_results, call_and_store, converted_call, ConvertsCall, FailsToConvertCall, ConvertsAndCalls, HasInstrs, FailsToAdapt, AddsLocalsInPart};
+ghost use Rattle.walrus_passes.specs.ConvertingAdapters.{params_of, results_of, new_params, new_results, both, call_between, call_and_store, converted_call, ConvertsCall, FailsToConvertCall, ConvertsAndCalls, HasInstrs, FailsToAdapt, AddsLocalsInPart};
 
 use std::alloc::{AllocError, Global};
 use walrus_functions::{BuildError, FunctionBuilder, InstrSeqBuilder, LocalFunction};
@@ -95,24 +95,22 @@ pub fn adapter_between<
     requires keeps_results { KeepsBuilder R.step
         (length (results_of types.old func_ty)) convert_result }
     ensures adapter { IfOk result (λ adapter.
-        ConvertsAndCalls P.step convert_param R.step convert_result types.old types.new func ty
-        (results_of types.old ty)
-        (new_results locals.old (params_of types.old ty) (results_of types.old func_ty)) adapter) }
+        ConvertsAndCalls (both P.step convert_param R.step convert_result)
+        (call_between types.old locals.old func func_ty ty) types.old types.new ty adapter) }
     ensures instrs { IfOk result (λ adapter. (for_param for_result : ℕ → ℕ → List (Instr × ℕ)) →
         AddsEach P.step (length (params_of types.old ty)) convert_param for_param →
         AddsEach R.step (length (results_of types.old func_ty)) convert_result for_result →
         HasInstrs types.old types.new ty (results_of types.old ty)
-        (converted_call for_param for_result func adapter.args
-        (new_results locals.old (params_of types.old ty) (results_of types.old func_ty))) adapter) }
+        (converted_call for_param for_result
+        (call_between types.old locals.old func func_ty ty)) adapter) }
     ensures args { IfOk result (λ adapter.
         adapter.args ≡ new_params locals.old (params_of types.old ty)) }
     ensures locals { OnOk result
         (locals.new ≡ locals.old ++ unnamed_locals (length locals.old)
         (params_of types.old ty ++ results_of types.old func_ty)) }
     ensures err { IfErr result (λ e.
-        FailsToAdapt P.step convert_param R.step convert_result types.old types.new func ty
-        (results_of types.old ty) (new_params locals.old (params_of types.old ty))
-        (new_results locals.old (params_of types.old ty) (results_of types.old func_ty)) e) }
+        FailsToAdapt (both P.step convert_param R.step convert_result)
+        (call_between types.old locals.old func func_ty ty) types.old types.new ty e) }
     ensures types_err { OnErr result
         (AddsEntryOrNone types.old types.new (results_of types.old ty)) }
     ensures locals_err { OnErr result
@@ -200,11 +198,13 @@ fn convert_call<
     requires keeps_results { KeepsBuilder R.step (length results.now) convert_result }
     ensures same { Stays body.old body.new }
     ensures ok { OnOk result
-        (ConvertsCall P.step convert_param R.step convert_result (seq_id body.old) func
-        params.now results.now (function_of body.old) (function_of body.new)) }
+        (ConvertsCall (both P.step convert_param R.step convert_result) (seq_id body.old)
+        (record { func = func; params = params.now; results = results.now })
+        (function_of body.old) (function_of body.new)) }
     ensures err { IfErr result (λ e.
-        FailsToConvertCall P.step convert_param R.step convert_result (seq_id body.old) func
-        params.now results.now (function_of body.old) e) }
+        FailsToConvertCall (both P.step convert_param R.step convert_result) (seq_id body.old)
+        (record { func = func; params = params.now; results = results.now })
+        (function_of body.old) e) }
 {
     convert_each(body, params, convert_param)?;
     call_and_store(body, func, results)?;

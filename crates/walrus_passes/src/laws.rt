@@ -4,11 +4,11 @@ ghost use Rattle.std.specs.Prelude.{◌≡◌, ℕ, List, [], ◌++◌, Option, 
 ghost use Rattle.walrus_types.specs.Table.{Table};
 ghost use Rattle.walrus_types.specs.TypesById.{live_type};
 ghost use Rattle.walrus_functions.specs.FunctionWithArgs.{FunctionWithArgs};
-ghost use Rattle.const_expr.specs.ConstExpr.{referenced_ids};
-ghost use Rattle.instr.specs.Locals.{LocalVariable};
-ghost use Rattle.instr.specs.declared.instr.Instr.{Instr};
-ghost use Rattle.instr.specs.Sequence.{Sequence};
-ghost use Rattle.const_expr.specs.declared.const_expr.ConstExpr.{ConstExpr};
+ghost use Rattle.ir_const_expr.specs.ConstExpr.{referenced_ids};
+ghost use Rattle.ir_instr.specs.Locals.{LocalVariable};
+ghost use Rattle.ir_instr.specs.declared.instr.Instr.{Instr};
+ghost use Rattle.ir_instr.specs.Sequence.{Sequence};
+ghost use Rattle.ir_const_expr.specs.declared.const_expr.ConstExpr.{ConstExpr};
 ghost use Rattle.walrus_passes.specs.Adapters.{get_of, call_with};
 ghost use Rattle.walrus_passes.specs.ConvertingAdapters.{set_of, read_of, converted_call};
 ghost use Rattle.walrus_passes.specs.ChangedCalls.{named_function, SnipsCalls, RedirectsCalls};
@@ -61,8 +61,10 @@ pub fn changed_calls_stay()
 /// there are no results it is the same body.
 pub fn plain_conversions_make_the_plain_adapter()
     ensures results { (func : ℕ) (params results : List ℕ) →
-        converted_call read_of read_of func params results ≡
+        converted_call read_of read_of
+        (record { func = func; params = params; results = results }) ≡
         call_with params func ++ (map set_of (reverse results) ++ map get_of results) }
     ensures no_results { (func : ℕ) (params : List ℕ) →
-        converted_call read_of read_of func params [] ≡ call_with params func }
+        converted_call read_of read_of (record { func = func; params = params; results = [] }) ≡
+        call_with params func }
 {}

@@ -1,16 +1,16 @@
 //! The types that a function uses: the roots that it brings to the deletion of unused ones.
-ghost use Rattle.std.specs.Prelude.{◌≡◌, ◌↔◌, ℕ, ◌++◌, All, Contains, IfOk, OnOk, IsSome, IfSome};
+ghost use Rattle.std.specs.Prelude.{◌↔◌, ℕ, All, Contains, IfOk, OnOk, IsSome, IfSome};
 ghost use Rattle.std.specs.List.{flat_map};
-ghost use Rattle.walrus_ty.specs.Definition.{supertype_names};
 ghost use Rattle.walrus_functions.specs.Body.{Knows, sequence};
-ghost use Rattle.walrus_passes.specs.UsedTypes.{HasNestedBody, IsInBody, UsesType, local_types, instr_types, types_of};
-ghost use Rattle.walrus_passes.specs.Steps.UsedTypes.{seq_types};
+ghost use Rattle.walrus_passes.specs.UsedTypes.{HasNestedBody, IsInBody, UsesType, instr_types};
+ghost use Rattle.walrus_passes.specs.Steps.UsedTypes.{Lists, seq_types};
 
 use std::alloc::{AllocError, Global};
 use walrus_functions::LocalFunction;
 use walrus_ir::{Instr, InstrSeq, InstrSeqId, LocalId, ModuleLocals};
 use walrus_nesting::{Nesting, check_nesting};
-use walrus_types::{TypeId, ValType};
+use walrus_traversals::{AnyId, IdVisitor, OnlyIds, report_fields};
+use walrus_types::{Listed, TypeId};
 
 /// Returns the types that a function uses, or `None` where its body is not nested from its entry.
 /// These are the roots that it brings to [`delete_unused_types`](crate::delete_unused_types):
@@ -58,10 +58,13 @@ pub fn used_types(
     let Some(seqs) = reachable_seqs(alloc, func)? else {
         return Ok(None);
     };
-    let mut used = vec![in alloc; func.ty()]?;
-    add_locals(&mut used, locals, func.args.as_slice())?;
-    add_seqs(&mut used, locals, func, seqs.as_slice())?;
-    Ok(Some(used))
+    let used = Listed::from_vec(vec![in alloc; func.ty()]?);
+    let mut roots = OnlyIds {
+        visitor: Roots { used, locals },
+    };
+    roots.visitor.add_locals(func.args.as_slice())?;
+    add_seqs(&mut roots, func, seqs.as_slice())?;
+    Ok(Some(roots.visitor.used.into_vec()))
 }
 
 // The sequences that are reached from the entry, or `None` where the body is not nested.
@@ -84,187 +87,112 @@ fn reachable_seqs(
     }
 }
 
-// The types of these locals.
-fn add_locals(
-    used: &mut Vec<TypeId>,
-    locals: &ModuleLocals,
-    ids: &[LocalId],
-) -> Result<(), AllocError>
-    ensures { OnOk result
-        (used.new.items ≡ used.old.items ++ flat_map (local_types locals.now) ids.now) }
-{
-    for id in ids {
-        add_local(used, locals, *id)?;
-    }
-    Ok(())
-}
-
-fn add_local(used: &mut Vec<TypeId>, locals: &ModuleLocals, id: LocalId) -> Result<(), AllocError>
-    ensures { OnOk result (used.new.items ≡ used.old.items ++ local_types locals.now id) }
-{
-    if !locals.contains(id) {
-        return Ok(());
-    }
-    add(used, locals.get(id).ty().type_id())
-}
-
 // The types of these sequences.
 fn add_seqs(
-    used: &mut Vec<TypeId>,
-    locals: &ModuleLocals,
+    roots: &mut OnlyIds<Roots<'_>>,
     func: &LocalFunction,
     ids: &[InstrSeqId],
 ) -> Result<(), AllocError>
     requires { All (Knows func.now.body) ids.now }
-    ensures { OnOk result (used.new.items ≡ used.old.items ++
-        flat_map (λ id. seq_types locals.now (sequence func.now.body id)) ids.now) }
+    ensures { OnOk result (Lists roots.old.visitor
+        (flat_map (λ id. seq_types roots.old.visitor.locals.now (sequence func.now.body id))
+        ids.now) roots.new.visitor) }
 {
     for id in ids {
-        add_seq(used, locals, func.block(*id))?;
+        add_seq(roots, func.block(*id))?;
     }
     Ok(())
 }
 
-fn add_seq(used: &mut Vec<TypeId>, locals: &ModuleLocals, seq: &InstrSeq) -> Result<(), AllocError>
-    ensures { OnOk result (used.new.items ≡ used.old.items ++ seq_types locals.now seq.now) }
+fn add_seq(roots: &mut OnlyIds<Roots<'_>>, seq: &InstrSeq) -> Result<(), AllocError>
+    ensures { OnOk result (Lists roots.old.visitor
+        (seq_types roots.old.visitor.locals.now seq.now) roots.new.visitor) }
 {
-    add(used, seq.ty.type_id())?;
+    roots.visitor.add(seq.ty.type_id())?;
     for (instr, _) in &seq.instrs {
-        add_instr(used, locals, instr)?;
+        add_instr(roots, instr)?;
     }
     Ok(())
 }
 
-fn add_instr(used: &mut Vec<TypeId>, locals: &ModuleLocals, instr: &Instr) -> Result<(), AllocError>
-    ensures { OnOk result (used.new.items ≡ used.old.items ++ instr_types locals.now instr.now) }
+fn add_instr(roots: &mut OnlyIds<Roots<'_>>, instr: &Instr) -> Result<(), AllocError>
+    ensures { OnOk result (Lists roots.old.visitor
+        (instr_types roots.old.visitor.locals.now instr.now) roots.new.visitor) }
 {
-    match instr {
-        Instr::CallIndirect(x) => add(used, Some(x.ty)),
-        Instr::ReturnCallIndirect(x) => add(used, Some(x.ty)),
-        Instr::CallRef(x) => add(used, Some(x.ty)),
-        Instr::ReturnCallRef(x) => add(used, Some(x.ty)),
-        Instr::LocalGet(x) => add_local(used, locals, x.local),
-        Instr::LocalSet(x) => add_local(used, locals, x.local),
-        Instr::LocalTee(x) => add_local(used, locals, x.local),
-        Instr::Select(x) => add_value_type(used, x.ty),
-        Instr::BrOnCast(x) => add_both(used, x.from_heap_type.type_id(), x.to_heap_type.type_id()),
-        Instr::BrOnCastFail(x) => {
-            add_both(used, x.from_heap_type.type_id(), x.to_heap_type.type_id())
+    report_fields(roots, instr)?;
+    roots.visitor.add_unvisited(instr)
+}
+
+// The types that are listed so far. As a visitor it lists the types that it is shown, and the types
+// of the locals that it is shown.
+#[derive(Drop)]
+struct Roots<'a> {
+    used: Listed<TypeId>,
+    locals: &'a ModuleLocals,
+}
+
+impl<'a> IdVisitor for Roots<'a> {
+    ghost use Rattle.walrus_passes.specs.Steps.UsedTypes.{Lists, id_types};
+
+    type Error = AllocError;
+
+    ghost step = { λ old id new. Lists old (id_types old.locals.now id) new };
+
+    fn visit_id(&mut self, id: AnyId) -> Result<(), AllocError> {
+        match id {
+            AnyId::Type(id) => self.add(Some(id)),
+            AnyId::Local(id) => self.add_local(id),
+            _ => Ok(()),
         }
-        Instr::RefNull(x) => add(used, x.ty.type_id()),
-        Instr::RefTest(x) => add(used, x.heap_type.type_id()),
-        Instr::RefCast(x) => add(used, x.heap_type.type_id()),
-        Instr::StructNew(x) => add(used, Some(x.ty)),
-        Instr::StructNewDefault(x) => add(used, Some(x.ty)),
-        Instr::StructGet(x) => add(used, Some(x.ty)),
-        Instr::StructGetS(x) => add(used, Some(x.ty)),
-        Instr::StructGetU(x) => add(used, Some(x.ty)),
-        Instr::StructSet(x) => add(used, Some(x.ty)),
-        Instr::ArrayNew(x) => add(used, Some(x.ty)),
-        Instr::ArrayNewDefault(x) => add(used, Some(x.ty)),
-        Instr::ArrayNewFixed(x) => add(used, Some(x.ty)),
-        Instr::ArrayNewData(x) => add(used, Some(x.ty)),
-        Instr::ArrayNewElem(x) => add(used, Some(x.ty)),
-        Instr::ArrayGet(x) => add(used, Some(x.ty)),
-        Instr::ArrayGetS(x) => add(used, Some(x.ty)),
-        Instr::ArrayGetU(x) => add(used, Some(x.ty)),
-        Instr::ArraySet(x) => add(used, Some(x.ty)),
-        Instr::ArrayFill(x) => add(used, Some(x.ty)),
-        Instr::ArrayCopy(x) => add_both(used, Some(x.dst_ty), Some(x.src_ty)),
-        Instr::ArrayInitData(x) => add(used, Some(x.ty)),
-        Instr::ArrayInitElem(x) => add(used, Some(x.ty)),
-        Instr::TryTable(_) => Ok(()),
-        Instr::Try(_) => Ok(()),
-        Instr::Block(_)
-        | Instr::Loop(_)
-        | Instr::IfElse(_)
-        | Instr::Unreachable(_)
-        | Instr::Return(_)
-        | Instr::Br(_)
-        | Instr::BrIf(_)
-        | Instr::BrTable(_)
-        | Instr::BrOnNull(_)
-        | Instr::BrOnNonNull(_)
-        | Instr::Call(_)
-        | Instr::ReturnCall(_)
-        | Instr::GlobalGet(_)
-        | Instr::GlobalSet(_)
-        | Instr::Const(_)
-        | Instr::Unop(_)
-        | Instr::Binop(_)
-        | Instr::TernOp(_)
-        | Instr::Drop(_)
-        | Instr::I64Add128(_)
-        | Instr::I64Sub128(_)
-        | Instr::I64MulWideS(_)
-        | Instr::I64MulWideU(_)
-        | Instr::MemorySize(_)
-        | Instr::MemoryGrow(_)
-        | Instr::MemoryFill(_)
-        | Instr::MemoryInit(_)
-        | Instr::MemoryCopy(_)
-        | Instr::DataDrop(_)
-        | Instr::Load(_)
-        | Instr::Store(_)
-        | Instr::LoadSimd(_)
-        | Instr::AtomicRmw(_)
-        | Instr::Cmpxchg(_)
-        | Instr::AtomicNotify(_)
-        | Instr::AtomicWait(_)
-        | Instr::AtomicFence(_)
-        | Instr::TableGet(_)
-        | Instr::TableSet(_)
-        | Instr::TableGrow(_)
-        | Instr::TableSize(_)
-        | Instr::TableFill(_)
-        | Instr::TableInit(_)
-        | Instr::TableCopy(_)
-        | Instr::ElemDrop(_)
-        | Instr::RefFunc(_)
-        | Instr::RefIsNull(_)
-        | Instr::RefAsNonNull(_)
-        | Instr::RefEq(_)
-        | Instr::RefI31(_)
-        | Instr::I31GetS(_)
-        | Instr::I31GetU(_)
-        | Instr::AnyConvertExtern(_)
-        | Instr::ExternConvertAny(_)
-        | Instr::ArrayLen(_)
-        | Instr::I8x16Shuffle(_)
-        | Instr::I8x16Swizzle(_)
-        | Instr::V128Bitselect(_)
-        | Instr::Throw(_)
-        | Instr::ThrowRef(_)
-        | Instr::Rethrow(_) => Ok(()),
     }
 }
 
-fn add_value_type(used: &mut Vec<TypeId>, ty: Option<ValType>) -> Result<(), AllocError>
-    ensures { OnOk result (used.new.items ≡ used.old.items ++ types_of ty) }
-{
-    match ty {
-        Some(ty) => add(used, ty.type_id()),
-        None => Ok(()),
-    }
-}
+impl<'a> Roots<'a> {
+    ghost use Rattle.std.specs.Prelude.{◌≡◌, OnErr};
+    ghost use Rattle.walrus_ty.specs.Definition.{supertype_names};
+    ghost use Rattle.walrus_passes.specs.UsedTypes.{local_types, unvisited_types};
 
-fn add_both(
-    used: &mut Vec<TypeId>,
-    first: Option<TypeId>,
-    second: Option<TypeId>,
-) -> Result<(), AllocError>
-    ensures { OnOk result (used.new.items ≡
-        used.old.items ++ supertype_names first ++ supertype_names second) }
-{
-    add(used, first)?;
-    add(used, second)
-}
-
-fn add(used: &mut Vec<TypeId>, id: Option<TypeId>) -> Result<(), AllocError>
-    ensures { OnOk result (used.new.items ≡ used.old.items ++ supertype_names id) }
-{
-    if let Some(id) = id {
-        used.push(id)?;
+    fn add(&mut self, id: Option<TypeId>) -> Result<(), AllocError>
+        ensures ok { OnOk result (Lists self.old (supertype_names id) self.new) }
+        ensures err { OnErr result (self.new ≡ self.old) }
+    {
+        match id {
+            Some(id) => self.used.push(id),
+            None => Ok(()),
+        }
     }
-    Ok(())
+
+    fn add_local(&mut self, id: LocalId) -> Result<(), AllocError>
+        ensures ok { OnOk result (Lists self.old (local_types self.old.locals.now id) self.new) }
+        ensures err { OnErr result (self.new ≡ self.old) }
+    {
+        if !self.locals.contains(id) {
+            return Ok(());
+        }
+        self.add(self.locals.get(id).ty().type_id())
+    }
+
+    fn add_locals(&mut self, ids: &[LocalId]) -> Result<(), AllocError>
+        ensures { OnOk result
+            (Lists self.old (flat_map (local_types self.old.locals.now) ids.now) self.new) }
+    {
+        for id in ids {
+            self.add_local(*id)?;
+        }
+        Ok(())
+    }
+
+    // The types that walks do not report.
+    fn add_unvisited(&mut self, instr: &Instr) -> Result<(), AllocError>
+        ensures { OnOk result (Lists self.old (unvisited_types instr.now) self.new) }
+    {
+        match instr {
+            Instr::Select(x) => match x.ty {
+                Some(ty) => self.add(ty.type_id()),
+                None => Ok(()),
+            },
+            Instr::RefNull(x) => self.add(x.ty.type_id()),
+            _ => Ok(()),
+        }
+    }
 }

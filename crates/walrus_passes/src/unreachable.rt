@@ -2,7 +2,7 @@
 ghost use Rattle.std.specs.Prelude.{◌≡◌, ◌++◌, length, IfOk, OnOk, OnErr, IsSome, IsSomeAnd};
 ghost use Rattle.std.specs.List.{range_with_len};
 ghost use Rattle.walrus_types.specs.Table.{signature_at};
-ghost use Rattle.instr.specs.Locals.{unnamed_locals};
+ghost use Rattle.ir_instr.specs.Locals.{unnamed_locals};
 ghost use Rattle.walrus_passes.specs.Adapters.{AddsEntryOrNone, AddsLocalsOrNone};
 ghost use Rattle.walrus_passes.specs.UnreachableFunctions.{IsUnreachable};
 

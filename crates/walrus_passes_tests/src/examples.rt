@@ -1,20 +1,25 @@
-//! A table whose unused types are deleted before it is written, and the examples in the
-//! documentation of `walrus_unused` and `walrus_passes` that are about types: their lines are the
-//! same as in the tests here. Where an example hands an error on, all tests but the first stop
-//! instead, which is proved sooner. Where it compares by `assert_eq!`, they call `assert_equal`.
-use crate::assertions::assert_equal;
-use crate::index_maps::section;
-use crate::unused_types::{are, table};
-use crate::used_sections::{function, single, structure};
+//! The examples in the documentation of `walrus_unused` and `walrus_passes`, and a table whose unused
+//! types are deleted before it is written: their lines are the same as in the tests here. Where an
+//! example hands an error on, all tests but the first stop instead, which is proved sooner. Where it
+//! compares by `assert_eq!`, they call `assert_equal`.
+use crate::assertions::{are, assert_equal, hold_just};
+use crate::bodies::{has, seven};
+use crate::conversions::with_handles;
+use crate::index_maps::TWICE;
+use crate::unused_types::table;
+use crate::used_sections::{function, section, single, structure};
 use std::alloc::Global;
 use std::test::Fail;
-use walrus_binary::encode_types;
-use walrus_functions::{BuildError, FunctionBuilder, LocalFunction};
-use walrus_ir::{ConstExpr, InstrSeqType, ModuleLocals};
-use walrus_passes::{delete_unused_types, new_indices, normalise_used, used_types};
-use walrus_types::{
-    HashKeys, Heap, ModuleTypes, Reference, TypeId, ValType, normalise, parse_types,
+use walrus_functions::{BuildError, FunctionBuilder, LocalFunction, LocalFunctions};
+use walrus_ir::{ConstExpr, Id, Instr, InstrSeqType, LoadKind, MemArg, ModuleLocals, TableGet};
+use walrus_passes::{
+    adapter, adapter_between, delete_unused_types, map_instrs, new_indices, normalise_used,
+    redirect_calls, replace_with, snip, snip_calls, unreachable_function, used_types,
 };
+use walrus_types::{
+    HashKeys, Heap, ModuleTypes, RefType, Reference, TypeId, ValType, normalise, parse_types,
+};
+use wasm_binary::encode_types;
 
 #[test]
 fn only_used_types_are_written(rt: HostRuntime) -> Result<(), Fail> {
@@ -49,12 +54,6 @@ fn maker(alloc: Global) -> Result<LocalFunction, BuildError> {
     Ok(f.local_func(Vec::new(alloc)))
 }
 
-// Whether these are the types of these indices, in some order and each as often as it may be.
-fn hold_just(ids: &[TypeId], indices: &[usize]) -> bool {
-    let has = |index: usize| ids.iter().any(|id| id.index() == index);
-    ids.iter().all(|id| indices.contains(&id.index())) && indices.iter().all(|index| has(*index))
-}
-
 #[test]
 fn what_a_function_and_a_global_use_is_kept(rt: HostRuntime) {
     let alloc = rt.alloc();
@@ -85,7 +84,7 @@ fn what_a_function_and_a_global_use_is_kept(rt: HostRuntime) {
 fn new_indices_are_those_of_the_normal_form(rt: HostRuntime) {
     let alloc = rt.alloc();
     let keys = HashKeys::fixed();
-    let section = section(alloc).expect(&rt, "memory");
+    let section = section(alloc, &TWICE).expect(&rt, "memory");
     let groups = section.as_slice();
     let (types, ids) = parse_types(alloc, keys, groups).expect(&rt, "memory");
     let (written, indices) = types.emit().expect(&rt, "memory");
@@ -112,4 +111,198 @@ fn the_used_types_of_a_section_are_written(rt: HostRuntime) {
     );
     assert_equal(&rt, output.len(), 1);
     assert_equal(&rt, map.as_slice(), [None, Some(0)].as_slice());
+}
+
+#[test]
+fn a_function_that_must_not_be_run_is_snipped(rt: HostRuntime) {
+    let alloc = rt.alloc();
+    let mut types = ModuleTypes::new(alloc);
+    let mut funcs = LocalFunctions::new(alloc);
+    let args = Vec::new(alloc);
+    let mut builder = FunctionBuilder::new(alloc, &mut types, &[], &[]).expect(&rt, "memory");
+    builder.func_body().return_().expect(&rt, "memory");
+    let Ok(id) = builder.finish(args, &mut funcs) else {
+        panic!(rt; "out of memory");
+    };
+    snip(alloc, &mut funcs, id).expect(&rt, "memory");
+    assert!(rt; funcs.contains(id));
+    has(&rt, alloc, funcs.get(id), 0, "unreachable");
+}
+
+#[test]
+fn a_function_gets_a_body_of_its_own_type(rt: HostRuntime) {
+    let alloc = rt.alloc();
+    let mut funcs = LocalFunctions::new(alloc);
+    let Ok(id) = funcs.add(seven(alloc).expect(&rt, "memory")) else {
+        panic!(rt; "out of memory");
+    };
+    let mut builder = FunctionBuilder::without_entry(alloc, funcs.get(id).ty());
+    let mut body = builder
+        .dangling_instr_seq(InstrSeqType::Simple(Some(ValType::I32)))
+        .expect(&rt, "memory");
+    body.i32_const(8).expect(&rt, "memory");
+    let entry = body.id();
+    builder.set_entry(entry);
+    replace_with(alloc, &mut funcs, id, builder).expect(&rt, "memory");
+    assert!(rt; funcs.contains(id));
+    has(&rt, alloc, funcs.get(id), 0, "i32 8");
+}
+
+#[test]
+fn a_wrapper_of_an_import_calls_it(rt: HostRuntime) {
+    let alloc = rt.alloc();
+    let mut types = ModuleTypes::new(alloc);
+    let mut locals = ModuleLocals::new(alloc);
+    let mut funcs = LocalFunctions::new(alloc);
+    let import = Id::from_index(9);
+    let ty = types.add(&[], &[]).expect(&rt, "memory");
+    let func = adapter(alloc, &mut types, &mut locals, import, ty).expect(&rt, "memory");
+    let Ok(wrapper) = funcs.add(func) else {
+        panic!(rt; "out of memory");
+    };
+    has(&rt, alloc, funcs.get(wrapper), 0, "call 9");
+}
+
+#[test]
+fn an_import_of_references_is_called_with_handles(rt: HostRuntime) {
+    let alloc = rt.alloc();
+    let mut types = ModuleTypes::new(alloc);
+    let mut locals = ModuleLocals::new(alloc);
+    let import = Id::from_index(9);
+    let add_handle = Id::from_index(3);
+    let table = Id::from_index(5);
+    let references = [ValType::Ref(RefType::EXTERNREF)];
+    let import_ty = types.add(&references, &references).expect(&rt, "memory");
+    let ty = types
+        .add(&[ValType::I32], &[ValType::I32])
+        .expect(&rt, "memory");
+    assert!(rt; types.contains(import_ty) && types.get(import_ty).is_function());
+    let func = adapter_between(
+        alloc,
+        &mut types,
+        &mut locals,
+        import,
+        import_ty,
+        ty,
+        |body, _, handle| {
+            body.local_get(handle)?;
+            body.instr(TableGet { table })
+        },
+        |body, _, reference| {
+            body.local_get(reference)?;
+            body.call(add_handle)
+        },
+    )
+    .expect(&rt, "memory");
+    has(&rt, alloc, &func, 0, with_handles(0));
+}
+
+#[test]
+fn calls_of_a_function_that_is_to_be_deleted_are_snipped(rt: HostRuntime) {
+    let alloc = rt.alloc();
+    let panic = Id::from_index(9);
+    let mut builder = FunctionBuilder::without_entry(alloc, Id::from_index(0));
+    let mut body = builder
+        .dangling_instr_seq(InstrSeqType::Simple(None))
+        .expect(&rt, "memory");
+    body.call(panic).expect(&rt, "memory");
+    let mut func = builder.local_func(Vec::new(alloc));
+    snip_calls(&mut func, &[panic]);
+    has(&rt, alloc, &func, 0, "unreachable");
+}
+
+#[test]
+fn a_wrapper_is_called_in_place_of_an_import(rt: HostRuntime) {
+    let alloc = rt.alloc();
+    let import = Id::from_index(2);
+    let wrapper = Id::from_index(9);
+    let mut builder = FunctionBuilder::without_entry(alloc, Id::from_index(0));
+    let mut body = builder
+        .dangling_instr_seq(InstrSeqType::Simple(None))
+        .expect(&rt, "memory");
+    body.call(import).expect(&rt, "memory");
+    let mut func = builder.local_func(Vec::new(alloc));
+    redirect_calls(&mut func, import, wrapper);
+    has(&rt, alloc, &func, 0, "call 9");
+}
+
+#[test]
+fn a_stand_in_is_referred_to_in_place_of_a_snipped_function(rt: HostRuntime) {
+    let alloc = rt.alloc();
+    let snipped = Id::from_index(9);
+    let mut types = ModuleTypes::new(alloc);
+    let mut locals = ModuleLocals::new(alloc);
+    let mut funcs = LocalFunctions::new(alloc);
+    let ty = types.add(&[], &[]).expect(&rt, "memory");
+    let mut builder = FunctionBuilder::without_entry(alloc, ty);
+    let mut body = builder
+        .dangling_instr_seq(InstrSeqType::Simple(None))
+        .expect(&rt, "memory");
+    body.ref_func(snipped).expect(&rt, "memory");
+    let mut func = builder.local_func(Vec::new(alloc));
+    let trap = unreachable_function(alloc, &mut types, &mut locals, ty).expect(&rt, "memory");
+    let Ok(stand_in) = funcs.add(trap) else {
+        panic!(rt; "out of memory");
+    };
+    redirect_calls(&mut func, snipped, stand_in);
+    has(&rt, alloc, &func, 0, "ref.func 0");
+}
+
+#[test]
+fn all_loads_read_another_memory(rt: HostRuntime) {
+    let alloc = rt.alloc();
+    let memory = Id::from_index(1);
+    let mut builder = FunctionBuilder::without_entry(alloc, Id::from_index(0));
+    let mut body = builder
+        .dangling_instr_seq(InstrSeqType::Simple(None))
+        .expect(&rt, "memory");
+    let arg = MemArg {
+        align: 4,
+        offset: 0,
+    };
+    body.load(Id::from_index(0), LoadKind::V128, arg)
+        .expect(&rt, "memory");
+    let mut func = builder.local_func(Vec::new(alloc));
+    map_instrs(&mut func, |instr| {
+        if let Instr::Load(x) = instr {
+            x.memory = memory;
+        }
+    });
+    has(&rt, alloc, &func, 0, "v128.load 1");
+}
+
+// Two functions, whose types come after one that none uses.
+fn two_functions(alloc: Global, types: &mut ModuleTypes) -> Result<LocalFunctions, BuildError> {
+    let mut funcs = LocalFunctions::new(alloc);
+    types.add(&[ValType::F64], &[])?;
+    let first = FunctionBuilder::new(alloc, types, &[], &[ValType::I32])?;
+    let second = FunctionBuilder::new(alloc, types, &[ValType::I32], &[])?;
+    let Ok(_) = funcs.add(first.local_func(Vec::new(alloc))) else {
+        return Err(BuildError::Memory);
+    };
+    let Ok(_) = funcs.add(second.local_func(Vec::new(alloc))) else {
+        return Err(BuildError::Memory);
+    };
+    Ok(funcs)
+}
+
+#[test]
+fn what_functions_use_is_kept(rt: HostRuntime) {
+    let alloc = rt.alloc();
+    let mut types = ModuleTypes::new(alloc);
+    let locals = ModuleLocals::new(alloc);
+    let funcs = two_functions(alloc, &mut types).expect(&rt, "memory");
+    let mut roots = Vec::new(alloc);
+    for func in funcs.iter() {
+        let Some(used) = used_types(alloc, func, &locals).expect(&rt, "memory") else {
+            panic!(rt; "not nested");
+        };
+        roots
+            .extend_from_slice(used.as_slice())
+            .expect(&rt, "memory");
+    }
+    assert!(rt; types.contains_all(roots.as_slice()));
+    delete_unused_types(alloc, &mut types, roots.as_slice()).expect(&rt, "memory");
+    let live = types.live_ids().expect(&rt, "memory");
+    assert!(rt; live.iter().map(|id| id.index()).eq([1, 2, 3, 4]));
 }

@@ -1,42 +1,15 @@
 //! The new indices of a section that is written again.
-use std::alloc::{AllocError, Global};
-use std::process::Abort;
+use crate::used_sections::{Group, section};
+use std::alloc::Global;
 use walrus_passes::{delete_unused_types, new_indices};
-use walrus_types::{
-    CompAt, EntryAt, GroupAt, HashKeys, IdsToIndices, Listed, ModuleTypes, ReadError, TypeId,
-    parse_types,
-};
+use walrus_types::{HashKeys, IdsToIndices, ModuleTypes, ReadError, TypeId, parse_types};
 
-// A final lone type.
-fn single(comp: CompAt) -> GroupAt {
-    GroupAt::Single(EntryAt {
-        comp,
-        is_final: true,
-        supertype: None,
-    })
-}
-
-fn structure(alloc: Global) -> GroupAt {
-    single(CompAt::Struct {
-        fields: Listed::from_vec(Vec::new(alloc)),
-    })
-}
-
-fn function(alloc: Global) -> GroupAt {
-    single(CompAt::Function {
-        params: Listed::from_vec(Vec::new(alloc)),
-        results: Listed::from_vec(Vec::new(alloc)),
-    })
-}
-
-// A struct, a function, and the struct again. As functions come first where sections are written,
-// the function gets the index 0, and the struct, under both of its old indices, the index 1.
-pub(crate) fn section(alloc: Global) -> Result<Vec<GroupAt>, AllocError> {
-    Ok(vec![in alloc; structure(alloc), function(alloc), structure(alloc)]?)
-}
+// As functions come first where sections are written, the function gets the index 0, and the
+// struct, under both of its old indices, the index 1.
+pub(crate) const TWICE: [Group; 3] = [Group::Struct, Group::Function, Group::Struct];
 
 pub(crate) fn read(alloc: Global) -> Result<(ModuleTypes, Vec<TypeId>), ReadError> {
-    parse_types(alloc, HashKeys::fixed(), section(alloc)?.as_slice())
+    parse_types(alloc, HashKeys::fixed(), section(alloc, &TWICE)?.as_slice())
 }
 
 // Whether these are the new indices.

@@ -1,12 +1,19 @@
-//! Tests of `walrus_unused` through its public calls, which `walrus_passes` exports; tests of the
-//! passes over functions are in `walrus_function_passes_tests`.
+//! Tests of `walrus_unused` and `walrus_passes` through the public calls that `walrus_passes` exports.
 //!
-//! They are in crates of their own, since tests inside a crate have the gate prove that crate a
-//! second time, and in two, which it proves side by side.
+//! They are in a crate of their own, since tests inside a crate have the gate prove that crate a
+//! second time.
 #![tactic(auto)]
 
 #[cfg(test)]
+mod adapters;
+#[cfg(test)]
 mod assertions;
+#[cfg(test)]
+mod bodies;
+#[cfg(test)]
+mod calls;
+#[cfg(test)]
+mod conversions;
 #[cfg(test)]
 mod examples;
 #[cfg(test)]
@@ -14,8 +21,14 @@ mod index_maps;
 #[cfg(test)]
 mod refusals;
 #[cfg(test)]
+mod snipping;
+#[cfg(test)]
 mod speed;
+#[cfg(test)]
+mod unreachable;
 #[cfg(test)]
 mod unused_types;
 #[cfg(test)]
 mod used_sections;
+#[cfg(test)]
+mod used_types;

@@ -1,24 +1,20 @@
 //! Refused memory: what a refused call leaves, and that it goes through when it is made again.
 //! Each request for memory of these tests may be refused, one in a run, and they still pass.
-use crate::assertions::assert_equal;
+use crate::adapters::adapt;
+use crate::assertions::{are, assert_equal, hold_just};
+use crate::bodies::{eight, has, is, replace_first, sevens, snip_first};
+use crate::conversions::{adapt_handles, handle_types, with_handles};
 use crate::index_maps::{are as are_indices, read};
-use crate::unused_types::{are, delete_all_but, table};
-use crate::used_sections::{MAP_OF_THE_REC, section, section_of_the_rec};
+use crate::unreachable::unreachable;
+use crate::unused_types::{delete_all_but, table};
+use crate::used_sections::{MAP_OF_THE_REC, REC, WITH_REC, section};
+use crate::used_types::{locals, nested_function};
 use std::alloc::{AllocError, Global};
 use std::process::Abort;
-use walrus_passes::{NormaliseUsedError, new_indices, normalise_used};
-use walrus_types::{
-    AddRecGroupError, EmitError, GroupAt, HashKeys, IdsToIndices, ModuleTypes, ReadError, TypeId,
-    ValType,
-};
-
-// The table of types. It is made again after a refusal.
-fn table_again(alloc: Global) -> Result<ModuleTypes, AddRecGroupError> {
-    match table(alloc) {
-        Ok(types) => Ok(types),
-        Err(_) => table(alloc),
-    }
-}
+use walrus_functions::{BuildError, LocalFunction};
+use walrus_ir::{LocalId, ModuleLocals};
+use walrus_passes::{NormaliseUsedError, new_indices, normalise_used, used_types};
+use walrus_types::{HashKeys, Id, ModuleTypes, TypeId, ValType};
 
 // Which of the first seven ids are live.
 fn live(types: &ModuleTypes) -> [bool; 7] {
@@ -50,7 +46,8 @@ fn finds(types: &ModuleTypes, has_body: bool) -> bool {
 
 #[test]
 fn a_refused_deletion_leaves_the_table(rt: HostRuntime) {
-    let mut types = table_again(rt.alloc()).expect(&rt, "memory");
+    let made = table(rt.alloc()).or_else(|_| table(rt.alloc()));
+    let mut types = made.expect(&rt, "memory");
     let deleted = match delete_all_but(&rt, rt.alloc(), &mut types, 4) {
         Ok(deleted) => deleted,
         Err(_) => {
@@ -72,67 +69,185 @@ fn a_refused_deletion_leaves_the_table(rt: HostRuntime) {
     assert!(rt; has_groups(&types, [0, 0, 1, 2, 0]) && finds(&types, false));
 }
 
-// The table of a section with its ids. It is read again after a refusal.
-fn read_again(alloc: Global) -> Result<(ModuleTypes, Vec<TypeId>), ReadError> {
-    match read(alloc) {
-        Ok(section) => Ok(section),
-        Err(_) => read(alloc),
-    }
-}
-
-fn emit_again(types: &ModuleTypes) -> Result<(Vec<GroupAt>, IdsToIndices), EmitError> {
-    match types.emit() {
-        Ok(written) => Ok(written),
-        Err(_) => types.emit(),
-    }
-}
-
 #[test]
 fn a_refused_map_of_indices_is_made_again(rt: HostRuntime) {
-    let (types, ids) = read_again(rt.alloc()).expect(&rt, "memory");
-    let (_, indices) = emit_again(&types).expect(&rt, "memory");
-    let new = match new_indices(rt.alloc(), ids.as_slice(), &indices) {
-        Ok(new) => new,
-        Err(_) => new_indices(rt.alloc(), ids.as_slice(), &indices).expect(&rt, "memory"),
-    };
+    let alloc = rt.alloc();
+    let (types, ids) = read(alloc).or_else(|_| read(alloc)).expect(&rt, "memory");
+    let (_, indices) = types.emit().or_else(|_| types.emit()).expect(&rt, "memory");
+    let new = new_indices(alloc, ids.as_slice(), &indices)
+        .or_else(|_| new_indices(alloc, ids.as_slice(), &indices))
+        .expect(&rt, "memory");
     assert!(rt; are_indices(new.as_slice(), &[Some(1), Some(0), Some(1)]));
-}
-
-// A section. It is made again after a refusal.
-fn section_again(alloc: Global) -> Result<Vec<GroupAt>, AllocError> {
-    match section(alloc) {
-        Ok(groups) => Ok(groups),
-        Err(_) => section(alloc),
-    }
-}
-
-// What is written of it where the `Rec` is used. It is made again after a refusal.
-fn output_again(alloc: Global) -> Result<Vec<GroupAt>, AllocError> {
-    match section_of_the_rec(alloc) {
-        Ok(groups) => Ok(groups),
-        Err(_) => section_of_the_rec(alloc),
-    }
-}
-
-fn normalise_again(
-    rt: &impl Abort,
-    alloc: Global,
-    groups: &[GroupAt],
-) -> Result<(Vec<GroupAt>, Vec<Option<u32>>), NormaliseUsedError> {
-    match normalise_used(alloc, HashKeys::fixed(), groups, &[3]) {
-        Ok(used) => Ok(used),
-        Err(error) => {
-            assert!(rt; error == NormaliseUsedError::Memory);
-            normalise_used(alloc, HashKeys::fixed(), groups, &[3])
-        }
-    }
 }
 
 #[test]
 fn a_refused_normal_form_of_the_used_types_is_made_again(rt: HostRuntime) {
-    let groups = section_again(rt.alloc()).expect(&rt, "memory");
-    let output = output_again(rt.alloc()).expect(&rt, "memory");
-    let (written, new) = normalise_again(&rt, rt.alloc(), groups.as_slice()).expect(&rt, "memory");
-    assert!(rt; written == output);
+    let alloc = rt.alloc();
+    let groups = section(alloc, &WITH_REC).or_else(|_| section(alloc, &WITH_REC));
+    let groups = groups.expect(&rt, "memory");
+    let output = section(alloc, &REC).or_else(|_| section(alloc, &REC));
+    let (written, new) = match normalise_used(alloc, HashKeys::fixed(), groups.as_slice(), &[3]) {
+        Ok(used) => used,
+        Err(error) => {
+            assert!(rt; error == NormaliseUsedError::Memory);
+            normalise_used(alloc, HashKeys::fixed(), groups.as_slice(), &[3]).expect(&rt, "memory")
+        }
+    };
+    assert!(rt; written == output.expect(&rt, "memory"));
     assert!(rt; are_indices(new.as_slice(), &MAP_OF_THE_REC));
+}
+
+#[test]
+fn a_refused_snip_leaves_the_function(rt: HostRuntime) {
+    let alloc = rt.alloc();
+    let mut funcs = sevens(alloc, 1)
+        .or_else(|_| sevens(alloc, 1))
+        .expect(&rt, "memory");
+    if snip_first(&rt, alloc, &mut funcs).is_err() {
+        is(&rt, alloc, &funcs, 0, "i32 7");
+        snip_first(&rt, alloc, &mut funcs).expect(&rt, "memory");
+    }
+    is(&rt, alloc, &funcs, 0, "unreachable");
+}
+
+#[test]
+fn a_refused_replacement_leaves_the_function(rt: HostRuntime) {
+    let alloc = rt.alloc();
+    let mut funcs = sevens(alloc, 1)
+        .or_else(|_| sevens(alloc, 1))
+        .expect(&rt, "memory");
+    let body = eight(alloc).or_else(|_| eight(alloc)).expect(&rt, "memory");
+    if replace_first(&rt, alloc, &mut funcs, body).is_err() {
+        is(&rt, alloc, &funcs, 0, "i32 7");
+        let again = eight(alloc).expect(&rt, "memory");
+        replace_first(&rt, alloc, &mut funcs, again).expect(&rt, "memory");
+    }
+    is(&rt, alloc, &funcs, 0, "i32 8");
+}
+
+// A table with the type of a function that takes an `i32` and an `i64`.
+fn one_type(alloc: Global) -> Result<ModuleTypes, AllocError> {
+    let mut types = ModuleTypes::new(alloc);
+    types.add(&[ValType::I32, ValType::I64], &[])?;
+    Ok(types)
+}
+
+// There are two locals or none, and one type or two.
+fn are_both_or_none(rt: &impl Abort, types: &ModuleTypes, locals: &ModuleLocals) {
+    let first: LocalId = Id::from_index(0);
+    let second: LocalId = Id::from_index(1);
+    let third: LocalId = Id::from_index(2);
+    assert_equal(rt, locals.contains(first), locals.contains(second));
+    assert!(rt; !locals.contains(third));
+    assert!(rt; types.contains(Id::from_index(0)));
+    assert!(rt; !types.contains(Id::from_index(2)));
+}
+
+// The adapter. After a refusal the table has the type and up to one more, there are both locals or
+// none, and the call is made again.
+fn adapt_again(
+    rt: &impl Abort,
+    alloc: Global,
+    types: &mut ModuleTypes,
+    locals: &mut ModuleLocals,
+) -> Result<LocalFunction, AllocError> {
+    if let Ok(func) = adapt(rt, alloc, types, locals, 0) {
+        return Ok(func);
+    }
+    are_both_or_none(rt, types, locals);
+    adapt(rt, alloc, types, locals, 0)
+}
+
+#[test]
+fn a_refused_adapter_is_made_again(rt: HostRuntime) {
+    let mut types = one_type(rt.alloc())
+        .or_else(|_| one_type(rt.alloc()))
+        .expect(&rt, "memory");
+    let mut locals = ModuleLocals::new(rt.alloc());
+    let func = adapt_again(&rt, rt.alloc(), &mut types, &mut locals).expect(&rt, "memory");
+    assert_equal(&rt, func.ty().index(), 0);
+    let args = func.args.as_slice();
+    let text = if are(args, &[0, 1]) {
+        "local.get 0, local.get 1, call 9"
+    } else {
+        assert!(rt; are(args, &[2, 3]));
+        "local.get 2, local.get 3, call 9"
+    };
+    has(&rt, rt.alloc(), &func, 0, text);
+}
+
+// The adapter that converts handles. After a refusal the table has both types and up to one more,
+// there are no new locals, the parameter, or also the result, and the call is made again.
+fn adapt_handles_again(
+    rt: &impl Abort,
+    alloc: Global,
+    types: &mut ModuleTypes,
+    locals: &mut ModuleLocals,
+) -> Result<LocalFunction, BuildError> {
+    let refused = match adapt_handles(rt, alloc, types, locals) {
+        Ok(func) => return Ok(func),
+        Err(refused) => refused,
+    };
+    assert_equal(rt, refused, BuildError::Memory);
+    assert!(rt; types.contains(Id::from_index(1)));
+    assert!(rt; !types.contains(Id::from_index(3)));
+    assert!(rt; !locals.contains(Id::from_index(2)));
+    adapt_handles(rt, alloc, types, locals)
+}
+
+#[test]
+fn a_refused_adapter_between_is_made_again(rt: HostRuntime) {
+    let mut types = handle_types(rt.alloc())
+        .or_else(|_| handle_types(rt.alloc()))
+        .expect(&rt, "memory");
+    let mut locals = ModuleLocals::new(rt.alloc());
+    let func = adapt_handles_again(&rt, rt.alloc(), &mut types, &mut locals).expect(&rt, "memory");
+    assert_equal(&rt, func.ty().index(), 1);
+    let Some(first) = func.args.as_slice().first() else {
+        panic!(rt; "no parameter");
+    };
+    has(&rt, rt.alloc(), &func, 0, with_handles(first.index()));
+}
+
+#[test]
+fn a_refused_list_of_used_types_is_made_again(rt: HostRuntime) {
+    let alloc = rt.alloc();
+    let func = nested_function(alloc)
+        .or_else(|_| nested_function(alloc))
+        .expect(&rt, "memory");
+    let locals = locals(alloc)
+        .or_else(|_| locals(alloc))
+        .expect(&rt, "memory");
+    let used = used_types(alloc, &func, &locals)
+        .or_else(|_| used_types(alloc, &func, &locals))
+        .expect(&rt, "memory");
+    assert!(rt; used.is_some_and(|ids| hold_just(ids.as_slice(), &[7, 2, 3, 6])));
+}
+
+// The function that must not be run. After a refusal the table has the type and up to one more,
+// there are both locals or none, and the call is made again.
+fn unreachable_again(
+    rt: &impl Abort,
+    alloc: Global,
+    types: &mut ModuleTypes,
+    locals: &mut ModuleLocals,
+) -> Result<LocalFunction, AllocError> {
+    if let Ok(func) = unreachable(rt, alloc, types, locals, 0) {
+        return Ok(func);
+    }
+    are_both_or_none(rt, types, locals);
+    unreachable(rt, alloc, types, locals, 0)
+}
+
+#[test]
+fn a_refused_unreachable_function_is_made_again(rt: HostRuntime) {
+    let mut types = one_type(rt.alloc())
+        .or_else(|_| one_type(rt.alloc()))
+        .expect(&rt, "memory");
+    let mut locals = ModuleLocals::new(rt.alloc());
+    let func = unreachable_again(&rt, rt.alloc(), &mut types, &mut locals).expect(&rt, "memory");
+    assert_equal(&rt, func.ty().index(), 0);
+    has(&rt, rt.alloc(), &func, 0, "unreachable");
+    let args = func.args.as_slice();
+    assert!(rt; are(args, &[0, 1]) || are(args, &[2, 3]));
 }

@@ -23,26 +23,14 @@ fn table(alloc: Global, count: usize) -> Result<ModuleTypes, AddRecGroupError> {
 
 #[test]
 fn small_table_is_built(rt: HostRuntime) {
-    assert_equal(
-        &rt,
-        table(rt.alloc(), SMALL)
-            .expect(&rt, "memory")
-            .rec_groups()
-            .len(),
-        SMALL + 2,
-    );
+    let types = table(rt.alloc(), SMALL).expect(&rt, "memory");
+    assert_equal(&rt, types.rec_groups().len(), SMALL + 2);
 }
 
 #[test]
 fn large_table_is_built(rt: HostRuntime) {
-    assert_equal(
-        &rt,
-        table(rt.alloc(), LARGE)
-            .expect(&rt, "memory")
-            .rec_groups()
-            .len(),
-        LARGE + 2,
-    );
+    let types = table(rt.alloc(), LARGE).expect(&rt, "memory");
+    assert_equal(&rt, types.rec_groups().len(), LARGE + 2);
 }
 
 #[test]

@@ -1,11 +1,12 @@
 //! Which types are deleted.
-use crate::assertions::assert_equal;
+use crate::assertions::{are, assert_equal};
+use crate::used_sections::{pair, single};
 use std::alloc::{AllocError, Global};
 use std::process::Abort;
 use walrus_passes::delete_unused_types;
 use walrus_types::{
-    AddRecGroupError, CompAt, CompositeType, EmitError, EntryAt, Field, FieldType, GroupAt, Heap,
-    Listed, ModuleTypes, Reference, Storage, StructType, TypeId, Val, ValType,
+    AddRecGroupError, CompAt, CompositeType, EmitError, Field, FieldType, GroupAt, Heap, Listed,
+    ModuleTypes, Reference, Storage, StructType, TypeId, Val, ValType,
 };
 
 // A struct with a nullable reference to the type with this id, or without fields.
@@ -58,15 +59,6 @@ pub(crate) fn delete_all_but(
     let root = TypeId::from_index(index);
     assert!(rt; types.contains(root));
     delete_unused_types(alloc, types, &[root])
-}
-
-// Whether these are the ids of these indices.
-pub(crate) fn are(ids: &[TypeId], indices: &[usize]) -> bool {
-    ids.len() == indices.len()
-        && ids
-            .iter()
-            .zip(indices)
-            .all(|(id, index)| id.index() == *index)
 }
 
 // The live types are the types of these indices.
@@ -139,33 +131,11 @@ fn names_between_groups_follow_the_indices_that_are_left(rt: HostRuntime) {
 
 // The function type at the index 0, then the group, whose first type names that.
 fn section_that_is_left(alloc: Global) -> Result<Vec<GroupAt>, AllocError> {
-    let function = final_entry(CompAt::Function {
+    let function = single(CompAt::Function {
         params: Listed::from_vec(vec![in alloc; Val::I32]?),
         results: Listed::from_vec(Vec::new(alloc)),
     });
-    let reference = Field {
-        element_type: Storage::Val(Val::Ref(Reference {
-            nullable: true,
-            heap_type: Heap::Concrete(0),
-        })),
-        mutable: false,
-    };
-    let first = final_entry(CompAt::Struct {
-        fields: Listed::from_vec(vec![in alloc; reference]?),
-    });
-    let second = final_entry(CompAt::Struct {
-        fields: Listed::from_vec(Vec::new(alloc)),
-    });
-    let group = Listed::from_vec(vec![in alloc; first, second]?);
-    Ok(vec![in alloc; GroupAt::Single(function), GroupAt::Rec(group)]?)
-}
-
-fn final_entry(comp: CompAt) -> EntryAt {
-    EntryAt {
-        comp,
-        is_final: true,
-        supertype: None,
-    }
+    Ok(vec![in alloc; function, pair(alloc, 0)?]?)
 }
 
 #[test]

@@ -35,33 +35,81 @@ fn namer(alloc: Global, index: u32) -> Result<CompAt, AllocError> {
     })
 }
 
-// A final type without a supertype.
-fn entry(comp: CompAt) -> EntryAt {
+// A final type.
+fn entry(comp: CompAt, supertype: Option<u32>) -> EntryAt {
     EntryAt {
         comp,
         is_final: true,
-        supertype: None,
+        supertype,
     }
 }
 
 pub(crate) fn single(comp: CompAt) -> GroupAt {
-    GroupAt::Single(entry(comp))
+    GroupAt::Single(entry(comp, None))
+}
+
+// A group of a section.
+#[derive(Clone, Copy)]
+pub(crate) enum Group {
+    Function,
+    Struct,
+    // A struct that is not final, and one that has the type 0 as its supertype.
+    Open,
+    Lower,
+    // A struct with a nullable reference to the type of this index.
+    Namer(u32),
+    // A `Rec` of this struct and one without fields.
+    Pair(u32),
+    // A `Rec` without types.
+    Nothing,
+}
+
+fn make_group(alloc: Global, group: Group) -> Result<GroupAt, AllocError> {
+    Ok(match group {
+        Group::Function => single(function(alloc)),
+        Group::Struct => single(structure(alloc)),
+        Group::Open => GroupAt::Single(EntryAt {
+            comp: structure(alloc),
+            is_final: false,
+            supertype: None,
+        }),
+        Group::Lower => GroupAt::Single(entry(structure(alloc), Some(0))),
+        Group::Namer(index) => single(namer(alloc, index)?),
+        Group::Pair(index) => pair(alloc, index)?,
+        Group::Nothing => GroupAt::Rec(Listed::from_vec(Vec::new(alloc))),
+    })
+}
+
+// Two structs, of which the first names the type of this index.
+pub(crate) fn pair(alloc: Global, index: u32) -> Result<GroupAt, AllocError> {
+    let first = entry(namer(alloc, index)?, None);
+    let second = entry(structure(alloc), None);
+    Ok(GroupAt::Rec(Listed::from_vec(vec![in alloc; first, second]?)))
+}
+
+// The section of these groups.
+pub(crate) fn section(alloc: Global, groups: &[Group]) -> Result<Vec<GroupAt>, AllocError> {
+    let mut section = Vec::new(alloc);
+    for group in groups {
+        section.push(make_group(alloc, *group)?)?;
+    }
+    Ok(section)
 }
 
 // The used types of the section are these, and these are the new indices.
 fn becomes(
     rt: &impl Abort,
     alloc: Global,
-    groups: &[GroupAt],
+    groups: &[Group],
     roots: &[u32],
-    output: &[GroupAt],
+    output: &[Group],
     map: &[Option<u32>],
 ) {
-    let (written, new) = normalise_used(alloc, HashKeys::fixed(), groups, roots).expect(
-        rt,
-        "section and roots",
-    );
-    assert!(rt; written.as_slice() == output);
+    let groups = section(alloc, groups).expect(rt, "memory");
+    let output = section(alloc, output).expect(rt, "memory");
+    let used = normalise_used(alloc, HashKeys::fixed(), groups.as_slice(), roots);
+    let (written, new) = used.expect(rt, "section and roots");
+    assert!(rt; written == output);
     assert!(rt; are(new.as_slice(), map));
 }
 
@@ -69,190 +117,114 @@ fn becomes(
 fn is_refused(
     rt: &impl Abort,
     alloc: Global,
-    groups: &[GroupAt],
+    groups: &[Group],
     roots: &[u32],
     expected: NormaliseUsedError,
 ) {
-    let result = normalise_used(alloc, HashKeys::fixed(), groups, roots);
-    assert!(rt; result.is_err_and(|error| error == expected));
+    let groups = section(alloc, groups).expect(rt, "memory");
+    let used = normalise_used(alloc, HashKeys::fixed(), groups.as_slice(), roots);
+    assert!(rt; used.is_err_and(|error| error == expected));
 }
 
 #[test]
 fn a_struct_that_nothing_names_is_deleted(rt: HostRuntime) {
-    let alloc = rt.alloc();
-    let groups = [single(structure(alloc)), single(function(alloc))];
-    let output = [single(function(alloc))];
-    becomes(&rt, alloc, &groups, &[1], &output, &[None, Some(0)]);
-}
-
-// An open struct, a struct that has it as supertype, and a function.
-fn subtype(alloc: Global) -> Result<Vec<GroupAt>, AllocError> {
-    let open = GroupAt::Single(EntryAt {
-        comp: structure(alloc),
-        is_final: false,
-        supertype: None,
-    });
-    let lower = GroupAt::Single(EntryAt {
-        comp: structure(alloc),
-        is_final: true,
-        supertype: Some(0),
-    });
-    Ok(vec![in alloc; open, lower, single(function(alloc))]?)
+    let groups = [Group::Struct, Group::Function];
+    becomes(
+        &rt,
+        rt.alloc(),
+        &groups,
+        &[1],
+        &[Group::Function],
+        &[None, Some(0)],
+    );
 }
 
 #[test]
 fn a_supertype_is_used(rt: HostRuntime) {
-    let alloc = rt.alloc();
-    let groups = subtype(alloc).expect(&rt, "memory");
-    let mut output = subtype(alloc).expect(&rt, "memory");
-    output.pop();
-    becomes(
-        &rt,
-        alloc,
-        groups.as_slice(),
-        &[1],
-        output.as_slice(),
-        &[Some(0), Some(1), None],
-    );
+    let groups = [Group::Open, Group::Lower, Group::Function];
+    let output = [Group::Open, Group::Lower];
+    let map = [Some(0), Some(1), None];
+    becomes(&rt, rt.alloc(), &groups, &[1], &output, &map);
 }
 
-// Two structs, of which the first names the type of this index.
-fn pair(alloc: Global, index: u32) -> Result<GroupAt, AllocError> {
-    let first = entry(namer(alloc, index)?);
-    let second = entry(structure(alloc));
-    Ok(GroupAt::Rec(Listed::from_vec(vec![in alloc; first, second]?)))
-}
+// The first type of the `Rec` names the function. The last struct is equal to the first.
+pub(crate) const WITH_REC: [Group; 4] = [
+    Group::Struct,
+    Group::Function,
+    Group::Pair(1),
+    Group::Struct,
+];
 
-// A struct, a function, a `Rec` whose first type names the function, and a struct that
-// is equal to the first.
-pub(crate) fn section(alloc: Global) -> Result<Vec<GroupAt>, AllocError> {
-    Ok(vec![in alloc;
-        single(structure(alloc)),
-        single(function(alloc)),
-        pair(alloc, 1)?,
-        single(structure(alloc)),
-    ]?)
-}
-
-// The function, and the `Rec`, whose first type names it.
-pub(crate) fn section_of_the_rec(alloc: Global) -> Result<Vec<GroupAt>, AllocError> {
-    Ok(vec![in alloc; single(function(alloc)), pair(alloc, 0)?]?)
-}
+// What is written of it where the `Rec` is used.
+pub(crate) const REC: [Group; 2] = [Group::Function, Group::Pair(0)];
 
 pub(crate) const MAP_OF_THE_REC: [Option<u32>; 5] = [None, Some(0), Some(1), Some(2), None];
 
 #[test]
 fn a_rec_is_kept_whole_with_what_its_types_name(rt: HostRuntime) {
-    let alloc = rt.alloc();
-    let groups = section(alloc).expect(&rt, "memory");
-    let output = section_of_the_rec(alloc).expect(&rt, "memory");
-    becomes(
-        &rt,
-        alloc,
-        groups.as_slice(),
-        &[3],
-        output.as_slice(),
-        &MAP_OF_THE_REC,
-    );
+    becomes(&rt, rt.alloc(), &WITH_REC, &[3], &REC, &MAP_OF_THE_REC);
 }
 
 #[test]
 fn a_rec_is_deleted_whole_and_equal_lone_types_are_kept_together(rt: HostRuntime) {
-    let alloc = rt.alloc();
-    let groups = section(alloc).expect(&rt, "memory");
-    becomes(
-        &rt,
-        alloc,
-        groups.as_slice(),
-        &[4, 4],
-        &[single(structure(alloc))],
-        &[Some(0), None, None, None, Some(0)],
-    );
+    let map = [Some(0), None, None, None, Some(0)];
+    becomes(&rt, rt.alloc(), &WITH_REC, &[4, 4], &[Group::Struct], &map);
 }
 
 // The struct at index 2 names the second of two equal functions.
 #[test]
 fn equal_lone_types_are_merged_before_the_others_die(rt: HostRuntime) {
-    let alloc = rt.alloc();
-    let first = namer(alloc, 1).expect(&rt, "memory");
-    let groups = [
-        single(function(alloc)),
-        single(function(alloc)),
-        single(first),
-    ];
-    let output = [
-        single(function(alloc)),
-        single(namer(alloc, 0).expect(&rt, "memory")),
-    ];
-    becomes(
-        &rt,
-        alloc,
-        &groups,
-        &[2],
-        &output,
-        &[Some(0), Some(0), Some(1)],
-    );
+    let groups = [Group::Function, Group::Function, Group::Namer(1)];
+    let output = [Group::Function, Group::Namer(0)];
+    let map = [Some(0), Some(0), Some(1)];
+    becomes(&rt, rt.alloc(), &groups, &[2], &output, &map);
 }
 
 // The struct that names another type keeps its neighbours apart, and is deleted. A function comes
 // before a struct.
 #[test]
 fn lone_types_are_sorted_once_what_kept_them_apart_is_gone(rt: HostRuntime) {
-    let alloc = rt.alloc();
-    let between = namer(alloc, 0).expect(&rt, "memory");
-    let groups = [
-        single(structure(alloc)),
-        single(between),
-        single(function(alloc)),
-    ];
-    let output = [single(function(alloc)), single(structure(alloc))];
-    becomes(
-        &rt,
-        alloc,
-        &groups,
-        &[2, 0],
-        &output,
-        &[Some(1), None, Some(0)],
-    );
+    let groups = [Group::Struct, Group::Namer(0), Group::Function];
+    let output = [Group::Function, Group::Struct];
+    let map = [Some(1), None, Some(0)];
+    becomes(&rt, rt.alloc(), &groups, &[2, 0], &output, &map);
 }
 
 #[test]
 fn a_rec_without_types_is_not_written(rt: HostRuntime) {
-    let alloc = rt.alloc();
-    let groups = [
-        GroupAt::Rec(Listed::from_vec(Vec::new(alloc))),
-        single(function(alloc)),
-    ];
-    let output = [single(function(alloc))];
-    becomes(&rt, alloc, &groups, &[0], &output, &[Some(0)]);
+    let groups = [Group::Nothing, Group::Function];
+    becomes(
+        &rt,
+        rt.alloc(),
+        &groups,
+        &[0],
+        &[Group::Function],
+        &[Some(0)],
+    );
 }
 
 #[test]
 fn without_roots_nothing_is_left(rt: HostRuntime) {
-    let alloc = rt.alloc();
-    becomes(&rt, alloc, &[], &[], &[], &[]);
-    becomes(&rt, alloc, &[single(function(alloc))], &[], &[], &[None]);
+    becomes(&rt, rt.alloc(), &[], &[], &[], &[]);
+    becomes(&rt, rt.alloc(), &[Group::Function], &[], &[], &[None]);
 }
 
 #[test]
 fn the_first_root_that_is_no_index_is_refused(rt: HostRuntime) {
-    let alloc = rt.alloc();
-    let groups = [single(function(alloc)), single(structure(alloc))];
+    let groups = [Group::Function, Group::Struct];
     let unknown = NormaliseUsedError::UnknownRoot { index: 2 };
-    is_refused(&rt, alloc, &groups, &[1, 2, 3], unknown);
+    is_refused(&rt, rt.alloc(), &groups, &[1, 2, 3], unknown);
     let none = NormaliseUsedError::UnknownRoot { index: 0 };
-    is_refused(&rt, alloc, &[], &[0], none);
+    is_refused(&rt, rt.alloc(), &[], &[0], none);
 }
 
 // It is refused before the roots are looked at.
 #[test]
 fn a_section_that_can_not_be_read_is_refused(rt: HostRuntime) {
-    let alloc = rt.alloc();
-    let first = namer(alloc, 1).expect(&rt, "memory");
     let refused = NormaliseUsedError::Section(ReadError::BadIndex {
         entry: 0,
         index: 1,
         end: 1,
     });
-    is_refused(&rt, alloc, &[single(first)], &[7], refused);
+    is_refused(&rt, rt.alloc(), &[Group::Namer(1)], &[7], refused);
 }

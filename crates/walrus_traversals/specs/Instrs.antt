@@ -1,6 +1,6 @@
 -- Visitors that look at instructions alone.
 use Rattle.std.specs.Prelude.{ℕ, Option, None, Some}
-use Rattle.instr.specs.declared.instr.Instr.{Instr}
+use Rattle.ir_instr.specs.declared.instr.Instr.{Instr}
 use Rattle.walrus_ir.specs.Calls.{Event, at}
 use Rattle.walrus_ir.specs.Hooks.{visit_instr}
 

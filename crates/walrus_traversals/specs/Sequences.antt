@@ -1,7 +1,7 @@
 -- The sequences of an instruction: which are children, and which are visited.
 use Rattle.std.specs.Prelude.{ℕ, List, [], ◌∷◌, flat_map}
-use Rattle.instr.specs.declared.instr.Instr.{Instr}
-use Rattle.instr.specs.declared.instr.Instr.TheVariants as instr
+use Rattle.ir_instr.specs.declared.instr.Instr.{Instr}
+use Rattle.ir_instr.specs.declared.instr.Instr.TheVariants as instr
 use Rattle.walrus_functions.specs.Nesting.{handlers}
 
 -- the handlers of a `try`

@@ -22,8 +22,15 @@ pub(crate) fn report<V: Visitor>(
     report_fields(visitor, instr)
 }
 
-// Reports the fields of an instruction in declared order, then the tags of its clauses.
-fn report_fields<V: Visitor>(visitor: &mut V, instr: &Instr) -> Result<(), V::Error>
+/// Calls the hooks of the visitor for the fields of an instruction, in declared order, and then for
+/// the tags of its clauses: what [`dfs_in_order`](crate::dfs_in_order) calls between the hook of the
+/// instruction and the sequences in it. Fields that walks do not report, such as the type of a
+/// `RefNull` or a `Select`, are left out.
+///
+/// # Errors
+///
+/// The error of the first hook that refuses comes, and no further hook is called.
+pub fn report_fields<V: Visitor>(visitor: &mut V, instr: &Instr) -> Result<(), V::Error>
     ensures ok { OnOk result
         (FoldsTo V.step visitor.old (reported (fields instr.now)) visitor.new) }
     ensures err { OnErr result

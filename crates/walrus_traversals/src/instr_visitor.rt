@@ -35,7 +35,7 @@ use walrus_types::HeapType;
 /// ```
 pub trait InstrVisitor {
     ghost use Rattle.std.specs.Prelude.{ℕ};
-    ghost use Rattle.instr.specs.declared.instr.Instr.{Instr as AnyInstr};
+    ghost use Rattle.ir_instr.specs.declared.instr.Instr.{Instr as AnyInstr};
 
     /// Why the hook refuses.
     type Error: Debug + Display + Drop;

@@ -2,7 +2,7 @@
 //! theorems, which a caller gets by calling it.
 ghost use Rattle.std.specs.Prelude.{◌≡◌, ◌++◌, ℕ, List};
 ghost use Rattle.std.specs.List.{flat_map, FoldsTo};
-ghost use Rattle.instr.specs.declared.instr.Instr.{Instr};
+ghost use Rattle.ir_instr.specs.declared.instr.Instr.{Instr};
 ghost use Rattle.walrus_functions.specs.Body.{sequence};
 ghost use Rattle.walrus_functions.specs.Nesting.{children, IsNested};
 ghost use Rattle.walrus_ir.specs.Calls.{Event, reported};
@@ -48,8 +48,8 @@ pub fn only_instrs_pass_on_the_instructions<V: InstrVisitor>(old: &V, new: &V)
         FoldsTo V.step old.now (all_given instr_in es) new.now }
 {}
 
-/// The same of a walk with [`OnlyIds`](crate::OnlyIds): the visitor in it was given just the ids
-/// that these events give, in their order.
+/// Where a walk with [`OnlyIds`](crate::OnlyIds) visits these events, the visitor in it was given
+/// just the ids that they give, in their order.
 pub fn only_ids_pass_on_the_ids<V: IdVisitor>(old: &V, new: &V)
     ensures { (es : List Event) → FoldsTo (step_at id_in V.step) old.now es new.now →
         FoldsTo V.step old.now (all_given id_in es) new.now }

@@ -1,6 +1,7 @@
 //! Walks over function bodies of WebAssembly modules that change nothing.
 //!
-//! - [`dfs_in_order`] calls the hooks of a [`Visitor`] over a nested body, in order.
+//! - [`dfs_in_order`] calls the hooks of a [`Visitor`] over a nested body, in order, and
+//!   [`report_fields`] those of one instruction.
 //! - [`OnlyInstrs`] makes a visitor of an [`InstrVisitor`], which has one hook, and [`OnlyIds`] of
 //!   an [`IdVisitor`], whose one hook takes an [`AnyId`].
 //! - [`check_nesting`], of `walrus_nesting`, says whether a body is nested, and shows why.
@@ -33,6 +34,7 @@ pub mod laws;
 mod traversals;
 mod visitor;
 
+pub use fields::report_fields;
 pub use id_visitor::{AnyId, IdVisitor, OnlyIds};
 pub use ids::{UsedIds, used_ids};
 pub use instr_visitor::{InstrVisitor, OnlyInstrs};

@@ -3,8 +3,8 @@
 use Rattle.std.proofs.Math.ListN.{set, length-set}
 use Rattle.std.proofs.lemmas.List.{set-get_or}
 use Rattle.std.proofs.Common.{◌≡◌, ℕ, zero, suc, ◌<◌, List, [], ◌∷◌, None, length, get_or, refl, sym, ap, subst}
-use Rattle.instr.specs.Sequence.{Sequence, empty_sequence}
-use Rattle.instr.specs.declared.instr_seq_type.InstrSeqType.TheVariants.{Simple}
+use Rattle.ir_instr.specs.Sequence.{Sequence, empty_sequence}
+use Rattle.ir_instr.specs.declared.instr_seq_type.InstrSeqType.TheVariants.{Simple}
 use Rattle.walrus_functions.specs.Body.{Body, Knows, sequence, with_sequence}
 use Rattle.walrus_traversals_mut.specs.Walks.{last_first, last_first_of}
 

@@ -105,7 +105,7 @@ less_left f g q rest s h =
     let e = visits_of f n q in
     omega arith
 
--- the same of the stack before and after
+-- the stack has fewer visits left after a sequence than before
 pub stack_falls : (f g : Body) (q : ℕ) (rest old new : List ℕ) →
     old ≡ q ∷ rest → new ≡ last_first_of g q ++ rest →
     SameNesting f g → Within f (depth f) q → sum_of (visits g (depth g)) new < sum_of (visits f (depth f)) old

@@ -1,15 +1,15 @@
 -- What hooks keep of the nesting, their calls in turn keep.
 use Rattle.std.proofs.Common.{◌≡◌, ℕ, inl, inr, List, [], ◌∷◌, map, refl, sym, ap, ◌∙◌, subst, flat_map}
 use Rattle.std.specs.Bool.{⊤}
-use Rattle.instr.specs.declared.exceptions.LegacyCatch.{LegacyCatch}
-use Rattle.instr.specs.declared.exceptions.LegacyCatch.TheVariants as legacy
-use Rattle.instr.specs.declared.instr.Instr.{Instr}
-use Rattle.instr.specs.declared.instr.Instr.TheVariants as instr
+use Rattle.ir_instr.specs.declared.exceptions.LegacyCatch.{LegacyCatch}
+use Rattle.ir_instr.specs.declared.exceptions.LegacyCatch.TheVariants as legacy
+use Rattle.ir_instr.specs.declared.instr.Instr.{Instr}
+use Rattle.ir_instr.specs.declared.instr.Instr.TheVariants as instr
 use Rattle.walrus_ir.specs.Calls.{Calls, leaves, call, and_then, each, unchanged, Extent, Full, Partial, StepRelation, Visits}
 use Rattle.walrus_ir.specs.Fields.{fields, type_fields, clause_fields, legacy_fields, instr_calls, sequence_calls}
 use Rattle.walrus_ir.specs.Hooks.{Hook, Given, start_instr_seq, end_instr_seq, visit_instr, visit_instr_seq_id}
-use Rattle.instr.specs.Sequence.{Sequence}
-use Rattle.instr.specs.declared.instr_seq_type.InstrSeqType.{InstrSeqType}
+use Rattle.ir_instr.specs.Sequence.{Sequence}
+use Rattle.ir_instr.specs.declared.instr_seq_type.InstrSeqType.{InstrSeqType}
 use Rattle.walrus_functions.specs.Body.{Body, sequence}
 use Rattle.walrus_functions.specs.Nesting.{children, handlers}
 use Rattle.walrus_traversals_mut.specs.Premises.{nonempty, KeepsChildren, Keeps}

@@ -1,11 +1,11 @@
 -- What a visitor that maps fields leaves at a sequence.
 use Rattle.std.proofs.Common.{◌≡◌, ℕ, List, [], ◌∷◌, map, refl, sym, ap, ◌∙◌, subst}
-use Rattle.instr.specs.declared.instr.Instr.{Instr}
+use Rattle.ir_instr.specs.declared.instr.Instr.{Instr}
 use Rattle.walrus_ir.specs.Calls.{Calls, leaves, call, and_then, each, Full, StepRelation, Visits}
 use Rattle.walrus_ir.specs.Fields.{fields, type_fields, instr_calls, sequence_calls}
 use Rattle.walrus_ir.specs.Hooks.{Hook, Given, start_instr_seq, end_instr_seq, visit_instr, visit_instr_seq_id}
-use Rattle.instr.specs.Sequence.{Sequence}
-use Rattle.instr.specs.declared.instr_seq_type.InstrSeqType.{InstrSeqType}
+use Rattle.ir_instr.specs.Sequence.{Sequence}
+use Rattle.ir_instr.specs.declared.instr_seq_type.InstrSeqType.{InstrSeqType}
 use Rattle.walrus_functions.specs.Body.{Body, sequence, with_sequence}
 use Rattle.walrus_functions.specs.Nesting.{children}
 use Rattle.walrus_traversals_mut.specs.FieldMaps.{FieldMap, MapsFields, mapped, mapped_instr, mapped_type, mapped_sequence}

@@ -2,7 +2,7 @@
 use Rattle.std.proofs.lemmas.List.{reverse-append}
 use Rattle.std.proofs.Common.{◌≡◌, ℕ, zero, suc, ◌<◌, ◌⊎◌, inl, inr, List, [], ◌∷◌, ◌++◌, Contains, length, slice_index_or, reverse, refl, sym, subst, arith}
 use Rattle.std.specs.List.{AllByRecursion, flat_map}
-use Rattle.instr.specs.declared.instr.Instr.{Instr}
+use Rattle.ir_instr.specs.declared.instr.Instr.{Instr}
 use Rattle.walrus_functions.specs.Body.{Body, sequence}
 use Rattle.walrus_functions.specs.Nesting.{children, IsChild}
 use Rattle.walrus_traversals_mut.specs.Walks.{last_first_of}

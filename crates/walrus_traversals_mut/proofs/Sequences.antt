@@ -1,11 +1,11 @@
 -- A sequence that is visited, hook by hook.
 use Rattle.std.proofs.Common.{◌≡◌, ℕ, List, inl, inr, refl, sym, ◌∙◌, subst}
-use Rattle.instr.specs.declared.instr.Instr.{Instr}
+use Rattle.ir_instr.specs.declared.instr.Instr.{Instr}
 use Rattle.walrus_ir.specs.Calls.{Calls, leaves, call, and_then, each, Full, Partial, StepRelation, Visits}
 use Rattle.walrus_ir.specs.Fields.{type_fields, instr_calls, sequence_calls}
 use Rattle.walrus_ir.specs.Hooks.{start_instr_seq, end_instr_seq}
-use Rattle.instr.specs.Sequence.{Sequence}
-use Rattle.instr.specs.declared.instr_seq_type.InstrSeqType.{InstrSeqType}
+use Rattle.ir_instr.specs.Sequence.{Sequence}
+use Rattle.ir_instr.specs.declared.instr_seq_type.InstrSeqType.{InstrSeqType}
 use Rattle.walrus_ir.proofs.Calls.{visits_then, visits_cut, instrs_whole, sequence_whole}
 
 -- all calls are some of them

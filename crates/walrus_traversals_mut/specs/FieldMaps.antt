@@ -2,9 +2,9 @@
 -- its image under a map.
 use Rattle.std.specs.Prelude.{◌≡◌, ℕ, List, map, length, count_by, nat_eq}
 use Rattle.std.specs.Fn.{iterate}
-use Rattle.instr.specs.Sequence.{Sequence}
-use Rattle.instr.specs.declared.instr_seq_type.InstrSeqType.{InstrSeqType}
-use Rattle.instr.specs.declared.instr.Instr.{Instr}
+use Rattle.ir_instr.specs.Sequence.{Sequence}
+use Rattle.ir_instr.specs.declared.instr_seq_type.InstrSeqType.{InstrSeqType}
+use Rattle.ir_instr.specs.declared.instr.Instr.{Instr}
 use Rattle.walrus_functions.specs.Body.{Body, sequence}
 use Rattle.walrus_ir.specs.Calls.{Calls, leaves, call, StepRelation}
 use Rattle.walrus_ir.specs.Fields.{fields, type_fields}

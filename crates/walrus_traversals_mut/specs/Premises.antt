@@ -1,6 +1,6 @@
 -- What the hooks of a visitor keep, so that a walk that changes a nested body ends.
 use Rattle.std.specs.Prelude.{◌≡◌, ⊤, ℕ, List, [], ◌∷◌, map}
-use Rattle.instr.specs.Sequence.{Sequence}
+use Rattle.ir_instr.specs.Sequence.{Sequence}
 use Rattle.walrus_functions.specs.Nesting.{children}
 use Rattle.walrus_ir.specs.Calls.{StepRelation}
 use Rattle.walrus_ir.specs.Hooks.{Hook, Given, start_instr_seq, end_instr_seq, visit_instr, visit_instr_seq_id}

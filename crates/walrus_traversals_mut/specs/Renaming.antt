@@ -2,7 +2,7 @@
 use Rattle.std.specs.Prelude.{ℕ, List, slice_index_or}
 use Rattle.walrus_ty.specs.Value.{rename_heap}
 use Rattle.walrus_ir.specs.Hooks.{Hook, Given, visit_heap_type, visit_type_id}
-use Rattle.instr.specs.Sequence.{Sequence}
+use Rattle.ir_instr.specs.Sequence.{Sequence}
 use Rattle.walrus_traversals_mut.specs.FieldMaps.{mapped_sequence}
 
 -- the new id of a type: what stands at its place in the list, and past the end the id itself

@@ -3,7 +3,7 @@
 use Rattle.std.specs.Prelude.{◌≡◌, ℕ, List, [], ◌∷◌, reverse, flat_map}
 use Rattle.walrus_ir.specs.Calls.{Extent, Full, Partial, StepRelation, Visits}
 use Rattle.walrus_ir.specs.Fields.{sequence_calls}
-use Rattle.instr.specs.Sequence.{Sequence}
+use Rattle.ir_instr.specs.Sequence.{Sequence}
 use Rattle.walrus_functions.specs.Body.{Body, sequence, with_sequence}
 use Rattle.walrus_functions.specs.Nesting.{children}
 
@@ -32,7 +32,7 @@ module _ {V : Type 0} (step : StepRelation V) where
       -- the walk stops in the sequence
       stops : (s t : V × Body) (id : ℕ) → VisitsBlock step s id Partial t → Walks s id Partial t
 
-    -- the same over these ids in turn, each as it then stands
+    -- walks over these ids in turn, each as it then stands
     pub data WalksAll : V × Body → List ℕ → Extent → V × Body → Type 0 where
       none : (s : V × Body) (extent : Extent) → WalksAll s [] extent s
       next : (s m t : V × Body) (id : ℕ) (rest : List ℕ) (extent : Extent) →

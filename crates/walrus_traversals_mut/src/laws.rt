@@ -1,8 +1,8 @@
 //! Laws of walks that change what they visit. Each function does nothing; its clauses are theorems,
 //! which a caller gets by calling it.
 ghost use Rattle.std.specs.Prelude.{◌≡◌, ◌↔◌, ◌++◌, ℕ, List, [], ◌∷◌, Contains};
-ghost use Rattle.instr.specs.Sequence.{Sequence};
-ghost use Rattle.instr.specs.declared.instr.Instr.{Instr};
+ghost use Rattle.ir_instr.specs.Sequence.{Sequence};
+ghost use Rattle.ir_instr.specs.declared.instr.Instr.{Instr};
 ghost use Rattle.walrus_ir.specs.Calls.{Full, Partial};
 ghost use Rattle.walrus_functions.specs.Body.{Body, sequence};
 ghost use Rattle.walrus_functions.specs.Nesting.{children, IsNested, IsReachable};

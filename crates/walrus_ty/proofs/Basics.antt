@@ -1,9 +1,7 @@
 -- Small lemmas that many proofs need.
 use Rattle.std.proofs.Common.{◌≡◌, ℕ, zero, suc, ◌+◌, ◌-◌, ◌≤◌, List, [], ◌∷◌, ◌++◌, ◌∙◌, length, Bool, true, false, ◌&&◌, not, refl, ap, arith, Some, ◌⊎◌, inl, inr}
-use Rattle.std.specs.declared.cmp.Ordering.{Ordering}
-use Rattle.std.specs.declared.cmp.Ordering.TheVariants.{Less, Equal}
-use Rattle.std.specs.Ordering.{nat_cmp, ordering_then}
-use Rattle.std.specs.List.{slice_get, range_with_len}
+use Rattle.std.specs.declared.cmp.Ordering.{Ordering, TheVariants.Less, TheVariants.Equal}
+use Rattle.std.specs.{Ordering.nat_cmp, Ordering.ordering_then, List.slice_get, List.range_with_len}
 use Rattle.std.proofs.lemmas.Bool.Decides.{nat_tests}
 
 pub some_inj : {A : Type 0} {x y : A} → Some x ≡ Some y → x ≡ y

@@ -1,3 +1,5 @@
--- `==` of records is sameness.
+-- `==` of records, of types and of values is sameness.
 pub mod Contents
 pub mod Records
+pub mod Types
+pub mod Values

@@ -1,4 +1,5 @@
--- The derived orders of values and records, and their ties.
-pub mod Bare
-pub mod Indices
+-- The derived orders of values, records and types are total, and their ties are the same.
+pub mod Values
 pub mod Records
+pub mod Types
+pub mod Ties

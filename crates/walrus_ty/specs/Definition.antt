@@ -45,7 +45,7 @@ names_of d = composite_names d.composite ++ supertype_names d.supertype
 abbrev pub Names : Definition → ℕ → Type 0
 Names d k = Contains (names_of d) k
 
--- the same with each number k replaced by m k
+-- definitions and their parts, with each number k replaced by m k
 
 abbrev pub rename_composite : (ℕ → ℕ) → Composite → Composite
 rename_composite m (Function params results) =

@@ -4,3 +4,13 @@ pub mod Records
 pub mod Text
 pub mod Groups
 pub mod Lists
+pub mod Signature
+pub mod Types
+pub mod IdLists
+pub mod Indices
+pub mod Views
+pub mod SubTypes
+pub mod SameTypes
+pub mod Comparison
+pub mod HashInput
+pub mod Lookups

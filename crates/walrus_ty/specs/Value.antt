@@ -76,7 +76,7 @@ storage_names storage.I16 = []
 abbrev pub field_names : Field ℕ → List ℕ
 field_names f = storage_names f.element_type
 
--- the same with each number k replaced by m k
+-- values and their parts, with each number k replaced by m k
 
 abbrev pub rename_heap : (ℕ → ℕ) → Heap ℕ → Heap ℕ
 rename_heap m (heap.Abstract a) = heap.Abstract a

@@ -5,8 +5,7 @@ use Rattle.std.proofs.lemmas.List.{take_more, map-append}
 use Rattle.walrus_ty.specs.declared.records.GroupAt.{GroupAt}
 use Rattle.walrus_ty.specs.Groups.{Group, Single, Rec, Section}
 use Rattle.walrus_ty.specs.Records.{group_of, section_of}
-use Rattle.walrus_sections.specs.FirstError.{definitions_of}
-use Rattle.walrus_sections.specs.Section.{index_space}
+use Rattle.walrus_sections.specs.{FirstError.definitions_of, Section.index_space}
 use Rattle.walrus_sections.proofs.Sections.Splits.{size, length-places}
 
 size-append : (s t : Section) → size (s ++ t) ≡ size s + size t

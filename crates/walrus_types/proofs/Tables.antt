@@ -4,7 +4,6 @@ pub mod Calls
 pub mod MadeCalls
 pub mod DeadGroup
 pub mod DeadTypes
-pub mod Growing
 pub mod NamedInGroup
 pub mod NewGroup
 pub mod NewType

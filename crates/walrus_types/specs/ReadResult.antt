@@ -2,14 +2,14 @@
 -- WebAssembly core specification, "Validation", "Modules", types: a definition may name the indices
 -- of its own group and of earlier ones.
 use Rattle.std.specs.Prelude.{◌≡◌, ℕ, ◌<◌, List, length, Option, Some, None, false, ◌↔◌}
-use Rattle.walrus_module_types.specs.declared.ty.composite.CompositeType.{CompositeType}
-use Rattle.walrus_module_types.specs.declared.ty.composite.CompositeType.TheVariants as kind
+use Rattle.walrus_ty.specs.declared.ty.composite.CompositeType.{CompositeType}
+use Rattle.walrus_ty.specs.declared.ty.composite.CompositeType.TheVariants as kind
 use Rattle.walrus_ty.specs.Definition.{Composite, Function, Struct, Array, Definition}
 use Rattle.walrus_ty.specs.Groups.{Section}
 use Rattle.walrus_sections.specs.Section.{index_space, IsSingle, IsWellNamed}
 use Rattle.walrus_sections.specs.NormalForm.{image}
 use Rattle.walrus_sections.specs.SlotMap.{IsSlotMap, TypeGroup, read_definition, read_groups}
-use Rattle.walrus_module_types.specs.Types.{ModuleType, type_definition}
+use Rattle.walrus_ty.specs.Types.{ModuleType, type_definition}
 use Rattle.walrus_types.specs.TypesById.{TypeSlots, live_type}
 
 abbrev pub composite_kind : Composite → CompositeType

@@ -1,18 +1,18 @@
 -- A table of types: the types of a module by id, and the recursion groups that they stand in.
 -- WebAssembly core specification, "Types": recursive types; "Modules", types: the list of a
 -- module's recursion groups.
-use Rattle.walrus_module_types.specs.Views.{names}
+use Rattle.walrus_ty.specs.Views.{names}
 use Rattle.std.specs.Prelude.{◌≡◌, ℕ, ◌<◌, ◌≤◌, Bool, true, false, List, [], ◌∷◌, ◌++◌, length, map, ◌+◌, slice_get, slice_index_or, nat_eq, filter, filter_map, not, ◌≢◌, Option, Some, None, MatchOption, IsSomeAnd, option_and_then, option_map, is_some, if◌then◌else◌, Result, Ok}
 use Rattle.std.specs.declared.vec.Vec.{Vec}
 use Rattle.std.specs.declared.alloc.Global.{Global}
 use Rattle.std.specs.declared.alloc.AllocError.{AllocError}
 use Rattle.std.specs.List.{Contains, list_any, range_with_len}
 use Rattle.walrus_arena.specs.HashKeys.{InitialHasher}
-use Rattle.walrus_module_types.specs.declared.ty.composite.CompositeType.{CompositeType}
+use Rattle.walrus_ty.specs.declared.ty.composite.CompositeType.{CompositeType}
 use Rattle.walrus_types.specs.declared.table.rec_group.RecGroup.{RecGroup}
-use Rattle.walrus_module_types.specs.Signature.{Signature}
-use Rattle.walrus_module_types.specs.Types.{ModuleType, signature_of, unnamed_type, function}
-use Rattle.walrus_module_types.specs.SameTypes.{IsSameType}
+use Rattle.walrus_ty.specs.Signature.{Signature}
+use Rattle.walrus_ty.specs.Types.{ModuleType, signature_of, unnamed_type, function}
+use Rattle.walrus_ty.specs.SameTypes.{IsSameType}
 use Rattle.walrus_types.specs.TypesById.{TypesById, live_type, IsLive, known_id, found_id, IsUnchanged, Gains, Loses, LosesAll}
 use Rattle.walrus_ty.specs.declared.ty.value.Val.{Val}
 use Rattle.std.specs.String.{string_bytes}

@@ -4,7 +4,7 @@ use Rattle.std.specs.Prelude.{◌≡◌, ℕ, Bool, List, [], ◌∷◌, ◌++�
 use Rattle.std.specs.List.{IsDistinct, range_with_len}
 use Rattle.walrus_arena.specs.HashKeys.{InitialHasher}
 use Rattle.walrus_ty.specs.Groups.{Section}
-use Rattle.walrus_module_types.specs.Types.{ModuleType}
+use Rattle.walrus_ty.specs.Types.{ModuleType}
 use Rattle.walrus_types.specs.TypesById.{IsLive, found_id}
 use Rattle.walrus_types.specs.Table.{Table, empty_table, Member, next_id, IsTable, IsSameTable, FindsOrAdds, AddsGroup, Deletes, DeletesAll, DeletesGroup}
 use Rattle.walrus_types.specs.ReaderState.{IsReadInto}

@@ -13,10 +13,10 @@ use Rattle.walrus_sections.specs.SlotMap.{TypeGroup}
 use Rattle.walrus_sections.specs.Emission.{TableView, WrittenMember, IsEmission}
 use Rattle.walrus_sections.specs.Refusal.{NameUse, IsMissing, IsFirstMissing, written_count}
 use Rattle.walrus_ty.specs.Records.{section_of}
-use Rattle.walrus_module_types.specs.Types.{ModuleType, type_definition}
+use Rattle.walrus_ty.specs.Types.{ModuleType, type_definition}
 use Rattle.walrus_types.specs.TypesById.{TypeSlots, live_type}
-use Rattle.walrus_module_types.specs.Lookups.{value_or_zero}
-use Rattle.walrus_module_types.specs.Indices.{IndexMap}
+use Rattle.walrus_ty.specs.Lookups.{value_or_zero}
+use Rattle.walrus_ty.specs.Indices.{IndexMap}
 use Rattle.walrus_types.specs.Table.{Table}
 
 abbrev pub contents : RecGroup → TypeGroup

@@ -2,9 +2,9 @@
 -- The specification has no writes of types: they are of this crate's own.
 use Rattle.std.specs.Prelude.{ℕ, Some, slice_set}
 use Rattle.std.specs.Borrow.{Lends, Fml, MutBor}
-use Rattle.walrus_module_types.specs.Types.{ModuleType}
+use Rattle.walrus_ty.specs.Types.{ModuleType}
 use Rattle.walrus_types.specs.Table.{Table}
-use Rattle.walrus_module_types.specs.contracts.ty.«Type».{the_row as type_row}
+use Rattle.walrus_ty.specs.contracts.ty.«Type».{the_row as type_row}
 use Rattle.walrus_types.specs.contracts.table.ModuleTypes.{the_row as table_row}
 
 -- the table after a write of this type at the id: what is found and the groups stay

@@ -4,11 +4,11 @@
 -- by its place in it.
 -- The specification has no type that dies and no look-up by value; both are of this crate's own.
 use Rattle.walrus_arena.specs.HashKeys.{InitialHasher}
-use Rattle.walrus_module_types.specs.SameTypes.{type_eq}
+use Rattle.walrus_ty.specs.SameTypes.{type_eq}
 use Rattle.std.specs.Prelude.{◌≡◌, ℕ, List, [], ◌∷◌, ◌++◌, length, Bool, false, ◌&&◌, ◌==◌, if◌then◌else◌, Option, Some, None, IsSome, option_and_then, slice_index_or, slice_set}
 use Rattle.std.specs.Option.{option_eq}
 use Rattle.std.specs.Map.{lookup}
-use Rattle.walrus_module_types.specs.Types.{ModuleType}
+use Rattle.walrus_ty.specs.Types.{ModuleType}
 
 -- at the place of each id its type, and `None` where none lives
 abbrev pub TypeSlots : Type 0

@@ -6,7 +6,7 @@ ghost use Rattle.walrus_sections.specs.Section.{index_space};
 ghost use Rattle.walrus_types.specs.Differences.{DifferFirstAt};
 
 use crate::GroupAt;
-use walrus_module_types::laws::equal_records_are_the_same;
+use walrus_ty::laws::equal_records_are_the_same;
 
 /// Returns the first place, counted in groups from 0, where two sections differ: another group is
 /// there, or one of the two ends there. `None` says that they are equal, record for record. Whether

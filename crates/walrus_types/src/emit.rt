@@ -3,7 +3,7 @@ ghost use Rattle.std.specs.Prelude.{◌≤◌, ◌<◌, ◌^◌, ◌↔◌, IfOk
 ghost use Rattle.walrus_types.specs.TypesById.{IsLive};
 ghost use Rattle.walrus_types.specs.declared.table.rec_group.RecGroup.{RecGroup};
 ghost use Rattle.walrus_types.specs.TableEmission.{type_groups, is_entry_at, written_types, IfNameMissing, IsEmitted, MissesFirst};
-ghost use Rattle.walrus_module_types.specs.Indices.{IsEmpty, type_indices, func_indices, global_indices};
+ghost use Rattle.walrus_ty.specs.Indices.{IsEmpty, type_indices, func_indices, global_indices};
 ghost use Rattle.walrus_types.specs.declared.error.EmitError.TheVariants.{TooMany};
 ghost use Rattle.walrus_sections.specs.Refusal.{written_count};
 ghost use Rattle.walrus_types.specs.Steps.WrittenGroups.{IsMemoryOrMissing};

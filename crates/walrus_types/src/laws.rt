@@ -5,8 +5,8 @@
 //! list of `GroupAt`.
 ghost use Rattle.std.specs.Prelude.{◌≡◌, ◌≤◌, ◌<◌, ◌^◌, All, IsSome, List, false, length, map, ℕ};
 ghost use Rattle.walrus_types.specs.TableEmission.{IsEmitted, table_view, written_types};
-ghost use Rattle.walrus_module_types.specs.Indices.{IndexMap};
-ghost use Rattle.walrus_module_types.specs.Lookups.{value_or_zero};
+ghost use Rattle.walrus_ty.specs.Indices.{IndexMap};
+ghost use Rattle.walrus_ty.specs.Lookups.{value_or_zero};
 ghost use Rattle.walrus_sections.specs.NormalForm.{IsNormalForm};
 ghost use Rattle.walrus_types.specs.ReaderState.{IsReadInto};
 ghost use Rattle.walrus_sections.specs.Refusal.{IsMissing, NameUse};
@@ -19,14 +19,14 @@ ghost use Rattle.walrus_sections.specs.Section.{IsWellNamed};
 pub mod calls;
 
 pub use crate::table::every_table_is_sound;
-pub use walrus_module_types::laws::{
-    contents_tell_records, definitions_in_order, entries_in_order, reference_constant, same_text,
-    text_tells_value_types, types_in_order, value_types_in_order,
-};
 pub use walrus_sections::laws::{
     equal_outputs_by_moves, first_error_decides, names_stand_before, normal_form_stays,
     one_candidate, one_normal_form, output_exists, read_then_emitted, second_round,
     swap_keeps_output, worked_sections,
+};
+pub use walrus_ty::laws::{
+    contents_tell_records, definitions_in_order, entries_in_order, reference_constant, same_text,
+    text_tells_value_types, types_in_order, value_types_in_order,
 };
 
 /// A table that a section was read into is written as the normal form of the section; each index

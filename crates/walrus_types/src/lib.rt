@@ -45,17 +45,14 @@ pub use read_then_emit::normalise_by_table;
 pub use section_reader::{SectionReader, parse_types};
 pub use table::{AddRecGroupError, ModuleTypes, RecGroup, RecGroupId, TypesIter};
 pub use walrus_arena::{HashKeys, Id};
-pub use walrus_module_types::{
-    ArrayType, CompositeType, Data, DataId, Element, ElementId, FieldType, FromRecordError,
-    Function, FunctionId, FunctionType, FunctionTypes, Global, GlobalId, HasRecord, HeapType,
-    IdsToIndices, IndicesToIds, Memory, MemoryId, NamedReferenceTypes, NoIndex, RefType,
-    StorageType, StructType, Table, TableId, Tag, TagId, ToRecordError, Type, TypeId, UnknownIndex,
-    ValType, record_laws,
-};
 pub use walrus_normal_form::{normalise, normalise_owned};
 pub use walrus_normal_form_check::is_normal_form;
 pub use walrus_sections::ReadError;
 pub use walrus_ty::{
-    AbstractHeapType, CompAt, EntryAt, Field, FieldAt, GroupAt, Heap, HeapAt, Listed, RefAt,
-    Reference, Storage, StorageAt, Val, ValAt,
+    AbstractHeapType, ArrayType, CompAt, CompositeType, Data, DataId, Element, ElementId, EntryAt,
+    Field, FieldAt, FieldType, FromRecordError, Function, FunctionId, FunctionType, FunctionTypes,
+    Global, GlobalId, GroupAt, Heap, HeapAt, HeapType, IdsToIndices, IndicesToIds, Listed, Memory,
+    MemoryId, NoIndex, RefAt, RefType, Reference, Storage, StorageAt, StorageType, StructType,
+    Table, TableId, Tag, TagId, ToRecordError, Type, TypeId, UnknownIndex, Val, ValAt, ValType,
+    record_laws,
 };

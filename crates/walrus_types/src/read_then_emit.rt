@@ -1,8 +1,8 @@
 //! The normal form of a type section by way of a table of types.
 ghost use Rattle.std.specs.Prelude.{◌≡◌, ◌⊎◌, ℕ, List, suc, map, All, IsSome, IfOk, IfErr, OnOk};
 ghost use Rattle.std.specs.List.{swap};
-ghost use Rattle.walrus_module_types.specs.Indices.{type_index};
-ghost use Rattle.walrus_module_types.specs.Lookups.{value_or_zero};
+ghost use Rattle.walrus_ty.specs.Indices.{type_index};
+ghost use Rattle.walrus_ty.specs.Lookups.{value_or_zero};
 ghost use Rattle.walrus_sections.specs.declared.error.ReadError.TheVariants as read;
 ghost use Rattle.walrus_sections.specs.FirstError.{IsFirstError};
 ghost use Rattle.walrus_sections.specs.Moves.{IsRenumberedSwap};

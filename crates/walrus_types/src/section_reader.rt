@@ -19,8 +19,8 @@ use crate::{
 use std::alloc::Global;
 use std::marker::Model;
 use std::slice;
-use walrus_module_types::SubType;
 use walrus_sections::first_error;
+use walrus_ty::SubType;
 
 /// Reads a type section into a table of types, one recursion group after the other (WebAssembly
 /// core specification, "Types", recursive types).

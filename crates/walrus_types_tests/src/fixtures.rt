@@ -1,34 +1,25 @@
-//! Small sections, for tests.
+//! Small sections as texts, for tests.
+//!
+//! A text has a word for each entry. A function begins with `f`, a struct with `s`, a struct that is
+//! not final with `o`, and an array of `i8` with `b`. Then come parameters or fields: `i` is an `i32`
+//! and `l` an `i64`; a digit is a nullable reference to the type at this index, `m` one to the type
+//! at the greatest index, `x` one to exactly the type at 0, and `y` at 1. The entries between `(` and
+//! `)`, which are words too, are those of a `Rec`. The others are lone types.
 use std::alloc::{AllocError, Global};
 use walrus_types::{CompAt, EntryAt, FieldAt, GroupAt, HeapAt, Listed, RefAt, StorageAt, ValAt};
 
-/// An entry without supertype that is final, if not said otherwise.
-#[derive(Clone, Copy)]
-pub(crate) enum Shape<'a> {
-    /// A function with these parameters and without results.
-    Func(&'a [ValAt]),
-    /// A struct of these values.
-    Struct(&'a [ValAt]),
-    /// A struct of these values that is not final.
-    Open(&'a [ValAt]),
-    /// An array of `i8`.
-    Bytes,
-}
-
-/// A group of a section.
-#[derive(Clone, Copy)]
-pub(crate) enum Piece<'a> {
-    /// A lone type.
-    One(Shape<'a>),
-    /// A `Rec` of these entries.
-    Many(&'a [Shape<'a>]),
-}
-
-/// A nullable reference to the type at this index.
-pub(crate) fn to(index: u32) -> ValAt {
+fn val(letter: u8) -> ValAt {
+    let heap_type = match letter {
+        b'i' => return ValAt::I32,
+        b'l' => return ValAt::I64,
+        b'm' => HeapAt::Concrete(u32::MAX),
+        b'x' => HeapAt::Exact(0),
+        b'y' => HeapAt::Exact(1),
+        _ => HeapAt::Concrete(u32::from(letter.wrapping_sub(b'0'))),
+    };
     ValAt::Ref(RefAt {
         nullable: true,
-        heap_type: HeapAt::Concrete(index),
+        heap_type,
     })
 }
 
@@ -39,60 +30,81 @@ fn field(element_type: StorageAt) -> FieldAt {
     }
 }
 
-fn function(alloc: Global, params: &[ValAt]) -> Result<CompAt, AllocError> {
+fn function(alloc: Global, letters: &[u8]) -> Result<CompAt, AllocError> {
+    let mut params = Vec::new(alloc);
+    for letter in letters {
+        params.push(val(*letter))?;
+    }
     Ok(CompAt::Function {
-        params: Listed::from_vec(params.to_vec(alloc)?),
+        params: Listed::from_vec(params),
         results: Listed::from_vec(Vec::new(alloc)),
     })
 }
 
-fn structure(alloc: Global, vals: &[ValAt]) -> Result<CompAt, AllocError> {
+fn structure(alloc: Global, letters: &[u8]) -> Result<CompAt, AllocError> {
     let mut fields = Vec::new(alloc);
-    for val in vals {
-        fields.push(field(StorageAt::Val(*val)))?;
+    for letter in letters {
+        fields.push(field(StorageAt::Val(val(*letter))))?;
     }
     Ok(CompAt::Struct {
         fields: Listed::from_vec(fields),
     })
 }
 
-/// The entry of this shape.
-pub(crate) fn entry(alloc: Global, shape: Shape<'_>) -> Result<EntryAt, AllocError> {
-    let comp = match shape {
-        Shape::Func(params) => function(alloc, params)?,
-        Shape::Struct(vals) | Shape::Open(vals) => structure(alloc, vals)?,
-        Shape::Bytes => CompAt::Array {
+/// The entry of this word.
+pub(crate) fn entry(alloc: Global, word: &str) -> Result<EntryAt, AllocError> {
+    let comp = match word.as_bytes() {
+        [b'f', letters @ ..] => function(alloc, letters)?,
+        [b's' | b'o', letters @ ..] => structure(alloc, letters)?,
+        _ => CompAt::Array {
             field: field(StorageAt::I8),
         },
     };
     Ok(EntryAt {
         comp,
-        is_final: !matches!(shape, Shape::Open(_)),
+        is_final: !word.starts_with('o'),
         supertype: None,
     })
 }
 
-/// The group of this piece.
-pub(crate) fn group(alloc: Global, piece: Piece<'_>) -> Result<GroupAt, AllocError> {
-    match piece {
-        Piece::One(shape) => Ok(GroupAt::Single(entry(alloc, shape)?)),
-        Piece::Many(shapes) => rec(alloc, shapes),
-    }
+/// The lone type of this word.
+pub(crate) fn single(alloc: Global, word: &str) -> Result<GroupAt, AllocError> {
+    Ok(GroupAt::Single(entry(alloc, word)?))
 }
 
-fn rec(alloc: Global, shapes: &[Shape<'_>]) -> Result<GroupAt, AllocError> {
-    let mut entries = Vec::new(alloc);
-    for shape in shapes {
-        entries.push(entry(alloc, *shape)?)?;
+// Adds a word, where the entries are those of a `Rec` that was begun. Those of one that goes on.
+fn add_word(
+    alloc: Global,
+    groups: &mut Vec<GroupAt>,
+    begun: Option<Vec<EntryAt>>,
+    word: &str,
+) -> Result<Option<Vec<EntryAt>>, AllocError> {
+    if word == "(" {
+        return Ok(Some(Vec::new(alloc)));
     }
-    Ok(GroupAt::Rec(Listed::from_vec(entries)))
+    let Some(mut entries) = begun else {
+        groups.push(single(alloc, word)?)?;
+        return Ok(None);
+    };
+    if word == ")" {
+        groups.push(GroupAt::Rec(Listed::from_vec(entries)))?;
+        return Ok(None);
+    }
+    entries.push(entry(alloc, word)?)?;
+    Ok(Some(entries))
 }
 
-/// The section of these pieces.
-pub(crate) fn section(alloc: Global, pieces: &[Piece<'_>]) -> Result<Vec<GroupAt>, AllocError> {
+/// The section of this text.
+pub(crate) fn section(alloc: Global, text: &str) -> Result<Vec<GroupAt>, AllocError> {
     let mut groups = Vec::new(alloc);
-    for piece in pieces {
-        groups.push(group(alloc, *piece)?)?;
+    let mut begun = None;
+    for word in text.split_whitespace() {
+        begun = add_word(alloc, &mut groups, begun, word)?;
     }
     Ok(groups)
+}
+
+/// The section of this text. It is made again after a refusal.
+pub(crate) fn section_again(alloc: Global, text: &str) -> Result<Vec<GroupAt>, AllocError> {
+    section(alloc, text).or_else(|_| section(alloc, text))
 }

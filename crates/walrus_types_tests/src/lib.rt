@@ -1,4 +1,5 @@
-//! Tests of the type table, reading and emission through the public calls of `walrus_types`.
+//! Tests of the type table, reading, emission, normal forms and moves through the public calls of
+//! `walrus_types`, also where memory is refused.
 //!
 //! They are in a crate of their own, since tests inside a crate have the gate prove that crate a
 //! second time.

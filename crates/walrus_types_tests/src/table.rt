@@ -1,4 +1,7 @@
-//! What no contract says: that calls succeed with ample memory, and worked rows.
+//! What no contract says: that calls succeed with ample memory, what a refused call leaves, and
+//! worked rows.
+ghost use Rattle.std.specs.Prelude.{◌≡◌, OnErr};
+
 use std::alloc::{AllocError, Global};
 use std::process::Abort;
 use walrus_types::{
@@ -8,28 +11,28 @@ use walrus_types::{
 
 mod adding;
 mod deleting;
-mod every_deletion;
 mod finding;
 mod grouping;
 mod reading;
+mod refusals;
 mod writing;
 
-fn field(of: ValType) -> FieldType {
+pub(crate) fn field(of: ValType) -> FieldType {
     Field {
         element_type: Storage::Val(of),
         mutable: false,
     }
 }
 
-// A nullable reference to the type with this id.
-fn reference(id: TypeId) -> ValType {
+// A nullable reference to the type with the id of this index.
+pub(crate) fn reference(index: usize) -> ValType {
     Val::Ref(Reference {
         nullable: true,
-        heap_type: Heap::Concrete(id),
+        heap_type: Heap::Concrete(TypeId::from_index(index)),
     })
 }
 
-fn structure(alloc: Global, vals: &[ValType]) -> Result<CompositeType, AllocError> {
+pub(crate) fn structure(alloc: Global, vals: &[ValType]) -> Result<CompositeType, AllocError> {
     let mut fields = Vec::new(alloc);
     for val in vals {
         fields.push(field(*val))?;
@@ -45,7 +48,7 @@ fn function(alloc: Global) -> CompositeType {
 }
 
 // Whether these are the ids of these indices.
-fn are(ids: &[TypeId], indices: &[usize]) -> bool {
+pub(crate) fn are(ids: &[TypeId], indices: &[usize]) -> bool {
     ids.len() == indices.len()
         && ids
             .iter()
@@ -75,14 +78,50 @@ fn add_alone(
     types.add_rec_group(1, |_| Ok(vec![in alloc; member(structure(alloc, &[of])?)]?))
 }
 
+// A final function type whose one parameter names the type with this id.
+fn namer(
+    alloc: Global,
+    id: Option<&TypeId>,
+) -> Result<(CompositeType, bool, Option<TypeId>), AllocError> {
+    let mut params = Vec::new(alloc);
+    if let Some(id) = id {
+        params.push(reference(id.index()))?;
+    }
+    let function = FunctionType::new(params, Vec::new(alloc));
+    Ok(member(CompositeType::Function(function)))
+}
+
+// Two types, of which each names the other.
+fn two_namers(
+    alloc: Global,
+    ids: &[TypeId],
+) -> Result<Vec<(CompositeType, bool, Option<TypeId>)>, AllocError> {
+    Ok(vec![in alloc; namer(alloc, ids.get(1))?, namer(alloc, ids.first())?]?)
+}
+
+// Adds a group of two types that name each other, where this many types are wanted.
+pub(crate) fn add_pair(
+    alloc: Global,
+    types: &mut ModuleTypes,
+    count: usize,
+) -> Result<Vec<TypeId>, AddRecGroupError>
+    ensures err { OnErr result (types.new ≡ types.old) }
+{
+    types.add_rec_group(count, |ids| two_namers(alloc, ids))
+}
+
 // Makes a live type something else.
-fn rewrite(rt: &impl Abort, types: &mut ModuleTypes, index: usize, kind: CompositeType) {
+pub(crate) fn rewrite(rt: &impl Abort, types: &mut ModuleTypes, index: usize, kind: CompositeType) {
     let id = TypeId::from_index(index);
     assert!(rt; types.contains(id));
     *types.get_mut(id).kind_mut() = kind;
 }
 
-fn delete(rt: &impl Abort, types: &mut ModuleTypes, index: usize) -> Result<(), AllocError> {
+pub(crate) fn delete(
+    rt: &impl Abort,
+    types: &mut ModuleTypes,
+    index: usize,
+) -> Result<(), AllocError> {
     let id = TypeId::from_index(index);
     assert!(rt; types.contains(id));
     types.delete(id)
@@ -92,4 +131,14 @@ fn try_delete(rt: &impl Abort, types: &mut ModuleTypes, index: usize) -> Result<
     let id = TypeId::from_index(index);
     assert!(rt; types.contains(id));
     types.try_delete(id)
+}
+
+// A clone of the type of one id is written over the type of another.
+pub(crate) fn copy_over(rt: &impl Abort, types: &mut ModuleTypes, from: usize, to: usize) {
+    let from = TypeId::from_index(from);
+    let to = TypeId::from_index(to);
+    assert!(rt; types.contains(from));
+    assert!(rt; types.contains(to));
+    let copy = types.get(from).clone().expect(rt, "memory");
+    *types.get_mut(to) = copy;
 }

@@ -7,7 +7,7 @@ pub mod Order
 pub mod OneForm
 pub mod Again
 pub mod Twice
-pub mod Kernels
+pub mod OneImage
 pub mod Following
 pub mod FollowingOrder
 pub mod Moves

@@ -6,7 +6,7 @@
 use Rattle.std.specs.Prelude.{◌≡◌, ℕ, ◌↔◌, [], List, length, Some, Contains, IsSomeAnd}
 use Rattle.std.specs.List.Sorted.{IsStrictlyIncreasing}
 use Rattle.walrus_ty.specs.Definition.{Names}
-use Rattle.walrus_module_types.specs.Types.{ModuleType, type_definition}
+use Rattle.walrus_ty.specs.Types.{ModuleType, type_definition}
 use Rattle.walrus_types.specs.TypesById.{live_type, IsLive, found_id}
 use Rattle.walrus_types.specs.Table.{Table, IsIdAt, rec_group_at, next_id}
 

@@ -8,8 +8,8 @@ use Rattle.std.specs.declared.cmp.Ordering.TheVariants.{Less}
 use Rattle.walrus_ty.specs.declared.records.GroupAt.{GroupAt}
 use Rattle.walrus_ty.specs.Definition.{Names, rename, definition_cmp}
 use Rattle.walrus_ty.specs.Groups.{Section}
-use Rattle.walrus_module_types.specs.Indices.{IndexMap}
-use Rattle.walrus_module_types.specs.Lookups.{value_or_zero}
+use Rattle.walrus_ty.specs.Indices.{IndexMap}
+use Rattle.walrus_ty.specs.Lookups.{value_or_zero}
 use Rattle.walrus_types.specs.FirstError.{IsFirstError}
 use Rattle.walrus_types.specs.NormalForm.{image, IsKept, IsAnchor}
 use Rattle.walrus_types.specs.ReaderState.{IsReadInto}

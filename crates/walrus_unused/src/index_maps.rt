@@ -1,6 +1,6 @@
 //! Maps from the indices of a section to the indices of another one.
 ghost use Rattle.std.specs.Prelude.{◌≡◌, IfOk, map};
-ghost use Rattle.walrus_module_types.specs.Indices.{type_index};
+ghost use Rattle.walrus_ty.specs.Indices.{type_index};
 
 use std::alloc::{AllocError, Global};
 use walrus_types::{IdsToIndices, TypeId};

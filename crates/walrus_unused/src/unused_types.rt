@@ -62,7 +62,7 @@ use walrus_types::{ModuleTypes, TypeId};
 ///
 /// # Keeping what a module names
 ///
-/// `named_types` of `walrus_module` lists the indices that a module names outside its type section.
+/// `named_types` of `wasm_module` lists the indices that a module names outside its type section.
 /// Their ids are the roots:
 ///
 /// ```

@@ -1,3 +1,3 @@
 pub mod Failures
-pub mod Fronts
+pub mod Prefixes
 pub mod Warnings

@@ -1,9 +1,9 @@
 -- What follows from the first warning of bytes: a line, or why the module is rejected.
 use Rattle.std.proofs.Common.{◌≡◌, ℕ, List, Option, None, Some, inl, inr, subst}
 use Rattle.std.specs.Prelude.{IfSome}
-use Rattle.walrus_normalise.specs.Hazards.{IsHazard}
-use Rattle.walrus_normalise.specs.declared.hazards.Hazard.{Hazard}
-use Rattle.walrus_normalise.specs.declared.hazards.Hazard.TheVariants as hazard
+use Rattle.wasm_normalise.specs.Hazards.{IsHazard}
+use Rattle.wasm_normalise.specs.declared.hazards.Hazard.{Hazard}
+use Rattle.wasm_normalise.specs.declared.hazards.Hazard.TheVariants as hazard
 use Rattle.wasmnorm.specs.Runs.{Warns, WarnsAtMost, IsWarned, not_warned, of_changed_type, of_unknown_section}
 use Rattle.wasmnorm.specs.Steps.Failures.{Explains}
 use Rattle.wasmnorm.specs.Steps.Warnings.{IsFirstWarning, WarnsOf}

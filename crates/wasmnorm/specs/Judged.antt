@@ -1,37 +1,23 @@
--- What is judged of bytes, `OfJudged`: all, or where the framing breaks, the sections before that.
--- `IsMalformedAt` says where a section of that is malformed.
+-- What an error says of the bytes of a run, `ExplainsError`. All of them are judged, or where the
+-- framing breaks, the sections before that.
 -- WebAssembly core specification, "Binary Format", modules and sections.
-use Rattle.std.specs.Prelude.{◌≡◌, ℕ, ◌<◌, List, ◌∷◌, ◌++◌, length, take}
-use Rattle.walrus_binary.specs.ModuleSections.{HasBadTypesBy}
-use Rattle.walrus_binary.specs.Modules.{Section, IsModule, IsNoModule}
-use Rattle.walrus_binary.specs.declared.error.DecodeError.{DecodeError}
-use Rattle.walrus_module.specs.ModuleFaults.{IsModuleFault}
-use Rattle.walrus_module.specs.declared.faults.FaultKind.TheVariants.{Malformed}
-use Rattle.walrus_normalise.specs.NormalModules.{HasFirstError, HasFirstFault}
-use Rattle.walrus_sections.specs.declared.error.ReadError.{ReadError}
+use Rattle.std.specs.Prelude.{◌≡◌, ℕ, ◌<◌, Bool, true, false, List, ◌∷◌, ◌++◌, length, take}
+use Rattle.wasm_binary.specs.Modules.{Section, IsModule, IsNoModule}
+use Rattle.wasm_module.specs.RenamedModules.{CanNotBeRenamed}
+use Rattle.wasm_normalise.specs.NormalModules.{IsRefusedBy}
+use Rattle.wasm_normalise.specs.declared.error.NormaliseModuleError.{NormaliseModuleError}
+use Rattle.wasm_normalise.specs.declared.error.NormaliseModuleError.TheVariants as error
+use Rattle.wasm_normalise.specs.declared.options.NormaliseOptions.{NormaliseOptions}
 
--- The bytes are no module, since the section of this id behind `front` breaks the framing. `front`
+-- The bytes are no module, since the section of this id behind `prefix` breaks the framing. `prefix`
 -- is the longest module with which the bytes begin.
-pub record BreaksBehind (front bytes : List ℕ) : Type 0 where
+pub record BreaksBehind (prefix bytes : List ℕ) : Type 0 where
   pub sections : List Section
-  pub is_module : IsModule front sections
+  pub is_module : IsModule prefix sections
   pub id : ℕ
   pub rest : List ℕ
-  pub parts : bytes ≡ front ++ id ∷ rest
-  pub longest : (end : ℕ) → length front < end → IsNoModule (take end bytes)
-
--- The bytes themselves are judged, or else the sections before the one that breaks the framing.
-pub data IsJudged (bytes : List ℕ) : List ℕ → Type 0 where
-  whole : IsJudged bytes bytes
-  before_break : (front : List ℕ) → BreaksBehind front bytes → IsJudged bytes front
-
--- this holds of what is judged
-pub record OfJudged (F : List ℕ → Type 0) (bytes : List ℕ) : Type 0 where
-  pub judged : List ℕ
-  pub are_judged : IsJudged bytes judged
-  pub is_so : F judged
-
--- ---- before the type section
+  pub parts : bytes ≡ prefix ++ id ∷ rest
+  pub longest : (end : ℕ) → length prefix < end → IsNoModule (take end bytes)
 
 -- a module, behind which a type section begins
 pub record IsBeforeTypes (before bytes : List ℕ) : Type 0 where
@@ -40,22 +26,49 @@ pub record IsBeforeTypes (before bytes : List ℕ) : Type 0 where
   pub rest : List ℕ
   pub parts : bytes ≡ before ++ 1 ∷ rest
 
--- A section before the type section is malformed at this place. The ones before it are known, if
--- there are enough types.
-pub record HasMalformedBeforeTypes (bytes : List ℕ) (place : ℕ) : Type 0 where
+-- no module comes of what is before the type section, since a section there is malformed
+pub record HasMalformedBeforeTypes (bytes : List ℕ) : Type 0 where
   pub before : List ℕ
   pub is_before : IsBeforeTypes before bytes
-  pub count : ℕ
-  pub fault : IsModuleFault count before Malformed place
+  pub malformed : CanNotBeRenamed before
 
--- the types can't be read, or name what they may not name, or are too many
-pub data HasWrongTypes (bytes : List ℕ) : Type 0 where
-  unread : (e : DecodeError) → HasBadTypesBy bytes e → HasWrongTypes bytes
-  ill_named : (e : ReadError) → HasFirstError bytes e → HasWrongTypes bytes
+-- ---- errors
 
--- The first fault is that a section is malformed at this place. Where the types are wrong, it is
--- before them.
-pub data IsMalformedAt (bytes : List ℕ) (place : ℕ) : Type 0 where
-  first : HasFirstFault bytes Malformed place → IsMalformedAt bytes place
+-- it is an error of the type section, or the bytes are no module
+abbrev pub is_of_types : NormaliseModuleError → Bool
+is_of_types (error.Types e) = true
+is_of_types (error.BadIndex entry index end) = true
+is_of_types error.TooMany = true
+is_of_types (error.Malformed place) = false
+is_of_types (error.UnknownType index count place) = false
+is_of_types error.TooLong = false
+is_of_types (error.Outdated offset) = false
+is_of_types error.Memory = false
+
+-- it says that a section is wrong
+abbrev pub is_of_sections : NormaliseModuleError → Bool
+is_of_sections (error.Types e) = true
+is_of_sections (error.BadIndex entry index end) = true
+is_of_sections error.TooMany = true
+is_of_sections (error.Malformed place) = true
+is_of_sections (error.UnknownType index count place) = true
+is_of_sections error.TooLong = false
+is_of_sections (error.Outdated offset) = false
+is_of_sections error.Memory = false
+
+-- What an error says of bytes that are judged. Where the types are wrong, a section before them can
+-- be malformed.
+pub data ExplainsModule (options : NormaliseOptions) (bytes : List ℕ) :
+    NormaliseModuleError → Type 0 where
+  refused : (e : NormaliseModuleError) → IsRefusedBy options bytes e → ExplainsModule options bytes e
   before_types :
-      HasWrongTypes bytes → HasMalformedBeforeTypes bytes place → IsMalformedAt bytes place
+      (e : NormaliseModuleError) (place : ℕ) → is_of_types e ≡ true → IsRefusedBy options bytes e
+      → HasMalformedBeforeTypes bytes → ExplainsModule options bytes (error.Malformed place)
+
+-- it says so of the bytes, or else of the sections before the one that breaks the framing
+pub data ExplainsError (options : NormaliseOptions) (bytes : List ℕ) (e : NormaliseModuleError) :
+    Type 0 where
+  whole : ExplainsModule options bytes e → ExplainsError options bytes e
+  before_break :
+      (prefix : List ℕ) → BreaksBehind prefix bytes → is_of_sections e ≡ true
+      → ExplainsModule options prefix e → ExplainsError options bytes e

@@ -1,5 +1,5 @@
--- What a run does: `IsWritten` where its bytes are a module that is normalised, `IsRefused`,
--- `IsIllNamed` and `IsRejected` where not. `IsWarned` says when there is a warning. `IsGiven` says
+-- What a run does: `IsWritten` where its bytes are a module that is normalised, `IsRefused` and
+-- `IsRejected` where not. `IsWarned` says when there is a warning. `IsGiven` says
 -- which options the arguments give.
 use Rattle.std.specs.Prelude.{◌≡◌, ℕ, ◌⊎◌, true, List, [], ◌∷◌, ◌++◌, Option, bytes_eq, codes}
 use Rattle.std.specs.List.{list_any}
@@ -7,16 +7,14 @@ use Rattle.std.specs.Io.KnownBytes.{Appends, Keeps}
 use Rattle.std.specs.String.{string_bytes}
 use Rattle.std.specs.declared.alloc.Global.{Global}
 use Rattle.std.specs.declared.string.String.{String}
-use Rattle.walrus_binary.specs.ModuleSections.{HasBadTypesBy}
-use Rattle.walrus_binary.specs.declared.error.DecodeError.{DecodeError}
-use Rattle.walrus_module.specs.declared.faults.FaultKind.TheVariants.{UnknownType}
-use Rattle.walrus_module.specs.UnknownCustoms.{HasNoUnknownCustom, HasUnknownCustomAt}
-use Rattle.walrus_normalise.specs.declared.options.Descriptions.TheVariants.{Kept}
-use Rattle.walrus_normalise.specs.declared.options.NormaliseOptions.{NormaliseOptions}
-use Rattle.walrus_normalise.specs.EqualTypes.{ChangesType, KeepsModuleTypes}
-use Rattle.walrus_normalise.specs.NormalModules.{IsNormalised, DescriptionsFit, HasFirstError, HasFirstFault, BecomesTooLong, BecomesOutdated}
-use Rattle.walrus_sections.specs.declared.error.ReadError.{ReadError}
-use Rattle.wasmnorm.specs.Judged.{OfJudged, IsMalformedAt}
+use Rattle.wasm_module.specs.UnknownCustoms.{HasNoUnknownCustom, HasUnknownCustomAt}
+use Rattle.wasm_normalise.specs.declared.options.Descriptions.TheVariants.{Kept}
+use Rattle.wasm_normalise.specs.declared.options.NormaliseOptions.{NormaliseOptions}
+use Rattle.wasm_normalise.specs.EqualTypes.{ChangesType, KeepsModuleTypes}
+use Rattle.wasm_normalise.specs.NormalModules.{IsNormalised, DescriptionsFit}
+use Rattle.wasm_normalise.specs.declared.error.NormaliseModuleError.{NormaliseModuleError}
+use Rattle.wasm_normalise.specs.declared.error.NormaliseModuleError.TheVariants as error
+use Rattle.wasmnorm.specs.Judged.{ExplainsError}
 use Rattle.wasmnorm.specs.declared.options.Strictness.{Strictness}
 use Rattle.wasmnorm.specs.declared.options.Strictness.TheVariants.{Strict}
 
@@ -56,27 +54,22 @@ pub data IsWarned (bytes : List ℕ) (old new : Option (List ℕ)) : Type 0 wher
 
 -- ---- where no module is written
 
--- The bytes are no module, or its types can't be read; or another section is malformed; or a
--- section or a function body would be too long; or a section describes bytes that would change.
--- Where the framing breaks, the sections before can have the error.
-pub data IsRefused (options : NormaliseOptions) (bytes : List ℕ) : Type 0 where
-  bad_types :
-      (e : DecodeError) → OfJudged (λ judged. HasBadTypesBy judged e) bytes
-      → IsRefused options bytes
-  malformed :
-      (place : ℕ) → OfJudged (λ judged. IsMalformedAt judged place) bytes → IsRefused options bytes
-  too_long : BecomesTooLong options bytes → IsRefused options bytes
-  outdated : (offset : ℕ) → BecomesOutdated options offset bytes → IsRefused options bytes
+-- the exit status of a module that is refused with this error
+abbrev pub refused_status : NormaliseModuleError → ℕ
+refused_status (error.Types e) = 1
+refused_status (error.BadIndex entry index end) = 2
+refused_status error.TooMany = 2
+refused_status (error.Malformed place) = 1
+refused_status (error.UnknownType index count place) = 2
+refused_status error.TooLong = 1
+refused_status (error.Outdated offset) = 1
+refused_status error.Memory = 3
 
--- The type section names what it may not name, or has too many entries; or another section names a
--- type that the type section does not have. The framing may break behind that.
-pub data IsIllNamed (bytes : List ℕ) : Type 0 where
-  in_types :
-      (e : ReadError) → OfJudged (λ judged. HasFirstError judged e) bytes → IsIllNamed bytes
-  elsewhere :
-      (k count place : ℕ)
-      → OfJudged (λ judged. HasFirstFault judged (UnknownType k count) place) bytes
-      → IsIllNamed bytes
+-- an error with this exit status explains why the bytes are refused
+pub record IsRefused (options : NormaliseOptions) (status : ℕ) (bytes : List ℕ) : Type 0 where
+  pub error : NormaliseModuleError
+  pub has_status : refused_status error ≡ status
+  pub explains : ExplainsError options bytes error
 
 -- The bytes are a module that `Strict` rejects: its normal form changes a type, or else it has a
 -- custom section of an unknown kind.

@@ -1,6 +1,8 @@
 //! What ends a run without a module: its line on standard error and its exit status.
 ghost use Rattle.std.specs.Prelude.{◌≡◌, ◌≤◌, ◌⊎◌};
-ghost use Rattle.wasmnorm.specs.Steps.Failures.{Explains, ExplainsModule, HasContext, IsOfStreams, refused_status, status_of};
+ghost use Rattle.wasm_normalise.specs.NormalModules.{IsRefusedBy};
+ghost use Rattle.wasmnorm.specs.Runs.{refused_status};
+ghost use Rattle.wasmnorm.specs.Steps.Failures.{Explains, HasContext, IsOfStreams, status_of};
 
 use crate::custom_section::write_outdated;
 use crate::fault::first_error;
@@ -11,7 +13,7 @@ use std::alloc::{AllocError, Global};
 use std::fmt;
 use std::fmt::Formatter;
 use std::io::{self, ErrorKind, Write};
-use walrus_normalise::{HashKeys, NormaliseModuleError, NormaliseOptions, Widths};
+use wasm_normalise::{HashKeys, NormaliseModuleError, NormaliseOptions, Widths, normalise_module};
 
 /// What ends a run without a module.
 #[derive(Debug, Drop)]
@@ -103,14 +105,17 @@ pub fn refusal(
     options: RunOptions,
     error: NormaliseModuleError,
 ) -> Failure
-    ensures explains { ExplainsModule options.normalise bytes.now error →
+    ensures explains { IsRefusedBy options.normalise bytes.now error →
         Explains options bytes.now result }
 {
     let error = first_error(alloc, keys, options.normalise, bytes, error);
+    let Ok(advice) = advice_for(alloc, keys, options.normalise, bytes, error) else {
+        return Failure::Memory;
+    };
     Failure::Refused {
         error,
         context: context_beside(bytes, error),
-        advice: advice_for(options.normalise, error),
+        advice,
     }
 }
 
@@ -132,12 +137,25 @@ fn context_beside(bytes: &[u8], error: NormaliseModuleError) -> Context
     }
 }
 
-/// The options that may help where a module was refused with these.
-fn advice_for(options: NormaliseOptions, error: NormaliseModuleError) -> Advice {
-    match (error, options.widths) {
-        (NormaliseModuleError::Outdated { .. }, Widths::Shortest) => Advice::KeepWidthsOrStrip,
-        (NormaliseModuleError::Outdated { .. }, Widths::Kept) => Advice::Strip,
-        _ => Advice::Nothing,
+/// The options that may help where a module was refused with these. `--keep-widths` is tried.
+fn advice_for(
+    alloc: Global,
+    keys: HashKeys,
+    options: NormaliseOptions,
+    bytes: &[u8],
+    error: NormaliseModuleError,
+) -> Result<Advice, AllocError> {
+    let NormaliseModuleError::Outdated { .. } = error else {
+        return Ok(Advice::Nothing);
+    };
+    let with_widths = NormaliseOptions {
+        widths: Widths::Kept,
+        ..options
+    };
+    match normalise_module(alloc, keys, bytes, with_widths) {
+        Ok(_) => Ok(Advice::KeepWidthsOrStrip),
+        Err(NormaliseModuleError::Memory) => Err(AllocError),
+        Err(_) => Ok(Advice::Strip),
     }
 }
 

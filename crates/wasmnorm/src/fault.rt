@@ -1,17 +1,16 @@
 //! What is wrong first, where the types of bytes can't be used or the bytes are no module.
 ghost use Rattle.std.specs.Prelude.{◌≡◌, true, IfSome};
-ghost use Rattle.wasmnorm.specs.Judged.{HasMalformedBeforeTypes};
-ghost use Rattle.wasmnorm.specs.Steps.Failures.{ExplainsError, ExplainsModule, is_of_sections, is_of_types};
+ghost use Rattle.wasm_normalise.specs.NormalModules.{IsRefusedBy};
+ghost use Rattle.wasmnorm.specs.Judged.{ExplainsError, ExplainsModule, HasMalformedBeforeTypes, is_of_sections, is_of_types};
 
-use crate::front::{sections_before_break, sections_before_types};
-use crate::module::normal_module;
+use crate::prefix::{sections_before_break, sections_before_types};
 use std::alloc::Global;
-use walrus_module::{FaultKind, find_module_fault};
-use walrus_normalise::{HashKeys, NormaliseModuleError, NormaliseOptions};
+use wasm_module::{RenameError, check_module};
+use wasm_normalise::{HashKeys, NormaliseModuleError, NormaliseOptions, normalise_module};
 
-/// The most types that a module can have. With this number, a name of a type is wrong only where no
-/// module has that type.
-const ENOUGH_TYPES: u32 = u32::MAX;
+/// How many types a module may have (WebAssembly JavaScript Interface, "Implementation-defined
+/// Limits").
+const ENOUGH_TYPES: u32 = 1_000_000;
 
 /// The error of what is wrong first, where a module was refused with this error. Where the framing
 /// of the bytes breaks, the sections before are judged as a module is.
@@ -22,13 +21,13 @@ pub fn first_error(
     bytes: &[u8],
     error: NormaliseModuleError,
 ) -> NormaliseModuleError
-    ensures { ExplainsModule options bytes.now error → ExplainsError options bytes.now result }
+    ensures { IsRefusedBy options bytes.now error → ExplainsError options bytes.now result }
 {
-    let Some(front) = sections_before_break(bytes) else {
+    let Some(prefix) = sections_before_break(bytes) else {
         return first_of_module(alloc, bytes, error);
     };
-    match error_of_sections(alloc, keys, options, front) {
-        Some(found) => first_of_module(alloc, front, found),
+    match error_of_sections(alloc, keys, options, prefix) {
+        Some(found) => first_of_module(alloc, prefix, found),
         None => error,
     }
 }
@@ -38,12 +37,12 @@ fn error_of_sections(
     alloc: Global,
     keys: HashKeys,
     options: NormaliseOptions,
-    front: &[u8],
+    prefix: &[u8],
 ) -> Option<NormaliseModuleError>
-    ensures explains { IfSome result (ExplainsModule options front.now) }
+    ensures refused { IfSome result (IsRefusedBy options prefix.now) }
     ensures of_sections { IfSome result (λ e. is_of_sections e ≡ true) }
 {
-    match normal_module(alloc, keys, options, front) {
+    match normalise_module(alloc, keys, prefix, options) {
         Err(error) if is_of_sections(error) => Some(error),
         _ => None,
     }
@@ -52,7 +51,7 @@ fn error_of_sections(
 /// The error of what is wrong first in a module, which was refused with this error. Where that is
 /// one of the type section, another section can be malformed before it.
 fn first_of_module(alloc: Global, bytes: &[u8], error: NormaliseModuleError) -> NormaliseModuleError
-    ensures explains { (options : NormaliseOptions) → ExplainsModule options bytes.now error →
+    ensures explains { (options : NormaliseOptions) → IsRefusedBy options bytes.now error →
         ExplainsModule options bytes.now result }
     ensures of_sections { is_of_sections error ≡ true → is_of_sections result ≡ true }
 {
@@ -66,17 +65,14 @@ fn first_of_module(alloc: Global, bytes: &[u8], error: NormaliseModuleError) -> 
 }
 
 /// Where a section before the type section is malformed, if memory suffices to find it. The types
-/// are not known, so what names them is not judged.
+/// are not known, so each is taken to be there that a module may have.
 fn malformed_before_types(alloc: Global, bytes: &[u8]) -> Option<usize>
-    ensures { IfSome result (HasMalformedBeforeTypes bytes.now) }
+    ensures { IfSome result (λ place. HasMalformedBeforeTypes bytes.now) }
 {
     let before = sections_before_types(bytes)?;
-    let Ok(Some(fault)) = find_module_fault(alloc, before, ENOUGH_TYPES) else {
-        return None;
-    };
-    match fault.kind {
-        FaultKind::Malformed => Some(fault.offset),
-        FaultKind::UnknownType { .. } => None,
+    match check_module(alloc, before, ENOUGH_TYPES) {
+        Err(RenameError::Malformed { offset }) => Some(offset),
+        _ => None,
     }
 }
 

@@ -3,11 +3,11 @@
 
 ghost use Rattle.std.specs.Prelude.{◌≡◌, ◌<◌, ◌≤◌, ◌⊎◌, IfErr, IfOk, OnOk, IfSome, None};
 ghost use Rattle.std.specs.Io.KnownBytes.{Appends, Keeps};
-ghost use Rattle.walrus_module.specs.UnknownCustoms.{HasNoUnknownCustom};
-ghost use Rattle.walrus_normalise.specs.EqualTypes.{KeepsModuleTypes};
-ghost use Rattle.walrus_normalise.specs.NormalModules.{IsNormalised, DescriptionsFit};
-ghost use Rattle.walrus_normalise.specs.declared.options.Descriptions.TheVariants as descriptions;
-ghost use Rattle.wasmnorm.specs.Runs.{IsWritten, IsWarned, WarnsAtMost, IsRefused, IsIllNamed, IsRejected};
+ghost use Rattle.wasm_module.specs.UnknownCustoms.{HasNoUnknownCustom};
+ghost use Rattle.wasm_normalise.specs.EqualTypes.{KeepsModuleTypes};
+ghost use Rattle.wasm_normalise.specs.NormalModules.{IsNormalised, DescriptionsFit};
+ghost use Rattle.wasm_normalise.specs.declared.options.Descriptions.TheVariants as descriptions;
+ghost use Rattle.wasmnorm.specs.Runs.{IsWritten, IsWarned, WarnsAtMost, IsRefused, IsRejected};
 ghost use Rattle.wasmnorm.specs.Steps.Failures.{Explains, status_of};
 ghost use Rattle.wasmnorm.specs.Steps.Warnings.{IsFirstWarning};
 ghost use Rattle.wasmnorm.specs.declared.options.Strictness.TheVariants.{Strict};
@@ -15,26 +15,24 @@ ghost use Rattle.wasmnorm.specs.declared.options.Strictness.TheVariants.{Strict}
 mod custom_section;
 mod failure;
 mod fault;
-mod front;
-mod module;
 mod options;
+mod prefix;
 mod texts;
 mod warning;
 
 use command_line::{
-    OptionValue, Request, create, open, parse_arguments, read_bytes, report_usage, temporary_name,
-    write_version,
+    NOT_UTF8, OptionValue, Request, create, open, parse_arguments, read_bytes, report_usage,
+    temporary_name, write_version,
 };
 use failure::{Failure, failed_input, refusal, report};
-use module::normal_module;
 use options::{RunOptions, run_options};
 use std::alloc::Global;
 use std::hash::BuildHasher;
 use std::io::{self, Read, Write};
 use std::process::ExitCode;
 use texts::{HELP, KEEP_WIDTHS, OUTPUT, PRUNE, STRICT, STRIP, USAGE};
-use walrus_normalise::HashKeys;
 use warning::{Warning, accepted_warning, warn_of};
+use wasm_normalise::{HashKeys, normalise_module};
 
 /// Reads a module from `reader`, and writes the same module to `out`, with its type section in
 /// normal form and every other index of a type written again.
@@ -47,7 +45,7 @@ use warning::{Warning, accepted_warning, warn_of};
 ///
 /// In two cases the new module can be wrong. A type of the input becomes another type, by
 /// WebAssembly's rule of type equality:
-/// [`find_changed_type`](walrus_normalise::find_changed_type) says when. Or a custom section is of
+/// [`find_changed_type`](wasm_normalise::find_changed_type) says when. Or a custom section is of
 /// an unknown kind, and so may refer to types or to places in the file. With `Strictness::Strict`
 /// such a module is rejected, even if no byte would change. With `Strictness::Lenient` a line on
 /// `err` warns of it, before the module is written. The line names the type or the place of the
@@ -94,8 +92,9 @@ pub fn run<R: Read, W: Write, E: Write>(
     ensures silent { result ≡ 0 → options.strictness ≡ Strict →
         Keeps (E.contents err.old) (E.contents err.new) }
     ensures refused { result ≡ 1 → IfSome (R.remaining reader.old)
-        (λ bytes. IsRefused options.normalise bytes ⊎ IsRejected options.strictness bytes) }
-    ensures ill_named { result ≡ 2 → IfSome (R.remaining reader.old) IsIllNamed }
+        (λ bytes. IsRefused options.normalise 1 bytes ⊎ IsRejected options.strictness bytes) }
+    ensures ill_named { result ≡ 2 → IfSome (R.remaining reader.old)
+        (IsRefused options.normalise 2) }
     ensures range { result ≤ 4 }
     ensures unwritten { 0 < result → result < 4 → Keeps (W.contents out.old) (W.contents out.new) }
 {
@@ -165,7 +164,7 @@ fn new_module(
     ensures known { OnOk result (options.strictness ≡ Strict → HasNoUnknownCustom bytes.now) }
     ensures refused { IfErr result (Explains options bytes.now) }
 {
-    let module = match normal_module(alloc, keys, options.normalise, bytes) {
+    let module = match normalise_module(alloc, keys, bytes, options.normalise) {
         Ok(module) => module,
         Err(error) => return Err(refusal(alloc, keys, bytes, options, error)),
     };
@@ -207,6 +206,7 @@ fn start<E: Write>(rt: &HostRuntime, err: &mut E) -> Result<u8, Failure> {
             normalise_file(rt, Files { input, output }, options, err)
         }
         Request::Usage => Ok(report_usage(USAGE, err)),
+        Request::NotUtf8 => Ok(report_usage(NOT_UTF8, err)),
     }
 }
 

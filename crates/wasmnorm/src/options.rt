@@ -1,14 +1,14 @@
 //! The options of a run, as the arguments choose them.
 ghost use Rattle.std.specs.Prelude.{◌≡◌, ◌↔◌, codes};
-ghost use Rattle.walrus_module.specs.declared.renaming.Widths.TheVariants as widths;
-ghost use Rattle.walrus_normalise.specs.declared.options.Descriptions.TheVariants as descriptions;
-ghost use Rattle.walrus_normalise.specs.declared.options.UnusedTypes.TheVariants as unused;
+ghost use Rattle.wasm_module.specs.declared.renaming.Widths.TheVariants as widths;
+ghost use Rattle.wasm_normalise.specs.declared.options.Descriptions.TheVariants as descriptions;
+ghost use Rattle.wasm_normalise.specs.declared.options.UnusedTypes.TheVariants as unused;
 ghost use Rattle.wasmnorm.specs.Runs.{IsGiven};
 ghost use Rattle.wasmnorm.specs.declared.options.Strictness.TheVariants as strictness;
 
 use crate::texts::{KEEP_WIDTHS, PRUNE, STRICT, STRIP};
 use command_line::has_option;
-use walrus_normalise::{Descriptions, NormaliseOptions, UnusedTypes, Widths};
+use wasm_normalise::{Descriptions, NormaliseOptions, UnusedTypes, Widths};
 
 /// What is done with a module.
 #[derive(Clone, Copy, PartialEq, Eq, Debug)]

@@ -1,9 +1,9 @@
 //! What can be wrong in the new module: a line on standard error, or the end of a strict run.
 ghost use Rattle.std.specs.Prelude.{◌≡◌, ◌++◌, IfErr, IfOk, None, OnOk};
 ghost use Rattle.std.specs.Io.KnownBytes.{Appends};
-ghost use Rattle.walrus_module.specs.UnknownCustoms.{HasNoUnknownCustom};
-ghost use Rattle.walrus_normalise.specs.EqualTypes.{KeepsModuleTypes};
-ghost use Rattle.walrus_normalise.specs.Hazards.{IsHazard};
+ghost use Rattle.wasm_module.specs.UnknownCustoms.{HasNoUnknownCustom};
+ghost use Rattle.wasm_normalise.specs.EqualTypes.{KeepsModuleTypes};
+ghost use Rattle.wasm_normalise.specs.Hazards.{IsHazard};
 ghost use Rattle.wasmnorm.specs.Runs.{Warns, warning_line};
 ghost use Rattle.wasmnorm.specs.Steps.Failures.{Explains, IsOfStreams};
 ghost use Rattle.wasmnorm.specs.Steps.Warnings.{IsFirstWarning, IsWarning, WarnsOf};
@@ -17,7 +17,7 @@ use std::alloc::Global;
 use std::fmt;
 use std::fmt::Formatter;
 use std::io::{self, Write};
-use walrus_normalise::{HashKeys, Hazard, find_hazard};
+use wasm_normalise::{HashKeys, Hazard, find_hazard};
 
 /// What can be wrong in the new module, with what else is known of the input.
 #[derive(Clone, Copy, PartialEq, Eq, Debug)]
@@ -62,6 +62,7 @@ pub fn accepted_warning(
     }
 }
 
+#[tactic(auto, using(wasm_normalise::proofs::Errors::types_error))]
 fn first_warning(
     alloc: Global,
     keys: HashKeys,

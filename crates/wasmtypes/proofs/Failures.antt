@@ -1,8 +1,8 @@
 -- The exit status of a failure, and what it says of the bytes.
 use Rattle.std.proofs.Common.{◌≡◌, ◌∙◌, ℕ, List, Option, None, Some, ◌⊎◌, inl, inr, refl, sym, arith}
 use Rattle.std.specs.Prelude.{IfSome}
-use Rattle.walrus_binary.specs.ModuleSections.{HasBadTypes}
-use Rattle.walrus_binary.specs.declared.error.DecodeError.TheVariants as decode
+use Rattle.wasm_binary.specs.ModuleSections.{HasBadTypes}
+use Rattle.wasm_binary.specs.declared.error.DecodeError.TheVariants as decode
 use Rattle.wasmtypes.specs.declared.failure.Failure.{Failure}
 use Rattle.wasmtypes.specs.declared.failure.Failure.TheVariants as failure
 use Rattle.wasmtypes.specs.Steps.Failures.{Explains, status_of}

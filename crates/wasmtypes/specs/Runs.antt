@@ -2,7 +2,7 @@
 use Rattle.std.specs.Prelude.{ℕ, List, Option}
 use Rattle.std.specs.Io.KnownBytes.{Appends}
 use Rattle.walrus_ty.specs.declared.records.GroupAt.{GroupAt}
-use Rattle.walrus_binary.specs.ModuleSections.{HasTypes}
+use Rattle.wasm_binary.specs.ModuleSections.{HasTypes}
 use Rattle.walrus_text.specs.Words.{text_of}
 use Rattle.walrus_text.specs.Text.{section_lines}
 

@@ -1,7 +1,7 @@
 //! What ends a run without a text: its line on standard error and its exit status.
 ghost use Rattle.std.specs.Prelude.{◌≡◌, ◌⊎◌, IfSome};
-ghost use Rattle.walrus_binary.specs.Faults.{error_offset};
-ghost use Rattle.walrus_binary.specs.ModuleSections.{HasBadTypes};
+ghost use Rattle.wasm_binary.specs.Faults.{error_offset};
+ghost use Rattle.wasm_binary.specs.ModuleSections.{HasBadTypes};
 ghost use Rattle.wasmtypes.specs.Steps.Failures.{Explains, IsOfStreams, decode_status, status_of};
 
 use error_context::{Context, context_of_error};
@@ -9,7 +9,7 @@ use std::alloc::AllocError;
 use std::fmt;
 use std::fmt::Formatter;
 use std::io::{self, ErrorKind, Write};
-use walrus_binary::DecodeError;
+use wasm_binary::DecodeError;
 
 /// What ends a run without a text.
 #[derive(Debug, Drop)]

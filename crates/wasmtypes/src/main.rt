@@ -5,22 +5,24 @@ ghost use Rattle.std.specs.Prelude.{◌≡◌, ◌⊎◌, ◌<◌, IfErr, IfOk, 
 ghost use Rattle.std.specs.Io.KnownBytes.{Appends, Keeps};
 ghost use Rattle.walrus_text.specs.Words.{text_of};
 ghost use Rattle.walrus_text.specs.Text.{section_lines};
-ghost use Rattle.walrus_binary.specs.ModuleSections.{HasBadTypes};
+ghost use Rattle.wasm_binary.specs.ModuleSections.{HasBadTypes};
 ghost use Rattle.wasmtypes.specs.Runs.{IsPrinted};
 ghost use Rattle.wasmtypes.specs.Steps.Failures.{Explains, status_of};
 
 mod failure;
 mod texts;
 
-use command_line::{Request, open, parse_arguments, read_bytes, report_usage, write_version};
+use command_line::{
+    NOT_UTF8, Request, open, parse_arguments, read_bytes, report_usage, write_version,
+};
 use failure::{Failure, failed_input, refusal, report};
 use std::alloc::{AllocError, Global};
 use std::io::{self, Read, Write};
 use std::process::ExitCode;
 use texts::{HELP, USAGE};
-use walrus_binary::module_types;
 use walrus_text::write_section;
 use walrus_ty::GroupAt;
+use wasm_binary::module_types;
 
 /// Reads a module from `reader`, and writes the text of its type section to `out`: nothing where it
 /// has none. What the other sections contain is not checked.
@@ -119,6 +121,7 @@ fn start<E: Write>(rt: &HostRuntime, err: &mut E) -> Result<u8, Failure> {
             _ => Ok(report_usage(USAGE, err)),
         },
         Request::Usage => Ok(report_usage(USAGE, err)),
+        Request::NotUtf8 => Ok(report_usage(NOT_UTF8, err)),
     }
 }
 

@@ -8,7 +8,10 @@ from reference import module, type_equality, type_section
 from reference.module import CUSTOM, DONE, HEADER, REFUSED, TYPE
 from reference.reader import Reader
 
-KNOWN = (b'name', b'producers', b'target_features', b'dylink.0', b'build_id')
+KNOWN = (b'name', b'producers', b'target_features', b'dylink.0', b'dylink', b'build_id', b'authors', b'licenses',
+         b'description', b'homepage', b'source', b'revision', b'version', b'.dep-v0', b'.llvmbc', b'.llvmcmd',
+         b'emscripten_metadata', b'__wasm_bindgen_unstable', b'contractspecv0', b'contractmetav0', b'contractenvmetav0')
+KNOWN_PREFIX = b'component-type'
 DESCRIPTIONS = (b'external_debug_info', b'linking', b'signature', b'sourceMappingURL')
 DESCRIPTION_PREFIXES = (b'.debug_', b'metadata.code.', b'reloc.')
 # How many bytes of the name of a section are shown.
@@ -31,7 +34,7 @@ def first_changed(text):
 
 def is_known(name):
     """Whether a custom section of this name is of a known kind, such as one that describes other bytes of the module."""
-    return name in KNOWN + DESCRIPTIONS or name.startswith(DESCRIPTION_PREFIXES)
+    return name in KNOWN + DESCRIPTIONS or name.startswith((KNOWN_PREFIX, *DESCRIPTION_PREFIXES))
 
 
 def unknown_section(text):

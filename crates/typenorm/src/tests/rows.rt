@@ -7,7 +7,7 @@ use walrus_normal_form::ReadError;
 pub(super) type Row = (&'static [u8], u8, &'static [u8]);
 
 /// Texts of each kind.
-pub(super) fn rows() -> [Row; 22] {
+pub(super) fn rows() -> [Row; 23] {
     [
         (
             b"struct i32\nfunc ->\n",
@@ -58,6 +58,7 @@ pub(super) fn rows() -> [Row; 22] {
         (b"func ->\n\xff\n", 1, b"line 2: bad text\n"),
         (b"func ->\nfunc ->\r\n", 1, b"line 2: bad text\n"),
         (b"rec\nrec\n", 1, b"line 2: bad text\n"),
+        (b"struct i32\n\nwrong\nworse\n", 1, b"line 3: bad text\n"),
         (b"\n func   ->", 0, b"func ->\nmap 0\n"),
     ]
 }

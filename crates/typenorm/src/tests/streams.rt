@@ -4,6 +4,7 @@ use super::{outputs, status_of};
 use std::alloc::Global;
 use std::io::{self, Error, ErrorKind, Read, Write};
 use std::process::Abort;
+use walrus_text::{BadLine, Expected, TextError, read_section, write_output, write_section};
 
 /// Counts calls, and has one of them fail.
 #[derive(Clone, Copy)]
@@ -39,7 +40,7 @@ impl Read for Drip<'_> {
     }
 }
 
-/// Takes one byte at a time.
+/// Takes one byte at a time. A flush is a call like a write.
 #[derive(Drop)]
 struct Basin {
     bytes: Vec<u8>,
@@ -53,11 +54,11 @@ impl Write for Basin {
     }
 
     fn flush(&mut self) -> io::Result<()> {
-        Ok(())
+        self.calls.next()
     }
 }
 
-/// The numbers of the read, of the write of `out` and of the write of `err` that fail.
+/// The numbers of the read, of the call of `out` and of the call of `err` that fail.
 type Failing = (u64, u64, u64);
 
 /// The text ends a run in which these calls fail with this status, and writes this.
@@ -124,6 +125,12 @@ fn each_write_of_the_output_fails_in_turn(rt: HostRuntime) {
             let failing = (0, at as u64 + 1, 0);
             ends_with(&rt, rt.alloc(), text, failing, 4, (&out[..at], FAILED));
         }
+        // The flush comes behind the last write, where something is written.
+        let (status, err) = if status == 0 {
+            (4, FAILED)
+        } else {
+            (status, err)
+        };
         let failing = (0, out.len() as u64 + 1, 0);
         ends_with(&rt, rt.alloc(), text, failing, status, (out, err));
     }
@@ -140,4 +147,59 @@ fn each_write_of_the_line_fails_in_turn(rt: HostRuntime) {
         let failing = (0, 0, err.len() as u64 + 1);
         ends_with(&rt, rt.alloc(), text, failing, status, (out, err));
     }
+}
+
+/// Why the section of a text is not read where this read fails; `None` where it is read.
+fn error_of(alloc: Global, text: &[u8], failing: u64) -> Option<TextError> {
+    let mut reader = Drip {
+        rest: text,
+        calls: calls_failing_at(failing),
+    };
+    read_section(alloc, &mut reader).err()
+}
+
+/// The error of a line that is bad from its beginning on.
+fn bad_line(line: u64, expected: Expected) -> TextError {
+    TextError::BadText(BadLine {
+        line,
+        column: 1,
+        expected,
+    })
+}
+
+#[test]
+fn each_read_of_a_section_fails_in_turn(rt: HostRuntime) {
+    let texts: [(&[u8], Option<TextError>); 3] = [
+        (b"rec\nfunc i32 ->\nend", None),
+        (b"rec\nfunc i32 ->\n", Some(bad_line(3, Expected::End))),
+        (
+            b"type\nfunc i32 ->\n",
+            Some(bad_line(1, Expected::DefinitionOrRec)),
+        ),
+    ];
+    for (text, wanted) in texts {
+        for at in 0..text.len() + 1 {
+            let error = error_of(rt.alloc(), text, at as u64 + 1);
+            assert_eq!(rt; error, Some(TextError::Stream));
+        }
+        assert_eq!(rt; error_of(rt.alloc(), text, 0), wanted);
+    }
+}
+
+#[test]
+fn each_write_of_a_section_fails_in_turn(rt: HostRuntime) {
+    let mut reader = b"open sub:0 struct mut:i8\n".as_slice();
+    let groups = read_section(rt.alloc(), &mut reader).expect(&rt, "memory");
+    for failing in 1..26 {
+        let mut out = empty_basin(rt.alloc(), failing);
+        assert!(rt; write_section(&mut out, groups.as_slice()).is_err());
+    }
+    for failing in 1..32 {
+        let mut out = empty_basin(rt.alloc(), failing);
+        assert!(rt; write_output(&mut out, groups.as_slice(), &[0]).is_err());
+    }
+    let mut whole = empty_basin(rt.alloc(), 26);
+    assert!(rt; write_section(&mut whole, groups.as_slice()).is_ok());
+    let mut with_map = empty_basin(rt.alloc(), 32);
+    assert!(rt; write_output(&mut with_map, groups.as_slice(), &[0]).is_ok());
 }

@@ -19,7 +19,7 @@ impl Model for Adder {
     ghost view = { λ _. tt };
 }
 
-fn add_one(value: &mut Value)
+pub(super) fn add_one(value: &mut Value)
     ensures { value.new ≡ plus_one value.old }
 {
     if let Value::I32(n) = value {

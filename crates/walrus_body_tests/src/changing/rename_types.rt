@@ -1,5 +1,7 @@
 //! Types of a body change places.
 use super::*;
+use crate::bodies::empty;
+use crate::lists::hold;
 use walrus_body::{RenameTypes, used_ids};
 use walrus_ir::{CallIndirect, CallRef, InstrSeqType, RefTest};
 
@@ -29,25 +31,14 @@ fn body(rt: &impl Abort, alloc: Global) -> LocalFunction {
 fn names(rt: &impl Abort, alloc: Global, func: &LocalFunction, wanted: &[usize]) {
     let ids = used_ids(alloc, func, id(0)).expect(rt, "memory");
     let ids = ids.expect(rt, "a nested body");
-    let mut list = Vec::new(alloc);
-    for ty in ids.types.as_slice() {
-        list.push(ty.index()).expect(rt, "memory");
-    }
-    assert_equal(rt, list.as_slice(), wanted);
+    hold(rt, ids.types.as_slice(), wanted);
 }
 
-// Renames the types of the body by the list of their new ids, and tells whether all was walked.
-fn is_renamed(
-    alloc: Global,
-    func: &mut LocalFunction,
-    names: Vec<TypeId>,
-) -> Result<bool, AllocError> {
-    let start = id(0);
+// Renames the types of the body by the list of their new ids.
+fn rename(rt: &impl Abort, alloc: Global, func: &mut LocalFunction, names: Vec<TypeId>) {
     let mut visitor = RenameTypes::new(names);
-    match check_nesting(alloc, func, start)? {
-        Nesting::Nested(_) => Ok(dfs_pre_order_mut(alloc, &mut visitor, func, start).is_ok()),
-        Nesting::Cycle { .. } | Nesting::Unknown(_) => Ok(false),
-    }
+    assert_nested(rt, alloc, func);
+    assert!(rt; dfs_pre_order_mut(alloc, &mut visitor, func, Id::from_index(0)).is_ok());
 }
 
 #[test]
@@ -56,6 +47,6 @@ fn two_types_change_places(rt: HostRuntime) {
     let mut func = body(&rt, alloc);
     names(&rt, alloc, &func, &[1, 0, 2, 0, 1]);
     let new: Vec<TypeId> = vec![in alloc; id(1), id(0)].expect(&rt, "memory");
-    assert!(rt; is_renamed(alloc, &mut func, new).expect(&rt, "memory"));
+    rename(&rt, alloc, &mut func, new);
     names(&rt, alloc, &func, &[0, 1, 2, 1, 0]);
 }

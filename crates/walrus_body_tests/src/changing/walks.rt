@@ -6,12 +6,12 @@ ghost use Rattle.walrus_body.specs.Unfolding.{Unfolds};
 ghost use Rattle.walrus_body_tests.specs.Adding.{adding_at};
 
 use super::adder::Adder;
-use super::dropper::Dropper;
+use super::changer::{Change, make_changes};
 use super::*;
 use crate::calls::{HookCall, are_changed_before};
 use crate::functions::{IN_ORDER, empty_entry, shared, test_function};
 use crate::log::{ALL, Full, Log, say, walk_whole};
-use walrus_body::{WalkError, traversals_mut_laws};
+use walrus_body::traversals_mut_laws;
 
 fn adder(alloc: Global, limit: usize) -> Adder {
     Adder {
@@ -37,23 +37,21 @@ fn add_to_constants(
 }
 
 // Walks from the sequence 0 of a body that is nested.
-fn change(
+fn walk_mut(
     rt: &impl Abort,
     alloc: Global,
     visitor: &mut Adder,
     func: &mut LocalFunction,
 ) -> Result<(), WalkError<Full>> {
-    let start = id(0);
-    match check_nesting(alloc, func, start).expect(rt, "memory") {
-        Nesting::Nested(_) => add_to_constants(alloc, visitor, func, start),
-        Nesting::Cycle { .. } => panic!(rt; "a cycle"),
-        Nesting::Unknown(_) => panic!(rt; "an unknown sequence"),
-    }
+    assert_nested(rt, alloc, func);
+    add_to_constants(alloc, visitor, func, Id::from_index(0))
 }
 
-// A walk that no hook refuses.
-fn change_whole(rt: &impl Abort, alloc: Global, visitor: &mut Adder, func: &mut LocalFunction) {
-    assert_equal(rt, change(rt, alloc, visitor, func), Ok(()));
+// The hook calls of a walk that no hook refuses.
+fn change_whole(rt: &impl Abort, alloc: Global, func: &mut LocalFunction) -> Vec<HookCall> {
+    let mut visitor = adder(alloc, ALL);
+    assert_equal(rt, walk_mut(rt, alloc, &mut visitor, func), Ok(()));
+    visitor.log.calls
 }
 
 const FIRST: &str =
@@ -66,12 +64,8 @@ const SECOND: &str =
 fn children_of_the_last_instruction_come_first(rt: HostRuntime) {
     let alloc = rt.alloc();
     let mut func = test_function(&rt, alloc);
-    let mut first = adder(alloc, ALL);
-    change_whole(&rt, alloc, &mut first, &mut func);
-    say(&rt, alloc, first.log.calls.as_slice(), FIRST);
-    let mut second = adder(alloc, ALL);
-    change_whole(&rt, alloc, &mut second, &mut func);
-    say(&rt, alloc, second.log.calls.as_slice(), SECOND);
+    say(&rt, alloc, &change_whole(&rt, alloc, &mut func), FIRST);
+    say(&rt, alloc, &change_whole(&rt, alloc, &mut func), SECOND);
 }
 
 // The words of a walk in order where each constant is one greater.
@@ -83,10 +77,10 @@ fn a_walk_in_order_sees_each_constant_changed_and_all_else_as_before(rt: HostRun
     let alloc = rt.alloc();
     let mut func = test_function(&rt, alloc);
     let before = walk_whole(&rt, alloc, &func).calls;
-    say(&rt, alloc, before.as_slice(), IN_ORDER);
-    change_whole(&rt, alloc, &mut adder(alloc, ALL), &mut func);
+    say(&rt, alloc, &before, IN_ORDER);
+    change_whole(&rt, alloc, &mut func);
     let after = walk_whole(&rt, alloc, &func).calls;
-    say(&rt, alloc, after.as_slice(), IN_ORDER_AFTER);
+    say(&rt, alloc, &after, IN_ORDER_AFTER);
     assert!(rt; are_changed_before(before.len(), &before, &after));
 }
 
@@ -105,9 +99,7 @@ fn constant(func: &LocalFunction) -> Option<i32> {
 fn a_shared_sequence_is_changed_twice(rt: HostRuntime) {
     let alloc = rt.alloc();
     let mut func = shared(&rt, alloc);
-    let mut visitor = adder(alloc, ALL);
-    change_whole(&rt, alloc, &mut visitor, &mut func);
-    assert_equal(&rt, visitor.log.calls.len(), 15);
+    assert_equal(&rt, change_whole(&rt, alloc, &mut func).len(), 15);
     assert_equal(&rt, constant(&func), Some(7));
 }
 
@@ -116,84 +108,62 @@ fn a_shared_sequence_is_changed_twice(rt: HostRuntime) {
 #[test]
 fn a_refused_hook_leaves_what_the_hooks_before_it_did(rt: HostRuntime) {
     let alloc = rt.alloc();
-    for (limit, left) in [(0, 5), (9, 5), (10, 6), (13, 6), (14, 7)] {
+    for (limit, left) in [(0, 5), (8, 5), (9, 6), (12, 6), (13, 7)] {
         let mut func = shared(&rt, alloc);
-        let mut visitor = adder(alloc, limit);
-        let answer = change(&rt, alloc, &mut visitor, &mut func);
+        let (visitor, answer) = make_changes(&rt, alloc, &mut func, Change::AddToConstants, limit);
         assert_equal(&rt, answer, Err(WalkError::Hook(Full(limit))));
         assert_equal(&rt, visitor.log.calls.len(), limit);
         assert_equal(&rt, constant(&func), Some(left));
     }
 }
 
-// Walks from the sequence 0 with one visitor, and then with another, after one check.
-fn walk_with_both(
+// Two walks after one check add to the constant of the shared sequence, which is 5. The first one
+// has this limit and this answer. The second one is whole, and leaves this constant.
+fn walk_twice(
     rt: &impl Abort,
     alloc: Global,
-    first: &mut Adder,
-    second: &mut Adder,
-    func: &mut LocalFunction,
-) -> (Result<(), WalkError<Full>>, Result<(), WalkError<Full>>) {
-    let start = id(0);
-    match check_nesting(alloc, func, start).expect(rt, "memory") {
-        Nesting::Nested(_) => {
-            let once = add_to_constants(alloc, first, func, start);
-            (once, add_to_constants(alloc, second, func, start))
-        }
-        Nesting::Cycle { .. } | Nesting::Unknown(_) => panic!(rt; "not nested"),
-    }
+    limit: usize,
+    answer: Result<(), WalkError<Full>>,
+    left: i32,
+) {
+    let mut func = shared(rt, alloc);
+    let mut cut = adder(alloc, limit);
+    let mut whole = adder(alloc, ALL);
+    assert_nested(rt, alloc, &func);
+    let start = Id::from_index(0);
+    let once = add_to_constants(alloc, &mut cut, &mut func, start);
+    let again = add_to_constants(alloc, &mut whole, &mut func, start);
+    assert_equal(rt, once, answer);
+    assert_equal(rt, again, Ok(()));
+    assert_equal(rt, cut.log.calls.len(), limit);
+    assert_equal(rt, whole.log.calls.len(), 15);
+    assert_equal(rt, constant(&func), Some(left));
 }
 
 // A whole walk makes 15 hook calls, and adds one to the constant at each of two visits.
 #[test]
 fn two_walks_need_one_check(rt: HostRuntime) {
-    let alloc = rt.alloc();
-    let mut func = shared(&rt, alloc);
-    let mut first = adder(alloc, ALL);
-    let mut second = adder(alloc, ALL);
-    let (once, again) = walk_with_both(&rt, alloc, &mut first, &mut second, &mut func);
-    assert_equal(&rt, once, Ok(()));
-    assert_equal(&rt, again, Ok(()));
-    assert_equal(
-        &rt,
-        (first.log.calls.len(), second.log.calls.len()),
-        (15, 15),
-    );
-    assert_equal(&rt, constant(&func), Some(9));
+    walk_twice(&rt, rt.alloc(), 15, Ok(()), 9);
 }
 
 // The first walk is refused after the constant was visited once.
 #[test]
 fn a_walk_after_a_refused_one_needs_no_check(rt: HostRuntime) {
-    let alloc = rt.alloc();
-    let mut func = shared(&rt, alloc);
-    let mut first = adder(alloc, 10);
-    let mut second = adder(alloc, ALL);
-    let (once, again) = walk_with_both(&rt, alloc, &mut first, &mut second, &mut func);
-    assert_equal(&rt, once, Err(WalkError::Hook(Full(10))));
-    assert_equal(&rt, again, Ok(()));
-    assert_equal(
-        &rt,
-        (first.log.calls.len(), second.log.calls.len()),
-        (10, 15),
-    );
-    assert_equal(&rt, constant(&func), Some(8));
+    let refused = Err(WalkError::Hook(Full(10)));
+    walk_twice(&rt, rt.alloc(), 10, refused, 8);
 }
 
-// How many of the calls are for types.
-fn types(calls: &[HookCall]) -> usize {
-    calls
+// How many of the calls are for types, and how many for starts.
+fn count(calls: &[HookCall]) -> (usize, usize) {
+    let types = calls
         .iter()
         .filter(|call| matches!(call, HookCall::Ty(_)))
-        .count()
-}
-
-// How many of the calls are for starts.
-fn starts(calls: &[HookCall]) -> usize {
-    calls
+        .count();
+    let starts = calls
         .iter()
         .filter(|call| matches!(call, HookCall::Start(_)))
-        .count()
+        .count();
+    (types, starts)
 }
 
 // Every hook call in turn is refused, those for the types of the seven sequences among them: the
@@ -202,71 +172,47 @@ fn starts(calls: &[HookCall]) -> usize {
 #[test]
 fn a_refusing_hook_cuts_the_walk(rt: HostRuntime) {
     let alloc = rt.alloc();
-    let mut whole = adder(alloc, ALL);
-    let mut func = test_function(&rt, alloc);
-    change_whole(&rt, alloc, &mut whole, &mut func);
-    assert_equal(&rt, types(whole.log.calls.as_slice()), 7);
-    for limit in 0..whole.log.calls.len() {
+    let whole = change_whole(&rt, alloc, &mut test_function(&rt, alloc));
+    assert_equal(&rt, count(&whole), (7, 7));
+    for limit in 0..whole.len() {
         let mut func = test_function(&rt, alloc);
         let mut cut = adder(alloc, limit);
-        let answer = change(&rt, alloc, &mut cut, &mut func);
+        let answer = walk_mut(&rt, alloc, &mut cut, &mut func);
         assert_equal(&rt, answer, Err(WalkError::Hook(Full(limit))));
-        assert!(rt; cut.log.calls.as_slice() == &whole.log.calls[..limit]);
-        let mut again = adder(alloc, ALL);
-        change_whole(&rt, alloc, &mut again, &mut func);
-        assert!(rt; are_changed_before(limit, &whole.log.calls, &again.log.calls));
+        assert!(rt; cut.log.calls.as_slice() == &whole[..limit]);
+        let again = change_whole(&rt, alloc, &mut func);
+        assert!(rt; are_changed_before(limit, &whole, &again));
     }
 }
 
-// A whole walk from the sequence 0 of a body that is nested.
-fn drop_from_first(
-    rt: &impl Abort,
-    alloc: Global,
-    visitor: &mut Dropper,
-    func: &mut LocalFunction,
-) {
-    let start = id(0);
-    let Nesting::Nested(_) = check_nesting(alloc, func, start).expect(rt, "memory") else {
-        panic!(rt; "not nested");
-    };
-    assert!(rt; dfs_pre_order_mut(alloc, visitor, func, start).is_ok());
-}
-
-// The calls of a whole walk over an entry without instructions, which has one `drop` then.
-fn calls_of_a_dropper(rt: &impl Abort, alloc: Global, at_start: bool) -> Vec<HookCall> {
+// A walk over an entry without instructions has these calls, and leaves one `drop` in it.
+fn adds_a_drop(rt: &impl Abort, alloc: Global, at: Change, want: &[HookCall]) {
     let mut func = empty_entry(rt, alloc);
-    let mut visitor = Dropper {
-        log: Log::new(alloc, ALL),
-        at_start,
-        at_end: !at_start,
-    };
-    drop_from_first(rt, alloc, &mut visitor, &mut func);
+    let (visitor, answer) = make_changes(rt, alloc, &mut func, at, ALL);
+    assert_equal(rt, answer, Ok(()));
     let instrs = instrs_of(&func, 0).expect(rt, "a sequence");
     assert!(rt; matches!(instrs, [(Instr::Drop(_), _)]));
-    visitor.log.calls
+    assert!(rt; visitor.log.calls.as_slice() == want);
 }
 
 #[test]
 fn an_instruction_that_the_start_hook_adds_is_visited(rt: HostRuntime) {
-    let calls = calls_of_a_dropper(&rt, rt.alloc(), true);
     let want = [HookCall::Start(0), HookCall::Dropping, HookCall::End(0)];
-    assert!(rt; calls.as_slice() == want.as_slice());
+    adds_a_drop(&rt, rt.alloc(), Change::DropAtStart, &want);
 }
 
 #[test]
 fn an_instruction_that_the_end_hook_adds_is_not(rt: HostRuntime) {
-    let calls = calls_of_a_dropper(&rt, rt.alloc(), false);
     let want = [HookCall::Start(0), HookCall::End(0)];
-    assert!(rt; calls.as_slice() == want.as_slice());
+    adds_a_drop(&rt, rt.alloc(), Change::DropAtEnd, &want);
 }
 
 #[test]
 fn a_body_of_ten_thousand_levels_is_walked(rt: HostRuntime) {
     let alloc = rt.alloc();
     let mut func = chain(&rt, alloc, 10_000);
-    let mut visitor = adder(alloc, ALL);
-    change_whole(&rt, alloc, &mut visitor, &mut func);
+    let calls = change_whole(&rt, alloc, &mut func);
     // of each sequence a start and an end, and of each block the instruction and its sequence
-    assert_equal(&rt, visitor.log.calls.len(), 40_002);
-    assert_equal(&rt, starts(visitor.log.calls.as_slice()), 10_001);
+    assert_equal(&rt, calls.len(), 40_002);
+    assert_equal(&rt, count(&calls), (0, 10_001));
 }

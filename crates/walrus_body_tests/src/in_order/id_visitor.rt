@@ -1,9 +1,7 @@
 //! Visitors with one hook for ids.
-ghost use Rattle.walrus_body.specs.Nesting.{IsNested};
-
-use super::used_ids::{body, hold};
+use super::used_ids::body;
 use super::*;
-use walrus_body::{AnyId, IdVisitor, Nesting, OnlyIds, WalkError, check_nesting, dfs_in_order};
+use walrus_body::{AnyId, IdVisitor, OnlyIds, WalkError, dfs_in_order};
 use walrus_types::{FunctionId, Listed, TypeId};
 
 // Collects types and functions.
@@ -44,16 +42,6 @@ impl IdVisitor for Tagless {
     }
 }
 
-// The body is nested.
-fn assert_nested(rt: &impl Abort, alloc: Global, func: &LocalFunction)
-    ensures { IsNested func.now.body 0 }
-{
-    let Nesting::Nested(_) = check_nesting(alloc, func, Id::from_index(0)).expect(rt, "memory")
-    else {
-        panic!(rt; "not nested");
-    };
-}
-
 #[test]
 fn types_and_functions_are_collected_by_one_hook(rt: HostRuntime) {
     let alloc = rt.alloc();
@@ -65,8 +53,8 @@ fn types_and_functions_are_collected_by_one_hook(rt: HostRuntime) {
     };
     let mut only = OnlyIds { visitor };
     assert!(rt; dfs_in_order(alloc, &mut only, &func, Id::from_index(0)).is_ok());
-    hold(&rt, alloc, only.visitor.types.as_slice(), &[9, 6, 11]);
-    hold(&rt, alloc, only.visitor.functions.as_slice(), &[5, 5]);
+    hold(&rt, only.visitor.types.as_slice(), &[9, 6, 11]);
+    hold(&rt, only.visitor.functions.as_slice(), &[5, 5]);
 }
 
 #[test]

@@ -1,7 +1,7 @@
 //! Visitors with one hook.
 use super::*;
 use std::convert::Infallible;
-use walrus_body::{InstrVisitor, Nesting, OnlyInstrs, check_nesting, dfs_in_order};
+use walrus_body::{InstrVisitor, OnlyInstrs, dfs_in_order};
 
 // Counts instructions, and those of them that are blocks.
 #[derive(Drop)]
@@ -30,11 +30,8 @@ fn count(rt: &impl Abort, alloc: Global, func: &LocalFunction) -> Counter {
         blocks: 0,
     };
     let mut only = OnlyInstrs { visitor };
-    let start = id(0);
-    let Nesting::Nested(_) = check_nesting(alloc, func, start).expect(rt, "memory") else {
-        panic!(rt; "not nested");
-    };
-    assert!(rt; dfs_in_order(alloc, &mut only, func, start).is_ok());
+    assert_nested(rt, alloc, func);
+    assert!(rt; dfs_in_order(alloc, &mut only, func, Id::from_index(0)).is_ok());
     only.visitor
 }
 

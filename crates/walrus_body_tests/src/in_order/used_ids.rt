@@ -65,15 +65,6 @@ fn named_things(alloc: Global) -> Result<Vec<Instr>, AllocError> {
     ]?)
 }
 
-// The ids are those of these indices, in this order.
-pub(super) fn hold<T>(rt: &impl Abort, alloc: Global, ids: &[Id<T>], wanted: &[usize]) {
-    let mut list = Vec::new(alloc);
-    for id in ids {
-        list.push(id.index()).expect(rt, "memory");
-    }
-    assert_equal(rt, list.as_slice(), wanted);
-}
-
 fn collected(rt: &impl Abort, alloc: Global) -> UsedIds {
     let func = body(rt, alloc);
     let ids = used_ids(alloc, &func, id(0)).expect(rt, "memory");
@@ -84,21 +75,21 @@ fn collected(rt: &impl Abort, alloc: Global) -> UsedIds {
 fn each_kind_has_its_list(rt: HostRuntime) {
     let alloc = rt.alloc();
     let ids = collected(&rt, alloc);
-    hold(&rt, alloc, ids.functions.as_slice(), &[5, 5]);
-    hold(&rt, alloc, ids.types.as_slice(), &[9, 6, 11]);
-    hold(&rt, alloc, ids.tables.as_slice(), &[7, 3]);
-    hold(&rt, alloc, ids.tags.as_slice(), &[4, 12]);
-    hold(&rt, alloc, ids.instr_seqs.as_slice(), &[1]);
+    hold(&rt, ids.functions.as_slice(), &[5, 5]);
+    hold(&rt, ids.types.as_slice(), &[9, 6, 11]);
+    hold(&rt, ids.tables.as_slice(), &[7, 3]);
+    hold(&rt, ids.tags.as_slice(), &[4, 12]);
+    hold(&rt, ids.instr_seqs.as_slice(), &[1]);
 }
 
 #[test]
 fn each_kind_has_its_list_too(rt: HostRuntime) {
     let alloc = rt.alloc();
     let ids = collected(&rt, alloc);
-    hold(&rt, alloc, ids.locals.as_slice(), &[8]);
-    hold(&rt, alloc, ids.memories.as_slice(), &[1]);
-    hold(&rt, alloc, ids.data_segments.as_slice(), &[2]);
-    hold(&rt, alloc, ids.elements.as_slice(), &[4]);
+    hold(&rt, ids.locals.as_slice(), &[8]);
+    hold(&rt, ids.memories.as_slice(), &[1]);
+    hold(&rt, ids.data_segments.as_slice(), &[2]);
+    hold(&rt, ids.elements.as_slice(), &[4]);
     assert_equal(&rt, ids.globals.len(), 0);
 }
 

@@ -1,7 +1,7 @@
 //! Worked walks.
 use super::*;
 use crate::calls::HookCall;
-use crate::functions::{IN_ORDER, test_function, try_table_function};
+use crate::functions::{IN_ORDER, shared, test_function, try_table_function};
 use crate::log::{Full, say, walk, walk_whole};
 use walrus_body::WalkError;
 use walrus_ir::{BrOnCast, Select};
@@ -9,32 +9,7 @@ use walrus_types::{AbstractHeapType, HeapType, ModuleTypes, RefType, ValType};
 
 // A whole walk has these words.
 fn says(rt: &impl Abort, alloc: Global, func: &LocalFunction, text: &str) {
-    say(
-        rt,
-        alloc,
-        walk_whole(rt, alloc, func).calls.as_slice(),
-        text,
-    );
-}
-
-// Adds a sequence of this type with these instructions.
-fn add_sequence(
-    rt: &impl Abort,
-    alloc: Global,
-    f: &mut FunctionBuilder,
-    ty: InstrSeqType,
-    instrs: Vec<Instr>,
-) {
-    add(alloc, f, ty, instrs).expect(rt, "memory");
-}
-
-// Inner sequences have the type 0, the entry has the type 1.
-const INNER: usize = 0;
-
-const OUTER: usize = 1;
-
-fn typed(ty: usize) -> InstrSeqType {
-    InstrSeqType::MultiValue(id(ty))
+    say(rt, alloc, &walk_whole(rt, alloc, func).calls, text);
 }
 
 #[test]
@@ -119,7 +94,7 @@ fn heap_types_are_reported_whole(rt: HostRuntime) {
     });
     let ty = InstrSeqType::Simple(Some(funcref()));
     let instrs = vec![in alloc; cast, select].expect(&rt, "memory");
-    add_sequence(&rt, alloc, &mut f, ty, instrs);
+    add(alloc, &mut f, ty, instrs).expect(&rt, "memory");
     let func = f.local_func(Vec::new(alloc));
     let log = walk_whole(&rt, alloc, &func);
     let want = [
@@ -138,19 +113,9 @@ fn heap_types_are_reported_whole(rt: HostRuntime) {
 // A sequence that two blocks name is visited for each.
 #[test]
 fn a_shared_sequence_is_visited_each_time(rt: HostRuntime) {
-    let alloc = rt.alloc();
-    let mut f = empty(alloc);
-    let entry = vec![in alloc; block(1), block(1)].expect(&rt, "memory");
-    add_sequence(&rt, alloc, &mut f, typed(OUTER), entry);
-    let inside = vec![in alloc; number(5)].expect(&rt, "memory");
-    add_sequence(&rt, alloc, &mut f, typed(INNER), inside);
-    let func = f.local_func(Vec::new(alloc));
-    says(
-        &rt,
-        alloc,
-        &func,
-        "start block start 5 end block start 5 end end",
-    );
+    let func = shared(&rt, rt.alloc());
+    let text = "start block start 5 end block start 5 end end";
+    says(&rt, rt.alloc(), &func, text);
 }
 
 #[test]

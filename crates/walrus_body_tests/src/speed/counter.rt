@@ -1,5 +1,8 @@
 //! A visitor of both walks that counts.
+use super::shapes::Shape;
+use crate::assertions::assert_equal;
 use std::alloc::AllocError;
+use std::process::Abort;
 use walrus_body::{Visitor, VisitorMut};
 use walrus_ir::{
     DataId, ElementId, FunctionId, GlobalId, Instr, InstrLocId, InstrSeq, InstrSeqId, LocalId,
@@ -8,11 +11,11 @@ use walrus_ir::{
 use walrus_types::HeapType;
 
 // How many sequences began, and how many instructions and locals were reported.
-#[derive(Clone, Copy, PartialEq, Eq, Debug)]
+#[derive(Clone, Copy)]
 pub(super) struct Counter {
-    pub(super) sequences: usize,
-    pub(super) instructions: usize,
-    pub(super) locals: usize,
+    sequences: usize,
+    instructions: usize,
+    locals: usize,
 }
 
 impl Counter {
@@ -22,6 +25,14 @@ impl Counter {
             instructions: 0,
             locals: 0,
         }
+    }
+
+    /// It counted the sequences, and ten instructions with four locals for each of the tens.
+    pub(super) fn has_counted(self, rt: &impl Abort, shape: Shape) {
+        let (sequences, tens) = shape.counts();
+        assert_equal(rt, self.sequences, sequences);
+        assert_equal(rt, self.instructions, tens.wrapping_mul(10));
+        assert_equal(rt, self.locals, tens.wrapping_mul(4));
     }
 }
 

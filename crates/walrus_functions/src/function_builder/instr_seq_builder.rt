@@ -1,7 +1,7 @@
 //! Adding instructions to a sequence.
 ghost use Rattle.std.specs.Prelude.{◌≡◌, ◌≤◌, length, OnOk, IfErr};
 ghost use Rattle.std.specs.Borrow.{sem, Lends};
-ghost use Rattle.instr.specs.declared.instr.Instr.{Instr};
+ghost use Rattle.ir_instr.specs.declared.instr.Instr.{Instr};
 ghost use Rattle.walrus_functions.specs.Body.{instrs_of, with_instrs};
 
 use super::FunctionBuilder;
@@ -35,7 +35,7 @@ pub struct InstrSeqBuilder<'a> {
 }
 
 impl<'a> InstrSeqBuilder<'a> {
-    ghost use Rattle.walrus_functions.specs.Building.{seq_id, function_of, with_function, IsKnown, StayKnown, Stays, Adds, AddsAt, AddsNothing};
+    ghost use Rattle.walrus_functions.specs.Building.{seq_id, function_of, with_function, IsKnown, StayKnown, Stays, Adds, AddsAt, AddsNothing, AddsOrNothing};
     ghost use Rattle.walrus_functions.specs.Rows.{self_row, function_row, instrs_row};
 
     /// The id of the sequence.
@@ -122,10 +122,7 @@ impl<'a> InstrSeqBuilder<'a> {
     // Adds an instruction at the end of the sequence.
     pub(super) fn push(&mut self, instr: Instr) -> Result<(), BuildError>
         requires { IsKnown self.old }
-        ensures same { Stays self.old self.new }
-        ensures known { StayKnown (function_of self.old) (function_of self.new) }
-        ensures ok { OnOk result (Adds self.old self.new instr) }
-        ensures err { IfErr result (AddsNothing self.old self.new) }
+        ensures { AddsOrNothing self.old self.new result instr }
     {
         self.builder.push(self.id, instr)?;
         Ok(())

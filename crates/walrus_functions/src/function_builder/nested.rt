@@ -1,7 +1,7 @@
 //! Instructions that have sequences inside.
 //! WebAssembly core specification, "Control Instructions" and "Structured Control Flow".
-ghost use Rattle.std.specs.Prelude.{◌≡◌, ◌⊎◌, [], ◌∷◌, OnOk, IfOk, IfErr, Ok, Err, Some, None};
-ghost use Rattle.instr.specs.declared.instr.Instr.TheVariants as instr;
+ghost use Rattle.std.specs.Prelude.{◌≡◌, ◌⊎◌, [], ◌∷◌, OnOk, IfOk, IfErr, Ok};
+ghost use Rattle.ir_instr.specs.declared.instr.Instr.TheVariants as instr;
 
 use super::InstrSeqBuilder;
 use crate::BuildError;
@@ -10,7 +10,7 @@ use walrus_ir::{Block, IfElse, Instr, InstrSeqId, InstrSeqType, Loop};
 impl<'a> InstrSeqBuilder<'a> {
     ghost use Rattle.walrus_functions.specs.Body.{next_seq};
     ghost use Rattle.walrus_functions.specs.Building.{seq_id, function_of, IsKnown, Stays};
-    ghost use Rattle.walrus_functions.specs.NestedForms.{TakesNew, KeepsFunction, Fills, FailsToFill, AfterFilling, Attaches, FailsToAttach, Nests, FailsToNest};
+    ghost use Rattle.walrus_functions.specs.NestedForms.{TakesNew, KeepsFunction, Fills, FailsToFill, AfterFilling, at_end, behind, Attaches, FailsToAttach, Nests, FailsToNest};
 
     /// Adds a `block` over a new sequence of this type, which `make_block` fills.
     ///
@@ -31,11 +31,11 @@ impl<'a> InstrSeqBuilder<'a> {
         requires keeps { KeepsFunction (F.post make_block) (function_of self.old) ty }
         ensures same { Stays self.old self.new }
         ensures known { OnOk result (IsKnown self.new) }
-        ensures ok { OnOk result (Nests (F.post make_block ∷ []) ty (seq_id self.old) None
+        ensures ok { OnOk result (Nests (F.post make_block ∷ []) ty (at_end (seq_id self.old))
             (λ seq. instr.Block (record { seq = seq }))
             (function_of self.old) (function_of self.new)) }
         ensures err { IfErr result (λ e. FailsToNest (F.post make_block ∷ []) ty
-            (seq_id self.old) None (function_of self.old) e (function_of self.new)) }
+            (at_end (seq_id self.old)) (function_of self.old) e (function_of self.new)) }
     {
         let seq = self.fill_new(ty, make_block)?;
         self.attach(Instr::Block(Block { seq }))
@@ -51,11 +51,11 @@ impl<'a> InstrSeqBuilder<'a> {
         requires keeps { KeepsFunction (F.post make_loop) (function_of self.old) ty }
         ensures same { Stays self.old self.new }
         ensures known { OnOk result (IsKnown self.new) }
-        ensures ok { OnOk result (Nests (F.post make_loop ∷ []) ty (seq_id self.old) None
+        ensures ok { OnOk result (Nests (F.post make_loop ∷ []) ty (at_end (seq_id self.old))
             (λ seq. instr.Loop (record { seq = seq }))
             (function_of self.old) (function_of self.new)) }
         ensures err { IfErr result (λ e. FailsToNest (F.post make_loop ∷ []) ty
-            (seq_id self.old) None (function_of self.old) e (function_of self.new)) }
+            (at_end (seq_id self.old)) (function_of self.old) e (function_of self.new)) }
     {
         let seq = self.fill_new(ty, make_loop)?;
         self.attach(Instr::Loop(Loop { seq }))
@@ -76,11 +76,11 @@ impl<'a> InstrSeqBuilder<'a> {
         ensures same { Stays self.old self.new }
         ensures known { OnOk result (IsKnown self.new) }
         ensures ok { OnOk result
-            (Nests (F.post consequent ∷ G.post alternative ∷ []) ty (seq_id self.old) None
+            (Nests (F.post consequent ∷ G.post alternative ∷ []) ty (at_end (seq_id self.old))
             (λ first second. instr.IfElse (record { consequent = first; alternative = second }))
             (function_of self.old) (function_of self.new)) }
         ensures err { IfErr result (λ e. FailsToNest (F.post consequent ∷ G.post alternative ∷ [])
-            ty (seq_id self.old) None (function_of self.old) e (function_of self.new)) }
+            ty (at_end (seq_id self.old)) (function_of self.old) e (function_of self.new)) }
     {
         let same_ty = ty;
         let first = self.fill_new(ty, consequent)?;
@@ -104,11 +104,11 @@ impl<'a> InstrSeqBuilder<'a> {
         ensures same { Stays self.old self.new }
         ensures known { OnOk result (IsKnown self.new) }
         ensures ok { OnOk result
-            (Nests (F.post make_block ∷ []) ty (seq_id self.old) (Some position)
+            (Nests (F.post make_block ∷ []) ty (behind (seq_id self.old) position)
             (λ seq. instr.Block (record { seq = seq }))
             (function_of self.old) (function_of self.new)) }
         ensures err { IfErr result (λ e. FailsToNest (F.post make_block ∷ []) ty
-            (seq_id self.old) (Some position) (function_of self.old) e (function_of self.new)) }
+            (behind (seq_id self.old) position) (function_of self.old) e (function_of self.new)) }
     {
         let seq = self.fill_new(ty, make_block)?;
         self.attach_at(position, Instr::Block(Block { seq }))
@@ -127,11 +127,11 @@ impl<'a> InstrSeqBuilder<'a> {
         ensures same { Stays self.old self.new }
         ensures known { OnOk result (IsKnown self.new) }
         ensures ok { OnOk result
-            (Nests (F.post make_loop ∷ []) ty (seq_id self.old) (Some position)
+            (Nests (F.post make_loop ∷ []) ty (behind (seq_id self.old) position)
             (λ seq. instr.Loop (record { seq = seq }))
             (function_of self.old) (function_of self.new)) }
         ensures err { IfErr result (λ e. FailsToNest (F.post make_loop ∷ []) ty
-            (seq_id self.old) (Some position) (function_of self.old) e (function_of self.new)) }
+            (behind (seq_id self.old) position) (function_of self.old) e (function_of self.new)) }
     {
         let seq = self.fill_new(ty, make_loop)?;
         self.attach_at(position, Instr::Loop(Loop { seq }))
@@ -158,12 +158,12 @@ impl<'a> InstrSeqBuilder<'a> {
         ensures same { Stays self.old self.new }
         ensures known { OnOk result (IsKnown self.new) }
         ensures ok { OnOk result
-            (Nests (F.post consequent ∷ G.post alternative ∷ []) ty (seq_id self.old)
-            (Some position)
+            (Nests (F.post consequent ∷ G.post alternative ∷ []) ty
+            (behind (seq_id self.old) position)
             (λ first second. instr.IfElse (record { consequent = first; alternative = second }))
             (function_of self.old) (function_of self.new)) }
         ensures err { IfErr result (λ e. FailsToNest (F.post consequent ∷ G.post alternative ∷ [])
-            ty (seq_id self.old) (Some position) (function_of self.old) e (function_of self.new)) }
+            ty (behind (seq_id self.old) position) (function_of self.old) e (function_of self.new)) }
     {
         let same_ty = ty;
         let first = self.fill_new(ty, consequent)?;
@@ -206,9 +206,9 @@ impl<'a> InstrSeqBuilder<'a> {
         ensures same { Stays self.old self.new }
         ensures known { OnOk result (IsKnown self.new) }
         ensures ok { OnOk result
-            (Attaches (function_of self.old) (seq_id self.old) None instr (function_of self.new)) }
+            (Attaches (function_of self.old) (at_end (seq_id self.old)) instr (function_of self.new)) }
         ensures err { IfErr result (λ e. (function_of self.new ≡ function_of self.old)
-            × FailsToAttach (function_of self.old) (seq_id self.old) None e) }
+            × FailsToAttach (function_of self.old) (at_end (seq_id self.old)) e) }
     {
         if !self.builder.contains_seq(self.id) {
             return Err(BuildError::NoParent);
@@ -223,10 +223,10 @@ impl<'a> InstrSeqBuilder<'a> {
         ensures same { Stays self.old self.new }
         ensures known { OnOk result (IsKnown self.new) }
         ensures ok { OnOk result
-            (Attaches (function_of self.old) (seq_id self.old) (Some position) instr
+            (Attaches (function_of self.old) (behind (seq_id self.old) position) instr
             (function_of self.new)) }
         ensures err { IfErr result (λ e. (function_of self.new ≡ function_of self.old)
-            × FailsToAttach (function_of self.old) (seq_id self.old) (Some position) e) }
+            × FailsToAttach (function_of self.old) (behind (seq_id self.old) position) e) }
     {
         if !self.builder.contains_seq(self.id) {
             return Err(BuildError::NoParent);

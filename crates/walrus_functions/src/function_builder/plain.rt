@@ -1,9 +1,8 @@
 //! A call for each common instruction, which adds it at the end of the sequence. The arguments are
 //! the fields of its struct in their order.
 //! WebAssembly core specification, "Instructions".
-ghost use Rattle.std.specs.Prelude.{OnOk, IfErr};
-ghost use Rattle.instr.specs.declared.instr.Instr.TheVariants as instr;
-ghost use Rattle.operators.specs.declared.value.Value.TheVariants as constant;
+ghost use Rattle.ir_instr.specs.declared.instr.Instr.TheVariants as instr;
+ghost use Rattle.ir_operators.specs.declared.value.Value.TheVariants as constant;
 
 use super::InstrSeqBuilder;
 use crate::BuildError;
@@ -18,16 +17,13 @@ use walrus_types::{
 };
 
 impl<'a> InstrSeqBuilder<'a> {
-    ghost use Rattle.walrus_functions.specs.Building.{function_of, IsKnown, StayKnown, Stays, Adds, AddsNothing};
+    ghost use Rattle.walrus_functions.specs.Building.{IsKnown, AddsOrNothing};
 
     /// `i32.const` of this number.
     pub fn i32_const(&mut self, val: i32) -> Result<(), BuildError>
         requires { IsKnown self.old }
-        ensures same { Stays self.old self.new }
-        ensures known { StayKnown (function_of self.old) (function_of self.new) }
-        ensures ok { OnOk result (Adds self.old self.new
-            (instr.Const (record { value = constant.I32 val }))) }
-        ensures err { IfErr result (AddsNothing self.old self.new) }
+        ensures { AddsOrNothing self.old self.new result
+            (instr.Const (record { value = constant.I32 val })) }
     {
         self.const_(Value::I32(val))
     }
@@ -35,11 +31,8 @@ impl<'a> InstrSeqBuilder<'a> {
     /// `i64.const` of this number.
     pub fn i64_const(&mut self, val: i64) -> Result<(), BuildError>
         requires { IsKnown self.old }
-        ensures same { Stays self.old self.new }
-        ensures known { StayKnown (function_of self.old) (function_of self.new) }
-        ensures ok { OnOk result (Adds self.old self.new
-            (instr.Const (record { value = constant.I64 val }))) }
-        ensures err { IfErr result (AddsNothing self.old self.new) }
+        ensures { AddsOrNothing self.old self.new result
+            (instr.Const (record { value = constant.I64 val })) }
     {
         self.const_(Value::I64(val))
     }
@@ -47,11 +40,8 @@ impl<'a> InstrSeqBuilder<'a> {
     /// `f32.const` of the number with these bits.
     pub fn f32_const(&mut self, val: u32) -> Result<(), BuildError>
         requires { IsKnown self.old }
-        ensures same { Stays self.old self.new }
-        ensures known { StayKnown (function_of self.old) (function_of self.new) }
-        ensures ok { OnOk result (Adds self.old self.new
-            (instr.Const (record { value = constant.F32 val }))) }
-        ensures err { IfErr result (AddsNothing self.old self.new) }
+        ensures { AddsOrNothing self.old self.new result
+            (instr.Const (record { value = constant.F32 val })) }
     {
         self.const_(Value::F32(val))
     }
@@ -59,11 +49,8 @@ impl<'a> InstrSeqBuilder<'a> {
     /// `f64.const` of the number with these bits.
     pub fn f64_const(&mut self, val: u64) -> Result<(), BuildError>
         requires { IsKnown self.old }
-        ensures same { Stays self.old self.new }
-        ensures known { StayKnown (function_of self.old) (function_of self.new) }
-        ensures ok { OnOk result (Adds self.old self.new
-            (instr.Const (record { value = constant.F64 val }))) }
-        ensures err { IfErr result (AddsNothing self.old self.new) }
+        ensures { AddsOrNothing self.old self.new result
+            (instr.Const (record { value = constant.F64 val })) }
     {
         self.const_(Value::F64(val))
     }
@@ -71,10 +58,7 @@ impl<'a> InstrSeqBuilder<'a> {
     /// Calls this function: `call`.
     pub fn call(&mut self, func: FunctionId) -> Result<(), BuildError>
         requires { IsKnown self.old }
-        ensures same { Stays self.old self.new }
-        ensures known { StayKnown (function_of self.old) (function_of self.new) }
-        ensures ok { OnOk result (Adds self.old self.new (instr.Call (record { func = func }))) }
-        ensures err { IfErr result (AddsNothing self.old self.new) }
+        ensures { AddsOrNothing self.old self.new result (instr.Call (record { func = func })) }
     {
         self.push(Instr::Call(Call { func }))
     }
@@ -82,11 +66,8 @@ impl<'a> InstrSeqBuilder<'a> {
     /// Calls the function at a place of a table: `call_indirect`.
     pub fn call_indirect(&mut self, ty: TypeId, table: TableId) -> Result<(), BuildError>
         requires { IsKnown self.old }
-        ensures same { Stays self.old self.new }
-        ensures known { StayKnown (function_of self.old) (function_of self.new) }
-        ensures ok { OnOk result (Adds self.old self.new
-            (instr.CallIndirect (record { ty = ty; table = table }))) }
-        ensures err { IfErr result (AddsNothing self.old self.new) }
+        ensures { AddsOrNothing self.old self.new result
+            (instr.CallIndirect (record { ty = ty; table = table })) }
     {
         self.push(Instr::CallIndirect(CallIndirect { ty, table }))
     }
@@ -94,11 +75,8 @@ impl<'a> InstrSeqBuilder<'a> {
     /// Reads a local: `local.get`.
     pub fn local_get(&mut self, local: LocalId) -> Result<(), BuildError>
         requires { IsKnown self.old }
-        ensures same { Stays self.old self.new }
-        ensures known { StayKnown (function_of self.old) (function_of self.new) }
-        ensures ok { OnOk result (Adds self.old self.new
-            (instr.LocalGet (record { local = local }))) }
-        ensures err { IfErr result (AddsNothing self.old self.new) }
+        ensures { AddsOrNothing self.old self.new result
+            (instr.LocalGet (record { local = local })) }
     {
         self.push(Instr::LocalGet(LocalGet { local }))
     }
@@ -106,11 +84,8 @@ impl<'a> InstrSeqBuilder<'a> {
     /// Writes a local: `local.set`.
     pub fn local_set(&mut self, local: LocalId) -> Result<(), BuildError>
         requires { IsKnown self.old }
-        ensures same { Stays self.old self.new }
-        ensures known { StayKnown (function_of self.old) (function_of self.new) }
-        ensures ok { OnOk result (Adds self.old self.new
-            (instr.LocalSet (record { local = local }))) }
-        ensures err { IfErr result (AddsNothing self.old self.new) }
+        ensures { AddsOrNothing self.old self.new result
+            (instr.LocalSet (record { local = local })) }
     {
         self.push(Instr::LocalSet(LocalSet { local }))
     }
@@ -118,11 +93,8 @@ impl<'a> InstrSeqBuilder<'a> {
     /// Writes a local and leaves the value: `local.tee`.
     pub fn local_tee(&mut self, local: LocalId) -> Result<(), BuildError>
         requires { IsKnown self.old }
-        ensures same { Stays self.old self.new }
-        ensures known { StayKnown (function_of self.old) (function_of self.new) }
-        ensures ok { OnOk result (Adds self.old self.new
-            (instr.LocalTee (record { local = local }))) }
-        ensures err { IfErr result (AddsNothing self.old self.new) }
+        ensures { AddsOrNothing self.old self.new result
+            (instr.LocalTee (record { local = local })) }
     {
         self.push(Instr::LocalTee(LocalTee { local }))
     }
@@ -130,11 +102,8 @@ impl<'a> InstrSeqBuilder<'a> {
     /// Reads a global: `global.get`.
     pub fn global_get(&mut self, global: GlobalId) -> Result<(), BuildError>
         requires { IsKnown self.old }
-        ensures same { Stays self.old self.new }
-        ensures known { StayKnown (function_of self.old) (function_of self.new) }
-        ensures ok { OnOk result (Adds self.old self.new
-            (instr.GlobalGet (record { global = global }))) }
-        ensures err { IfErr result (AddsNothing self.old self.new) }
+        ensures { AddsOrNothing self.old self.new result
+            (instr.GlobalGet (record { global = global })) }
     {
         self.push(Instr::GlobalGet(GlobalGet { global }))
     }
@@ -142,11 +111,8 @@ impl<'a> InstrSeqBuilder<'a> {
     /// Writes a global: `global.set`.
     pub fn global_set(&mut self, global: GlobalId) -> Result<(), BuildError>
         requires { IsKnown self.old }
-        ensures same { Stays self.old self.new }
-        ensures known { StayKnown (function_of self.old) (function_of self.new) }
-        ensures ok { OnOk result (Adds self.old self.new
-            (instr.GlobalSet (record { global = global }))) }
-        ensures err { IfErr result (AddsNothing self.old self.new) }
+        ensures { AddsOrNothing self.old self.new result
+            (instr.GlobalSet (record { global = global })) }
     {
         self.push(Instr::GlobalSet(GlobalSet { global }))
     }
@@ -154,10 +120,7 @@ impl<'a> InstrSeqBuilder<'a> {
     /// Gives this value: `i32.const` and similar instructions.
     pub fn const_(&mut self, value: Value) -> Result<(), BuildError>
         requires { IsKnown self.old }
-        ensures same { Stays self.old self.new }
-        ensures known { StayKnown (function_of self.old) (function_of self.new) }
-        ensures ok { OnOk result (Adds self.old self.new (instr.Const (record { value = value }))) }
-        ensures err { IfErr result (AddsNothing self.old self.new) }
+        ensures { AddsOrNothing self.old self.new result (instr.Const (record { value = value })) }
     {
         self.push(Instr::Const(Const { value }))
     }
@@ -165,10 +128,7 @@ impl<'a> InstrSeqBuilder<'a> {
     /// Applies an operator to two values.
     pub fn binop(&mut self, op: BinaryOp) -> Result<(), BuildError>
         requires { IsKnown self.old }
-        ensures same { Stays self.old self.new }
-        ensures known { StayKnown (function_of self.old) (function_of self.new) }
-        ensures ok { OnOk result (Adds self.old self.new (instr.Binop (record { op = op }))) }
-        ensures err { IfErr result (AddsNothing self.old self.new) }
+        ensures { AddsOrNothing self.old self.new result (instr.Binop (record { op = op })) }
     {
         self.push(Instr::Binop(Binop { op }))
     }
@@ -176,10 +136,7 @@ impl<'a> InstrSeqBuilder<'a> {
     /// Applies an operator to one value.
     pub fn unop(&mut self, op: UnaryOp) -> Result<(), BuildError>
         requires { IsKnown self.old }
-        ensures same { Stays self.old self.new }
-        ensures known { StayKnown (function_of self.old) (function_of self.new) }
-        ensures ok { OnOk result (Adds self.old self.new (instr.Unop (record { op = op }))) }
-        ensures err { IfErr result (AddsNothing self.old self.new) }
+        ensures { AddsOrNothing self.old self.new result (instr.Unop (record { op = op })) }
     {
         self.push(Instr::Unop(Unop { op }))
     }
@@ -187,10 +144,7 @@ impl<'a> InstrSeqBuilder<'a> {
     /// Picks one of two values: `select`.
     pub fn select(&mut self, ty: Option<ValType>) -> Result<(), BuildError>
         requires { IsKnown self.old }
-        ensures same { Stays self.old self.new }
-        ensures known { StayKnown (function_of self.old) (function_of self.new) }
-        ensures ok { OnOk result (Adds self.old self.new (instr.Select (record { ty = ty }))) }
-        ensures err { IfErr result (AddsNothing self.old self.new) }
+        ensures { AddsOrNothing self.old self.new result (instr.Select (record { ty = ty })) }
     {
         self.push(Instr::Select(Select { ty }))
     }
@@ -198,10 +152,7 @@ impl<'a> InstrSeqBuilder<'a> {
     /// Traps: `unreachable`.
     pub fn unreachable(&mut self) -> Result<(), BuildError>
         requires { IsKnown self.old }
-        ensures same { Stays self.old self.new }
-        ensures known { StayKnown (function_of self.old) (function_of self.new) }
-        ensures ok { OnOk result (Adds self.old self.new (instr.Unreachable (record {}))) }
-        ensures err { IfErr result (AddsNothing self.old self.new) }
+        ensures { AddsOrNothing self.old self.new result (instr.Unreachable (record {})) }
     {
         self.push(Instr::Unreachable(Unreachable {}))
     }
@@ -209,10 +160,7 @@ impl<'a> InstrSeqBuilder<'a> {
     /// Branches to the label of a sequence: `br`.
     pub fn br(&mut self, block: InstrSeqId) -> Result<(), BuildError>
         requires { IsKnown self.old }
-        ensures same { Stays self.old self.new }
-        ensures known { StayKnown (function_of self.old) (function_of self.new) }
-        ensures ok { OnOk result (Adds self.old self.new (instr.Br (record { block = block }))) }
-        ensures err { IfErr result (AddsNothing self.old self.new) }
+        ensures { AddsOrNothing self.old self.new result (instr.Br (record { block = block })) }
     {
         self.push(Instr::Br(Br { block }))
     }
@@ -220,10 +168,7 @@ impl<'a> InstrSeqBuilder<'a> {
     /// Branches to the label of a sequence if a number is not zero: `br_if`.
     pub fn br_if(&mut self, block: InstrSeqId) -> Result<(), BuildError>
         requires { IsKnown self.old }
-        ensures same { Stays self.old self.new }
-        ensures known { StayKnown (function_of self.old) (function_of self.new) }
-        ensures ok { OnOk result (Adds self.old self.new (instr.BrIf (record { block = block }))) }
-        ensures err { IfErr result (AddsNothing self.old self.new) }
+        ensures { AddsOrNothing self.old self.new result (instr.BrIf (record { block = block })) }
     {
         self.push(Instr::BrIf(BrIf { block }))
     }
@@ -235,11 +180,8 @@ impl<'a> InstrSeqBuilder<'a> {
         default: InstrSeqId,
     ) -> Result<(), BuildError>
         requires { IsKnown self.old }
-        ensures same { Stays self.old self.new }
-        ensures known { StayKnown (function_of self.old) (function_of self.new) }
-        ensures ok { OnOk result (Adds self.old self.new
-            (instr.BrTable (record { blocks = blocks.items; default = default }))) }
-        ensures err { IfErr result (AddsNothing self.old self.new) }
+        ensures { AddsOrNothing self.old self.new result
+            (instr.BrTable (record { blocks = blocks.items; default = default })) }
     {
         self.push(Instr::BrTable(BrTable {
             blocks: Listed::from_vec(blocks),
@@ -250,10 +192,7 @@ impl<'a> InstrSeqBuilder<'a> {
     /// Drops a value: `drop`.
     pub fn drop(&mut self) -> Result<(), BuildError>
         requires { IsKnown self.old }
-        ensures same { Stays self.old self.new }
-        ensures known { StayKnown (function_of self.old) (function_of self.new) }
-        ensures ok { OnOk result (Adds self.old self.new (instr.Drop (record {}))) }
-        ensures err { IfErr result (AddsNothing self.old self.new) }
+        ensures { AddsOrNothing self.old self.new result (instr.Drop (record {})) }
     {
         self.push(Instr::Drop(DropInstr {}))
     }
@@ -261,10 +200,7 @@ impl<'a> InstrSeqBuilder<'a> {
     /// Returns from the function: `return`.
     pub fn return_(&mut self) -> Result<(), BuildError>
         requires { IsKnown self.old }
-        ensures same { Stays self.old self.new }
-        ensures known { StayKnown (function_of self.old) (function_of self.new) }
-        ensures ok { OnOk result (Adds self.old self.new (instr.Return (record {}))) }
-        ensures err { IfErr result (AddsNothing self.old self.new) }
+        ensures { AddsOrNothing self.old self.new result (instr.Return (record {})) }
     {
         self.push(Instr::Return(Return {}))
     }
@@ -272,11 +208,8 @@ impl<'a> InstrSeqBuilder<'a> {
     /// Gives the size of a memory: `memory.size`.
     pub fn memory_size(&mut self, memory: MemoryId) -> Result<(), BuildError>
         requires { IsKnown self.old }
-        ensures same { Stays self.old self.new }
-        ensures known { StayKnown (function_of self.old) (function_of self.new) }
-        ensures ok { OnOk result (Adds self.old self.new
-            (instr.MemorySize (record { memory = memory }))) }
-        ensures err { IfErr result (AddsNothing self.old self.new) }
+        ensures { AddsOrNothing self.old self.new result
+            (instr.MemorySize (record { memory = memory })) }
     {
         self.push(Instr::MemorySize(MemorySize { memory }))
     }
@@ -284,11 +217,8 @@ impl<'a> InstrSeqBuilder<'a> {
     /// Grows a memory: `memory.grow`.
     pub fn memory_grow(&mut self, memory: MemoryId) -> Result<(), BuildError>
         requires { IsKnown self.old }
-        ensures same { Stays self.old self.new }
-        ensures known { StayKnown (function_of self.old) (function_of self.new) }
-        ensures ok { OnOk result (Adds self.old self.new
-            (instr.MemoryGrow (record { memory = memory }))) }
-        ensures err { IfErr result (AddsNothing self.old self.new) }
+        ensures { AddsOrNothing self.old self.new result
+            (instr.MemoryGrow (record { memory = memory })) }
     {
         self.push(Instr::MemoryGrow(MemoryGrow { memory }))
     }
@@ -296,11 +226,8 @@ impl<'a> InstrSeqBuilder<'a> {
     /// Reads from a memory: `i32.load` and similar instructions.
     pub fn load(&mut self, memory: MemoryId, kind: LoadKind, arg: MemArg) -> Result<(), BuildError>
         requires { IsKnown self.old }
-        ensures same { Stays self.old self.new }
-        ensures known { StayKnown (function_of self.old) (function_of self.new) }
-        ensures ok { OnOk result (Adds self.old self.new
-            (instr.Load (record { memory = memory; kind = kind; arg = arg }))) }
-        ensures err { IfErr result (AddsNothing self.old self.new) }
+        ensures { AddsOrNothing self.old self.new result
+            (instr.Load (record { memory = memory; kind = kind; arg = arg })) }
     {
         self.push(Instr::Load(Load { memory, kind, arg }))
     }
@@ -313,11 +240,8 @@ impl<'a> InstrSeqBuilder<'a> {
         arg: MemArg,
     ) -> Result<(), BuildError>
         requires { IsKnown self.old }
-        ensures same { Stays self.old self.new }
-        ensures known { StayKnown (function_of self.old) (function_of self.new) }
-        ensures ok { OnOk result (Adds self.old self.new
-            (instr.Store (record { memory = memory; kind = kind; arg = arg }))) }
-        ensures err { IfErr result (AddsNothing self.old self.new) }
+        ensures { AddsOrNothing self.old self.new result
+            (instr.Store (record { memory = memory; kind = kind; arg = arg })) }
     {
         self.push(Instr::Store(Store { memory, kind, arg }))
     }
@@ -325,10 +249,7 @@ impl<'a> InstrSeqBuilder<'a> {
     /// Gives a null reference: `ref.null`.
     pub fn ref_null(&mut self, ty: RefType) -> Result<(), BuildError>
         requires { IsKnown self.old }
-        ensures same { Stays self.old self.new }
-        ensures known { StayKnown (function_of self.old) (function_of self.new) }
-        ensures ok { OnOk result (Adds self.old self.new (instr.RefNull (record { ty = ty }))) }
-        ensures err { IfErr result (AddsNothing self.old self.new) }
+        ensures { AddsOrNothing self.old self.new result (instr.RefNull (record { ty = ty })) }
     {
         self.push(Instr::RefNull(RefNull { ty }))
     }
@@ -336,10 +257,7 @@ impl<'a> InstrSeqBuilder<'a> {
     /// Gives a reference to a function: `ref.func`.
     pub fn ref_func(&mut self, func: FunctionId) -> Result<(), BuildError>
         requires { IsKnown self.old }
-        ensures same { Stays self.old self.new }
-        ensures known { StayKnown (function_of self.old) (function_of self.new) }
-        ensures ok { OnOk result (Adds self.old self.new (instr.RefFunc (record { func = func }))) }
-        ensures err { IfErr result (AddsNothing self.old self.new) }
+        ensures { AddsOrNothing self.old self.new result (instr.RefFunc (record { func = func })) }
     {
         self.push(Instr::RefFunc(RefFunc { func }))
     }
@@ -347,10 +265,7 @@ impl<'a> InstrSeqBuilder<'a> {
     /// Makes a structure: `struct.new`.
     pub fn struct_new(&mut self, ty: TypeId) -> Result<(), BuildError>
         requires { IsKnown self.old }
-        ensures same { Stays self.old self.new }
-        ensures known { StayKnown (function_of self.old) (function_of self.new) }
-        ensures ok { OnOk result (Adds self.old self.new (instr.StructNew (record { ty = ty }))) }
-        ensures err { IfErr result (AddsNothing self.old self.new) }
+        ensures { AddsOrNothing self.old self.new result (instr.StructNew (record { ty = ty })) }
     {
         self.push(Instr::StructNew(StructNew { ty }))
     }
@@ -358,10 +273,7 @@ impl<'a> InstrSeqBuilder<'a> {
     /// Makes an array: `array.new`.
     pub fn array_new(&mut self, ty: TypeId) -> Result<(), BuildError>
         requires { IsKnown self.old }
-        ensures same { Stays self.old self.new }
-        ensures known { StayKnown (function_of self.old) (function_of self.new) }
-        ensures ok { OnOk result (Adds self.old self.new (instr.ArrayNew (record { ty = ty }))) }
-        ensures err { IfErr result (AddsNothing self.old self.new) }
+        ensures { AddsOrNothing self.old self.new result (instr.ArrayNew (record { ty = ty })) }
     {
         self.push(Instr::ArrayNew(ArrayNew { ty }))
     }
@@ -369,10 +281,7 @@ impl<'a> InstrSeqBuilder<'a> {
     /// Throws an exception: `throw`.
     pub fn throw(&mut self, tag: TagId) -> Result<(), BuildError>
         requires { IsKnown self.old }
-        ensures same { Stays self.old self.new }
-        ensures known { StayKnown (function_of self.old) (function_of self.new) }
-        ensures ok { OnOk result (Adds self.old self.new (instr.Throw (record { tag = tag }))) }
-        ensures err { IfErr result (AddsNothing self.old self.new) }
+        ensures { AddsOrNothing self.old self.new result (instr.Throw (record { tag = tag })) }
     {
         self.push(Instr::Throw(Throw { tag }))
     }

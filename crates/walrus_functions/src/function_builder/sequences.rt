@@ -1,7 +1,7 @@
 //! The sequences of a function by id.
 ghost use Rattle.std.specs.Prelude.{◌≡◌, ◌<◌, ◌↔◌, [], ◌∷◌, ◌++◌, length, slice_get, IsTrue, IfOk, OnOk, OnErr, Some};
 ghost use Rattle.std.specs.Borrow.{sem};
-ghost use Rattle.instr.specs.Sequence.{empty_sequence};
+ghost use Rattle.ir_instr.specs.Sequence.{empty_sequence};
 
 use std::alloc::{AllocError, Global};
 use std::marker::Model;
@@ -16,7 +16,7 @@ pub(super) struct Sequences {
 
 impl Model for Sequences {
     ghost use Rattle.std.specs.Prelude.{List};
-    ghost use Rattle.instr.specs.Sequence.{Sequence};
+    ghost use Rattle.ir_instr.specs.Sequence.{Sequence};
 
     ghost Value = { List Sequence };
 

@@ -1,23 +1,7 @@
 //! The entry of a function, sequences that nothing names yet, and texts of errors.
 use super::*;
 use crate::assertions::assert_equal;
-use walrus_ir::{Block, DropInstr};
 use walrus_types::{CompAt, EntryAt, GroupAt, Listed};
-
-// The section of one lone type: the function type without parameters and results.
-fn one_function(alloc: Global) -> Result<Vec<GroupAt>, AllocError> {
-    let comp = CompAt::Function {
-        params: Listed::from_vec(Vec::new(alloc)),
-        results: Listed::from_vec(Vec::new(alloc)),
-    };
-    Ok(vec![in alloc;
-        GroupAt::Single(EntryAt {
-            comp,
-            is_final: true,
-            supertype: None
-        }),
-    ]?)
-}
 
 // The table has the function type, the type of the body, and no third type.
 #[test]
@@ -31,7 +15,15 @@ fn the_type_of_a_body_is_not_written(rt: HostRuntime) {
     assert!(rt; types.get(entry_ty).is_for_function_entry());
     assert!(rt; !types.contains(Id::from_index(2)));
     let (groups, _) = types.emit().expect(&rt, "memory");
-    assert!(rt; groups == one_function(alloc).expect(&rt, "memory"));
+    let function = GroupAt::Single(EntryAt {
+        comp: CompAt::Function {
+            params: Listed::from_vec(Vec::new(alloc)),
+            results: Listed::from_vec(Vec::new(alloc)),
+        },
+        is_final: true,
+        supertype: None,
+    });
+    assert!(rt; groups.as_slice() == [function].as_slice());
     assert_equal(&rt, f.local_func(Vec::new(alloc)).ty(), ty);
 }
 
@@ -45,24 +37,22 @@ fn a_dangling_sequence_becomes_the_entry(rt: HostRuntime) {
     f.set_entry(id);
     assert_equal(&rt, f.func_body_id(), id);
     let func = f.local_func(Vec::new(rt.alloc()));
-    prints(&rt, rt.alloc(), &func, "0: Drop(DropInstr)\n");
+    has(&rt, rt.alloc(), &func, "(drop)");
 }
 
 #[test]
 fn an_instruction_is_added(rt: HostRuntime) {
-    let fill = |b: &mut InstrSeqBuilder<'_>| b.instr(Block { seq: b.id() });
-    let text = "0: Block(Block { seq: Id(0) })\n";
-    builds(&rt, rt.alloc(), fill, Ok(()), text);
+    builds(&rt, rt.alloc(), "(block 0)", Ok(()), |b| {
+        b.instr(Block { seq: b.id() })
+    });
 }
 
 #[test]
 fn an_instruction_goes_before_another(rt: HostRuntime) {
-    let fill = |b: &mut InstrSeqBuilder<'_>| {
+    builds(&rt, rt.alloc(), "(drop, unreachable)", Ok(()), |b| {
         b.unreachable()?;
         b.instr_at(0, DropInstr {})
-    };
-    let text = "0: Drop(DropInstr) Unreachable(Unreachable)\n";
-    builds(&rt, rt.alloc(), fill, Ok(()), text);
+    });
 }
 
 #[test]
@@ -76,19 +66,16 @@ fn instructions_are_read(rt: HostRuntime) {
     assert!(rt; !f.contains_seq(Id::from_index(1)));
 }
 
-fn says(rt: &impl Abort, alloc: Global, error: BuildError, text: &str) {
-    let said = error.to_string(alloc).expect(rt, "memory");
-    assert_equal(rt, said.as_str(), text);
-}
-
 #[test]
 fn texts_of_errors(rt: HostRuntime) {
-    says(&rt, rt.alloc(), BuildError::NoParent, "unknown parent");
-    says(
-        &rt,
-        rt.alloc(),
+    let texts = ["unknown parent", "position past the end", "out of memory"];
+    let errors = [
+        BuildError::NoParent,
         BuildError::Position,
-        "position past the end",
-    );
-    says(&rt, rt.alloc(), BuildError::Memory, "out of memory");
+        BuildError::Memory,
+    ];
+    for (error, text) in errors.iter().zip(texts) {
+        let said = error.to_string(rt.alloc()).expect(&rt, "memory");
+        assert_equal(&rt, said.as_str(), text);
+    }
 }

@@ -1,111 +1,205 @@
 //! That each call for one instruction can add it.
+ghost use Rattle.walrus_functions.specs.Building.{IsKnown};
+
+use super::texts::{ANY, ARG, is};
 use super::*;
-use walrus_ir::{BinaryOp, LoadKind, MemArg, StoreKind, UnaryOp, Value};
-use walrus_types::{AbstractHeapType, HeapType, RefType};
+use walrus_ir::{LoadKind, StoreKind};
+
+// Calls that add an instruction without sequences inside.
+#[derive(Clone, Copy)]
+pub(super) enum PlainCall {
+    Instr,
+    InstrAt,
+    I32Const,
+    I64Const,
+    F32Const,
+    F64Const,
+    Const,
+    LocalGet,
+    LocalSet,
+    LocalTee,
+    GlobalGet,
+    GlobalSet,
+    Call,
+    CallIndirect,
+    RefFunc,
+    Throw,
+    Return,
+    Br,
+    BrIf,
+    BrTable,
+    Unreachable,
+    MemorySize,
+    MemoryGrow,
+    Load,
+    Store,
+    Unop,
+    Binop,
+    Select,
+    Drop,
+    RefNull,
+    StructNew,
+    ArrayNew,
+}
+
+// Makes the call.
+pub(super) fn add(
+    alloc: Global,
+    body: &mut InstrSeqBuilder<'_>,
+    call: PlainCall,
+) -> Result<(), BuildError>
+    requires { IsKnown body.old }
+{
+    match call {
+        PlainCall::Instr => body.instr(DropInstr {}),
+        PlainCall::InstrAt => body.instr_at(0, Unreachable {}),
+        PlainCall::I32Const => body.i32_const(-1),
+        PlainCall::I64Const => body.i64_const(-2),
+        PlainCall::F32Const => body.f32_const(3),
+        PlainCall::F64Const => body.f64_const(4),
+        PlainCall::Const => body.const_(Value::V128(5)),
+        PlainCall::LocalGet => body.local_get(Id::from_index(7)),
+        PlainCall::LocalSet => body.local_set(Id::from_index(7)),
+        PlainCall::LocalTee => body.local_tee(Id::from_index(7)),
+        PlainCall::GlobalGet => body.global_get(Id::from_index(7)),
+        PlainCall::GlobalSet => body.global_set(Id::from_index(7)),
+        PlainCall::Call => body.call(Id::from_index(7)),
+        PlainCall::CallIndirect => body.call_indirect(Id::from_index(7), Id::from_index(8)),
+        PlainCall::RefFunc => body.ref_func(Id::from_index(7)),
+        PlainCall::Throw => body.throw(Id::from_index(7)),
+        PlainCall::Return => body.return_(),
+        _ => add_another(alloc, body, call),
+    }
+}
+
+fn add_another(
+    alloc: Global,
+    body: &mut InstrSeqBuilder<'_>,
+    call: PlainCall,
+) -> Result<(), BuildError>
+    requires { IsKnown body.old }
+{
+    match call {
+        PlainCall::Br => body.br(Id::from_index(7)),
+        PlainCall::BrIf => body.br_if(Id::from_index(7)),
+        PlainCall::BrTable => body.br_table(vec![in alloc; Id::from_index(5)]?, Id::from_index(7)),
+        PlainCall::Unreachable => body.unreachable(),
+        PlainCall::MemorySize => body.memory_size(Id::from_index(7)),
+        PlainCall::MemoryGrow => body.memory_grow(Id::from_index(7)),
+        PlainCall::Load => body.load(Id::from_index(7), LoadKind::F32, ARG),
+        PlainCall::Store => body.store(Id::from_index(7), StoreKind::F64, ARG),
+        PlainCall::Unop => body.unop(UnaryOp::I32Eqz),
+        PlainCall::Binop => body.binop(BinaryOp::I32Add),
+        PlainCall::Select => body.select(None),
+        PlainCall::Drop => body.drop(),
+        PlainCall::RefNull => body.ref_null(ANY),
+        PlainCall::StructNew => body.struct_new(Id::from_index(7)),
+        PlainCall::ArrayNew => body.array_new(Id::from_index(7)),
+        _ => Err(BuildError::Position),
+    }
+}
+
+// Calls with the instructions that they add.
+pub(super) type Rows = &'static [(PlainCall, &'static str)];
+
+pub(super) const CONSTANTS: Rows = &[
+    (PlainCall::I32Const, "i32 -1"),
+    (PlainCall::I64Const, "i64 -2"),
+    (PlainCall::F32Const, "f32 3"),
+    (PlainCall::F64Const, "f64 4"),
+    (PlainCall::Const, "v128 5"),
+];
+
+pub(super) const VARIABLES: Rows = &[
+    (PlainCall::LocalGet, "local.get 7"),
+    (PlainCall::LocalSet, "local.set 7"),
+    (PlainCall::LocalTee, "local.tee 7"),
+    (PlainCall::GlobalGet, "global.get 7"),
+    (PlainCall::GlobalSet, "global.set 7"),
+];
+
+pub(super) const CALLS: Rows = &[
+    (PlainCall::Call, "call 7"),
+    (PlainCall::CallIndirect, "call_indirect 7 8"),
+    (PlainCall::RefFunc, "ref.func 7"),
+    (PlainCall::Throw, "throw 7"),
+    (PlainCall::Return, "return"),
+];
+
+pub(super) const BRANCHES: Rows = &[
+    (PlainCall::Br, "br 7"),
+    (PlainCall::BrIf, "br_if 7"),
+    (PlainCall::BrTable, "br_table 5 7"),
+    (PlainCall::Unreachable, "unreachable"),
+];
+
+pub(super) const MEMORIES: Rows = &[
+    (PlainCall::MemorySize, "memory.size 7"),
+    (PlainCall::MemoryGrow, "memory.grow 7"),
+    (PlainCall::Load, "f32.load 7"),
+    (PlainCall::Store, "f64.store 7"),
+];
+
+pub(super) const OPERATORS: Rows = &[
+    (PlainCall::Unop, "i32.eqz"),
+    (PlainCall::Binop, "i32.add"),
+    (PlainCall::Select, "select"),
+    (PlainCall::Drop, "drop"),
+];
+
+pub(super) const REFERENCES: Rows = &[
+    (PlainCall::RefNull, "ref.null any"),
+    (PlainCall::StructNew, "struct.new 7"),
+    (PlainCall::ArrayNew, "array.new 7"),
+];
+
+// The calls add these instructions to a new function, one after another.
+fn add_each(rt: &impl Abort, alloc: Global, rows: Rows) {
+    let mut f = begin(alloc).expect(rt, "memory");
+    let entry = f.func_body_id();
+    for (call, _) in rows {
+        assert!(rt; f.contains_seq(entry));
+        add(alloc, &mut f.instr_seq(entry), *call).expect(rt, "memory");
+    }
+    assert!(rt; f.contains_seq(entry));
+    let body = f.instr_seq(entry);
+    assert_equal(rt, body.instrs().len(), rows.len());
+    for ((instr, _), (_, text)) in body.instrs().iter().zip(rows) {
+        is(rt, alloc, instr, text);
+    }
+}
 
 #[test]
 fn constants(rt: HostRuntime) {
-    let text = "0: Const(Const { value: I32(-1) }) Const(Const { value: I64(-2) }) \
-        Const(Const { value: F32(3) }) Const(Const { value: F64(4) }) \
-        Const(Const { value: V128(5) })\n";
-    let fill = |b: &mut InstrSeqBuilder<'_>| {
-        b.i32_const(-1)?;
-        b.i64_const(-2)?;
-        b.f32_const(3)?;
-        b.f64_const(4)?;
-        b.const_(Value::V128(5))
-    };
-    builds(&rt, rt.alloc(), fill, Ok(()), text);
+    add_each(&rt, rt.alloc(), CONSTANTS);
 }
 
 #[test]
 fn variables(rt: HostRuntime) {
-    let text = "0: LocalGet(LocalGet { local: Id(1) }) LocalSet(LocalSet { local: Id(2) }) \
-        LocalTee(LocalTee { local: Id(3) }) GlobalGet(GlobalGet { global: Id(4) }) \
-        GlobalSet(GlobalSet { global: Id(5) })\n";
-    let fill = |b: &mut InstrSeqBuilder<'_>| {
-        b.local_get(Id::from_index(1))?;
-        b.local_set(Id::from_index(2))?;
-        b.local_tee(Id::from_index(3))?;
-        b.global_get(Id::from_index(4))?;
-        b.global_set(Id::from_index(5))
-    };
-    builds(&rt, rt.alloc(), fill, Ok(()), text);
+    add_each(&rt, rt.alloc(), VARIABLES);
 }
 
 #[test]
 fn calls(rt: HostRuntime) {
-    let text =
-        "0: Call(Call { func: Id(1) }) CallIndirect(CallIndirect { ty: Id(2), table: Id(3) }) \
-        RefFunc(RefFunc { func: Id(4) }) Throw(Throw { tag: Id(5) }) Return(Return)\n";
-    let fill = |b: &mut InstrSeqBuilder<'_>| {
-        b.call(Id::from_index(1))?;
-        b.call_indirect(Id::from_index(2), Id::from_index(3))?;
-        b.ref_func(Id::from_index(4))?;
-        b.throw(Id::from_index(5))?;
-        b.return_()
-    };
-    builds(&rt, rt.alloc(), fill, Ok(()), text);
+    add_each(&rt, rt.alloc(), CALLS);
 }
 
 #[test]
 fn branches(rt: HostRuntime) {
-    let text = "0: Br(Br { block: Id(0) }) BrIf(BrIf { block: Id(0) }) \
-        BrTable(BrTable { blocks: [Id(7)], default: Id(0) }) Unreachable(Unreachable)\n";
-    let labels = vec![in rt.alloc(); Id::from_index(7)].expect(&rt, "memory");
-    let fill = |b: &mut InstrSeqBuilder<'_>| {
-        b.br(b.id())?;
-        b.br_if(b.id())?;
-        b.br_table(labels, b.id())?;
-        b.unreachable()
-    };
-    builds(&rt, rt.alloc(), fill, Ok(()), text);
+    add_each(&rt, rt.alloc(), BRANCHES);
 }
 
 #[test]
 fn memories(rt: HostRuntime) {
-    let text =
-        "0: MemorySize(MemorySize { memory: Id(1) }) MemoryGrow(MemoryGrow { memory: Id(2) }) \
-        Load(Load { memory: Id(3), kind: F32, arg: MemArg { align: 4, offset: 8 } }) \
-        Store(Store { memory: Id(5), kind: F64, arg: MemArg { align: 4, offset: 8 } })\n";
-    let arg = MemArg {
-        align: 4,
-        offset: 8,
-    };
-    let fill = |b: &mut InstrSeqBuilder<'_>| {
-        b.memory_size(Id::from_index(1))?;
-        b.memory_grow(Id::from_index(2))?;
-        b.load(Id::from_index(3), LoadKind::F32, arg)?;
-        b.store(Id::from_index(5), StoreKind::F64, arg)
-    };
-    builds(&rt, rt.alloc(), fill, Ok(()), text);
+    add_each(&rt, rt.alloc(), MEMORIES);
 }
 
 #[test]
 fn operators(rt: HostRuntime) {
-    let text = "0: Unop(Unop { op: I32Eqz }) Binop(Binop { op: I32Add }) \
-        Select(Select { ty: None }) Drop(DropInstr)\n";
-    let fill = |b: &mut InstrSeqBuilder<'_>| {
-        b.unop(UnaryOp::I32Eqz)?;
-        b.binop(BinaryOp::I32Add)?;
-        b.select(None)?;
-        b.drop()
-    };
-    builds(&rt, rt.alloc(), fill, Ok(()), text);
+    add_each(&rt, rt.alloc(), OPERATORS);
 }
 
 #[test]
 fn references(rt: HostRuntime) {
-    let text = "0: RefNull(RefNull { ty: Reference { nullable: true, heap_type: Abstract(Any) } }) \
-        StructNew(StructNew { ty: Id(1) }) ArrayNew(ArrayNew { ty: Id(2) })\n";
-    let any = RefType {
-        nullable: true,
-        heap_type: HeapType::Abstract(AbstractHeapType::Any),
-    };
-    let fill = |b: &mut InstrSeqBuilder<'_>| {
-        b.ref_null(any)?;
-        b.struct_new(Id::from_index(1))?;
-        b.array_new(Id::from_index(2))
-    };
-    builds(&rt, rt.alloc(), fill, Ok(()), text);
+    add_each(&rt, rt.alloc(), REFERENCES);
 }

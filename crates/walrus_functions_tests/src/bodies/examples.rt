@@ -1,7 +1,7 @@
 //! Examples, with contracts that say which bodies they make.
 ghost use Rattle.std.specs.Prelude.{◌≡◌, OnOk, None};
-ghost use Rattle.instr.specs.declared.instr_seq_type.InstrSeqType.TheVariants.{Simple};
-ghost use Rattle.instr.specs.declared.instr.Instr.TheVariants as instr;
+ghost use Rattle.ir_instr.specs.declared.instr_seq_type.InstrSeqType.TheVariants.{Simple};
+ghost use Rattle.ir_instr.specs.declared.instr.Instr.TheVariants as instr;
 ghost use Rattle.walrus_functions.specs.Body.{next_seq, with_new, with_instr};
 ghost use Rattle.walrus_functions.specs.Building.{function_of, seq_id, IsKnown, Stays};
 
@@ -37,14 +37,14 @@ fn add_drop(body: &mut InstrSeqBuilder<'_>) -> Result<(), BuildError>
 
 #[test]
 fn a_closure_that_stays_in_a_known_sequence(rt: HostRuntime) {
-    let text = "0: Block(Block { seq: Id(1) })\n1: Drop(DropInstr)\n";
-    let fill = |b: &mut InstrSeqBuilder<'_>| b.block(NOTHING, |block| add_drop(block));
-    builds(&rt, rt.alloc(), fill, Ok(()), text);
+    builds(&rt, rt.alloc(), "(block 1)(drop)", Ok(()), |b| {
+        b.block(NOTHING, |block| add_drop(block))
+    });
 }
 
 #[test]
 fn a_loop_in_a_block(rt: HostRuntime) {
-    let text = "0: Block(Block { seq: Id(1) })\n1: Loop(Loop { seq: Id(2) })\n\
-        2: Br(Br { block: Id(2) })\n";
-    builds(&rt, rt.alloc(), |b| add_endless_loop(b), Ok(()), text);
+    builds(&rt, rt.alloc(), "(block 1)(loop 2)(br 2)", Ok(()), |b| {
+        add_endless_loop(b)
+    });
 }

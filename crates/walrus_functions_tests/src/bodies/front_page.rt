@@ -2,7 +2,7 @@
 ghost use Rattle.walrus_functions.specs.Building.{function_of, IsKnown, Stays, StayKnown};
 
 use super::*;
-use walrus_ir::{BinaryOp, InstrSeqId, LocalId, UnaryOp};
+use walrus_ir::{InstrSeqId, LocalId};
 use walrus_types::ValType;
 
 // While the second number is not zero, the first becomes one more and the second one less.
@@ -57,19 +57,12 @@ fn add_number(body: &mut InstrSeqBuilder<'_>, local: LocalId, number: i32) -> Re
 
 #[test]
 fn a_sum_by_counting(rt: HostRuntime) {
-    let text = "0: Block(Block { seq: Id(1) }) LocalGet(LocalGet { local: Id(7) })\n\
-        1: Loop(Loop { seq: Id(2) })\n\
-        2: LocalGet(LocalGet { local: Id(8) }) Unop(Unop { op: I32Eqz }) \
-        BrIf(BrIf { block: Id(1) }) \
-        LocalGet(LocalGet { local: Id(7) }) Const(Const { value: I32(1) }) \
-        Binop(Binop { op: I32Add }) LocalSet(LocalSet { local: Id(7) }) \
-        LocalGet(LocalGet { local: Id(8) }) Const(Const { value: I32(-1) }) \
-        Binop(Binop { op: I32Add }) LocalSet(LocalSet { local: Id(8) }) \
-        Br(Br { block: Id(2) })\n";
     let (first, second) = (Id::from_index(7), Id::from_index(8));
     let mut types = ModuleTypes::new(rt.alloc());
     let builder = sum_by_counting(rt.alloc(), &mut types, first, second).expect(&rt, "memory");
     let args = vec![in rt.alloc(); first, second].expect(&rt, "memory");
     let func = builder.local_func(args);
-    prints(&rt, rt.alloc(), &func, text);
+    let text = "(block 1, local.get 7)(loop 2)(local.get 8, i32.eqz, br_if 1, local.get 7, i32 1, \
+                i32.add, local.set 7, local.get 8, i32 -1, i32.add, local.set 8, br 2)";
+    has(&rt, rt.alloc(), &func, text);
 }

@@ -6,37 +6,24 @@ ghost use Rattle.walrus_functions.specs.Building.{function_of, IsKnown, Stays, S
 use super::*;
 use crate::assertions::assert_equal;
 use std::cell::Cell;
-use walrus_ir::{Instr, InstrLocId, InstrSeqId, LocalId};
+use walrus_ir::{InstrLocId, InstrSeqId, LocalId};
 use walrus_types::{FunctionId, ValType};
 
 // A function with an entry. It is made again after a refusal.
 pub(super) fn begin_again(alloc: Global) -> Result<FunctionBuilder, AllocError>
     ensures { IfOk result (λ f. IsSome f.entry) }
 {
-    match begin(alloc) {
-        Ok(f) => Ok(f),
-        Err(_) => begin(alloc),
-    }
+    begin(alloc).or_else(|_| begin(alloc))
 }
 
-// The text of a function. It is written again after a refusal.
-fn text_again(alloc: Global, func: &LocalFunction) -> Result<String, AllocError> {
-    match to_text(alloc, func) {
-        Ok(text) => Ok(text),
-        Err(_) => to_text(alloc, func),
-    }
-}
-
-// A table with the function type that takes an `i64`. It is made again after a refusal.
-fn table_again(alloc: Global) -> Result<ModuleTypes, AllocError> {
+// A table with the function type that takes an `i64`.
+fn table(alloc: Global) -> Result<ModuleTypes, AllocError> {
     let mut types = ModuleTypes::new(alloc);
-    if types.add(&[ValType::I64], &[]).is_err() {
-        types.add(&[ValType::I64], &[])?;
-    }
+    types.add(&[ValType::I64], &[])?;
     Ok(types)
 }
 
-// Whether the table has this many types, each alone in its group: the type of `table_again`, the
+// Whether the table has this many types, each alone in its group: the type of `table`, the
 // function type from `i32` to `i64`, and the type of its body.
 fn has_types(types: &ModuleTypes, count: usize) -> bool {
     let found = [
@@ -85,7 +72,9 @@ fn new_again(
 
 #[test]
 fn a_refused_new_leaves_up_to_two_types(rt: HostRuntime) {
-    let mut types = table_again(rt.alloc()).expect(&rt, "memory");
+    let mut types = table(rt.alloc())
+        .or_else(|_| table(rt.alloc()))
+        .expect(&rt, "memory");
     let f = new_again(&rt, rt.alloc(), &mut types).expect(&rt, "memory");
     assert!(rt; has_types(&types, 3));
     assert_equal(&rt, f.entry(), Some(Id::from_index(0)));
@@ -114,11 +103,8 @@ fn a_refused_dangling_sequence_is_not_there(rt: HostRuntime) {
     let mut f = FunctionBuilder::without_entry(rt.alloc(), Id::from_index(0));
     for next in 0..20usize {
         assert!(rt; !f.contains_seq(Id::from_index(next)));
-        assert_equal(
-            &rt,
-            dangling_again(&rt, &mut f, next).expect(&rt, "memory"),
-            next,
-        );
+        let id = dangling_again(&rt, &mut f, next).expect(&rt, "memory");
+        assert_equal(&rt, id, next);
         assert!(rt; f.contains_seq(Id::from_index(next)));
     }
     assert_equal(&rt, f.local_func(Vec::new(rt.alloc())).block_count(), 20);
@@ -189,49 +175,26 @@ fn steps_shown(f: &mut FunctionBuilder, id: InstrSeqId) -> usize {
     seq.instrs().len() + 1
 }
 
-// Whether the instruction is the one of the call, over these sequences.
-fn is_made_by(call: NestedCall, instr: &Instr, first: InstrSeqId, second: InstrSeqId) -> bool {
-    match call {
-        NestedCall::Block | NestedCall::BlockAt => match instr {
-            Instr::Block(block) => block.seq == first,
-            _ => false,
-        },
-        NestedCall::Loop | NestedCall::LoopAt => match instr {
-            Instr::Loop(repeat) => repeat.seq == first,
-            _ => false,
-        },
-        NestedCall::IfElse | NestedCall::IfElseAt => match instr {
-            Instr::IfElse(both) => both.consequent == first && both.alternative == second,
-            _ => false,
-        },
-    }
-}
-
-// The newest instruction of a sequence to which only this call has added.
-fn newest(instrs: &[(Instr, InstrLocId)], call: NestedCall) -> Option<&(Instr, InstrLocId)> {
-    match call {
-        NestedCall::Block | NestedCall::Loop | NestedCall::IfElse => instrs.last(),
-        NestedCall::BlockAt | NestedCall::LoopAt | NestedCall::IfElseAt => instrs.first(),
-    }
-}
-
-// Whether the newest instruction of the entry is the one of the call, over new sequences from this
-// id on.
-fn has_added(rt: &impl Abort, f: &mut FunctionBuilder, call: NestedCall, first: usize) -> bool
-    requires { first ≤ 1000 }
+// Whether the newest instruction of the entry, to which only this call has added, is the one of the
+// call, over new sequences from this id on.
+fn has_added(rt: &impl Abort, f: &mut FunctionBuilder, call: NestedCall, next: usize) -> bool
+    requires { next ≤ 1000 }
 {
     assert!(rt; f.contains_seq(Id::from_index(0)));
     let entry = f.instr_seq(Id::from_index(0));
-    match newest(entry.instrs(), call) {
-        Some((instr, _)) => {
-            is_made_by(
-                call,
-                instr,
-                Id::from_index(first),
-                Id::from_index(first + 1),
-            )
+    let newest = match call {
+        NestedCall::Block | NestedCall::Loop | NestedCall::IfElse => entry.instrs().last(),
+        _ => entry.instrs().first(),
+    };
+    match (call, newest) {
+        (NestedCall::Block | NestedCall::BlockAt, Some((Instr::Block(x), _))) => {
+            x.seq.index() == next
         }
-        None => false,
+        (NestedCall::Loop | NestedCall::LoopAt, Some((Instr::Loop(x), _))) => x.seq.index() == next,
+        (NestedCall::IfElse | NestedCall::IfElseAt, Some((Instr::IfElse(x), _))) => {
+            x.consequent.index() == next && x.alternative.index() == next + 1
+        }
+        _ => false,
     }
 }
 
@@ -308,14 +271,6 @@ fn a_refused_if_before_others_keeps_its_sequences(rt: HostRuntime) {
     nests_nine(&rt, rt.alloc(), NestedCall::IfElseAt);
 }
 
-// The name `f`. It is made again after a refusal.
-fn name_again(alloc: Global) -> Result<String, AllocError> {
-    match String::from_str(alloc, "f") {
-        Ok(name) => Ok(name),
-        Err(_) => String::from_str(alloc, "f"),
-    }
-}
-
 // One parameter. It is made again after a refusal.
 fn args_again(alloc: Global) -> Result<Vec<LocalId>, AllocError> {
     let mut args = Vec::new(alloc);
@@ -333,7 +288,7 @@ fn named_again(alloc: Global) -> Result<FunctionBuilder, BuildError> {
     if body.drop().is_err() {
         body.drop()?;
     }
-    f.name(name_again(alloc)?);
+    f.name(String::from_str(alloc, "f").or_else(|_| String::from_str(alloc, "f"))?);
     Ok(f)
 }
 
@@ -342,11 +297,7 @@ fn is_whole(rt: &impl Abort, alloc: Global, func: &LocalFunction) {
     assert_equal(rt, func.name(), Some("f"));
     assert_equal(rt, func.entry(), Some(Id::from_index(0)));
     assert_equal(rt, func.args.as_slice(), [Id::from_index(7)].as_slice());
-    assert_equal(
-        rt,
-        text_again(alloc, func).expect(rt, "memory").as_str(),
-        "0: Drop(DropInstr)\n",
-    );
+    has(rt, alloc, func, "(drop)");
 }
 
 // Adds a function that was handed back. It must be whole, and `funcs` must have none of this id.
@@ -365,19 +316,31 @@ fn add_back(
     }
 }
 
+// The function of this number is whole, also if it was handed back.
+fn is_added(
+    rt: &impl Abort,
+    alloc: Global,
+    funcs: &mut LocalFunctions,
+    answer: Result<FunctionId, LocalFunction>,
+    next: usize,
+) {
+    let id = match answer {
+        Ok(id) => id,
+        Err(func) => add_back(rt, alloc, funcs, func, next),
+    };
+    assert_equal(rt, id.index(), next);
+    assert!(rt; funcs.contains(id));
+    is_whole(rt, alloc, funcs.get(id));
+}
+
 #[test]
 fn a_refused_finish_hands_the_function_back(rt: HostRuntime) {
     let alloc = rt.alloc();
     let mut funcs = LocalFunctions::new(alloc);
     for next in 0..5usize {
         let f = named_again(alloc).expect(&rt, "memory");
-        let id = match f.finish(args_again(alloc).expect(&rt, "memory"), &mut funcs) {
-            Ok(id) => id,
-            Err(func) => add_back(&rt, alloc, &mut funcs, func, next),
-        };
-        assert_equal(&rt, id.index(), next);
-        assert!(rt; funcs.contains(id));
-        is_whole(&rt, alloc, funcs.get(id));
+        let answer = f.finish(args_again(alloc).expect(&rt, "memory"), &mut funcs);
+        is_added(&rt, alloc, &mut funcs, answer, next);
     }
 }
 
@@ -386,16 +349,10 @@ fn a_refused_add_hands_the_function_back(rt: HostRuntime) {
     let alloc = rt.alloc();
     let mut funcs = LocalFunctions::new(alloc);
     for next in 0..5usize {
-        let func = named_again(alloc)
-            .expect(&rt, "memory")
-            .local_func(args_again(alloc).expect(&rt, "memory"));
-        let id = match funcs.add(func) {
-            Ok(id) => id,
-            Err(func) => add_back(&rt, alloc, &mut funcs, func, next),
-        };
-        assert_equal(&rt, id.index(), next);
-        assert!(rt; funcs.contains(id));
-        is_whole(&rt, alloc, funcs.get(id));
+        let f = named_again(alloc).expect(&rt, "memory");
+        let func = f.local_func(args_again(alloc).expect(&rt, "memory"));
+        let answer = funcs.add(func);
+        is_added(&rt, alloc, &mut funcs, answer, next);
     }
 }
 

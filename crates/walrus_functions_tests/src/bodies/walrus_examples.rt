@@ -2,7 +2,7 @@
 ghost use Rattle.walrus_functions.specs.Building.{IsKnown, Stays};
 
 use super::*;
-use walrus_ir::{Block, ModuleLocals};
+use walrus_ir::ModuleLocals;
 use walrus_types::{Field, FieldType, Heap, Reference, Storage, TypeId, Val, ValType};
 
 // Adds the number of most examples, and takes it away.
@@ -16,20 +16,19 @@ fn fill(body: &mut InstrSeqBuilder<'_>) -> Result<(), BuildError>
 
 #[test]
 fn example_of_instr_seq(rt: HostRuntime) {
-    let text = "0:\n1: Const(Const { value: F64(4653595003631697920) }) Drop(DropInstr) \
-        Const(Const { value: I32(42) }) Drop(DropInstr)\n";
     let alloc = rt.alloc();
     let mut f = begin(alloc).expect(&rt, "memory");
     let mut block = f.dangling_instr_seq(NOTHING).expect(&rt, "memory");
     let id = block.id();
     // the bits of 1337.0
-    block.f64_const(0x4094_E400_0000_0000).expect(&rt, "memory");
+    block.f64_const(4653595003631697920).expect(&rt, "memory");
     block.drop().expect(&rt, "memory");
     assert!(rt; f.contains_seq(id));
     let mut block = f.instr_seq(id);
     block.i32_const(42).expect(&rt, "memory");
     block.drop().expect(&rt, "memory");
-    prints(&rt, alloc, &f.local_func(Vec::new(alloc)), text);
+    let text = "()(f64 4653595003631697920, drop, i32 42, drop)";
+    has(&rt, alloc, &f.local_func(Vec::new(alloc)), text);
 }
 
 #[test]
@@ -38,8 +37,7 @@ fn example_of_dangling_instr_seq(rt: HostRuntime) {
     let mut f = begin(alloc).expect(&rt, "memory");
     let seq = f.dangling_instr_seq(NOTHING).expect(&rt, "memory").id();
     f.func_body().instr(Block { seq }).expect(&rt, "memory");
-    let text = "0: Block(Block { seq: Id(1) })\n1:\n";
-    prints(&rt, alloc, &f.local_func(Vec::new(alloc)), text);
+    has(&rt, alloc, &f.local_func(Vec::new(alloc)), "(block 1)()");
 }
 
 #[test]
@@ -53,64 +51,58 @@ fn example_of_finish(rt: HostRuntime) {
     let id = f.finish(Vec::new(alloc), &mut funcs).ok();
     let id = id.expect(&rt, "memory");
     assert!(rt; funcs.contains(id));
-    let text = "0: Const(Const { value: I32(1234) }) Drop(DropInstr)\n";
-    prints(&rt, alloc, funcs.get(id), text);
+    has(&rt, alloc, funcs.get(id), "(i32 1234, drop)");
 }
 
 #[test]
 fn example_of_block_at(rt: HostRuntime) {
-    let text = "0: Block(Block { seq: Id(1) }) Unreachable(Unreachable)\n\
-        1: Const(Const { value: I32(1337) }) Drop(DropInstr)\n";
-    let build = |b: &mut InstrSeqBuilder<'_>| {
+    let text = "(block 1, unreachable)(i32 1337, drop)";
+    builds(&rt, rt.alloc(), text, Ok(()), |b| {
         b.unreachable()?;
         b.block_at(0, NOTHING, |block| fill(block))
-    };
-    builds(&rt, rt.alloc(), build, Ok(()), text);
+    });
 }
 
 #[test]
 fn example_of_loop(rt: HostRuntime) {
-    let text = "0: Loop(Loop { seq: Id(1) })\n\
-        1: Const(Const { value: I32(1337) }) Drop(DropInstr)\n";
-    let build = |b: &mut InstrSeqBuilder<'_>| b.loop_(NOTHING, |body| fill(body));
-    builds(&rt, rt.alloc(), build, Ok(()), text);
+    builds(&rt, rt.alloc(), "(loop 1)(i32 1337, drop)", Ok(()), |b| {
+        b.loop_(NOTHING, |body| fill(body))
+    });
 }
 
 #[test]
 fn example_of_loop_at(rt: HostRuntime) {
-    let text = "0: Loop(Loop { seq: Id(1) }) Unreachable(Unreachable)\n\
-        1: Const(Const { value: I32(1337) }) Drop(DropInstr)\n";
-    let build = |b: &mut InstrSeqBuilder<'_>| {
+    let text = "(loop 1, unreachable)(i32 1337, drop)";
+    builds(&rt, rt.alloc(), text, Ok(()), |b| {
         b.unreachable()?;
         b.loop_at(0, NOTHING, |body| fill(body))
-    };
-    builds(&rt, rt.alloc(), build, Ok(()), text);
+    });
 }
 
 const NUMBER: InstrSeqType = InstrSeqType::Simple(Some(ValType::I32));
 
 #[test]
 fn example_of_if_else(rt: HostRuntime) {
-    let text =
-        "0: Call(Call { func: Id(0) }) IfElse(IfElse { consequent: Id(1), alternative: Id(2) })\n\
-        1: Const(Const { value: I32(12) })\n2: Const(Const { value: I32(34) })\n";
-    let build = |b: &mut InstrSeqBuilder<'_>| {
-        b.call(Id::from_index(0))?;
-        b.if_else(
-            NUMBER,
-            |then| then.i32_const(12),
-            |other| other.i32_const(34),
-        )
-    };
-    builds(&rt, rt.alloc(), build, Ok(()), text);
+    builds(
+        &rt,
+        rt.alloc(),
+        "(call 0, if 1 2)(i32 12)(i32 34)",
+        Ok(()),
+        |b| {
+            b.call(Id::from_index(0))?;
+            b.if_else(
+                NUMBER,
+                |then| then.i32_const(12),
+                |other| other.i32_const(34),
+            )
+        },
+    );
 }
 
 #[test]
 fn example_of_if_else_at(rt: HostRuntime) {
-    let text = "0: Call(Call { func: Id(0) }) \
-        IfElse(IfElse { consequent: Id(1), alternative: Id(2) }) Unreachable(Unreachable)\n\
-        1: Const(Const { value: I32(12) })\n2: Const(Const { value: I32(34) })\n";
-    let build = |b: &mut InstrSeqBuilder<'_>| {
+    let text = "(call 0, if 1 2, unreachable)(i32 12)(i32 34)";
+    builds(&rt, rt.alloc(), text, Ok(()), |b| {
         b.call(Id::from_index(0))?;
         b.unreachable()?;
         b.if_else_at(
@@ -119,8 +111,7 @@ fn example_of_if_else_at(rt: HostRuntime) {
             |then| then.i32_const(12),
             |other| other.i32_const(34),
         )
-    };
-    builds(&rt, rt.alloc(), build, Ok(()), text);
+    });
 }
 
 const MUTABLE_NUMBER: FieldType = Field {
@@ -150,11 +141,14 @@ fn read_two(
     f
 }
 
-// The type of this id has this text.
-fn is_written(rt: &impl Abort, alloc: Global, types: &ModuleTypes, id: TypeId, text: &str) {
-    assert!(rt; types.contains(id));
-    let kind = types.get(id).kind();
-    let printed = format!(in alloc; "{kind}").expect(rt, "memory");
+// The types of these ids have these texts.
+fn are_written(rt: &impl Abort, alloc: Global, types: &ModuleTypes, ids: [TypeId; 2], text: &str) {
+    let mut printed = String::new(alloc);
+    for id in ids {
+        assert!(rt; types.contains(id));
+        let kind = types.get(id).kind();
+        write!(printed, "{kind}").expect(rt, "memory");
+    }
     assert_equal(rt, printed.as_str(), text);
 }
 
@@ -168,18 +162,15 @@ fn example_of_add_struct(rt: HostRuntime) {
     assert!(rt; f.entry().is_some());
     f.func_body().struct_new(point).expect(&rt, "memory");
     let func = f.local_func(Vec::new(alloc));
-    let text = "(struct (field (mut i32)) (field (mut i32)))";
-    is_written(&rt, alloc, &types, point, text);
-    is_written(
+    let text = "(struct (field (mut i32)) (field (mut i32)))\
+                (func (param i32 i32) (result (ref null 0)))";
+    are_written(&rt, alloc, &types, [point, func.ty()], text);
+    has(
         &rt,
         alloc,
-        &types,
-        func.ty(),
-        "(func (param i32 i32) (result (ref null 0)))",
+        &func,
+        "(local.get 0, local.get 1, struct.new 0)",
     );
-    let text = "0: LocalGet(LocalGet { local: Id(0) }) LocalGet(LocalGet { local: Id(1) }) \
-        StructNew(StructNew { ty: Id(0) })\n";
-    prints(&rt, alloc, &func, text);
 }
 
 #[test]
@@ -191,15 +182,7 @@ fn example_of_add_array(rt: HostRuntime) {
     assert!(rt; f.entry().is_some());
     f.func_body().array_new(numbers).expect(&rt, "memory");
     let func = f.local_func(Vec::new(alloc));
-    is_written(&rt, alloc, &types, numbers, "(array (mut i32))");
-    is_written(
-        &rt,
-        alloc,
-        &types,
-        func.ty(),
-        "(func (param i32 i32) (result (ref null 0)))",
-    );
-    let text = "0: LocalGet(LocalGet { local: Id(0) }) LocalGet(LocalGet { local: Id(1) }) \
-        ArrayNew(ArrayNew { ty: Id(0) })\n";
-    prints(&rt, alloc, &func, text);
+    let text = "(array (mut i32))(func (param i32 i32) (result (ref null 0)))";
+    are_written(&rt, alloc, &types, [numbers, func.ty()], text);
+    has(&rt, alloc, &func, "(local.get 0, local.get 1, array.new 0)");
 }

@@ -1,4 +1,4 @@
-//! Instructions from their structs.
+//! Instructions from their structs, and equal ones.
 use walrus_ir::{
     Call, DropInstr, I31GetS, Id, Instr, MemoryCopy, RefFunc, Rethrow, ReturnCall, StructGetU,
     StructSet, TableCopy,
@@ -37,4 +37,14 @@ fn what_is_alike_stays_apart(rt: HostRuntime) {
         dst: Id::from_index(2),
     });
     assert!(rt; matches!(&instr, Instr::TableCopy(x) if x.src.index() == 1 && x.dst.index() == 2));
+}
+
+#[test]
+fn instructions_are_equal_where_all_their_parts_are(rt: HostRuntime) {
+    let func = Id::from_index(3);
+    let call = Instr::Call(Call { func });
+    assert!(rt; call == Instr::Call(Call { func }));
+    assert!(rt; call != Instr::RefFunc(RefFunc { func }));
+    let func = Id::from_index(4);
+    assert!(rt; call != Instr::Call(Call { func }));
 }

@@ -1,4 +1,4 @@
-//! The examples on the first pages of `walrus_ir`, `operators` and `const_expr`.
+//! The examples on the first pages of `walrus_ir`, `ir_operators` and `ir_const_expr`.
 use crate::assertions::assert_equal;
 use std::alloc::Global;
 use walrus_ir::{

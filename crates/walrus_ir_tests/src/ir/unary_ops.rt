@@ -1,11 +1,9 @@
-//! How many operators on one value there are, each with a printed name of its own.
-use super::see;
-use crate::assertions::assert_equal;
-use std::collections::HashSet;
+//! How many operators on one value there are.
+use super::all_differ;
 use walrus_ir::UnaryOp;
 
-// Tests and bit counts of integers.
-const INTEGER_BITS: [UnaryOp; 8] = [
+const ALL: [UnaryOp; 137] = [
+    // Tests and bit counts of integers.
     UnaryOp::I32Eqz,
     UnaryOp::I32Clz,
     UnaryOp::I32Ctz,
@@ -14,10 +12,8 @@ const INTEGER_BITS: [UnaryOp; 8] = [
     UnaryOp::I64Clz,
     UnaryOp::I64Ctz,
     UnaryOp::I64Popcnt,
-];
 
-// Sign, rounding and roots of floats.
-const FLOAT_ROUNDING: [UnaryOp; 14] = [
+    // Sign, rounding and roots of floats.
     UnaryOp::F32Abs,
     UnaryOp::F32Neg,
     UnaryOp::F32Ceil,
@@ -32,10 +28,8 @@ const FLOAT_ROUNDING: [UnaryOp; 14] = [
     UnaryOp::F64Trunc,
     UnaryOp::F64Nearest,
     UnaryOp::F64Sqrt,
-];
 
-// Integers of another width.
-const INTEGER_WIDTHS: [UnaryOp; 8] = [
+    // Integers of another width.
     UnaryOp::I32WrapI64,
     UnaryOp::I64ExtendSI32,
     UnaryOp::I64ExtendUI32,
@@ -44,10 +38,8 @@ const INTEGER_WIDTHS: [UnaryOp; 8] = [
     UnaryOp::I64Extend8S,
     UnaryOp::I64Extend16S,
     UnaryOp::I64Extend32S,
-];
 
-// Floats as integers, with a trap where none fits.
-const TRAPPING_TRUNCATIONS: [UnaryOp; 8] = [
+    // Floats as integers, with a trap where none fits.
     UnaryOp::I32TruncSF32,
     UnaryOp::I32TruncUF32,
     UnaryOp::I32TruncSF64,
@@ -56,10 +48,8 @@ const TRAPPING_TRUNCATIONS: [UnaryOp; 8] = [
     UnaryOp::I64TruncUF32,
     UnaryOp::I64TruncSF64,
     UnaryOp::I64TruncUF64,
-];
 
-// Floats as integers, saturated.
-const SATURATING_TRUNCATIONS: [UnaryOp; 8] = [
+    // Floats as integers, saturated.
     UnaryOp::I32TruncSSatF32,
     UnaryOp::I32TruncUSatF32,
     UnaryOp::I32TruncSSatF64,
@@ -68,10 +58,8 @@ const SATURATING_TRUNCATIONS: [UnaryOp; 8] = [
     UnaryOp::I64TruncUSatF32,
     UnaryOp::I64TruncSSatF64,
     UnaryOp::I64TruncUSatF64,
-];
 
-// Integers as floats.
-const CONVERSIONS: [UnaryOp; 8] = [
+    // Integers as floats.
     UnaryOp::F32ConvertSI32,
     UnaryOp::F32ConvertUI32,
     UnaryOp::F32ConvertSI64,
@@ -80,21 +68,18 @@ const CONVERSIONS: [UnaryOp; 8] = [
     UnaryOp::F64ConvertUI32,
     UnaryOp::F64ConvertSI64,
     UnaryOp::F64ConvertUI64,
-];
 
-// Floats of another width.
-const FLOAT_WIDTHS: [UnaryOp; 2] = [UnaryOp::F32DemoteF64, UnaryOp::F64PromoteF32];
+    // Floats of another width.
+    UnaryOp::F32DemoteF64,
+    UnaryOp::F64PromoteF32,
 
-// The same bits as another type.
-const REINTERPRETATIONS: [UnaryOp; 4] = [
+    // The same bits as another type.
     UnaryOp::I32ReinterpretF32,
     UnaryOp::I64ReinterpretF64,
     UnaryOp::F32ReinterpretI32,
     UnaryOp::F64ReinterpretI64,
-];
 
-// A vector of one value, and a lane of a vector.
-const LANES: [UnaryOp; 14] = [
+    // A vector of one value, and a lane of a vector.
     UnaryOp::I8x16Splat,
     UnaryOp::I8x16ExtractLaneS { idx: 0 },
     UnaryOp::I8x16ExtractLaneU { idx: 0 },
@@ -109,13 +94,12 @@ const LANES: [UnaryOp; 14] = [
     UnaryOp::F32x4ExtractLane { idx: 0 },
     UnaryOp::F64x2Splat,
     UnaryOp::F64x2ExtractLane { idx: 0 },
-];
 
-// Bits of a whole vector.
-const VECTOR_BITS: [UnaryOp; 2] = [UnaryOp::V128Not, UnaryOp::V128AnyTrue];
+    // Bits of a whole vector.
+    UnaryOp::V128Not,
+    UnaryOp::V128AnyTrue,
 
-// Signs, tests and bit counts of integer lanes.
-const LANE_BITS: [UnaryOp; 17] = [
+    // Signs, tests and bit counts of integer lanes.
     UnaryOp::I8x16Abs,
     UnaryOp::I8x16Popcnt,
     UnaryOp::I8x16Neg,
@@ -133,10 +117,8 @@ const LANE_BITS: [UnaryOp; 17] = [
     UnaryOp::I64x2Neg,
     UnaryOp::I64x2AllTrue,
     UnaryOp::I64x2Bitmask,
-];
 
-// Sign, roots and rounding of float lanes.
-const FLOAT_LANE_ROUNDING: [UnaryOp; 14] = [
+    // Sign, roots and rounding of float lanes.
     UnaryOp::F32x4Abs,
     UnaryOp::F32x4Neg,
     UnaryOp::F32x4Sqrt,
@@ -151,18 +133,14 @@ const FLOAT_LANE_ROUNDING: [UnaryOp; 14] = [
     UnaryOp::F64x2Floor,
     UnaryOp::F64x2Trunc,
     UnaryOp::F64x2Nearest,
-];
 
-// Sums of neighbouring lanes, in lanes of twice the width.
-const PAIRWISE_SUMS: [UnaryOp; 4] = [
+    // Sums of neighbouring lanes, in lanes of twice the width.
     UnaryOp::I16x8ExtAddPairwiseI8x16S,
     UnaryOp::I16x8ExtAddPairwiseI8x16U,
     UnaryOp::I32x4ExtAddPairwiseI16x8S,
     UnaryOp::I32x4ExtAddPairwiseI16x8U,
-];
 
-// Half of the lanes, in lanes of twice the width.
-const WIDENED_LANES: [UnaryOp; 12] = [
+    // Half of the lanes, in lanes of twice the width.
     UnaryOp::I16x8WidenLowI8x16S,
     UnaryOp::I16x8WidenLowI8x16U,
     UnaryOp::I16x8WidenHighI8x16S,
@@ -175,32 +153,24 @@ const WIDENED_LANES: [UnaryOp; 12] = [
     UnaryOp::I64x2ExtendHighI32x4S,
     UnaryOp::I64x2ExtendLowI32x4U,
     UnaryOp::I64x2ExtendHighI32x4U,
-];
 
-// Float lanes as integer lanes, saturated.
-const TRUNCATED_LANES: [UnaryOp; 4] = [
+    // Float lanes as integer lanes, saturated.
     UnaryOp::I32x4TruncSatF32x4S,
     UnaryOp::I32x4TruncSatF32x4U,
     UnaryOp::I32x4TruncSatF64x2SZero,
     UnaryOp::I32x4TruncSatF64x2UZero,
-];
 
-// Integer lanes as float lanes.
-const CONVERTED_LANES: [UnaryOp; 4] = [
+    // Integer lanes as float lanes.
     UnaryOp::F32x4ConvertI32x4S,
     UnaryOp::F32x4ConvertI32x4U,
     UnaryOp::F64x2ConvertLowI32x4S,
     UnaryOp::F64x2ConvertLowI32x4U,
-];
 
-// Float lanes of another width.
-const FLOAT_LANE_WIDTHS: [UnaryOp; 2] = [
+    // Float lanes of another width.
     UnaryOp::F32x4DemoteF64x2Zero,
     UnaryOp::F64x2PromoteLowF32x4,
-];
 
-// Relaxed operators, whose result may differ between machines.
-const RELAXED: [UnaryOp; 4] = [
+    // Relaxed operators, whose result may differ between machines.
     UnaryOp::I32x4RelaxedTruncF32x4S,
     UnaryOp::I32x4RelaxedTruncF32x4U,
     UnaryOp::I32x4RelaxedTruncF64x2SZero,
@@ -209,25 +179,5 @@ const RELAXED: [UnaryOp; 4] = [
 
 #[test]
 fn there_are_137(rt: HostRuntime) {
-    let alloc = rt.alloc();
-    let mut seen = HashSet::new(alloc);
-    see(&rt, alloc, &mut seen, &INTEGER_BITS);
-    see(&rt, alloc, &mut seen, &FLOAT_ROUNDING);
-    see(&rt, alloc, &mut seen, &INTEGER_WIDTHS);
-    see(&rt, alloc, &mut seen, &TRAPPING_TRUNCATIONS);
-    see(&rt, alloc, &mut seen, &SATURATING_TRUNCATIONS);
-    see(&rt, alloc, &mut seen, &CONVERSIONS);
-    see(&rt, alloc, &mut seen, &FLOAT_WIDTHS);
-    see(&rt, alloc, &mut seen, &REINTERPRETATIONS);
-    see(&rt, alloc, &mut seen, &LANES);
-    see(&rt, alloc, &mut seen, &VECTOR_BITS);
-    see(&rt, alloc, &mut seen, &LANE_BITS);
-    see(&rt, alloc, &mut seen, &FLOAT_LANE_ROUNDING);
-    see(&rt, alloc, &mut seen, &PAIRWISE_SUMS);
-    see(&rt, alloc, &mut seen, &WIDENED_LANES);
-    see(&rt, alloc, &mut seen, &TRUNCATED_LANES);
-    see(&rt, alloc, &mut seen, &CONVERTED_LANES);
-    see(&rt, alloc, &mut seen, &FLOAT_LANE_WIDTHS);
-    see(&rt, alloc, &mut seen, &RELAXED);
-    assert_equal(&rt, seen.len(), 137);
+    assert!(rt; all_differ(&ALL));
 }

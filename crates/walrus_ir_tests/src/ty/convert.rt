@@ -1,14 +1,13 @@
 //! That conversions succeed, and which name a refusal has.
+mod refusals;
+
 use crate::assertions::assert_equal;
 use std::alloc::{AllocError, Global};
 use std::test::Fail;
-use walrus_module_types::{
-    CompositeType, FieldType, FromRecordError, FunctionType, HasRecord, HeapType, IdsToIndices,
-    IndicesToIds, NoIndex, RefType, StorageType, SubType, ToRecordError, ValType,
-};
 use walrus_ty::{
-    AbstractHeapType, CompAt, EntryAt, Field, FieldAt, Heap, HeapAt, Id, Listed, RefAt, Reference,
-    Storage, Val, ValAt,
+    AbstractHeapType, CompAt, CompositeType, EntryAt, Field, FieldAt, FieldType, FromRecordError,
+    FunctionType, Heap, HeapAt, HeapType, Id, IdsToIndices, IndicesToIds, Listed, NoIndex, RefAt,
+    RefType, Reference, Storage, StorageType, SubType, ToRecordError, Val, ValAt, ValType,
 };
 
 // Indices 0, 1 and 2 are the types 10, 20 and 30.

@@ -3,10 +3,10 @@ use crate::assertions::{assert_equal, prints};
 use std::alloc::Global;
 use std::process::Abort;
 use walrus_id::Tombstone;
-use walrus_module_types::{
-    ArrayType, CompositeType, FieldType, FunctionType, StructType, Type, ValType,
+use walrus_ty::{
+    ArrayType, CompositeType, Field, FieldType, FunctionType, Id, Listed, Storage, StructType,
+    Type, ValType,
 };
-use walrus_ty::{Field, Id, Listed, Storage};
 
 fn ty(alloc: Global, kind: CompositeType) -> Type {
     let supertype = Some(Id::from_index(2));

@@ -2,11 +2,10 @@
 use crate::assertions::prints;
 use std::alloc::{AllocError, Global};
 use std::process::Abort;
-use walrus_module_types::{
-    ArrayType, CompositeType, FieldType, FunctionType, HeapType, NamedReferenceTypes, RefType,
-    StorageType, StructType, ValType,
+use walrus_ty::{
+    AbstractHeapType, ArrayType, CompositeType, Field, FieldType, FunctionType, Heap, HeapType, Id,
+    Listed, RefType, Reference, Storage, StorageType, StructType, Val, ValType,
 };
-use walrus_ty::{AbstractHeapType, Field, Heap, Id, Listed, Reference, Storage, Val};
 
 fn reference(nullable: bool, heap_type: HeapType) -> RefType {
     Reference {

@@ -1,7 +1,6 @@
 //! The texts of the errors.
 use crate::assertions::prints;
-use walrus_module_types::{FromRecordError, NoIndex, ToRecordError, UnknownIndex};
-use walrus_ty::Id;
+use walrus_ty::{FromRecordError, Id, NoIndex, ToRecordError, UnknownIndex};
 
 #[test]
 fn errors_of_records_print_the_name_at_fault(rt: HostRuntime) {

@@ -1,11 +1,12 @@
 //! That the maps can be filled, and what they return then.
+mod refusals;
+
 use crate::assertions::assert_equal;
 use std::fmt::Debug;
-use walrus_module_types::{
-    Data, Element, Function, FunctionId, Global, GlobalId, IdsToIndices, IndicesToIds, Memory,
+use walrus_ty::{
+    Data, Element, Function, FunctionId, Global, GlobalId, Id, IdsToIndices, IndicesToIds, Memory,
     NoIndex, Table, Tag, TypeId, UnknownIndex,
 };
-use walrus_ty::Id;
 
 // A type for which this can be called is copied and printed.
 fn is_plain_data<T: Copy + Debug>() {}

@@ -3,8 +3,7 @@ use crate::assertions::assert_equal;
 use std::alloc::{AllocError, Global};
 use std::cmp::Ordering;
 use std::test::Fail;
-use walrus_module_types::{FieldType, StructType};
-use walrus_ty::{Field, Listed, Storage, Val};
+use walrus_ty::{Field, FieldType, Listed, Storage, StructType, Val};
 
 fn numbers(alloc: Global) -> Result<Listed<u32>, AllocError> {
     Ok(Listed::from_vec(vec![in alloc; 3, 1, 4]?))

@@ -1,7 +1,9 @@
 //! Which types are named in value types.
 use crate::assertions::assert_equal;
-use walrus_module_types::{FieldType, HeapType, RefType, StorageType, TypeId, ValType};
-use walrus_ty::{AbstractHeapType, Field, Heap, Id, Reference, Storage, Val};
+use walrus_ty::{
+    AbstractHeapType, Field, FieldType, Heap, HeapType, Id, RefType, Reference, Storage,
+    StorageType, TypeId, Val, ValType,
+};
 
 #[test]
 fn a_heap_type_names_what_it_points_at(rt: HostRuntime) {

@@ -1,12 +1,11 @@
 //! Kinds of types, unpacked fields, and the named reference types.
 use crate::assertions::{assert_equal, prints};
 use std::alloc::{AllocError, Global};
-use walrus_module_types::laws::reference_constant;
-use walrus_module_types::{
-    ArrayType, CompositeType, FunctionType, HeapType, NamedReferenceTypes, RefType, StorageType,
-    StructType, Type, ValType,
+use walrus_ty::laws::reference_constant;
+use walrus_ty::{
+    AbstractHeapType, ArrayType, CompositeType, Field, FunctionType, HeapType, Id, Listed, RefType,
+    Storage, StorageType, StructType, Type, ValType,
 };
-use walrus_ty::{AbstractHeapType, Field, Id, Listed, Storage};
 
 fn function(alloc: Global, param: ValType) -> Result<CompositeType, AllocError> {
     let params = vec![in alloc; param]?;

@@ -2,8 +2,10 @@
 use crate::assertions::{assert_equal, prints};
 use std::alloc::{AllocError, Global};
 use walrus_ir::ModuleTypes;
-use walrus_module_types::{CompositeType, FieldType, FunctionType, StructType, TypeId, ValType};
-use walrus_ty::{Field, Heap, Listed, Reference, Storage, Val};
+use walrus_ty::{
+    CompositeType, Field, FieldType, FunctionType, Heap, Listed, Reference, Storage, StructType,
+    TypeId, Val, ValType,
+};
 
 fn field(element: ValType, mutable: bool) -> FieldType {
     Field {

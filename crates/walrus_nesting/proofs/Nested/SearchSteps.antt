@@ -4,8 +4,8 @@ use Rattle.std.proofs.lemmas.Bool.{cases_eq}
 use Rattle.std.proofs.lemmas.Option.{slice_get_within, slice_get_read, get_or_from_slice_get}
 use Rattle.std.proofs.lemmas.List.{length-set, length-map, take_at, reverse-append}
 use Rattle.std.proofs.lemmas.List.Elements.{All-push, Contains-push, Contains-push_cases, Contains-append_left}
-use Rattle.instr.specs.Sequence.{Sequence}
-use Rattle.instr.specs.declared.instr.Instr.{Instr}
+use Rattle.ir_instr.specs.Sequence.{Sequence}
+use Rattle.ir_instr.specs.declared.instr.Instr.{Instr}
 use Rattle.walrus_functions.specs.Body.{Body, Knows}
 use Rattle.walrus_functions.specs.Nesting.{IsChild, IsReachable, at_start, below, children_of}
 use Rattle.walrus_nesting.specs.Certificates.{ShowsNested, IsPath, ShowsCycle}
@@ -420,7 +420,7 @@ end_shows f s h e =
     let covered = subst (λ (ws : List Work). IsCovered f s.start s.done [] ws) e h.covered in
     done_shows f s.start s.done h.listed (elim covered [ inl k ↦ k | inr k ↦ absurd (none_in s.start k) ])
 
--- the same of the state that a call leaves, by its parts
+-- the state that a call leaves, by its parts
 pub left_is : (s : State) (id len at : ℕ) (path done : List ℕ) → len ≡ length s.path → at ≡ id →
     path ≡ take (len - 1) s.path → done ≡ s.done ++ id ∷ [] →
     record s { marks = slice_set s.marks at Done; path = path; done = done } ≡ after_leave id s

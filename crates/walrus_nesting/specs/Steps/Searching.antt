@@ -1,6 +1,6 @@
 -- How far a nesting check has come.
 use Rattle.std.specs.Prelude.{◌≡◌, ℕ, suc, ◌+◌, ◌<◌, ◌⊎◌, List, [], ◌∷◌, ◌++◌, All, Contains, Some, slice_get, slice_set, map, take, length, ◌-◌, flat_map}
-use Rattle.instr.specs.declared.instr.Instr.{Instr}
+use Rattle.ir_instr.specs.declared.instr.Instr.{Instr}
 use Rattle.walrus_functions.specs.Body.{Body, Knows}
 use Rattle.walrus_functions.specs.Nesting.{children, children_of, IsChild, IsReachable}
 use Rattle.walrus_nesting.specs.Certificates.{IsPath, ShowsCycle, ShowsUnknown}

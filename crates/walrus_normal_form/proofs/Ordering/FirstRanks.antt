@@ -43,7 +43,7 @@ closed-after {A} rank_of (x ∷ xs) item n long is_first is closes =
     take_all (length (x ∷ xs) - 1) xs (omega arith)
     ∙ ap (λ b. cond {A = List A} b [] xs) (closes ∙ ap is_open (is ∙ ap rank_of is_first))
 
--- the same of values, behind which a mark may come
+-- the rank of the first value, behind which a mark may come
 pub mark-rank :
     {A : Type 0} (vals further : List (Val A)) (b : Bool) → length vals < 1 → b ≡ true →
     1 ≡ first_rank item_rank (marked_items vals b further)

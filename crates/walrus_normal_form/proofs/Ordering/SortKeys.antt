@@ -19,24 +19,14 @@ use Rattle.walrus_ty.specs.declared.ty.value.Storage.TheVariants as storage
 use Rattle.walrus_ty.specs.declared.ty.value.Field.{Field}
 use Rattle.walrus_ty.specs.Definition.{Composite, Function, Struct, Array, Definition, composite_cmp, definition_cmp}
 use Rattle.walrus_normal_form.specs.SortKeys.{SortKey, sort_key_cmp, heap_place, val_place, storage_place, is_named, rank, is_open, val_rank, field_rank, marked_items, item_rank, first_rank, after_first, ranks, composite_sort_key}
-use Rattle.walrus_ty.specs.Value.{abstract_index, heap_cmp, val_cmp, storage_cmp, field_cmp, bool_index, bool_cmp}
+use Rattle.walrus_ty.specs.Value.{abstract_index, val_index, heap_cmp, val_cmp, storage_cmp, field_cmp, bool_index, bool_cmp}
 use Rattle.walrus_ty.proofs.Names.Definitions.{definitions_total}
 use Rattle.walrus_ty.proofs.Basics.{nat_same, then_less}
 use Rattle.walrus_ty.proofs.Spelling.Tokens.{nat_less, nat_exact}
 
 abstract_small : (a : AbstractHeapType) → abstract_index a ≤ 11
 abstract_small abstract.Func = omega arith
-abstract_small abstract.Extern = omega arith
-abstract_small abstract.Any = omega arith
-abstract_small abstract.None = omega arith
-abstract_small abstract.NoExtern = omega arith
-abstract_small abstract.NoFunc = omega arith
-abstract_small abstract.Eq = omega arith
-abstract_small abstract.Struct = omega arith
-abstract_small abstract.Array = omega arith
-abstract_small abstract.I31 = omega arith
-abstract_small abstract.Exn = omega arith
-abstract_small abstract.NoExn = omega arith
+abstract_small v = omega arith
 
 heap_small : (h : Heap ℕ) → heap_place h ≤ 12
 heap_small (heap.Abstract a) = omega (arith, abstract_small a)
@@ -53,21 +43,13 @@ alike a b h = ap (nat_cmp a) (sym h) ∙ nat_same a
 
 heap_less : (h g : Heap ℕ) → heap_place h < heap_place g → heap_cmp h g ≡ Less
 heap_less (heap.Abstract a) (heap.Abstract b) w = nat_less (abstract_index a) (abstract_index b) w
-heap_less (heap.Abstract a) (heap.Concrete l) w = refl
-heap_less (heap.Abstract a) (heap.Exact l) w = refl
-heap_less (heap.Concrete k) (heap.Abstract b) w = absurd (omega (arith, abstract_small b, w))
-heap_less (heap.Concrete k) (heap.Concrete l) w = absurd (omega (arith, w))
-heap_less (heap.Concrete k) (heap.Exact l) w = absurd (omega (arith, w))
-heap_less (heap.Exact k) (heap.Abstract b) w = absurd (omega (arith, abstract_small b, w))
-heap_less (heap.Exact k) (heap.Concrete l) w = absurd (omega (arith, w))
-heap_less (heap.Exact k) (heap.Exact l) w = absurd (omega (arith, w))
+heap_less (heap.Abstract a) g w = refl
+heap_less h (heap.Abstract b) w = absurd (omega (arith, abstract_small b, w))
+heap_less h g w = absurd (omega (arith, w))
 
 heap_tied : (h g : Heap ℕ) → heap_place h ≡ heap_place g → heap_place h < 12 → heap_cmp h g ≡ Equal
 heap_tied (heap.Abstract a) (heap.Abstract b) e w = alike (abstract_index a) (abstract_index b) e
-heap_tied (heap.Abstract a) (heap.Concrete l) e w = absurd (omega (arith, e, w))
-heap_tied (heap.Abstract a) (heap.Exact l) e w = absurd (omega (arith, e, w))
-heap_tied (heap.Concrete k) g e w = absurd (omega (arith, w))
-heap_tied (heap.Exact k) g e w = absurd (omega (arith, w))
+heap_tied h g e w = absurd (omega (arith, e, w))
 
 -- what the place of a reference says
 
@@ -86,9 +68,8 @@ nullable_tied :
     ¬ (13 * bool_index m + heap_place h ≡ 12) → ¬ (13 * bool_index m + heap_place h ≡ 25) →
     ordering_then (bool_cmp m n) (heap_cmp h g) ≡ Equal
 nullable_tied false false h g e f w = heap_tied h g (omega (arith, e)) (omega (arith, heap_small h, f))
-nullable_tied false true h g e f w = absurd (omega (arith, heap_small h, heap_small g, e, f))
-nullable_tied true false h g e f w = absurd (omega (arith, heap_small h, heap_small g, e, f))
 nullable_tied true true h g e f w = heap_tied h g (omega (arith, e)) (omega (arith, heap_small h, w))
+nullable_tied m n h g e f w = absurd (omega (arith, heap_small h, heap_small g, e, f))
 
 -- what the place of a value type says
 
@@ -97,51 +78,14 @@ nullable_small false h = omega (arith, heap_small h)
 nullable_small true h = omega (arith, heap_small h)
 
 val_small : (v : Val ℕ) → val_place v ≤ 30
-val_small val.I32 = omega arith
-val_small val.I64 = omega arith
-val_small val.F32 = omega arith
-val_small val.F64 = omega arith
-val_small val.V128 = omega arith
 val_small (val.Ref r) = omega (arith, nullable_small r.nullable r.heap_type)
+val_small v = omega arith
 
 val_less : (v w : Val ℕ) → val_place v < val_place w → val_cmp v w ≡ Less
-val_less val.I32 val.I32 h = absurd (omega (arith, h))
-val_less val.I32 val.I64 h = refl
-val_less val.I32 val.F32 h = refl
-val_less val.I32 val.F64 h = refl
-val_less val.I32 val.V128 h = refl
-val_less val.I32 (val.Ref q) h = refl
-val_less val.I64 val.I32 h = absurd (omega (arith, h))
-val_less val.I64 val.I64 h = absurd (omega (arith, h))
-val_less val.I64 val.F32 h = refl
-val_less val.I64 val.F64 h = refl
-val_less val.I64 val.V128 h = refl
-val_less val.I64 (val.Ref q) h = refl
-val_less val.F32 val.I32 h = absurd (omega (arith, h))
-val_less val.F32 val.I64 h = absurd (omega (arith, h))
-val_less val.F32 val.F32 h = absurd (omega (arith, h))
-val_less val.F32 val.F64 h = refl
-val_less val.F32 val.V128 h = refl
-val_less val.F32 (val.Ref q) h = refl
-val_less val.F64 val.I32 h = absurd (omega (arith, h))
-val_less val.F64 val.I64 h = absurd (omega (arith, h))
-val_less val.F64 val.F32 h = absurd (omega (arith, h))
-val_less val.F64 val.F64 h = absurd (omega (arith, h))
-val_less val.F64 val.V128 h = refl
-val_less val.F64 (val.Ref q) h = refl
-val_less val.V128 val.I32 h = absurd (omega (arith, h))
-val_less val.V128 val.I64 h = absurd (omega (arith, h))
-val_less val.V128 val.F32 h = absurd (omega (arith, h))
-val_less val.V128 val.F64 h = absurd (omega (arith, h))
-val_less val.V128 val.V128 h = absurd (omega (arith, h))
-val_less val.V128 (val.Ref q) h = refl
-val_less (val.Ref r) val.I32 h = absurd (omega (arith, h))
-val_less (val.Ref r) val.I64 h = absurd (omega (arith, h))
-val_less (val.Ref r) val.F32 h = absurd (omega (arith, h))
-val_less (val.Ref r) val.F64 h = absurd (omega (arith, h))
-val_less (val.Ref r) val.V128 h = absurd (omega (arith, h))
 val_less (val.Ref r) (val.Ref q) h = nullable_less r.nullable q.nullable r.heap_type q.heap_type
     (omega (arith, h))
+val_less v (val.Ref q) h = refl
+val_less v w h = nat_less (val_index v) (val_index w) (omega (arith, h))
 
 -- a place that is not that of a reference to a type
 unnamed : (i : ℕ) → is_named i ≡ false → (¬ (i ≡ 17)) × (¬ (i ≡ 30))
@@ -161,68 +105,32 @@ named false false i e f h = cc
 val_tied :
     (v w : Val ℕ) → val_place v ≡ val_place w → is_named (val_place v) ≡ false → val_cmp v w ≡ Equal
 val_tied val.I32 val.I32 e h = refl
-val_tied val.I32 val.I64 e h = absurd (omega (arith, e))
-val_tied val.I32 val.F32 e h = absurd (omega (arith, e))
-val_tied val.I32 val.F64 e h = absurd (omega (arith, e))
-val_tied val.I32 val.V128 e h = absurd (omega (arith, e))
-val_tied val.I32 (val.Ref q) e h = absurd (omega (arith, e))
-val_tied val.I64 val.I32 e h = absurd (omega (arith, e))
 val_tied val.I64 val.I64 e h = refl
-val_tied val.I64 val.F32 e h = absurd (omega (arith, e))
-val_tied val.I64 val.F64 e h = absurd (omega (arith, e))
-val_tied val.I64 val.V128 e h = absurd (omega (arith, e))
-val_tied val.I64 (val.Ref q) e h = absurd (omega (arith, e))
-val_tied val.F32 val.I32 e h = absurd (omega (arith, e))
-val_tied val.F32 val.I64 e h = absurd (omega (arith, e))
 val_tied val.F32 val.F32 e h = refl
-val_tied val.F32 val.F64 e h = absurd (omega (arith, e))
-val_tied val.F32 val.V128 e h = absurd (omega (arith, e))
-val_tied val.F32 (val.Ref q) e h = absurd (omega (arith, e))
-val_tied val.F64 val.I32 e h = absurd (omega (arith, e))
-val_tied val.F64 val.I64 e h = absurd (omega (arith, e))
-val_tied val.F64 val.F32 e h = absurd (omega (arith, e))
 val_tied val.F64 val.F64 e h = refl
-val_tied val.F64 val.V128 e h = absurd (omega (arith, e))
-val_tied val.F64 (val.Ref q) e h = absurd (omega (arith, e))
-val_tied val.V128 val.I32 e h = absurd (omega (arith, e))
-val_tied val.V128 val.I64 e h = absurd (omega (arith, e))
-val_tied val.V128 val.F32 e h = absurd (omega (arith, e))
-val_tied val.V128 val.F64 e h = absurd (omega (arith, e))
 val_tied val.V128 val.V128 e h = refl
-val_tied val.V128 (val.Ref q) e h = absurd (omega (arith, e))
-val_tied (val.Ref r) val.I32 e h = absurd (omega (arith, e))
-val_tied (val.Ref r) val.I64 e h = absurd (omega (arith, e))
-val_tied (val.Ref r) val.F32 e h = absurd (omega (arith, e))
-val_tied (val.Ref r) val.F64 e h = absurd (omega (arith, e))
-val_tied (val.Ref r) val.V128 e h = absurd (omega (arith, e))
 val_tied (val.Ref r) (val.Ref q) e h =
     let apart = unnamed (val_place (val.Ref r)) h in
     nullable_tied r.nullable q.nullable r.heap_type q.heap_type (omega (arith, e)) (λ k.
     apart.0 (omega (arith, k))) (λ k. apart.1 (omega (arith, k)))
+val_tied v w e h = absurd (omega (arith, e))
 
 storage_less : (s t : Storage ℕ) → storage_place s < storage_place t → storage_cmp s t ≡ Less
 storage_less (storage.Val v) (storage.Val w) h = val_less v w h
-storage_less (storage.Val v) storage.I8 h = refl
-storage_less (storage.Val v) storage.I16 h = refl
-storage_less storage.I8 (storage.Val w) h = absurd (omega (arith, val_small w, h))
-storage_less storage.I8 storage.I8 h = absurd (omega (arith, h))
+storage_less (storage.Val v) t h = refl
+storage_less s (storage.Val w) h = absurd (omega (arith, val_small w, h))
 storage_less storage.I8 storage.I16 h = refl
-storage_less storage.I16 (storage.Val w) h = absurd (omega (arith, val_small w, h))
-storage_less storage.I16 storage.I8 h = absurd (omega (arith, h))
-storage_less storage.I16 storage.I16 h = absurd (omega (arith, h))
+storage_less s t h = absurd (omega (arith, h))
 
 storage_tied :
     (s t : Storage ℕ) → storage_place s ≡ storage_place t → is_named (storage_place s) ≡ false →
     storage_cmp s t ≡ Equal
 storage_tied (storage.Val v) (storage.Val w) e h = val_tied v w e h
-storage_tied (storage.Val v) storage.I8 e h = absurd (omega (arith, val_small v, e))
-storage_tied (storage.Val v) storage.I16 e h = absurd (omega (arith, val_small v, e))
-storage_tied storage.I8 (storage.Val w) e h = absurd (omega (arith, val_small w, e))
+storage_tied (storage.Val v) t e h = absurd (omega (arith, val_small v, e))
+storage_tied s (storage.Val w) e h = absurd (omega (arith, val_small w, e))
 storage_tied storage.I8 storage.I8 e h = refl
-storage_tied storage.I8 storage.I16 e h = absurd (omega (arith, e))
-storage_tied storage.I16 (storage.Val w) e h = absurd (omega (arith, val_small w, e))
-storage_tied storage.I16 storage.I8 e h = absurd (omega (arith, e))
 storage_tied storage.I16 storage.I16 e h = refl
+storage_tied s t e h = absurd (omega (arith, e))
 
 -- ranks differ by the place, and then by mutability
 data RankedBy (i j : ℕ) (m n : Bool) : Type 0 where
@@ -232,16 +140,11 @@ data RankedBy (i j : ℕ) (m n : Bool) : Type 0 where
 same_place :
     (i j : ℕ) (b c m n : Bool) → is_named i ≡ b → is_named j ≡ c → j ≤ i →
     2 * (i + 1) + cond b 0 (bool_index m) < 2 * (j + 1) + cond c 0 (bool_index n) → RankedBy i j m n
-same_place i j true true m n e f w h = absurd (omega (arith, w, h))
-same_place i j true false m false e f w h = absurd (omega (arith, w, h))
 same_place i j true false m true e f w h = let s : i ≡ j = omega (arith, w, h) in let k : true ≡ false = sym e
     ∙ (ap is_named s ∙ f) in cc
-same_place i j false true true n e f w h = absurd (omega (arith, w, h))
-same_place i j false true false n e f w h = absurd (omega (arith, w, h))
-same_place i j false false true true e f w h = absurd (omega (arith, w, h))
-same_place i j false false true false e f w h = absurd (omega (arith, w, h))
-same_place i j false false false false e f w h = absurd (omega (arith, w, h))
 same_place i j false false false true e f w h = by_mutability (omega (arith, w, h)) e refl
+same_place i j false false true true e f w h = absurd (omega (arith, w, h))
+same_place i j b c m n e f w h = absurd (omega (arith, w, h))
 
 rank_less : (i j : ℕ) (m n : Bool) → nat_cmp (rank i m) (rank j n) ≡ Less → RankedBy i j m n
 rank_less i j m n h = elim (cases_lt i j) [
@@ -264,13 +167,11 @@ rank_same_at :
     is_open (2 * (i + 1) + cond b 0 (bool_index m)) ≡ false →
     (i ≡ j) × (is_named i ≡ false) × (bool_cmp m n ≡ Equal)
 rank_same_at i j true c m n e f s h = let k : true ≡ false = sym (named_is_open i e) ∙ h in cc
-rank_same_at i j false true true n e f s h = absurd (omega (arith, s))
 rank_same_at i j false true false n e f s h = let same : i ≡ j = omega (arith, s) in let k : true ≡ false =
     sym f ∙ (ap is_named (sym same) ∙ e) in cc
 rank_same_at i j false false true true e f s h = (omega (arith, s), e, refl)
-rank_same_at i j false false true false e f s h = absurd (omega (arith, s))
-rank_same_at i j false false false true e f s h = absurd (omega (arith, s))
 rank_same_at i j false false false false e f s h = (omega (arith, s), e, refl)
+rank_same_at i j b c m n e f s h = absurd (omega (arith, s))
 
 rank_same :
     (i j : ℕ) (m n : Bool) → rank i m ≡ rank j n → is_open (rank i m) ≡ false →
@@ -481,17 +382,8 @@ regrouped :
     (a b c d e f : Ordering) →
     ordering_then (ordering_then (ordering_then (ordering_then (ordering_then a b) c) d) e) f ≡
     ordering_then a (ordering_then b (ordering_then c (ordering_then d (ordering_then e f))))
-regrouped Less b c d e f = refl
-regrouped Greater b c d e f = refl
-regrouped Equal Less c d e f = refl
-regrouped Equal Greater c d e f = refl
-regrouped Equal Equal Less d e f = refl
-regrouped Equal Equal Greater d e f = refl
-regrouped Equal Equal Equal Less e f = refl
-regrouped Equal Equal Equal Greater e f = refl
-regrouped Equal Equal Equal Equal Less f = refl
-regrouped Equal Equal Equal Equal Greater f = refl
 regrouped Equal Equal Equal Equal Equal f = refl
+regrouped a b c d e f = refl
 
 -- the order of tuples is that of keys
 abbrev pub tuple_cmp : SortKey → SortKey → Ordering

@@ -1,5 +1,5 @@
 -- A section that is read group by group, out of a list of groups that gets shorter.
-use Rattle.std.proofs.Common.{◌≡◌, ◌⊎◌, ℕ, List, [], ◌∷◌, ◌++◌, length, ap, sym, subst, ◌∙◌, Some, inl, inr, append_assoc, IfErr}
+use Rattle.std.proofs.Common.{◌≡◌, ◌⊎◌, ℕ, List, [], ◌∷◌, ◌++◌, length, ap, sym, subst, ◌∙◌, None, Some, inl, inr, append_assoc, IfErr}
 use Rattle.std.specs.Result.{IsErrAnd}
 use Rattle.std.specs.declared.result.Result.{Result}
 use Rattle.std.specs.declared.result.Result.TheVariants.{Ok, Err}
@@ -46,9 +46,10 @@ module _ (given left : List GroupAt) (slots : List ℕ) (groups : List SlotGroup
   -- a group that is refused is the first, as those before it are read
   pub refused_first :
       (rest : List GroupAt) (g : GroupAt) (e : ReadError) → left ≡ g ∷ rest →
-      (e ≡ Memory) ⊎ (group_error (length slots) (definitions_of (group_of g)) ≡ Some e) →
+      ((e ≡ Memory) × (group_error (length slots) (definitions_of (group_of g)) ≡ None)) ⊎
+      (group_error (length slots) (definitions_of (group_of g)) ≡ Some e) →
       (e ≡ Memory) ⊎ IsFirstError (section_of given) e
-  refused_first rest g e next (inl m) = inl m
+  refused_first rest g e next (inl m) = inl m.0
   refused_first rest g e next (inr f) = inr (record {
     before = section_of h.before;
     group = group_of g;

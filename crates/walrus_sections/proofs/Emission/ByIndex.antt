@@ -2,8 +2,7 @@
 use Rattle.std.specs.Prelude.{◌≡◌, ℕ, ◌<◌, ◌≤◌, ◌⊎◌, ◌↔◌}
 use Rattle.std.specs.declared.cmp.Ordering.TheVariants.{Less}
 use Rattle.walrus_ty.specs.Definition.{Names, rename, definition_cmp}
-use Rattle.walrus_sections.specs.Section.{IndexSpace, IsInRec}
-use Rattle.walrus_sections.specs.SlotMap.{read_definition}
+use Rattle.walrus_sections.specs.{Section.IndexSpace, Section.IsInRec, SlotMap.read_definition}
 
 -- the group of slot i is no free one
 abbrev pub IsFixed : IndexSpace → (ℕ → ℕ) → ℕ → Type 0

@@ -1,21 +1,13 @@
 -- What is read and then emitted is a normal form.
-use Rattle.std.proofs.Common.{◌≡◌, ℕ, zero, ◌+◌, ◌<◌, ◌≤◌, List, refl, ap, sym, ◌∙◌, inl, inr, ◌⊎◌, arith, Option, Some, None, true, false, subst, ◌↔◌, map}
+use Rattle.std.proofs.Common.{◌≡◌, ℕ, zero, ◌+◌, ◌<◌, ◌≤◌, List, refl, ap, sym, ◌∙◌, inl, inr, ◌⊎◌, arith, Option, Some, true, false, subst, ◌↔◌, map}
 use Rattle.std.specs.List.{range_with_len}
 use Rattle.std.specs.declared.cmp.Ordering.TheVariants.{Less}
-use Rattle.std.proofs.lemmas.Bool.{cases_lt, cases_eq}
-use Rattle.std.proofs.lemmas.List.FromFn.{length-map-range_with_len, get_or-map-range_with_len}
-use Rattle.walrus_ty.specs.Definition.{Names, rename, definition_cmp}
-use Rattle.walrus_ty.specs.Groups.{Section}
-use Rattle.walrus_sections.specs.Section.{places_from, index_space, NamesBelowEnds, IsWellNamed, IsInRec}
-use Rattle.walrus_sections.specs.SlotMap.{TypeGroup, read_groups, read_definition, IsSlotMap}
+use Rattle.std.proofs.lemmas.{Bool.cases_lt, Bool.cases_eq, List.FromFn.length-map-range_with_len, List.FromFn.get_or-map-range_with_len}
+use Rattle.walrus_ty.specs.{Definition.Names, Definition.definition_cmp, Groups.Section}
+use Rattle.walrus_sections.specs.{Section.places_from, Section.index_space, Section.NamesBelowEnds, Section.IsWellNamed, Section.IsInRec, SlotMap.TypeGroup, SlotMap.read_groups, SlotMap.read_definition, SlotMap.IsSlotMap, NormalForm.image, NormalForm.IsNormalForm}
 use Rattle.walrus_sections.specs.Emission.{group_at, IsMember, IsGrouped, WrittenMember, read_table, IsFreeGroup, IsInversion, IsWrittenBefore, IsEmission}
-use Rattle.walrus_sections.specs.NormalForm.{image, IsNormalForm}
-use Rattle.walrus_sections.proofs.Sections.Rows.{at, laid_out}
+use Rattle.walrus_sections.proofs.{Sections.Rows.at, Sections.Rows.laid_out, NormalForms.SameMap.normal_same, Emission.ByIndex.IsFixed, Emission.ByIndex.IsEmitted, Emission.Groups.AreGroups, Emission.Groups.Kind, Emission.Groups.groups, Emission.WrittenMembers.written_member}
 use Rattle.walrus_sections.proofs.Sections.Numbering.{KeepsRecs, same_numbers}
-use Rattle.walrus_sections.proofs.NormalForms.SameMap.{normal_same}
-use Rattle.walrus_sections.proofs.Emission.ByIndex.{IsFixed, IsEmitted}
-use Rattle.walrus_sections.proofs.Emission.Groups.{AreGroups, Kind, groups}
-use Rattle.walrus_sections.proofs.Emission.WrittenMembers.{written_member}
 use Rattle.walrus_sections.proofs.Emission.Made.{down, twice, normal_made}
 use Rattle.walrus_ty.proofs.Names.Definitions.{named_before, cmp_same}
 
@@ -45,13 +37,6 @@ module _ (s : Section) (r : ℕ → ℕ) (wn : NamesBelowEnds (index_space s)) (
 
     back : (g u i : ℕ) → IsMember S g u i → IsMember S g u (zero + i)
     back g u i m = subst (IsMember S g u) (sym (none i)) m
-
-    explicit_rec : (g u i : ℕ) → IsMember S g u i → (group_at S g).is_explicit ≡ true → (k : ℕ)
-        × ((index_space s).rec_position i ≡ Some (k, u))
-    explicit_rec g u i m e = elim (member_is g u i m).2 [
-      | inl x ↦ x.1
-      | inr x ↦ absurd (let a = x.0 in cc)
-    ]
 
     rec_explicit : (g u i k t : ℕ) → IsMember S g u i → (index_space s).rec_position i ≡ Some (k, t) →
         ((group_at S g).is_explicit ≡ true) × (u ≡ t)
@@ -182,52 +167,16 @@ module _ (s : Section) (r : ℕ → ℕ) (wn : NamesBelowEnds (index_space s)) (
       abbrev written : {g u i : ℕ} → IsMember S g u i → WrittenMember (read_table s r)
       written {g} {u} {i} m = written_member (u, i, m, refl) m
 
-      em_below : (g u i : ℕ) → IsMember S g u i → place i < (index_space out).count
-      em_below g u i m = em.below (written m)
-
       em_onto : (p : ℕ) → p < (index_space out).count → (g : ℕ) × (u : ℕ) × (i : ℕ) × IsMember S g u i
           × (place i ≡ p)
       em_onto p h = let o = em.onto p h in let x = o.0 in (x.group, x.place, x.id, x.is_member, o.1)
 
-      em_same : (g u i : ℕ) → IsMember S g u i → (index_space out).definition (place i) ≡ rename place
-          (read_definition (index_space s) r i)
-      em_same g u i m = em.same (written m)
-
-      em_single : (g u i : ℕ) → IsMember S g u i → (group_at S g).is_explicit ≡ false →
-          (index_space out).rec_position (place i) ≡ None
-      em_single g u i m = em.single (written m)
-
-      em_rec : (g u i : ℕ) → IsMember S g u i → (group_at S g).is_explicit ≡ true → (k : ℕ)
-          × ((index_space out).rec_position (place i) ≡ Some (k, u))
-      em_rec g u i m = em.rec (written m)
-
-      em_whole : (g u i v j k : ℕ) → IsMember S g u i → IsMember S g v j → (group_at S g).is_explicit ≡ true →
-          (index_space out).rec_position (place i) ≡ Some (k, u) →
-          (index_space out).rec_position (place j) ≡ Some (k, v)
-      em_whole g u i v j k m m' = em.whole (written m) (written m') k refl
-
-      em_within : (g u i v j : ℕ) → IsMember S g u i → IsMember S g v j → u < v → place i < place j
-      em_within g u i v j m m' = em.within (written m) (written m') refl
-
-      em_recs : (g u i h v j k l : ℕ) → g < h → IsMember S g u i → IsMember S h v j →
-          (index_space out).rec_position (place i) ≡ Some (k, u) →
-          (index_space out).rec_position (place j) ≡ Some (l, v) → k < l
-      em_recs g u i h v j k l lt m m' = em.recs (written m) (written m') k l lt
-
-      em_stands : (g u i h v j : ℕ) → g < h → IsMember S g u i → IsMember S h v j →
-          ¬ (IsInversion (read_table s r) g h) → place i < place j
-      em_stands g u i h v j lt m m' = em.stands (written m) (written m') lt
-
-      em_turned : (g u i h v j : ℕ) → g < h → IsMember S g u i → IsMember S h v j →
-          IsInversion (read_table s r) g h → place j < place i
-      em_turned g u i h v j lt m m' = em.inversions (written m) (written m') lt
-
       keeps : KeepsRecs (index_space s) (index_space out) place
       keeps = record {
-        below = λ i x h e. (let m = member_of i h (d.recs i h (x, e)) in em_below m.0 m.1 i m.2);
+        below = λ i x h e. (let m = member_of i h (d.recs i h (x, e)) in em.below (written m.2));
         place = λ i k t h e. (let m = member_of i h (d.recs i h ((k, t), e)) in
             let x = rec_explicit m.0 m.1 i k t m.2 e in
-            let q = em_rec m.0 m.1 i m.2 x.0 in (q.0, q.1 ∙ ap (λ y. Some (q.0, y)) x.1));
+            let q = em.rec (written m.2) x.0 in (q.0, q.1 ∙ ap (λ y. Some (q.0, y)) x.1));
         whole = λ i j k t u l h h' e e' f. (
             let m = member_of i h (d.recs i h ((k, t), e)) in
             let m' = member_of j h' (d.recs j h' ((k, u), e')) in
@@ -235,7 +184,7 @@ module _ (s : Section) (r : ℕ → ℕ) (wn : NamesBelowEnds (index_space s)) (
             let x' = rec_explicit m'.0 m'.1 j k u m'.2 e' in
             let g = one_group m.0 m.1 i m'.0 m'.1 j k m.2 m'.2 (e ∙ ap (λ y. Some (k, y)) (sym x.1)) (e'
             ∙ ap (λ y. Some (k, y)) (sym x'.1)) in
-            let q = em_whole m.0 m.1 i m'.1 j l m.2 (member_at m'.0 m.0 m'.1 j (sym g) m'.2) x.0 (f
+            let q = em.whole (written m.2) (written m'.2) l g x.0 (f
             ∙ ap (λ y. Some (l, y)) (sym x.1)) in
             q ∙ ap (λ y. Some (l, y)) x'.1);
         order = λ i j k k' t u l l' h h' lt e e' f f'. (
@@ -248,7 +197,7 @@ module _ (s : Section) (r : ℕ → ℕ) (wn : NamesBelowEnds (index_space s)) (
             let fi = f ∙ ap (λ y. Some (l, y)) (sym x.1) in
             let fj = f' ∙ ap (λ y. Some (l', y)) (sym x'.1) in
             elim (cases_lt m.0 m'.0) [
-              | inl y ↦ em_recs m.0 m.1 i m'.0 m'.1 j l l' y m.2 m'.2 fi fj
+              | inl y ↦ em.recs (written m.2) (written m'.2) l l' y fi fj
               | inr y ↦ (elim (cases_eq m.0 m'.0) [
                 | inl z ↦ absurd (let w = all.number m.0 m.1 m'.1 i j k k' (back m.0 m.1 i m.2)
                     (back m.0 m'.1 j (member_at m'.0 m.0 m'.1 j (sym z) m'.2)) ei ej in omega arith)
@@ -265,7 +214,7 @@ module _ (s : Section) (r : ℕ → ℕ) (wn : NamesBelowEnds (index_space s)) (
               o.4,
               elim w.2 [
                 | inl y ↦ ((y.1.0, u), y.1.1)
-                | inr y ↦ absurd (let a = em_single g u i o.3 y.0 in let b =
+                | inr y ↦ absurd (let a = em.single (written o.3) y.0 in let b =
                     ap (index_space out).rec_position o.4 in cc)
               ],
             ));
@@ -276,11 +225,10 @@ module _ (s : Section) (r : ℕ → ℕ) (wn : NamesBelowEnds (index_space s)) (
       not_equal i j lt hi hj vi vj e =
           let m = member_of i hi vi in let m' = member_of j hj vj in
           elim (in_order i j m.0 m.1 m'.0 m'.1 lt m.2 m'.2) [
-            | inl x ↦ (let z = em_within m.0 m.1 i m'.1 j m.2 (member_at m'.0 m.0 m'.1 j (sym x.0) m'.2) x.1
-                in
+            | inl x ↦ (let z = em.within (written m.2) (written m'.2) x.0 x.1 in
                 omega arith)
-            | inr x ↦ (let z = em_stands m.0 m.1 i m'.0 m'.1 j x m.2 m'.2 (λ t.
-                (let y = em_turned m.0 m.1 i m'.0 m'.1 j x m.2 m'.2 t in omega arith)) in omega arith)
+            | inr x ↦ (let z = em.stands (written m.2) (written m'.2) x (λ t.
+                (let y = em.inversions (written m.2) (written m'.2) x t in omega arith)) in omega arith)
           ]
 
       fixed_first : (i j : ℕ) → i < j → j < (index_space s).count → r i ≡ i → r j ≡ j →
@@ -288,8 +236,8 @@ module _ (s : Section) (r : ℕ → ℕ) (wn : NamesBelowEnds (index_space s)) (
       fixed_first i j lt hj vi vj fx =
           let m = member_of i (omega arith) vi in let m' = member_of j hj vj in
           elim (in_order i j m.0 m.1 m'.0 m'.1 lt m.2 m'.2) [
-            | inl x ↦ em_within m.0 m.1 i m'.1 j m.2 (member_at m'.0 m.0 m'.1 j (sym x.0) m'.2) x.1
-            | inr x ↦ em_stands m.0 m.1 i m'.0 m'.1 j x m.2 m'.2 (λ t. elim fx [
+            | inl x ↦ em.within (written m.2) (written m'.2) x.0 x.1
+            | inr x ↦ em.stands (written m.2) (written m'.2) x (λ t. elim fx [
               | inl y ↦ not_free m.0 m.1 i m.2 y (t.free m.0 (omega arith) (omega arith) m.1 i m.2)
               | inr y ↦ not_free m'.0 m'.1 j m'.2 y (t.free m'.0 (omega arith) (omega arith) m'.1 j m'.2)
             ])
@@ -343,14 +291,14 @@ module _ (s : Section) (r : ℕ → ℕ) (wn : NamesBelowEnds (index_space s)) (
                       only_one m'.0 m'.1 j w' y' m'.2 k' nj in
                       less_along i y j y' e e' le);
                 } in (
-                  (λ up le. (let z = em_turned m.0 m.1 i m'.0 m'.1 j x m.2 m'.2 (turn le) in omega arith)),
-                  (λ nl. em_stands m.0 m.1 i m'.0 m'.1 j x m.2 m'.2 (λ t. nl (t.less m.1 i m'.1 j m.2 m'.2))),
+                  (λ up le. (let z = em.inversions (written m.2) (written m'.2) x (turn le) in omega arith)),
+                  (λ nl. em.stands (written m.2) (written m'.2) x (λ t. nl (t.less m.1 i m'.1 j m.2 m'.2))),
                 ))
           ]
 
       pub emitted : IsEmitted (index_space s) (index_space out) r place
       emitted = record {
-        below = λ i h v. (let m = member_of i h v in em_below m.0 m.1 i m.2);
+        below = λ i h v. (let m = member_of i h v in em.below (written m.2));
         onto = λ p h. (let o = em_onto p h in let w = member_is o.0 o.1 o.2 o.3 in (o.2, w.0, w.1, o.4));
         apart = λ i j hi hj vi vj e. (elim (cases_lt i j) [
           | inl x ↦ absurd (not_equal i j x hi hj vi vj e)
@@ -360,10 +308,10 @@ module _ (s : Section) (r : ℕ → ℕ) (wn : NamesBelowEnds (index_space s)) (
                 absurd (not_equal j i (omega arith) hj hi vj vi (sym e))
           ])
         ]);
-        definition = λ i h v. (let m = member_of i h v in em_same m.0 m.1 i m.2);
+        definition = λ i h v. (let m = member_of i h v in em.same (written m.2));
         rec_position = λ i h v. (let m = member_of i h v in elim (member_is m.0 m.1 i m.2).2 [
           | inl x ↦ same_numbers s out place keeps i (x.1.0, m.1) h x.1.1 ∙ sym x.1.1
-          | inr x ↦ em_single m.0 m.1 i m.2 x.0 ∙ sym x.1
+          | inr x ↦ em.single (written m.2) x.0 ∙ sym x.1
         ]);
         fixed = fixed_first;
         free = free_order;

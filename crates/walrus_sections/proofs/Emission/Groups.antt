@@ -1,16 +1,10 @@
 -- How the groups of a read table lie, and what the rule of emission says of them by index.
 use Rattle.std.proofs.Common.{◌≡◌, ℕ, zero, suc, ◌+◌, ◌-◌, ◌<◌, List, [], ◌∷◌, length, refl, ap, sym, ◌∙◌, inl, inr, ◌⊎◌, arith, Some, None, Bool, true, false, cond, ◌==◌, subst}
 use Rattle.std.specs.List.{range_with_len}
-use Rattle.std.proofs.lemmas.Bool.{cases_lt, cases_eq}
-use Rattle.std.proofs.lemmas.Bool.Decides.{nat_tests}
-use Rattle.std.proofs.lemmas.List.FromFn.{length-range_with_len, get_or-range_with_len}
-use Rattle.walrus_ty.specs.Definition.{Definition}
-use Rattle.walrus_sections.specs.Section.{Place, rec_places, recs_after, places_from}
-use Rattle.walrus_ty.specs.Groups.{Single, Rec, Section}
-use Rattle.walrus_sections.specs.SlotMap.{TypeGroup, read_groups}
-use Rattle.walrus_sections.specs.Emission.{group_at, IsMember}
-use Rattle.walrus_sections.proofs.Sections.Rows.{at, length-rec_places, rows}
-use Rattle.walrus_sections.proofs.Sections.Numbering.{rec_past, number_of}
+use Rattle.std.proofs.lemmas.{Bool.cases_lt, Bool.cases_eq, Bool.Decides.nat_tests, List.FromFn.length-range_with_len, List.FromFn.get_or-range_with_len}
+use Rattle.walrus_ty.specs.{Definition.Definition, Groups.Single, Groups.Rec, Groups.Section}
+use Rattle.walrus_sections.specs.{Section.Place, Section.rec_places, Section.recs_after, Section.places_from, SlotMap.TypeGroup, SlotMap.read_groups, Emission.group_at, Emission.IsMember}
+use Rattle.walrus_sections.proofs.Sections.{Rows.at, Rows.length-rec_places, Rows.rows, Numbering.rec_past, Numbering.number_of}
 
 abbrev pub Kind : TypeGroup → Place → ℕ → Type 0
 Kind g p u = ((g.is_explicit ≡ true) × ((k : ℕ) × (p.rec_position ≡ Some (k, u))))
@@ -150,8 +144,7 @@ module _ (b n : ℕ) (f : Bool) (r : ℕ → ℕ) (gs : List TypeGroup) (ps qs :
       is = is_more;
       rise = rise_more;
       inner = inner_more;
-      number =
-          number_more;
+      number = number_more;
       numbers = numbers_more;
     }
 

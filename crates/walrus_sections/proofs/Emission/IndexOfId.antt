@@ -1,13 +1,9 @@
 -- Where the ids of written groups stand in the section.
-use Rattle.std.proofs.Common.{◌≡◌, ℕ, zero, suc, ◌+◌, ◌<◌, List, [], ◌∷◌, ◌++◌, map, take, length, cond, refl, sym, ap, subst, ◌∙◌, arith, Some, None, Option, Bool, true, false, zero-add, length-append, inl, inr}
+use Rattle.std.proofs.Common.{◌≡◌, ℕ, zero, suc, ◌+◌, ◌<◌, List, [], ◌∷◌, map, take, length, cond, refl, sym, ap, subst, ◌∙◌, arith, Some, None, Option, Bool, true, false, zero-add, length-append, inl, inr}
 use Rattle.std.specs.List.{slice_get, slice_index, slice_index_or}
-use Rattle.walrus_ty.specs.Definition.{Definition}
-use Rattle.walrus_ty.specs.Groups.{Section, Single, Rec}
-use Rattle.walrus_sections.specs.Section.{Place, no_place, rec_places, recs_after, places_from}
-use Rattle.walrus_sections.specs.SlotMap.{TypeGroup}
-use Rattle.walrus_sections.specs.Emission.{group_at}
-use Rattle.walrus_sections.specs.WritingOrders.{ids_in, written_group}
-use Rattle.walrus_ty.proofs.Basics.{some_inj, slice_get-parts}
+use Rattle.walrus_ty.specs.{Definition.Definition, Groups.Section, Groups.Single, Groups.Rec}
+use Rattle.walrus_sections.specs.{Section.Place, Section.no_place, Section.rec_places, Section.recs_after, Section.places_from, SlotMap.TypeGroup, Emission.group_at, WritingOrders.ids_in, WritingOrders.written_group}
+use Rattle.walrus_ty.proofs.Basics.{slice_get-left, slice_get-right, some_inj, slice_get-parts}
 
 -- a group that can be written: it isn't empty, and has one id unless it is explicit
 pub record IsTidy (w : TypeGroup) : Type 0 where
@@ -67,8 +63,7 @@ module _ (d : ℕ → Definition) where
       record {
         within = omega arith;
         definition = ap d (some_inj h);
-        rec_position =
-            ap (λ (n : ℕ). Some (k, n)) e;
+        rec_position = ap (λ (n : ℕ). Some (k, n)) e;
       }
   rec_stands (x ∷ ids) end k t rest (suc u) i h =
       let r : Stands (rec_places (map d ids) end k (suc t) rest) u (d i) (Some (k, suc t + u)) =
@@ -77,8 +72,7 @@ module _ (d : ℕ → Definition) where
       record {
         within = omega (arith, r.within);
         definition = r.definition;
-        rec_position = r.rec_position
-            ∙ ap (λ (n : ℕ). Some (k, n)) e;
+        rec_position = r.rec_position ∙ ap (λ (n : ℕ). Some (k, n)) e;
       }
 
   after_map : (ids : List ℕ) (k : ℕ) → 0 < length ids → recs_after (map d ids) k ≡ suc k
@@ -100,8 +94,7 @@ module _ (d : ℕ → Definition) where
       record {
         within = r.within;
         definition = r.definition;
-        rec_position = r.rec_position
-            ∙ ap (λ (n : ℕ). Some (k, n)) (zero-add u);
+        rec_position = r.rec_position ∙ ap (λ (n : ℕ). Some (k, n)) (zero-add u);
       }
   one_stands false ids rest b k u i single h = alone ids u (single refl) h
     where
@@ -111,8 +104,7 @@ module _ (d : ℕ → Definition) where
       alone (x ∷ []) zero e h = record {
         within = omega arith;
         definition = ap d (some_inj h);
-        rec_position =
-            refl;
+        rec_position = refl;
       }
       alone (x ∷ []) (suc u) e h = cc
       alone (x ∷ y ∷ ids) u e h = absurd (omega (arith, e))
@@ -211,8 +203,7 @@ home (w ∷ ws) p x h = elim (slice_get-parts w.ids (ids_in ws) p x h) [
         group = suc r.group;
         place = r.place;
         within = omega (arith, r.within);
-        at =
-            omega (arith, at.1, r.at, length-append w.ids (ids_in (take r.group ws)));
+        at = omega (arith, at.1, r.at, length-append w.ids (ids_in (take r.group ws)));
         is = r.is;
       }
 ]
@@ -222,19 +213,10 @@ pub member_at :
     (ws : List TypeGroup) (a u x : ℕ) → slice_get (group_at ws a).ids u ≡ Some x →
     slice_get (ids_in ws) (length (ids_in (take a ws)) + u) ≡ Some x
 member_at [] a u x h = cc
-member_at (w ∷ ws) zero u x h = ap (slice_get (ids_in (w ∷ ws))) (zero-add u) ∙ front w.ids (ids_in ws) u x h
-  where
-    front : (xs ys : List ℕ) (i x : ℕ) → slice_get xs i ≡ Some x → slice_get (xs ++ ys) i ≡ Some x
-    front [] ys i x h = cc
-    front (y ∷ xs) ys zero x h = h
-    front (y ∷ xs) ys (suc i) x h = front xs ys i x h
+member_at (w ∷ ws) zero u x h = ap (slice_get (ids_in (w ∷ ws))) (zero-add u)
+    ∙ slice_get-left w.ids (ids_in ws) u x h
 member_at (w ∷ ws) (suc a) u x h =
     let e : length (ids_in (take (suc a) (w ∷ ws))) + u ≡ length w.ids + (length (ids_in (take a ws)) + u) =
     omega (arith, length-append w.ids (ids_in (take a ws))) in
-    ap (slice_get (ids_in (w ∷ ws))) e ∙ (behind_front w.ids (ids_in ws) (length (ids_in (take a ws)) + u)
-    ∙ member_at ws a u x h)
-  where
-    behind_front : (xs ys : List ℕ) (i : ℕ) → slice_get (xs ++ ys) (length xs + i) ≡ slice_get ys i
-    behind_front [] ys i = ap (slice_get ys) (zero-add i)
-    behind_front (y ∷ xs) ys i = let e : length (y ∷ xs) + i ≡ suc (length xs + i) = omega arith in
-        ap (slice_get (y ∷ xs ++ ys)) e ∙ behind_front xs ys i
+    ap (slice_get (ids_in (w ∷ ws))) e
+    ∙ slice_get-right w.ids (ids_in ws) (length (ids_in (take a ws)) + u) x (member_at ws a u x h)

@@ -1,16 +1,11 @@
 -- What is read and then emitted is a normal form, by index.
 use Rattle.std.proofs.Common.{◌≡◌, ℕ, ◌<◌, ◌≤◌, ap, sym, ◌∙◌, inl, inr, ◌⊎◌, arith, ◌↔◌}
-use Rattle.std.specs.declared.cmp.Ordering.{Ordering}
-use Rattle.std.specs.declared.cmp.Ordering.TheVariants.{Less, Equal, Greater}
+use Rattle.std.specs.declared.cmp.Ordering.{Ordering, TheVariants.Less, TheVariants.Equal, TheVariants.Greater}
 use Rattle.std.specs.Ordering.{ordering_reverse}
 use Rattle.std.proofs.lemmas.Bool.{cases_lt, cases_eq}
 use Rattle.walrus_ty.specs.Definition.{Names, rename, definition_cmp}
-use Rattle.walrus_sections.specs.Section.{IndexSpace, NamesBelowEnds, IsSingle}
-use Rattle.walrus_sections.specs.SlotMap.{read_definition, IsCandidate, IsSlotMap}
-use Rattle.walrus_sections.specs.NormalForm.{IsKept, IsAnchor, AreFree, IsNormal}
-use Rattle.walrus_sections.proofs.Sections.Lying.{IsLaidOut, in_or_out}
-use Rattle.walrus_sections.proofs.NormalForms.Again.{one_less}
-use Rattle.walrus_sections.proofs.Emission.ByIndex.{IsFixed, IsEmitted}
+use Rattle.walrus_sections.specs.{Section.IndexSpace, Section.NamesBelowEnds, Section.IsSingle, SlotMap.read_definition, SlotMap.IsCandidate, SlotMap.IsSlotMap, NormalForm.IsKept, NormalForm.IsAnchor, NormalForm.AreFree, NormalForm.IsNormal}
+use Rattle.walrus_sections.proofs.{Sections.Lying.IsLaidOut, Sections.Lying.in_or_out, NormalForms.Again.one_less, Emission.ByIndex.IsFixed, Emission.ByIndex.IsEmitted}
 use Rattle.walrus_ty.proofs.Names.Definitions.{Names-rename, named_before, rename_id, rename_twice, rename_agree, transfer, cmp_same, names_same, definitions_total}
 
 module _ (s : IndexSpace) (r : ℕ → ℕ) (d : IsSlotMap s r) where
@@ -71,9 +66,6 @@ greater_of : (o p : Ordering) → p ≡ ordering_reverse o → o ≡ Less → ¬
 greater_of Less p e h q = cc
 greater_of Equal p e h q = cc
 greater_of Greater p e h q = cc
-
-fixed_at : (s : IndexSpace) (r : ℕ → ℕ) (a b : ℕ) → a ≡ b → IsFixed s r a → IsFixed s r b
-fixed_at s r a b e h = rw e at h
 
 module _ (s n : IndexSpace) (r place : ℕ → ℕ) (l : IsLaidOut s) (wn : NamesBelowEnds s) (d : IsSlotMap s r)
     (e : IsEmitted s n r place) where

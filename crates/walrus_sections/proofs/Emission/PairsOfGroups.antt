@@ -1,16 +1,10 @@
 -- Groups that are written in order obey the rule on pairs of groups.
 use Rattle.std.proofs.Common.{◌≡◌, ℕ, zero, suc, ◌+◌, ◌<◌, ◌≤◌, List, [], ◌∷◌, map, take, length, refl, sym, ap, subst, ◌∙◌, arith, Some, Bool, true, false, length-append, inl, inr, Contains}
 use Rattle.std.specs.List.{slice_get, slice_index}
-use Rattle.std.proofs.lemmas.List.{length-map, get_or-map}
-use Rattle.std.proofs.lemmas.List.Elements.{Contains-append_left, Contains-append_right, Contains-append_cases}
-use Rattle.std.proofs.lemmas.Option.{slice_get_within, slice_get-get_or, get_or_from_slice_get}
-use Rattle.std.proofs.lemmas.Bool.{cases_lt, cases_eq}
-use Rattle.walrus_ty.specs.Definition.{Definition, rename}
-use Rattle.walrus_ty.specs.Groups.{Section}
-use Rattle.walrus_sections.specs.Section.{places_from, index_space, IsFilled}
-use Rattle.walrus_sections.specs.SlotMap.{TypeGroup}
+use Rattle.std.proofs.lemmas.{List.length-map, List.get_or-map, List.Elements.Contains-append_left, List.Elements.Contains-append_right, List.Elements.Contains-append_cases, Option.slice_get_within, Option.slice_get-get_or, Option.get_or_from_slice_get, Bool.cases_lt, Bool.cases_eq}
+use Rattle.walrus_ty.specs.{Definition.Definition, Definition.rename, Groups.Section}
+use Rattle.walrus_sections.specs.{Section.places_from, Section.index_space, Section.IsFilled, SlotMap.TypeGroup, Refusal.NameUse, Refusal.HasIndexBy, Refusal.IsMissing, Refusal.NamePrecedes, Refusal.IsFirstMissing}
 use Rattle.walrus_sections.specs.Emission.{TableView, no_group, group_at, IsMember, IsWritten, WrittenMember, IsInversion, IsWrittenBefore, IsEmission}
-use Rattle.walrus_sections.specs.Refusal.{NameUse, HasIndexBy, IsMissing, NamePrecedes, IsFirstMissing}
 use Rattle.walrus_sections.specs.WritingOrders.{ids_in, in_order, written_group, IsWritingOrder}
 use Rattle.walrus_sections.specs.MissingNames.{IsMissingIn, IndexPrecedes, IsFirstMissingIn, FirstMissingIs}
 use Rattle.walrus_sections.proofs.Emission.IndexOfId as places
@@ -235,24 +229,12 @@ module _ (table : TableView) (order : List ℕ) (ord : IsWritingOrder table orde
         ];
       }
 
-  -- the same name, by the place of its group in the order, and by its group
+  -- a name, by the place of its group in the order, and by its group
   abbrev in_the_order : (name : NameUse) → IsWritten table name.group → NameUse
-  in_the_order name w = record {
-    group = place_of name.group w;
-    place = name.place;
-    position = name.position;
-    id = name.id;
-    named = name.named;
-  }
+  in_the_order name w = record name { group = place_of name.group w }
 
   abbrev in_the_table : NameUse → NameUse
-  in_the_table name = record {
-    group = slice_index order name.group;
-    place = name.place;
-    position = name.position;
-    id = name.id;
-    named = name.named;
-  }
+  in_the_table name = record name { group = slice_index order name.group }
 
   missing_in : (name : NameUse) (m : IsMissing table name) →
       IsMissingIn definition ws (in_the_order name m.written)
@@ -385,8 +367,7 @@ module _ (table : TableView) (order : List ℕ) (ord : IsWritingOrder table orde
         ∙ (e ∙ sym (place_is z.group z.is_written)))
 
     -- of two members, the one whose group stands first has the lesser index
-    earlier : (y z : WrittenMember table) → IsWrittenBefore table y.group z.group →
-        m y.id < m z.id
+    earlier : (y z : WrittenMember table) → IsWrittenBefore table y.group z.group → m y.id < m z.id
     earlier y z s =
         let lt : group_place y < group_place z = places_stand y.group z.group y.is_written z.is_written s in
         omega (

@@ -1,18 +1,10 @@
 -- The members of the groups of a read section: its live slots.
 use Rattle.std.proofs.Common.{◌≡◌, ℕ, zero, ◌+◌, ◌<◌, ◌∙◌, inl, inr, List, map, length, get_or, sym, ap, subst, arith, false, ◌≤◌}
-use Rattle.std.proofs.lemmas.Bool.{cases_lt, cases_eq}
-use Rattle.std.proofs.lemmas.List.{ext_get_or, get_or-map, length-map}
-use Rattle.std.proofs.lemmas.List.FromFn.{length-map-range_with_len, get_or-map-range_with_len}
-use Rattle.std.proofs.lemmas.Option.{slice_get-get_or}
+use Rattle.std.proofs.lemmas.{Bool.cases_lt, Bool.cases_eq, List.ext_get_or, List.get_or-map, List.length-map, List.FromFn.length-map-range_with_len, List.FromFn.get_or-map-range_with_len, Option.slice_get-get_or}
 use Rattle.walrus_ty.specs.Groups.{Section}
-use Rattle.walrus_sections.specs.Section.{index_space, places_from}
-use Rattle.walrus_sections.specs.NormalForm.{image}
-use Rattle.walrus_sections.specs.SlotMap.{IsSlotMap, TypeGroup, read_groups}
-use Rattle.walrus_sections.specs.Emission.{group_at, IsMember}
+use Rattle.walrus_sections.specs.{Section.index_space, Section.places_from, NormalForm.image, SlotMap.IsSlotMap, SlotMap.TypeGroup, SlotMap.read_groups, Emission.group_at, Emission.IsMember}
 use Rattle.walrus_sections.proofs.Sections.Rows.{at}
-use Rattle.walrus_sections.proofs.Emission.Groups.{AreGroups, Kind, groups}
-use Rattle.walrus_sections.proofs.Emission.Emits.{slots_through}
-use Rattle.walrus_sections.proofs.Emission.PairsOfGroups.{to_member}
+use Rattle.walrus_sections.proofs.Emission.{Groups.AreGroups, Groups.Kind, Groups.groups, Emits.slots_through, PairsOfGroups.to_member}
 
 none : (i : ℕ) → zero + i ≡ i
 none i = omega arith
@@ -57,10 +49,7 @@ module _ (s : Section) (r : ℕ → ℕ) (d : IsSlotMap (index_space s) r) where
     | inl x ↦ (
         let i : ℕ = get_or (group_at S g).ids 1 0 in
         let m : IsMember S g 1 i = to_member S g 1 i (slice_get-get_or (group_at S g).ids 1 0 x) in
-        absurd (elim (member_is g 1 i m).2 [
-          | inl y ↦ (let z = y.0 in cc)
-          | inr y ↦ omega (arith, y.2)
-        ]))
+        absurd (elim (member_is g 1 i m).2 [ inl y ↦ (let z = y.0 in cc) | inr y ↦ omega (arith, y.2) ]))
   ]
 
 -- what the slots are sent to is where the indices go

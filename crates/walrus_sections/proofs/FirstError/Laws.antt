@@ -1,18 +1,14 @@
 -- A section either can be read or has a first error, and never both.
 use Rattle.std.proofs.Common.{◌≡◌, ℕ, suc, ◌+◌, ◌-◌, ◌<◌, ◌^◌, nat_le, List, [], ◌∷◌, ◌++◌, length, get_or, find, cond, subst, refl, sym, ap, ◌∙◌, arith, Some, None, Option, option_map, Bool, false, ◌⊎◌, inl, inr, append-nil, append_assoc, length-append, rules}
 use Rattle.std.specs.Option.{option_or}
-use Rattle.std.proofs.lemmas.Bool.{cases_lt, lt-leb}
-use Rattle.std.proofs.lemmas.List.{get_or_append_left}
-use Rattle.walrus_sections.specs.declared.error.ReadError.{ReadError}
-use Rattle.walrus_sections.specs.declared.error.ReadError.TheVariants.{BadIndex, TooMany}
+use Rattle.std.proofs.lemmas.{Bool.cases_lt, Bool.lt-leb, List.get_or_append_left}
+use Rattle.walrus_sections.specs.declared.error.ReadError.{ReadError, TheVariants.BadIndex, TheVariants.TooMany}
 use Rattle.walrus_ty.specs.Definition.{Definition, Names, names_of}
 use Rattle.walrus_sections.specs.Section.{Place, index_space, places_from, no_place, IsWellNamed}
 use Rattle.walrus_ty.specs.Groups.{Group, Section}
 use Rattle.walrus_sections.specs.FirstError.{IndexUse, index_uses_from, first_out_of_range, group_error, entry_limit, definitions_of, IsFirstError}
 use Rattle.walrus_sections.proofs.FirstError.Search.{IsSound, sound_from_no_error, bad_of_cons, naming}
-use Rattle.walrus_sections.proofs.Reading.NextGroup.{follows}
-use Rattle.walrus_sections.proofs.Sections.Places.{places-append}
-use Rattle.walrus_sections.proofs.Sections.Rows.{at}
+use Rattle.walrus_sections.proofs.{Reading.NextGroup.follows, Sections.Places.places-append, Sections.Rows.at}
 use Rattle.walrus_ty.proofs.Basics.{add_rest}
 
 none_found :
@@ -149,8 +145,7 @@ from_start before (g ∷ rest) fine = elim (found_or_none
           after = rest;
           split = refl;
           well_named = fine;
-          is =
-              x.1;
+          is = x.1;
         },
       )
     ]

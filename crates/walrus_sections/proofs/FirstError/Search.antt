@@ -1,12 +1,10 @@
 -- The first index of a list of definitions that is at or past an end.
-use Rattle.std.proofs.Common.{◌≡◌, ℕ, ◌+◌, ◌<◌, suc, Bool, true, false, nat_le, List, [], ◌∷◌, ◌++◌, length, get_or, drop, drop-cons, add-one, map, find, Option, option_map, refl, sym, ap, ◌∙◌, arith, zero, cond, subst, ◌^◌, None, Some}
-use Rattle.std.specs.Option.{option_or}
-use Rattle.std.proofs.lemmas.Bool.{leb-false}
-use Rattle.std.proofs.lemmas.List.Folds.{find-append}
+use Rattle.std.proofs.Common.{◌≡◌, ℕ, ◌+◌, ◌<◌, suc, Bool, true, false, nat_le, List, [], ◌∷◌, ◌++◌, length, get_or, drop, drop-cons, add-one, map, find, Option, option_map, refl, sym, ap, ◌∙◌, arith, zero, cond, ◌^◌, None, Some, inl, inr}
+use Rattle.std.specs.{Option.option_or, List.position_or_len}
+use Rattle.std.proofs.lemmas.{Bool.leb-false, Bool.cases_lt, List.Folds.find-append, List.Folds.find_at, List.Sums.fails_before_first, Option.slice_get-get_or}
 use Rattle.walrus_ty.specs.declared.records.EntryAt.{EntryAt}
 use Rattle.walrus_sections.specs.declared.error.ReadError.TheVariants.{BadIndex, TooMany}
-use Rattle.walrus_ty.specs.Definition.{Definition, Names, names_of}
-use Rattle.walrus_ty.specs.Records.{entry_definition}
+use Rattle.walrus_ty.specs.{Definition.Definition, Definition.Names, Definition.names_of, Records.entry_definition}
 use Rattle.walrus_sections.specs.FirstError.{IndexUse, index_uses_from, first_out_of_range, group_error, entry_limit}
 
 -- the first of two lists is that of the first list, or else that of the second
@@ -67,21 +65,20 @@ bad_from end start i es e o within is found =
     ∙ ap (λ (n : ℕ). option_or (option_map (naming (start + i)) o)
     (first_out_of_range end (index_uses_from n rest))) next)
 
+-- where nothing is found, nothing passes
+pub none_found :
+    {X : Type 0} (p : X → Bool) (xs : List X) → find p xs ≡ None → (i : ℕ) (d : X) → i < length xs →
+    p (get_or xs i d) ≡ false
+none_found p xs h i d below = fails_before_first p xs i d (elim (cases_lt i (position_or_len p xs)) [
+  | inl w ↦ w
+  | inr w ↦ absurd (let at = slice_get-get_or xs (position_or_len p xs) d (omega (arith, w, below)) in
+      let found = sym (find_at p xs) ∙ h in cc)
+])
+
 none_past :
     (end : ℕ) (ks : List ℕ) → find (nat_le end) ks ≡ None → (i k : ℕ) → i < length ks →
     get_or ks i k ≡ k → k < end
-none_past end [] h i k w e = absurd (omega arith)
-none_past end (x ∷ ks) h zero k w e = leb-false end k
-    (subst (λ (y : ℕ). nat_le end y ≡ false) e (first_fails (nat_le end x) x (find (nat_le end) ks) refl h))
-  where
-    first_fails : (b : Bool) (x : ℕ) (o : Option ℕ) → b ≡ b → cond b (Some x) o ≡ None → b ≡ false
-    first_fails true x o r h = cc
-    first_fails false x o r h = refl
-none_past end (x ∷ ks) h (suc i) k w e = none_past end ks
-    (rest_fails (nat_le end x) x (find (nat_le end) ks) h) i k (omega arith) e where
-      rest_fails : (b : Bool) (x : ℕ) (o : Option ℕ) → cond b (Some x) o ≡ None → o ≡ None
-      rest_fails true x o h = cc
-      rest_fails false x o h = h
+none_past end ks h i k w e = leb-false end k (ap (nat_le end) (sym e) ∙ none_found (nat_le end) ks h i k w)
 
 left_none : {X : Type 0} (o p : Option X) → option_or o p ≡ None → o ≡ None
 left_none None p h = refl

@@ -1,8 +1,7 @@
 -- The moves by index.
 use Rattle.std.specs.Prelude.{◌≡◌, ℕ, suc, ◌<◌, ◌≤◌, nat_lt, cond}
 use Rattle.walrus_ty.specs.Definition.{Names, rename, definition_cmp}
-use Rattle.walrus_sections.specs.Section.{IndexSpace, IsSingle}
-use Rattle.walrus_sections.specs.Moves.{exchange, skip}
+use Rattle.walrus_sections.specs.{Section.IndexSpace, Section.IsSingle, Moves.exchange, Moves.skip}
 
 -- r is s with the `Single`s i and i + 1, each of which names no index but its own, exchanged, and
 -- all names with them

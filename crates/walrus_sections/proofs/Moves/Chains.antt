@@ -1,23 +1,13 @@
 -- Two sections have one output exactly where moves join them.
 use Rattle.std.proofs.Common.{◌≡◌, ℕ, suc, ap, sym, ◌∙◌, arith, List, map, subst, ◌↔◌}
-use Rattle.std.specs.List.{range_with_len}
-use Rattle.std.specs.Ordering.{ordering_reverse}
+use Rattle.std.specs.{List.range_with_len, Ordering.ordering_reverse}
 use Rattle.std.proofs.lemmas.List.FromFn.{length-map-range_with_len, get_or-map-range_with_len}
-use Rattle.walrus_ty.specs.Definition.{rename, definition_cmp}
+use Rattle.walrus_ty.specs.{Definition.rename, Definition.definition_cmp, Groups.Section}
 use Rattle.walrus_sections.specs.Section.{IndexSpace, Place, index_space, index_space_of_places, IsFilled, IsWellNamed}
-use Rattle.walrus_ty.specs.Groups.{Section}
 use Rattle.walrus_sections.specs.Moves.{exchange, skip, Move, drop_empty_rec, drop_repeat, swap_neighbours, ChainTo, stop, forth, back, DescentTo, bottom, down}
 use Rattle.walrus_sections.specs.NormalForm.{image, IsNormal, IsOutput}
-use Rattle.walrus_sections.proofs.Sections.Rows.{laid_out}
-use Rattle.walrus_sections.proofs.NormalForms.SameMap.{normal_same}
-use Rattle.walrus_sections.proofs.NormalForms.One.{one_normal_form}
-use Rattle.walrus_sections.proofs.Moves.ByIndex.{IsSwapped}
-use Rattle.walrus_sections.proofs.Moves.Exchange.{exchange_twice, exchange_first, exchange_second, exchange_within}
-use Rattle.walrus_sections.proofs.Moves.Swapped.{normal_swapped, exchanged_back}
-use Rattle.walrus_sections.proofs.Moves.SwappedPlaces.{swapped_by_index}
-use Rattle.walrus_sections.proofs.Moves.Without.{normal_without}
-use Rattle.walrus_sections.proofs.Moves.WithoutPlaces.{drop_empty_rec-places, without_by_index}
-use Rattle.walrus_sections.proofs.Moves.Sorting.{descend}
+use Rattle.walrus_sections.proofs.{Sections.Rows.laid_out, NormalForms.SameMap.normal_same, NormalForms.One.one_normal_form, Moves.ByIndex.IsSwapped, Moves.Swapped.normal_swapped, Moves.Swapped.exchanged_back, Moves.SwappedPlaces.swapped_by_index, Moves.Without.normal_without, Moves.Sorting.descend}
+use Rattle.walrus_sections.proofs.Moves.{Exchange.exchange_twice, Exchange.exchange_first, Exchange.exchange_second, Exchange.exchange_within, WithoutPlaces.drop_empty_rec-places, WithoutPlaces.without_by_index}
 use Rattle.walrus_ty.proofs.Names.Definitions.{named_before, cmp_same, definitions_total}
 
 listed :
@@ -51,8 +41,7 @@ swapped_back s r i sw =
           ∙ (ap (exchange i) (sw.second_own b.0 b.1) ∙ exchange_second i));
       second_own = λ k h. (let b = named_before (exchange i) (s.definition i) k (rw rj at h) in sym b.2
           ∙ (ap (exchange i) (sw.first_own b.0 b.1) ∙ exchange_first i));
-      order =
-          (let e = s.definition i in let f = s.definition (suc i) in
+      order = (let e = s.definition i in let f = s.definition (suc i) in
           let a : definition_cmp (rename (exchange i) f) (rename (exchange i) e) ≡ ordering_reverse
           (definition_cmp (rename (exchange i) e) (rename (exchange i) f)) =
           definitions_total.antisymm (rename (exchange i) f) (rename (exchange i) e) in

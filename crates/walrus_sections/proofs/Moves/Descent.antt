@@ -1,20 +1,14 @@
 -- A move down has fewer groups, or as many and fewer pairs out of order.
 use Rattle.std.proofs.Common.{◌≡◌, ℕ, suc, ◌<◌, ◌≤◌, List, [], ◌∷◌, ◌++◌, length, ap, sym, ◌∙◌, inl, inr, ◌⊎◌, arith, subst, length-append}
-use Rattle.std.specs.declared.cmp.Ordering.{Ordering}
-use Rattle.std.specs.declared.cmp.Ordering.TheVariants.{Less, Greater}
+use Rattle.std.specs.declared.cmp.Ordering.{Ordering, TheVariants.Less, TheVariants.Greater}
 use Rattle.std.specs.Ordering.{ordering_reverse}
-use Rattle.std.proofs.lemmas.Bool.{cases_lt, cases_eq}
-use Rattle.std.proofs.lemmas.List.{length-map}
-use Rattle.walrus_ty.specs.Definition.{rename, definition_cmp}
+use Rattle.std.proofs.lemmas.{Bool.cases_lt, Bool.cases_eq, List.length-map}
+use Rattle.walrus_ty.specs.{Definition.rename, Definition.definition_cmp, Groups.Section, Groups.Single, Groups.Rec}
 use Rattle.walrus_sections.specs.Section.{IndexSpace, index_space, IsWellNamed}
-use Rattle.walrus_ty.specs.Groups.{Section, Single, Rec}
 use Rattle.walrus_sections.specs.Moves.{exchange, skip, rename_group, DropsEmptyRec, DropsRepeat, SwapsNeighbours, AreOutOfOrder, HasFewerOutOfOrder, IsLower}
 use Rattle.walrus_sections.specs.NormalForm.{IsKept, AreFree, IsNormalForm, image}
-use Rattle.walrus_sections.proofs.Sections.Rows.{laid_out}
-use Rattle.walrus_sections.proofs.NormalForms.Agree.{MergesSame, agree}
-use Rattle.walrus_sections.proofs.Moves.ByIndex.{IsSwapped}
+use Rattle.walrus_sections.proofs.{Sections.Rows.laid_out, NormalForms.Agree.MergesSame, NormalForms.Agree.agree, Moves.ByIndex.IsSwapped, Moves.SwappedPlaces.swapped_by_index}
 use Rattle.walrus_sections.proofs.Moves.Exchange.{exchange_first, exchange_second, exchange_one, exchange_order, exchange_within}
-use Rattle.walrus_sections.proofs.Moves.SwappedPlaces.{swapped_by_index}
 use Rattle.walrus_sections.proofs.Moves.Tidy.{IsFix, AreUnfixed, IsTidy, unfixed_if_plain, unfixed_goes, cmp_goes}
 use Rattle.walrus_ty.proofs.Names.Definitions.{definitions_total, cmp_same, rename_id}
 

@@ -1,7 +1,6 @@
 -- Two neighbouring numbers exchanged.
-use Rattle.std.proofs.Common.{◌≡◌, ℕ, suc, ◌<◌, ap, sym, ◌∙◌, inl, inr, ◌⊎◌, arith}
-use Rattle.std.proofs.lemmas.Bool.{cases_eq}
-use Rattle.std.proofs.lemmas.Bool.Decides.{nat_tests}
+use Rattle.std.proofs.Common.{◌≡◌, ℕ, suc, ◌<◌, ◌≤◌, ap, sym, ◌∙◌, inl, inr, ◌⊎◌, arith}
+use Rattle.std.proofs.lemmas.Bool.{cases_eq, Decides.nat_tests}
 use Rattle.walrus_sections.specs.Moves.{exchange}
 
 pub record IsOther (i k : ℕ) : Type 0 where
@@ -17,6 +16,16 @@ exchange_second i = grind (arith, nat_tests)
 
 exchange_other : (i k : ℕ) → ¬ (k ≡ i) → ¬ (k ≡ suc i) → exchange i k ≡ k
 exchange_other i k p q = grind (arith, nat_tests)
+
+-- an index apart from the two keeps its side of any other
+pub not_after : (i k a : ℕ) → ¬ (a ≡ i) → ¬ (a ≡ suc i) → exchange i k ≤ a → k ≤ a
+not_after i k a p q h = grind (arith, nat_tests)
+
+pub not_before : (i k a : ℕ) → ¬ (a ≡ i) → ¬ (a ≡ suc i) → a ≤ exchange i k → a ≤ k
+not_before i k a p q h = grind (arith, nat_tests)
+
+pub no_further : (i k b : ℕ) → ¬ (k ≡ i) → k ≤ b → exchange i k ≤ b
+no_further i k b n h = grind (arith, nat_tests)
 
 -- first, second, or other
 pub where_is :

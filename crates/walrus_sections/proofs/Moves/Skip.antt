@@ -1,7 +1,6 @@
 -- The numbers that are left once one is gone.
 use Rattle.std.proofs.Common.{◌≡◌, ℕ, suc, ◌<◌, ◌≤◌, ◌-◌, ap, ◌∙◌, inl, inr, arith}
-use Rattle.std.proofs.lemmas.Bool.{cases_lt, cases_eq}
-use Rattle.std.proofs.lemmas.Bool.Decides.{nat_tests}
+use Rattle.std.proofs.lemmas.Bool.{cases_lt, cases_eq, Decides.nat_tests}
 use Rattle.walrus_sections.specs.Moves.{skip}
 use Rattle.walrus_sections.proofs.Moves.ByIndex.{unskip}
 

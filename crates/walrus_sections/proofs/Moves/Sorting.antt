@@ -1,23 +1,17 @@
 -- Moves lead a section down to one that is its own normal form.
 use Rattle.std.proofs.Common.{◌≡◌, ℕ, zero, suc, ◌+◌, ◌<◌, ◌≤◌, refl, ap, sym, ◌∙◌, inl, inr, ◌⊎◌, arith, [], ◌∷◌, ◌++◌, map, subst, append_assoc}
-use Rattle.std.specs.declared.cmp.Ordering.{Ordering}
-use Rattle.std.specs.declared.cmp.Ordering.TheVariants.{Less, Equal, Greater}
+use Rattle.std.specs.declared.cmp.Ordering.{Ordering, TheVariants.Less, TheVariants.Equal, TheVariants.Greater}
 use Rattle.std.specs.Ordering.{ordering_reverse}
-use Rattle.std.proofs.lemmas.Bool.{cases_eq}
-use Rattle.std.proofs.lemmas.Cmp.{tied_itself}
+use Rattle.std.proofs.lemmas.{Bool.cases_eq, Cmp.tied_itself}
 use Rattle.walrus_ty.specs.Definition.{Names, rename, definition_cmp}
-use Rattle.walrus_sections.specs.Section.{IndexSpace, index_space, IsSingle, IsFilled, IsWellNamed}
+use Rattle.walrus_sections.specs.{Section.IndexSpace, Section.index_space, Section.IsSingle, Section.IsFilled, Section.IsWellNamed, NormalForm.IsNormal}
 use Rattle.walrus_ty.specs.Groups.{Single, Rec, Section}
 use Rattle.walrus_sections.specs.Moves.{exchange, skip, rename_group, DropsEmptyRec, DropsRepeat, SwapsNeighbours, drop_empty_rec, drop_repeat, swap_neighbours, DescentTo, bottom, down}
-use Rattle.walrus_sections.specs.NormalForm.{IsNormal}
 use Rattle.walrus_sections.proofs.Sections.Lying.{in_or_out}
 use Rattle.walrus_sections.proofs.Sections.Splits.{split, split_definition, split_two, two_definitions, length-places, filled-left, filled-right, filled-append, filled-map}
-use Rattle.walrus_sections.proofs.Moves.ByIndex.{IsSwapped}
-use Rattle.walrus_sections.proofs.Moves.Exchange.{exchange_order, exchange_first, exchange_second, exchange_twice, where_is}
-use Rattle.walrus_sections.proofs.Moves.SwappedPlaces.{swapped_by_index}
-use Rattle.walrus_sections.proofs.Moves.WithoutPlaces.{without_by_index}
+use Rattle.walrus_sections.proofs.Moves.{ByIndex.IsSwapped, SwappedPlaces.swapped_by_index, WithoutPlaces.without_by_index, WellNamed.swapped_well_named, WellNamed.without_well_named, WellNamed.unemptied_well_named}
+use Rattle.walrus_sections.proofs.Moves.Exchange.{exchange_order, exchange_first, exchange_second, exchange_twice, no_further}
 use Rattle.walrus_sections.proofs.Moves.Descent.{fewer_without_empty, fewer_without_repeat, lower_once_turned}
-use Rattle.walrus_sections.proofs.Moves.WellNamed.{swapped_well_named, without_well_named, unemptied_well_named}
 use Rattle.walrus_sections.proofs.Moves.Tidy.{IsTidy, Rises, RisesTo, fix_or_plain, order_stays, rise_goes, tidy_goes, normal_itself}
 use Rattle.walrus_ty.proofs.Names.Definitions.{definitions_total, definition_exact, cmp_same}
 
@@ -31,6 +25,20 @@ pub record Reached (s : Section) (P : Section → Type 0) : Type 0 where
   pub filled : IsFilled q
   pub well_named : IsWellNamed q
   pub holds : P q
+
+stays : (s : Section) {P : Section → Type 0} → IsFilled s → IsWellNamed s → P s → Reached s P
+stays s f w p = record { q = s; descent = bottom; filled = f; well_named = w; holds = p }
+
+further :
+    (s q : Section) {P Q : Section → Type 0} → DescentTo q s → Reached q P → ((r : Section) → P r → Q r) →
+    Reached s Q
+further s q d r weaker = record {
+  q = r.q;
+  descent = join r.q q s d r.descent;
+  filled = r.filled;
+  well_named = r.well_named;
+  holds = weaker r.q r.holds;
+}
 
 which : (o : Ordering) → (o ≡ Less) ⊎ ((o ≡ Equal) ⊎ (o ≡ Greater))
 which Less = inl refl
@@ -63,14 +71,7 @@ swapped_but s r o b sw ob h but gr i j g jb ne = elim (exchange_order o i j g) [
   | inl up ↦ (
       let nj : ¬ (exchange o j ≡ suc o) = λ e. ne (sym (exchange_twice o j)
       ∙ (ap (exchange o) e ∙ exchange_second o)) in
-      let le : exchange o j ≤ b = elim (where_is o j) [
-        | inl x ↦ absurd (ne x.0)
-        | inr z ↦ (elim z [
-          | inl x ↦ (let x1 = x.1 in omega arith)
-          | inr p ↦
-              (let q = p.stays in omega arith)
-        ])
-      ] in
+      let le = no_further o j b ne jb in
       rise_goes (index_space s) (index_space r) o sw i j g (omega arith) up
       (but (exchange o i) (exchange o j) up le nj))
   | inr at ↦ (λ fr.
@@ -92,25 +93,10 @@ insert :
     b < (index_space s).count → (index_space s).count ≡ n → RisesBut (index_space s) b p →
     Reached s (IsSortedTo n (suc b))
 insert zero b n s f w t pb h c but =
-    record {
-      q = s;
-      descent = bottom;
-      filled = f;
-      well_named = w;
-      holds =
-          (t, all_rise (index_space s) b 0 but (λ i g. absurd (omega arith)), c);
-    }
+    stays s f w (t, all_rise (index_space s) b 0 but (λ i g. absurd (omega arith)), c)
 insert (suc o) b n s f w t pb h c but =
     let done = λ (last : (i : ℕ) → i < suc o → Rises (index_space s) i (suc o)).
-    (let r : Reached s (IsSortedTo n (suc b)) =
-    record {
-      q = s;
-      descent = bottom;
-      filled = f;
-      well_named = w;
-      holds =
-          (t, all_rise (index_space s) b (suc o) but last, c);
-    } in r) in
+    stays s {P = IsSortedTo n (suc b)} f w (t, all_rise (index_space s) b (suc o) but last, c) in
     elim (fix_or_plain (index_space s) o) [
       | inl fx ↦ done (λ i g fr. absurd (fr o (omega arith) (omega arith) fx))
       | inr po ↦ (elim (fix_or_plain (index_space s) (suc o)) [
@@ -142,8 +128,7 @@ insert (suc o) b n s f w t pb h c but =
                         first = k.e;
                         second = k.f;
                         after = k.after;
-                        s_is =
-                            k.is;
+                        s_is = k.is;
                         r_is = refl;
                         place = length-places 0 0 k.before ∙ k.place;
                       };
@@ -164,15 +149,8 @@ insert (suc o) b n s f w t pb h c but =
                     let but' : RisesBut (index_space r) b o =
                     swapped_but s r o b sw (omega arith) (omega arith) but greater in
                     let i = insert o b n r fr wr tr (omega arith) (omega arith) (cnt ∙ c) but' in
-                    record {
-                      q = i.q;
-                      descent = down s r (swap_neighbours o mv)
-                          (lower_once_turned s r o mv w wr t tr greater) wr i.descent;
-                      filled = i.filled;
-                      well_named =
-                          i.well_named;
-                      holds = i.holds;
-                    })
+                    further s r (down s r (swap_neighbours o mv) (lower_once_turned s r o mv w wr t tr greater)
+                    wr bottom) i (λ q p. p))
               ])
             ])
       ])
@@ -181,25 +159,11 @@ insert (suc o) b n s f w t pb h c but =
 -- the first b definitions, and then the rest
 sort : (d b n : ℕ) (s : Section) → IsFilled s → IsWellNamed s → IsTidy (index_space s) →
     (index_space s).count ≡ n → d + b ≡ n → RisesTo (index_space s) b → Reached s (IsSortedTo n n)
-sort zero b n s f w t c e up = record {
-  q = s;
-  descent = bottom;
-  filled = f;
-  well_named = w;
-  holds =
-      (t, (λ i j h g. up i j h (omega arith)), c);
-}
+sort zero b n s f w t c e up = stays s f w (t, (λ i j h g. up i j h (omega arith)), c)
 sort (suc d) b n s f w t c e up =
     let i = insert b b n s f w t (omega arith) (omega arith) c (λ i j h g ne. up i j h (omega arith)) in
     let r = sort d (suc b) n i.q i.filled i.well_named i.holds.0 i.holds.2 (omega arith) i.holds.1 in
-    record {
-      q = r.q;
-      descent = join r.q i.q s i.descent r.descent;
-      filled = r.filled;
-      well_named =
-          r.well_named;
-      holds = r.holds;
-    }
+    further s i.q i.descent r (λ q p. p)
 
 -- bounded search
 any_below :
@@ -231,8 +195,7 @@ twins_or_not t i j = elim (in_or_out (t.rec_position i)) [
         | inl eq ↦ inl (record {
           first = o';
           second = o;
-          same =
-              definition_exact (t.definition j) (t.definition i) eq;
+          same = definition_exact (t.definition j) (t.definition i) eq;
         })
         | inr gr ↦ inr (λ z. (let e = tied_itself definitions_total (t.definition i) in
             let g : definition_cmp (t.definition i) (t.definition i) ≡ Greater = rw (z.same) at gr in cc))
@@ -254,16 +217,9 @@ find_twins t = elim (any_below (λ i. (j : ℕ) × (j < i) × AreTwins t i j) (�
 tidied :
     (n : ℕ) (s : Section) → (index_space s).count ≤ n → IsFilled s → IsWellNamed s →
     Reached s (λ q. IsTidy (index_space q))
-tidied zero s h f w = record {
-  q = s;
-  descent = bottom;
-  filled = f;
-  well_named = w;
-  holds = λ i j g k.
-      absurd (omega arith);
-}
+tidied zero s h f w = stays s f w (λ i j g k. absurd (omega arith))
 tidied (suc n) s h f w = elim (find_twins (index_space s)) [
-  | inr t ↦ record { q = s; descent = bottom; filled = f; well_named = w; holds = t }
+  | inr t ↦ stays s f w t
   | inl x ↦ (
       let i = x.0 in let j = x.2.0 in let tw = x.2.2 in
       let k = split s 0 0 i x.1 tw.second in
@@ -286,28 +242,15 @@ tidied (suc n) s h f w = elim (find_twins (index_space s)) [
       (filled-append k.before k.after (filled-left k.before (Single k.e ∷ k.after) fk)
       (filled-right k.before (Single k.e ∷ k.after) fk)) in
       let cnt = wo.count in
-      let d = tidied n r (omega arith) fr wr in
-      record {
-        q = d.q;
-        descent = down s r (drop_repeat i j mv) (inl (fewer_without_repeat s r i j mv)) wr
-            d.descent;
-        filled = d.filled;
-        well_named = d.well_named;
-        holds = d.holds;
-      })
+      further s r (down s r (drop_repeat i j mv) (inl (fewer_without_repeat s r i j mv)) wr bottom)
+      (tidied n r (omega arith) fr wr) (λ q p. p))
 ]
 
 -- empty `Rec`s go out
 filled_up :
     (done rest : Section) → IsFilled done → IsWellNamed (done ++ rest) →
     Reached (done ++ rest) (λ q. Unit {0})
-filled_up done [] f w = record {
-  q = done ++ [];
-  descent = bottom;
-  filled = filled-append done [] f tt;
-  well_named = w;
-  holds = tt;
-}
+filled_up done [] f w = stays (done ++ []) (filled-append done [] f tt) w tt
 filled_up done (Single e ∷ gs) f w =
     let a : (done ++ Single e ∷ []) ++ gs ≡ done ++ Single e ∷ gs = append_assoc done (Single e ∷ []) gs in
     subst (λ (s : Section). Reached s (λ q. Unit {0})) a
@@ -317,15 +260,9 @@ filled_up done (Rec [] ∷ gs) f w =
     let mv : DropsEmptyRec (done ++ Rec [] ∷ gs) (done ++ gs) =
     record { before = done; after = gs; s_is = refl; r_is = refl } in
     let wr = unemptied_well_named (done ++ Rec [] ∷ gs) (done ++ gs) w mv in
-    let r = filled_up done gs f wr in
-    record {
-      q = r.q;
-      descent = down (done ++ Rec [] ∷ gs) (done ++ gs) (drop_empty_rec mv)
-          (inl (fewer_without_empty (done ++ Rec [] ∷ gs) (done ++ gs) mv)) wr r.descent;
-      filled = r.filled;
-      well_named = r.well_named;
-      holds = tt;
-    }
+    further (done ++ Rec [] ∷ gs) (done ++ gs) (down (done ++ Rec [] ∷ gs) (done ++ gs) (drop_empty_rec mv)
+    (inl (fewer_without_empty (done ++ Rec [] ∷ gs) (done ++ gs) mv)) wr bottom) (filled_up done gs f wr)
+    (λ q p. p)
 filled_up done (Rec (e ∷ es) ∷ gs) f w =
     let a : (done ++ Rec (e ∷ es) ∷ []) ++ gs ≡ done ++ Rec (e ∷ es) ∷ gs =
     append_assoc done (Rec (e ∷ es) ∷ []) gs in
@@ -342,11 +279,5 @@ descend s w =
     let b = tidied (index_space a.q).count a.q (omega arith) a.filled a.well_named in
     let c = sort (index_space b.q).count 0 (index_space b.q).count b.q b.filled b.well_named b.holds refl
     (omega arith) (λ i j h g. absurd (omega arith)) in
-    let cnt = c.holds.2 in
-    record {
-      q = c.q;
-      descent = join c.q a.q s a.descent (join c.q b.q a.q b.descent c.descent);
-      filled = c.filled;
-      well_named = c.well_named;
-      holds = normal_itself (index_space c.q) c.holds.0 (λ i j h g. c.holds.1 i j h (omega arith));
-    }
+    further s b.q (join b.q a.q s a.descent b.descent) c (λ q p.
+    (let cnt = p.2 in normal_itself (index_space q) p.0 (λ i j h g. p.1 i j h (omega arith))))

@@ -1,20 +1,14 @@
 -- A swap of neighbouring `Single`s keeps the normal form.
 use Rattle.std.proofs.Common.{◌≡◌, ℕ, suc, ◌<◌, ◌≤◌, refl, ap, sym, ◌∙◌, inl, inr, ◌⊎◌, arith, Some, None, ◌↔◌, subst}
-use Rattle.std.specs.declared.cmp.Ordering.{Ordering}
-use Rattle.std.specs.declared.cmp.Ordering.TheVariants.{Less, Equal, Greater}
+use Rattle.std.specs.declared.cmp.Ordering.{Ordering, TheVariants.Less, TheVariants.Equal, TheVariants.Greater}
 use Rattle.std.specs.Ordering.{ordering_reverse}
 use Rattle.std.proofs.lemmas.Bool.{cases_lt, cases_eq}
 use Rattle.walrus_ty.specs.Definition.{Definition, Names, rename, definition_cmp}
-use Rattle.walrus_sections.specs.Section.{IndexSpace, NamesBelowEnds, IsSingle}
-use Rattle.walrus_sections.specs.NormalForm.{IsKept, IsAnchor, AreFree, IsNormal}
-use Rattle.walrus_sections.specs.Moves.{exchange}
-use Rattle.walrus_sections.proofs.Moves.ByIndex.{IsSwapped}
-use Rattle.walrus_sections.proofs.Moves.Exchange.{IsOther, where_is, exchange_first, exchange_second, exchange_twice, exchange_within, exchange_one, exchange_order}
-use Rattle.walrus_sections.proofs.Sections.Lying.{IsLaidOut, ends_before_single, names_at}
-use Rattle.walrus_sections.proofs.NormalForms.Again.{kept_differ}
+use Rattle.walrus_sections.specs.{Section.IndexSpace, Section.NamesBelowEnds, Section.IsSingle, NormalForm.IsKept, NormalForm.IsAnchor, NormalForm.AreFree, NormalForm.IsNormal, Moves.exchange}
+use Rattle.walrus_sections.proofs.{Moves.ByIndex.IsSwapped, Sections.Lying.IsLaidOut, Sections.Lying.ends_before_single, Sections.Lying.names_at, NormalForms.Again.kept_differ, NormalForms.Kept.own_name}
+use Rattle.walrus_sections.proofs.Moves.Exchange.{not_after, not_before, IsOther, where_is, exchange_first, exchange_second, exchange_twice, exchange_within, exchange_one, exchange_order}
 use Rattle.walrus_ty.proofs.Names.Definitions.{Names-rename, named_before, rename_id, rename_twice, rename_agree, cmp_agree, cmp_same, names_same, definitions_total, definition_exact}
 use Rattle.walrus_ty.proofs.Spelling.Tokens.{nat_less}
-use Rattle.walrus_sections.proofs.NormalForms.Kept.{own_name}
 
 pub nameless : (u : ℕ → ℕ) (e : Definition) → ((k : ℕ) → ¬ (Names e k)) → rename u e ≡ e
 nameless u e h = rename_agree u (λ k. k) e (λ k q. absurd (h k q)) ∙ rename_id e
@@ -95,10 +89,7 @@ module _ (s r n : IndexSpace) (m : ℕ → ℕ) (i : ℕ) (l : IsLaidOut s) (wn 
   w_is_m : m i ≡ m (suc i) → (k : ℕ) → w k ≡ m k
   w_is_m e k = elim (where_is i k) [
     | inl x ↦ ap m x.1 ∙ (sym e ∙ ap m (sym x.0))
-    | inr y ↦ (elim y [
-      | inl x ↦ ap m x.1 ∙ (e ∙ ap m (sym x.0))
-      | inr o ↦ ap m o.stays
-    ])
+    | inr y ↦ (elim y [ inl x ↦ ap m x.1 ∙ (e ∙ ap m (sym x.0)) | inr o ↦ ap m o.stays ])
   ]
 
   kept_if_one : m i ≡ m (suc i) → (k : ℕ) → IsKept w k → IsKept m k
@@ -133,8 +124,7 @@ module _ (s r n : IndexSpace) (m : ℕ → ℕ) (i : ℕ) (l : IsLaidOut s) (wn 
   definition_other k h o = sw.definition k h ∙ ap (λ x. rename (exchange i) (s.definition x)) o.stays
 
   anchor_other : (k : ℕ) → k < s.count → IsAnchor r w k → IsOther i k × IsAnchor s m k
-  anchor_other k h (inl x) =
-      let e = sym (sw.rec_position k h) ∙ x.1 in (rec_stays k x.0 h e, inl (x.0, e))
+  anchor_other k h (inl x) = let e = sym (sw.rec_position k h) ∙ x.1 in (rec_stays k x.0 h e, inl (x.0, e))
   anchor_other k h (inr x) =
       let b = named_before (exchange i) (s.definition (exchange i k)) x.1.0 (rw (sw.definition k h) at x.1.1)
       in
@@ -241,24 +231,9 @@ module _ (s r n : IndexSpace) (m : ℕ → ℕ) (i : ℕ) (l : IsLaidOut s) (wn 
         elim (exchange_order i k j lt) [
           | inl up ↦ (
               let fm = free_other k j (exchange i k) (exchange i j) (omega arith) bj (λ a o u v. (
-              let o1 = o.not_first in let o2 = o.not_second in (
-                elim (where_is i k) [
-                  | inl x ↦ (let x0 = x.0 in let x1 = x.1 in omega arith)
-                  | inr y ↦ (elim y [
-                    | inl x ↦ (let x0 = x.0 in let x1 = x.1 in omega arith)
-                    | inr p ↦
-                        (let z = p.stays in omega arith)
-                  ])
-                ],
-                elim (where_is i j) [
-                  | inl x ↦ (let x0 = x.0 in let x1 = x.1 in omega arith)
-                  | inr y ↦ (elim y [
-                    | inl x ↦ (let x0 = x.0 in let x1 = x.1 in omega arith)
-                    | inr p ↦
-                        (let z = p.stays in omega arith)
-                  ])
-                ],
-              ))) fr in
+                not_after i k a o.not_first o.not_second u,
+                not_before i j a o.not_first o.not_second v,
+              )) fr in
               let f = c.free (exchange i k) (exchange i j) up bj kk' kj' fm in
               let g = cmp_if_two k j (omega arith) hj lt up kk' kj'
               (fm (exchange i k) (omega arith) (omega arith))
@@ -302,8 +277,7 @@ module _ (s r n : IndexSpace) (m : ℕ → ℕ) (i : ℕ) (l : IsLaidOut s) (wn 
   anchors_swapped k j lt hj kk kj an = elim (cases_eq (m i) (m (suc i))) [
     | inl e ↦ (
         let a : IsAnchor s m k ⊎ IsAnchor s m j =
-        elim an [ inl x ↦ inl (anchor_other k (omega arith) x).1 | inr x ↦ inr (anchor_other j hj x).1 ]
-        in
+        elim an [ inl x ↦ inl (anchor_other k (omega arith) x).1 | inr x ↦ inr (anchor_other j hj x).1 ] in
         let z = c.anchors k j lt hj (kept_if_one e k kk) (kept_if_one e j kj) a in
         let wk = w_is_m e k in let wj = w_is_m e j in omega arith)
     | inr d ↦ (

@@ -5,10 +5,7 @@ use Rattle.walrus_ty.specs.Definition.{Definition, Names, rename, definition_cmp
 use Rattle.walrus_sections.specs.Section.{Place, places_from, index_space, index_space_of_places}
 use Rattle.walrus_ty.specs.Groups.{Single, Section}
 use Rattle.walrus_sections.specs.Moves.{exchange, IsRenumberedSwap, SwapsNeighbours}
-use Rattle.walrus_sections.proofs.Moves.ByIndex.{IsSwapped}
-use Rattle.walrus_sections.proofs.Moves.Exchange.{where_is}
-use Rattle.walrus_sections.proofs.Moves.Swapped.{nameless}
-use Rattle.walrus_sections.proofs.Sections.Rows.{at}
+use Rattle.walrus_sections.proofs.{Moves.ByIndex.IsSwapped, Moves.Exchange.where_is, Moves.Swapped.nameless, Sections.Rows.at}
 use Rattle.walrus_sections.proofs.Sections.Places.{rename_place, places-map, places-append, at-map, at-here, at-next}
 
 at-other :

@@ -4,15 +4,11 @@ use Rattle.std.specs.Prelude.{Contains}
 use Rattle.std.specs.declared.cmp.Ordering.TheVariants.{Less, Greater}
 use Rattle.std.proofs.lemmas.Bool.{cases_lt, cases_eq}
 use Rattle.walrus_ty.specs.Definition.{Definition, Names, names_of, rename, definition_cmp}
-use Rattle.walrus_sections.specs.Section.{IndexSpace, IsSingle, IsInRec}
-use Rattle.walrus_sections.specs.Moves.{exchange}
-use Rattle.walrus_sections.specs.NormalForm.{NamesAnother, IsNormal}
-use Rattle.walrus_sections.proofs.Moves.ByIndex.{IsSwapped}
-use Rattle.walrus_sections.proofs.Moves.Exchange.{where_is, IsOther, exchange_twice, exchange_within, exchange_one}
-use Rattle.walrus_sections.proofs.Sections.Lying.{in_or_out, names_at}
+use Rattle.walrus_sections.specs.{Section.IndexSpace, Section.IsSingle, Section.IsInRec, Moves.exchange, NormalForm.NamesAnother, NormalForm.IsNormal}
+use Rattle.walrus_sections.proofs.{Moves.ByIndex.IsSwapped, Sections.Lying.in_or_out, Sections.Lying.names_at, Moves.Swapped.single_too, Moves.Swapped.exchanged_back}
+use Rattle.walrus_sections.proofs.Moves.Exchange.{not_after, not_before, where_is, IsOther, exchange_twice, exchange_within, exchange_one}
 use Rattle.walrus_ty.proofs.Names.Definitions.{Names-rename, rename_id, cmp_agree, cmp_or_less, cmp_same}
 use Rattle.walrus_ty.proofs.Spelling.Tokens.{nat_less}
-use Rattle.walrus_sections.proofs.Moves.Swapped.{single_too, exchanged_back}
 
 abbrev pub IsFix : IndexSpace → ℕ → Type 0
 IsFix t i = IsInRec t i ⊎ NamesAnother t i
@@ -145,26 +141,7 @@ module _ (s r : IndexSpace) (o : ℕ) (sw : IsSwapped s r o) where
   unfixed_goes i j h hj g fr a u v fx =
       let hj' = exchange_within o j s.count sw.inside hj in
       let y = fix_goes a (omega arith) fx in
-      let n1 = y.0.not_first in let n2 = y.0.not_second in
-      fr a
-      (elim (where_is o i) [
-        | inl x ↦ (let x0 = x.0 in let x1 = x.1 in omega arith)
-        | inr z ↦
-            (elim z [
-              | inl x ↦ (let x0 = x.0 in let x1 = x.1 in omega arith)
-              | inr p ↦
-                  (let q = p.stays in omega arith)
-            ])
-      ])
-      (elim (where_is o j) [
-        | inl x ↦ (let x0 = x.0 in let x1 = x.1 in omega arith)
-        | inr z ↦
-            (elim z [
-              | inl x ↦ (let x0 = x.0 in let x1 = x.1 in omega arith)
-              | inr p ↦
-                  (let q = p.stays in omega arith)
-            ])
-      ])
+      fr a (not_after o i a y.0.not_first y.0.not_second u) (not_before o j a y.0.not_first y.0.not_second v)
       y.1
 
   -- and two of r compare as the two where they come from

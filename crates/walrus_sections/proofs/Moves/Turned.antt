@@ -2,18 +2,10 @@
 use Rattle.std.proofs.Common.{◌≡◌, ℕ, suc, ◌<◌, List, length, ap, sym, ◌∙◌, inl, inr, arith}
 use Rattle.std.specs.List.{swap}
 use Rattle.std.proofs.Math.ListN.{set}
-use Rattle.std.proofs.lemmas.List.{get_or-set_same, get_or-set_other, length-set}
-use Rattle.std.proofs.lemmas.List.Edits.{swap_is, length-swap}
+use Rattle.std.proofs.lemmas.List.{get_or-set_same, get_or-set_other, length-set, Edits.swap_is, Edits.length-swap}
 use Rattle.walrus_ty.specs.Groups.{Section}
-use Rattle.walrus_sections.specs.Section.{index_space, IsWellNamed}
-use Rattle.walrus_sections.specs.Moves.{exchange, SwapsNeighbours, IsRenumberedSwap}
-use Rattle.walrus_sections.specs.NormalForm.{image, IsNormalForm}
-use Rattle.walrus_sections.proofs.Sections.Rows.{laid_out}
-use Rattle.walrus_sections.proofs.NormalForms.SameMap.{normal_same}
-use Rattle.walrus_sections.proofs.Moves.Exchange.{where_is}
-use Rattle.walrus_sections.proofs.Moves.Swapped.{normal_swapped}
-use Rattle.walrus_sections.proofs.Moves.SwappedPlaces.{swapped_by_index, swap_is_move}
-use Rattle.walrus_sections.proofs.Moves.WellNamed.{swapped_well_named}
+use Rattle.walrus_sections.specs.{Section.index_space, Section.IsWellNamed, Moves.exchange, Moves.SwapsNeighbours, Moves.IsRenumberedSwap, NormalForm.image, NormalForm.IsNormalForm}
+use Rattle.walrus_sections.proofs.{Sections.Rows.laid_out, NormalForms.SameMap.normal_same, Moves.Exchange.where_is, Moves.Swapped.normal_swapped, Moves.SwappedPlaces.swapped_by_index, Moves.SwappedPlaces.swap_is_move, Moves.WellNamed.swapped_well_named}
 
 -- the map with two items exchanged
 image-swap :

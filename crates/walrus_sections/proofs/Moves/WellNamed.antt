@@ -3,11 +3,7 @@ use Rattle.std.proofs.Common.{ℕ, ◌<◌, List, subst, arith}
 use Rattle.walrus_sections.specs.Section.{Place, index_space, index_space_of_places, NamesBelowEnds, IsWellNamed}
 use Rattle.walrus_ty.specs.Groups.{Section}
 use Rattle.walrus_sections.specs.Moves.{DropsEmptyRec, DropsRepeat, SwapsNeighbours}
-use Rattle.walrus_sections.proofs.Sections.Rows.{laid_out}
-use Rattle.walrus_sections.proofs.Moves.Swapped.{swapped_names}
-use Rattle.walrus_sections.proofs.Moves.SwappedPlaces.{swapped_by_index}
-use Rattle.walrus_sections.proofs.Moves.Without.{names_without}
-use Rattle.walrus_sections.proofs.Moves.WithoutPlaces.{drop_empty_rec-places, without_by_index}
+use Rattle.walrus_sections.proofs.{Sections.Rows.laid_out, Moves.Swapped.swapped_names, Moves.SwappedPlaces.swapped_by_index, Moves.Without.names_without, Moves.WithoutPlaces.drop_empty_rec-places, Moves.WithoutPlaces.without_by_index}
 
 pub swapped_well_named :
     (s r : Section) (i : ℕ) → IsWellNamed s → SwapsNeighbours s r i → IsWellNamed r

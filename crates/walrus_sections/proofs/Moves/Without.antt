@@ -3,15 +3,12 @@ use Rattle.std.proofs.Common.{◌≡◌, ℕ, suc, ◌<◌, ◌≤◌, ap, sym, 
 use Rattle.std.specs.declared.cmp.Ordering.TheVariants.{Less}
 use Rattle.std.proofs.lemmas.Bool.{cases_eq}
 use Rattle.walrus_ty.specs.Definition.{Names, rename, definition_cmp}
-use Rattle.walrus_sections.specs.Section.{IndexSpace, NamesBelowEnds, IsSingle}
-use Rattle.walrus_sections.specs.Moves.{skip}
-use Rattle.walrus_sections.specs.NormalForm.{IsKept, IsAnchor, AreFree, IsNormal}
-use Rattle.walrus_sections.proofs.Moves.ByIndex.{unskip, IsWithout}
+use Rattle.walrus_sections.specs.{Section.IndexSpace, Section.NamesBelowEnds, Section.IsSingle, Moves.skip, NormalForm.IsKept, NormalForm.IsAnchor, NormalForm.AreFree, NormalForm.IsNormal}
+use Rattle.walrus_sections.proofs.{Moves.ByIndex.unskip, Moves.ByIndex.IsWithout, NormalForms.Kept.own_name}
 use Rattle.walrus_sections.proofs.Moves.Skip.{gone, below, above, side, lower, higher, was, skip_gone, skip_below, skip_unskip, unskip_skip, unskip_rises, unskip_not, skip_rises}
 use Rattle.walrus_sections.proofs.Sections.Lying.{IsLaidOut, in_or_out, ends_before_single, names_at}
 use Rattle.walrus_ty.proofs.Names.Definitions.{Names-rename, named_before, rename_id, rename_twice, cmp_agree, cmp_same}
 use Rattle.walrus_ty.proofs.Spelling.Tokens.{nat_less}
-use Rattle.walrus_sections.proofs.NormalForms.Kept.{own_name}
 
 module _ (s r n : IndexSpace) (w : ℕ → ℕ) (i j : ℕ) (l : IsLaidOut s) (wn : NamesBelowEnds s)
     (x : IsWithout s r i j) (c : IsNormal r n w) where

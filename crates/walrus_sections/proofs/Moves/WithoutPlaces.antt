@@ -1,14 +1,10 @@
 -- How a section looks by index without an empty `Rec`, and without a repeat.
 use Rattle.std.proofs.Common.{◌≡◌, ℕ, zero, suc, ◌+◌, ◌<◌, ◌≤◌, refl, ap, sym, ◌∙◌, inl, inr, arith, None, List, [], ◌∷◌, ◌++◌, map, length, length-append}
-use Rattle.std.proofs.lemmas.List.{length-map}
-use Rattle.std.proofs.lemmas.Bool.{cases_lt}
-use Rattle.walrus_ty.specs.Definition.{rename}
+use Rattle.std.proofs.lemmas.{List.length-map, Bool.cases_lt}
+use Rattle.walrus_ty.specs.{Definition.rename, Groups.Single, Groups.Rec, Groups.Section}
 use Rattle.walrus_sections.specs.Section.{Place, places_from, index_space, index_space_of_places}
-use Rattle.walrus_ty.specs.Groups.{Single, Rec, Section}
 use Rattle.walrus_sections.specs.Moves.{skip, DropsEmptyRec, DropsRepeat}
-use Rattle.walrus_sections.proofs.Moves.ByIndex.{IsWithout}
-use Rattle.walrus_sections.proofs.Moves.Skip.{unskip_below, unskip_above}
-use Rattle.walrus_sections.proofs.Sections.Rows.{at}
+use Rattle.walrus_sections.proofs.{Moves.ByIndex.IsWithout, Moves.Skip.unskip_below, Moves.Skip.unskip_above, Sections.Rows.at}
 use Rattle.walrus_sections.proofs.Sections.Places.{rename_place, places-map, places-append, at-map, shift, places-shift, at-here}
 
 -- an empty `Rec` changes nothing

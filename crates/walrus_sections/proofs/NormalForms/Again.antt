@@ -1,14 +1,12 @@
 -- A normal form is its own normal form, by the identity.
 use Rattle.std.proofs.Common.{◌≡◌, ℕ, ◌<◌, refl, ap, sym, ◌∙◌, inl, inr, arith, Some}
-use Rattle.std.specs.declared.cmp.Ordering.{Ordering}
-use Rattle.std.specs.declared.cmp.Ordering.TheVariants.{Less, Equal, Greater}
+use Rattle.std.specs.declared.cmp.Ordering.{Ordering, TheVariants.Less, TheVariants.Equal, TheVariants.Greater}
 use Rattle.std.proofs.lemmas.Bool.{cases_lt, cases_eq}
 use Rattle.walrus_ty.specs.Definition.{Definition, Names, rename, definition_cmp}
 use Rattle.walrus_sections.specs.Section.{IndexSpace, NamesBelowEnds, IsSingle}
 use Rattle.walrus_sections.specs.NormalForm.{IsKept, IsAnchor, AreFree, IsNormal}
 use Rattle.walrus_sections.proofs.Sections.Lying.{IsLaidOut, in_or_out}
-use Rattle.walrus_sections.proofs.NormalForms.Agree.{normal_merges}
-use Rattle.walrus_sections.proofs.NormalForms.Kept.{kept_one, anchor_kept, own_name}
+use Rattle.walrus_sections.proofs.NormalForms.{Agree.normal_merges, Kept.kept_one, Kept.anchor_kept, Kept.own_name}
 use Rattle.walrus_ty.proofs.Names.Definitions.{Names-rename, named_before, rename_id, cmp_or_less, cmp_same, definitions_total, definition_exact}
 
 -- one `Rec` has one end

@@ -1,10 +1,8 @@
 -- A map onto the numbers below m comes from at least m numbers, so a normal form has no more
 -- definitions than its section.
 use Rattle.std.proofs.Common.{◌≡◌, ℕ, zero, suc, ◌<◌, ◌≤◌, ap, sym, ◌∙◌, inl, inr, arith, ◌==◌, cond}
-use Rattle.std.proofs.lemmas.Bool.{cases_eq}
-use Rattle.std.proofs.lemmas.Bool.Decides.{nat_tests}
-use Rattle.walrus_sections.specs.Section.{IndexSpace}
-use Rattle.walrus_sections.specs.NormalForm.{IsNormal}
+use Rattle.std.proofs.lemmas.Bool.{cases_eq, Decides.nat_tests}
+use Rattle.walrus_sections.specs.{Section.IndexSpace, NormalForm.IsNormal}
 
 moved_same : (a m v : ℕ) → ¬ (a ≡ m) → cond (a == m) v a ≡ a
 moved_same a m v n = grind (arith, nat_tests)

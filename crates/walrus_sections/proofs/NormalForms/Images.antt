@@ -2,11 +2,9 @@
 -- index.
 use Rattle.std.proofs.Common.{◌≡◌, ℕ, zero, suc, ◌<◌, ◌≤◌, refl, ap, sym, ◌∙◌, inl, inr, arith}
 use Rattle.std.proofs.lemmas.Bool.{cases_lt, cases_eq}
-use Rattle.walrus_sections.specs.Section.{IndexSpace, NamesBelowEnds}
-use Rattle.walrus_sections.specs.NormalForm.{IsKept, AreFree, IsNormal}
+use Rattle.walrus_sections.specs.{Section.IndexSpace, Section.NamesBelowEnds, NormalForm.IsKept, NormalForm.AreFree, NormalForm.IsNormal}
 use Rattle.walrus_sections.proofs.Sections.Lying.{IsLaidOut, in_or_out}
-use Rattle.walrus_sections.proofs.NormalForms.Kept.{kept_one, free_if_not}
-use Rattle.walrus_sections.proofs.NormalForms.Agree.{Agree, kept_agree, anchor_agree}
+use Rattle.walrus_sections.proofs.NormalForms.{Kept.kept_one, Kept.free_if_not, Agree.Agree, Agree.kept_agree, Agree.anchor_agree}
 use Rattle.walrus_ty.proofs.Names.Definitions.{rename_agree}
 
 module _ (s n n' : IndexSpace) (m w : ℕ → ℕ) (c : IsNormal s n m) (d : IsNormal s n' w) (l : IsLaidOut s)

@@ -4,10 +4,8 @@ use Rattle.std.proofs.lemmas.List.{ext_get_or}
 use Rattle.walrus_sections.specs.Section.{Place, places_from, index_space, index_space_of_places, NamesBelowEnds}
 use Rattle.walrus_ty.specs.Groups.{Section}
 use Rattle.walrus_sections.specs.NormalForm.{image, IsNormalForm}
-use Rattle.walrus_sections.proofs.Sections.Rows.{laid_out}
-use Rattle.walrus_sections.proofs.Sections.Rebuild.{cells, rebuild}
-use Rattle.walrus_sections.proofs.NormalForms.Agree.{agree, normal_merges}
-use Rattle.walrus_sections.proofs.NormalForms.Images.{same_image, count_least, same_definition, same_rec_positions}
+use Rattle.walrus_sections.proofs.Sections.{Rows.laid_out, Rebuild.cells, Rebuild.rebuild}
+use Rattle.walrus_sections.proofs.NormalForms.{Agree.agree, Agree.normal_merges, Images.same_image, Images.count_least, Images.same_definition, Images.same_rec_positions}
 
 same_cells :
     (ps qs : List Place) → length ps ≡ length qs →

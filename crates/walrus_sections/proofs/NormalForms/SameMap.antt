@@ -1,7 +1,6 @@
 -- The laws look at a map only at the indices of the section.
 use Rattle.std.proofs.Common.{◌≡◌, ℕ, ◌<◌, ap, sym, ◌∙◌, inl, inr, ◌⊎◌, arith}
-use Rattle.walrus_sections.specs.Section.{IndexSpace, NamesBelowEnds}
-use Rattle.walrus_sections.specs.NormalForm.{IsKept, IsAnchor, IsNormal}
+use Rattle.walrus_sections.specs.{Section.IndexSpace, Section.NamesBelowEnds, NormalForm.IsKept, NormalForm.IsAnchor, NormalForm.IsNormal}
 use Rattle.walrus_sections.proofs.Sections.Lying.{IsLaidOut}
 use Rattle.walrus_ty.proofs.Names.Definitions.{rename_agree}
 
@@ -25,8 +24,7 @@ module _ (s n : IndexSpace) (m w : ℕ → ℕ) (l : IsLaidOut s) (wn : NamesBel
   normal_same c = record {
     below = λ i h. (let z = c.below i h in let e = eq i h in omega arith);
     onto = λ p h. (let o = c.onto p h in (o.0, o.1, sym (eq o.0 o.1) ∙ o.2));
-    same = λ i h. ap n.definition (qe i h) ∙ (c.same i h
-        ∙ rename_agree m w (s.definition i) (λ k q.
+    same = λ i h. ap n.definition (qe i h) ∙ (c.same i h ∙ rename_agree m w (s.definition i) (λ k q.
         eq k (let z = wn i h k q in let y = l.fits i h in omega arith)));
     rec_to_rec = λ i x h e. ap n.rec_position (qe i h) ∙ c.rec_to_rec i x h e;
     rec_from_rec = c.rec_from_rec;

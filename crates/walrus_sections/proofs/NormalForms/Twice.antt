@@ -3,12 +3,9 @@ use Rattle.std.proofs.Common.{◌≡◌, ℕ, ◌<◌, List, arith}
 use Rattle.std.specs.List.{range_with_len}
 use Rattle.std.proofs.lemmas.List.FromFn.{length-range_with_len, get_or-range_with_len}
 use Rattle.walrus_ty.specs.Groups.{Section}
-use Rattle.walrus_sections.specs.Section.{index_space, IsWellNamed}
-use Rattle.walrus_sections.specs.NormalForm.{image, identity, IsNormalForm}
+use Rattle.walrus_sections.specs.{Section.index_space, Section.IsWellNamed, NormalForm.image, NormalForm.identity, NormalForm.IsNormalForm}
 use Rattle.walrus_sections.proofs.Sections.Rows.{laid_out}
-use Rattle.walrus_sections.proofs.NormalForms.Again.{names_again, normal_again}
-use Rattle.walrus_sections.proofs.NormalForms.SameMap.{normal_same}
-use Rattle.walrus_sections.proofs.NormalForms.Fewer.{no_more}
+use Rattle.walrus_sections.proofs.NormalForms.{Again.names_again, Again.normal_again, SameMap.normal_same, Fewer.no_more}
 
 image-range : (n i : ℕ) → i < n → i ≡ image (range_with_len 0 n) i
 image-range n i h = let z = get_or-range_with_len 0 n i 0 h in omega arith

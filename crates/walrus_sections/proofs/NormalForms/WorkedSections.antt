@@ -2,8 +2,8 @@
 use Rattle.std.proofs.Common.{◌≡◌, ℕ, zero, suc, ◌<◌, [], ◌∷◌, length, slice_index_or, refl, ap, sym, inl, inr, ◌⊎◌, arith, Some, ◌↔◌}
 use Rattle.std.specs.declared.cmp.Ordering.TheVariants.{Less}
 use Rattle.walrus_ty.specs.Definition.{Definition, Names, names_of, rename, definition_cmp}
-use Rattle.walrus_sections.specs.Moves.{IsRenumberedSwap}
-use Rattle.walrus_sections.specs.Section.{IndexSpace, index_space, IsSingle}
+use Rattle.walrus_sections.proofs.{NormalForms.SameMap.normal_same, Sections.Rows.laid_out, Moves.Tidy.IsTidy, Moves.Tidy.Rises, Moves.Tidy.normal_itself}
+use Rattle.walrus_sections.specs.{Moves.IsRenumberedSwap, Section.IndexSpace, Section.index_space, Section.IsSingle, Section.NamesBelowEnds}
 use Rattle.walrus_sections.specs.NormalForm.{IsKept, IsAnchor, AreFree, IsNormalForm, image}
 use Rattle.walrus_sections.specs.Examples.{func, int_struct, unordered_pair, ordered_pair, with_repeat, without_repeat, two_loops}
 
@@ -123,36 +123,18 @@ one_name l k (suc j) h e = absurd (omega arith)
 pub both_kept : IsNormalForm two_loops two_loops (0 ∷ 1 ∷ [])
 both_kept =
     let s = index_space two_loops in
-    let m = image (0 ∷ 1 ∷ []) in
-    let first : ¬ (IsAnchor s m 0) = not_anchor s m 0 refl (λ k h. one_name 0 k h.0 h.1 h.2) in
-    let second : ¬ (IsAnchor s m 1) = not_anchor s m 1 refl (λ k h. one_name 1 k h.0 h.1 h.2) in
+    let below_ends : NamesBelowEnds s = two (λ i. (k : ℕ) → Names (s.definition i) k → k < s.end i)
+    (λ k h. (let e = one_name 0 k h.0 h.1 h.2 in omega arith))
+    (λ k h. (let e = one_name 1 k h.0 h.1 h.2 in omega arith)) in
+    let tidy : IsTidy s = pair_of_two (λ p q. IsSingle s p → IsSingle s q →
+    ¬ (s.definition p ≡ s.definition q)) (λ o o' e. (let c : 0 ∷ [] ≡ 1 ∷ [] = ap names_of e in absurd cc)) in
     record {
       one_each = refl;
       filled = tt;
-      laws = record {
-        below = two (λ i. m i < 2) (omega arith) (omega arith);
-        onto = two (λ p. (i : ℕ) × (i < 2) × (m i ≡ p)) (0, omega arith, refl) (1, omega arith, refl);
-        same = two (λ i. s.definition (m i) ≡ rename m (s.definition i)) refl refl;
-        rec_to_rec = λ i x h. two (λ i. s.rec_position i ≡ Some x → s.rec_position (m i) ≡ Some x) (λ e.
-            absurd cc) (λ e. absurd cc) i h;
-        rec_from_rec = λ p x h e. (p, h, e);
-        single_to_single = two (λ i. IsSingle s i → IsSingle s (m i)) (λ o. refl) (λ o. refl);
-        singles_differ = pair_of_two (λ p q. IsSingle s p → IsSingle s q →
-            ¬ (s.definition p ≡ s.definition q)) (λ o o' e.
-            (let c : 0 ∷ [] ≡ 1 ∷ [] = ap names_of e in absurd cc));
-        selfs_kept = two (λ i. IsSingle s i → Names (s.definition i) i → IsKept m i)
-            (λ o h j g e. (omega arith)) (λ o h. kept_second);
-        anchors = pair_of_two (λ i j. IsKept m i → IsKept m j → IsAnchor s m i ⊎ IsAnchor s m j → m i < m j)
-            (λ k k' a. absurd (neither s m 0 1 first second a));
-        free = pair_of_two (λ i j. IsKept m i → IsKept m j → AreFree s m i j →
-            (m i < m j ↔ definition_cmp (s.definition i) (s.definition j) ≡ Less)) (λ k k' f.
-            ((λ l. refl), (λ e. omega arith)));
-      };
+      laws = normal_same s s (λ k. k) (image (0 ∷ 1 ∷ [])) (laid_out two_loops) below_ends
+          (two (λ i. i ≡ image (0 ∷ 1 ∷ []) i) refl refl)
+          (normal_itself s tidy (pair_of_two (Rises s) (λ unfixed. refl)));
     }
-  where
-    kept_second : IsKept (image (0 ∷ 1 ∷ [])) 1
-    kept_second zero g e = absurd cc
-    kept_second (suc j) g e = absurd (omega arith)
 
 -- the two that are out of order change places, and name nothing
 

@@ -1,17 +1,9 @@
 -- Places that are sorted, with what they are sorted by: where the run begins, the head, the place.
 use Rattle.std.proofs.Common.{◌≡◌, ◌≢◌, ℕ, ◌<◌, List, [], ◌∷◌, map, length, sym, ap, subst, ◌∙◌, arith, Some, Bool, true, false, get_or, eqb, All, Contains}
-use Rattle.std.specs.List.{slice_get, slice_index, filter, range_with_len}
-use Rattle.std.specs.List.Sorted.{IsPermutation, IsSorted}
-use Rattle.std.specs.Cmp.{IsTotalOrder}
-use Rattle.std.specs.Ordering.{nat_cmp, ordering_then, is_lt}
+use Rattle.std.specs.{List.slice_get, List.slice_index, List.filter, List.range_with_len, List.Sorted.IsPermutation, List.Sorted.IsSorted, Cmp.IsTotalOrder, Ordering.nat_cmp, Ordering.ordering_then, Ordering.is_lt}
 use Rattle.std.specs.declared.cmp.Ordering.{Ordering}
-use Rattle.std.proofs.lemmas.Bool.{eqb-false}
-use Rattle.std.proofs.lemmas.Cmp.{nat_eq_equiv}
-use Rattle.std.proofs.lemmas.List.{length-map, get_or-map, get_or_default}
-use Rattle.std.proofs.lemmas.List.Elements.{filter_passes}
+use Rattle.std.proofs.lemmas.{Bool.eqb-false, Cmp.nat_eq_equiv, List.length-map, List.get_or-map, List.get_or_default, List.Elements.filter_passes, Map.Keys.IsDistinct-IsPermutation, Map.Keys.apart_from_distinct, Option.slice_get_within, Option.slice_get-get_or, Option.get_or_from_slice_get}
 use Rattle.std.proofs.lemmas.List.Sorted.{IsPermutation-map, All-permutation, Contains-permutation, sorted_far, ranks_by}
-use Rattle.std.proofs.lemmas.Map.Keys.{IsDistinct-IsPermutation, apart_from_distinct}
-use Rattle.std.proofs.lemmas.Option.{slice_get_within, slice_get-get_or, get_or_from_slice_get}
 use Rattle.walrus_sections.specs.RunStarts.{StandsBefore, start_of}
 use Rattle.walrus_sections.proofs.Ordering.FilteredPlaces.{filter_onto, in_range, kept_distinct}
 use Rattle.walrus_sections.proofs.Ordering.NeighboursInOrder.{NotLess, stands}

@@ -2,8 +2,7 @@
 use Rattle.std.proofs.Common.{◌≡◌, ℕ, suc, ◌+◌, ◌<◌, List, [], ◌∷◌, ◌++◌, length, refl, sym, ap, ◌∙◌, arith, Bool, true, false, cond, ◌==◌, zero-add}
 use Rattle.std.specs.List.{range_with_len}
 use Rattle.walrus_ty.specs.Groups.{Section, Group, Single, Rec}
-use Rattle.walrus_sections.specs.Section.{index_space}
-use Rattle.walrus_sections.specs.SlotMap.{TypeGroup, read_groups}
+use Rattle.walrus_sections.specs.{Section.index_space, SlotMap.TypeGroup, SlotMap.read_groups}
 use Rattle.walrus_sections.proofs.Sections.Splits.{size, length-places}
 
 pub count_is : (s : Section) → (index_space s).count ≡ size s

@@ -3,12 +3,10 @@
 use Rattle.std.proofs.Common.{◌≡◌, ℕ, zero, suc, ◌+◌, ◌<◌, List, [], ◌∷◌, ◌++◌, length, get_or, refl, ap, sym, ◌∙◌, arith, Some, None, length-append}
 use Rattle.std.specs.List.{slice_index_or}
 use Rattle.std.proofs.lemmas.List.{get_or_append_left, get_or-append-add}
-use Rattle.walrus_ty.specs.Definition.{Definition}
+use Rattle.walrus_ty.specs.{Definition.Definition, Groups.Group, Groups.Single, Groups.Rec, Groups.Section}
 use Rattle.walrus_sections.specs.Section.{Place, IndexSpace, rec_places, recs_after, places_from, no_place, index_space}
-use Rattle.walrus_ty.specs.Groups.{Group, Single, Rec, Section}
 use Rattle.walrus_sections.specs.FirstError.{definitions_of}
-use Rattle.walrus_sections.proofs.Sections.Rows.{length-rec_places}
-use Rattle.walrus_sections.proofs.Sections.Places.{rec_places-append}
+use Rattle.walrus_sections.proofs.Sections.{Rows.length-rec_places, Places.rec_places-append}
 
 abbrev at : List Place → ℕ → Place
 at ps i = slice_index_or ps i no_place
@@ -42,8 +40,7 @@ places_after b k (Rec ds ∷ gs) g =
     let c : length ps + (length ds + b) ≡ length (rec_places ds (length ds + b) k 0 ps) + b =
     omega (arith, length-rec_places ds (length ds + b) k 0 ps) in (
       r.0,
-      ap (rec_places ds (length ds + b) k 0) r.1
-          ∙ (rec_places-append ds (length ds + b) k 0 ps _
+      ap (rec_places ds (length ds + b) k 0) r.1 ∙ (rec_places-append ds (length ds + b) k 0 ps _
           ∙ ap (λ (c : ℕ). rec_places ds (length ds + b) k 0 ps ++ places_from c r.0 (g ∷ [])) c),
     )
 
@@ -51,8 +48,7 @@ member : (ds : List Definition) (end k t u : ℕ) (d : Definition) → u < lengt
     at (rec_places ds end k t []) u ≡ record {
       definition = get_or ds u d;
       end = end;
-      rec_position =
-          Some (k, t + u);
+      rec_position = Some (k, t + u);
     }
 member [] end k t u d h = absurd (omega arith)
 member (e ∷ ds) end k t zero d h = ap (λ (n : ℕ).

@@ -47,10 +47,7 @@ pub same_rec_position :
     t.rec_position i ≡ Some x → t.rec_position j ≡ Some x → i ≡ j
 same_rec_position t l i j x hi hj p q = elim (cases_lt i j) [
   | inl h ↦ absurd (no_later t l i j x h hj p q)
-  | inr h ↦ (elim (cases_lt j i) [
-    | inl k ↦ absurd (no_later t l j i x k hi q p)
-    | inr k ↦ omega arith
-  ])
+  | inr h ↦ (elim (cases_lt j i) [ inl k ↦ absurd (no_later t l j i x k hi q p) | inr k ↦ omega arith ])
 ]
 
 -- what stands before a `Single` ends there

@@ -1,9 +1,8 @@
 -- Where `Rec`s go to `Rec`s in their order, whole and onto, the k-th goes to the k-th.
 use Rattle.std.proofs.Common.{◌≡◌, ℕ, zero, suc, ◌+◌, ◌<◌, ◌≤◌, List, [], ◌∷◌, length, refl, ap, sym, ◌∙◌, inl, inr, ◌⊎◌, arith, Option, Some}
 use Rattle.std.proofs.lemmas.Bool.{cases_lt, cases_eq}
-use Rattle.walrus_ty.specs.Definition.{Definition}
+use Rattle.walrus_ty.specs.{Definition.Definition, Groups.Single, Groups.Rec, Groups.Section}
 use Rattle.walrus_sections.specs.Section.{IndexSpace, Place, rec_places, places_from, index_space}
-use Rattle.walrus_ty.specs.Groups.{Single, Rec, Section}
 use Rattle.walrus_sections.proofs.Sections.Rows.{at, length-rec_places}
 
 abbrev Before : ℕ → List Place → ℕ → ℕ → Type 0

@@ -2,10 +2,8 @@
 -- begins an index later.
 use Rattle.std.proofs.Common.{◌≡◌, ℕ, zero, suc, ◌+◌, refl, ap, ◌∙◌, arith, Some, None, List, [], ◌∷◌, ◌++◌, map, length}
 use Rattle.std.proofs.lemmas.List.{length-map}
-use Rattle.walrus_ty.specs.Definition.{Definition, rename}
-use Rattle.walrus_sections.specs.Section.{Place, rec_places, recs_after, places_from}
-use Rattle.walrus_ty.specs.Groups.{Single, Rec, Section}
-use Rattle.walrus_sections.specs.Moves.{rename_group}
+use Rattle.walrus_ty.specs.{Definition.Definition, Definition.rename, Groups.Single, Groups.Rec, Groups.Section}
+use Rattle.walrus_sections.specs.{Section.Place, Section.rec_places, Section.recs_after, Section.places_from, Moves.rename_group}
 use Rattle.walrus_sections.proofs.Sections.Rows.{at}
 
 abbrev pub rename_place : (ℕ → ℕ) → Place → Place

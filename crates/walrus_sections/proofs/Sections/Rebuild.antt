@@ -1,8 +1,7 @@
 -- A section without empty `Rec`s is told by its definitions and where they stand.
 use Rattle.std.proofs.Common.{◌≡◌, ℕ, suc, ◌+◌, List, [], ◌∷◌, length, refl, ap, sym, arith, Option, Some, None}
-use Rattle.walrus_ty.specs.Definition.{Definition}
+use Rattle.walrus_ty.specs.{Definition.Definition, Groups.Single, Groups.Rec, Groups.Section}
 use Rattle.walrus_sections.specs.Section.{Place, rec_places, places_from, IsFilled}
-use Rattle.walrus_ty.specs.Groups.{Single, Rec, Section}
 use Rattle.walrus_sections.proofs.Sections.Rows.{AreRows, rows}
 
 abbrev pub cells : List Place → List (Definition × Option (ℕ × ℕ))

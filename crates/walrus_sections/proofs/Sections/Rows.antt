@@ -1,8 +1,7 @@
 -- The places of a section lie as groups do.
 use Rattle.std.proofs.Common.{◌≡◌, ℕ, zero, suc, ◌+◌, ◌<◌, ◌≤◌, List, [], ◌∷◌, length, refl, ap, sym, inl, inr, ◌⊎◌, arith, Some, None, slice_index_or}
-use Rattle.walrus_ty.specs.Definition.{Definition}
+use Rattle.walrus_ty.specs.{Definition.Definition, Groups.Single, Groups.Rec, Groups.Section}
 use Rattle.walrus_sections.specs.Section.{Place, rec_places, places_from, no_place, index_space}
-use Rattle.walrus_ty.specs.Groups.{Single, Rec, Section}
 use Rattle.walrus_sections.proofs.Sections.Lying.{IsLaidOut}
 
 abbrev pub at : List Place → ℕ → Place
@@ -91,8 +90,7 @@ module _ (b k : ℕ) (p : Place) (ps : List Place) (r : AreRows (suc b) k ps) wh
     own = own_more o;
     fits = fits_more f;
     single_end = single_more s;
-    least =
-        least_more l;
+    least = least_more l;
     pair = pair_more q;
   }
 

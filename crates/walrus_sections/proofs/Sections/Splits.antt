@@ -1,12 +1,8 @@
 -- The group that stands at an index.
 use Rattle.std.proofs.Common.{◌≡◌, ℕ, zero, suc, ◌+◌, ◌<◌, refl, ap, sym, ◌∙◌, inl, inr, arith, Some, None, List, [], ◌∷◌, ◌++◌, map, length, length-append}
-use Rattle.walrus_ty.specs.Definition.{Definition}
-use Rattle.walrus_sections.specs.Section.{Place, recs_after, places_from, index_space, IsFilled}
-use Rattle.walrus_ty.specs.Groups.{Single, Rec, Section}
-use Rattle.walrus_sections.specs.Moves.{rename_group}
-use Rattle.walrus_sections.proofs.Sections.Rows.{at, length-rec_places}
-use Rattle.walrus_sections.proofs.Sections.Places.{places-append, at-here, at-next}
-use Rattle.walrus_sections.proofs.Sections.Numbering.{rec_at_number}
+use Rattle.walrus_ty.specs.{Definition.Definition, Groups.Single, Groups.Rec, Groups.Section}
+use Rattle.walrus_sections.specs.{Section.Place, Section.recs_after, Section.places_from, Section.index_space, Section.IsFilled, Moves.rename_group}
+use Rattle.walrus_sections.proofs.Sections.{Rows.at, Rows.length-rec_places, Places.places-append, Places.at-here, Places.at-next, Numbering.rec_at_number}
 
 abbrev pub size : Section → ℕ
 size [] = 0
@@ -118,8 +114,7 @@ next_single s i r (Single f ∷ after) e g h o =
       after = after;
       e = r.e;
       f = f;
-      is = r.is
-          ∙ ap (λ xs. r.before ++ Single r.e ∷ xs) e;
+      is = r.is ∙ ap (λ xs. r.before ++ Single r.e ∷ xs) e;
       place = r.place;
     }
 next_single s i r (Rec [] ∷ after) e f h o = absurd f

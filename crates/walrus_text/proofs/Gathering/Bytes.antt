@@ -222,15 +222,6 @@ newly_bad section None none new line fails lines counted fits e =
     }
 newly_bad section (Some n) none new line fails lines counted fits e = absurd (false≢true (sym none))
 
--- a line that is taken
-pub still_good :
-    (old new : SectionBuilder) (bad : Option BadLine) → is_some bad ≡ false → (line : List ℕ) →
-    builder_lines new ≡ builder_lines old ++ words_if_any line → (lines : List (List ℕ)) →
-    HasChecked old bad lines → HasChecked new bad (lines ++ line ∷ [])
-still_good old new None none line taken lines e = words_append lines (line ∷ [])
-    ∙ (ap (λ ls. ls ++ words_if_any line) e ∙ sym taken)
-still_good old new (Some n) none line taken lines e = absurd (false≢true (sym none))
-
 -- the bad line of a text that was read
 pub first_bad :
     (bad : BadLine) (text : List ℕ) → length text < 2 ^ 63 → HasBadLine bad (all_lines text) →

@@ -75,17 +75,7 @@ heap_read word = if has_digit_first word then heap.Concrete (number word) else o
 
 name_back : (a : AbstractHeapType) → heap_read (name_word a) ≡ heap.Abstract a
 name_back abstract.Func = refl
-name_back abstract.Extern = refl
-name_back abstract.Any = refl
-name_back abstract.None = refl
-name_back abstract.NoExtern = refl
-name_back abstract.NoFunc = refl
-name_back abstract.Eq = refl
-name_back abstract.Struct = refl
-name_back abstract.Array = refl
-name_back abstract.I31 = refl
-name_back abstract.Exn = refl
-name_back abstract.NoExn = refl
+name_back v = refl
 
 heap_back : (h : Heap ℕ) → AreIndices (heap_names h) → heap_read (heap_word h) ≡ h
 heap_back (heap.Abstract a) fits = name_back a
@@ -124,12 +114,8 @@ reference_back true h fits = ap (λ (g : Heap ℕ). reference true g) (heap_back
 reference_back false h fits = ap (λ (g : Heap ℕ). reference false g) (heap_back h fits)
 
 val_back : (v : Val ℕ) → AreIndices (val_names v) → val_read (val_word v) ≡ v
-val_back val.I32 fits = refl
-val_back val.I64 fits = refl
-val_back val.F32 fits = refl
-val_back val.F64 fits = refl
-val_back val.V128 fits = refl
 val_back (val.Ref r) fits = reference_back r.nullable r.heap_type fits
+val_back v fits = refl
 
 -- fields
 
@@ -145,14 +131,8 @@ storage_reference_back true h fits = ap (λ (v : Val ℕ). storage.Val v) (refer
 storage_reference_back false h fits = ap (λ (v : Val ℕ). storage.Val v) (reference_back false h fits)
 
 storage_back : (s : Storage ℕ) → AreIndices (storage_names s) → storage_read (storage_word s) ≡ s
-storage_back storage.I8 fits = refl
-storage_back storage.I16 fits = refl
-storage_back (storage.Val val.I32) fits = refl
-storage_back (storage.Val val.I64) fits = refl
-storage_back (storage.Val val.F32) fits = refl
-storage_back (storage.Val val.F64) fits = refl
-storage_back (storage.Val val.V128) fits = refl
 storage_back (storage.Val (val.Ref r)) fits = storage_reference_back r.nullable r.heap_type fits
+storage_back v fits = refl
 
 abbrev field : Bool → Storage ℕ → Field ℕ
 field mutable s = record { element_type = s; mutable = mutable }
@@ -169,14 +149,8 @@ reference_not_mut true h = refl
 reference_not_mut false h = refl
 
 not_mut : (s : Storage ℕ) → same_bytes (take 4 (storage_word s)) (codes "mut:") ≡ false
-not_mut storage.I8 = refl
-not_mut storage.I16 = refl
-not_mut (storage.Val val.I32) = refl
-not_mut (storage.Val val.I64) = refl
-not_mut (storage.Val val.F32) = refl
-not_mut (storage.Val val.F64) = refl
-not_mut (storage.Val val.V128) = refl
 not_mut (storage.Val (val.Ref r)) = reference_not_mut r.nullable r.heap_type
+not_mut v = refl
 
 field_parts_back :
     (mutable : Bool) (s : Storage ℕ) → AreIndices (storage_names s) →
@@ -217,12 +191,8 @@ reference_not_arrow true h = refl
 reference_not_arrow false h = refl
 
 not_arrow : (v : Val ℕ) → same_bytes (val_word v) (codes "->") ≡ false
-not_arrow val.I32 = refl
-not_arrow val.I64 = refl
-not_arrow val.F32 = refl
-not_arrow val.F64 = refl
-not_arrow val.V128 = refl
 not_arrow (val.Ref r) = reference_not_arrow r.nullable r.heap_type
+not_arrow v = refl
 
 params_before :
     (vs : List (Val ℕ)) (ws : List (List ℕ)) →

@@ -86,17 +86,7 @@ number_is_printed k small = digits_are_printed (decimal k) (decimal_is_IsNumeral
 
 name_is_printed : (a : AbstractHeapType) → is_printed (name_word a) ≡ true
 name_is_printed abstract.Func = refl
-name_is_printed abstract.Extern = refl
-name_is_printed abstract.Any = refl
-name_is_printed abstract.None = refl
-name_is_printed abstract.NoExtern = refl
-name_is_printed abstract.NoFunc = refl
-name_is_printed abstract.Eq = refl
-name_is_printed abstract.Struct = refl
-name_is_printed abstract.Array = refl
-name_is_printed abstract.I31 = refl
-name_is_printed abstract.Exn = refl
-name_is_printed abstract.NoExn = refl
+name_is_printed v = refl
 
 heap_is_printed : (h : Heap ℕ) → AreIndices (heap_names h) → is_printed (heap_word h) ≡ true
 heap_is_printed (heap.Abstract a) fits = name_is_printed a
@@ -110,12 +100,8 @@ reference_is_word true h fits = heap_is_printed h fits
 reference_is_word false h fits = heap_is_printed h fits
 
 val_is_word : (v : Val ℕ) → AreIndices (val_names v) → is_word (val_word v) ≡ true
-val_is_word val.I32 fits = refl
-val_is_word val.I64 fits = refl
-val_is_word val.F32 fits = refl
-val_is_word val.F64 fits = refl
-val_is_word val.V128 fits = refl
 val_is_word (val.Ref r) fits = reference_is_word r.nullable r.heap_type fits
+val_is_word v fits = refl
 
 storage_is_word : (s : Storage ℕ) → AreIndices (storage_names s) → is_word (storage_word s) ≡ true
 storage_is_word storage.I8 fits = refl

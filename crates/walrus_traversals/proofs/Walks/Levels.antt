@@ -1,7 +1,7 @@
 -- a nested body has no more levels than sequences
 use Rattle.std.proofs.Common.{◌≡◌, ℕ, zero, suc, ◌<◌, List, [], ◌∷◌, ◌++◌, length, refl, sym, ap, ◌∙◌, arith}
 use Rattle.std.specs.List.{flat_map, AllByRecursion, Contains}
-use Rattle.instr.specs.declared.instr.Instr.{Instr}
+use Rattle.ir_instr.specs.declared.instr.Instr.{Instr}
 use Rattle.walrus_functions.specs.Body.{Body, sequence, Knows}
 use Rattle.walrus_ir.specs.Calls.{Event, at, reported}
 use Rattle.walrus_ir.specs.Fields.{type_fields}

@@ -2,7 +2,7 @@
 use Rattle.std.proofs.Common.{◌≡◌, ℕ, zero, suc, ◌+◌, ◌<◌, ◌≤◌, List, [], ◌∷◌, ◌++◌, length, reverse, map, get_or, refl, sym, ap, ◌∙◌, subst, arith, append_assoc, append-nil, length-append, slice_get, Option, Some, None, false, true≢false}
 use Rattle.std.specs.List.{AllByRecursion, FoldsTo}
 use Rattle.std.proofs.lemmas.Option.{slice_get_read, slice_get_past}
-use Rattle.instr.specs.declared.instr.Instr.{Instr}
+use Rattle.ir_instr.specs.declared.instr.Instr.{Instr}
 use Rattle.walrus_ir.specs.Calls.{Event, at}
 use Rattle.walrus_ir.specs.Hooks.{end_instr_seq}
 use Rattle.walrus_functions.specs.Body.{Body, sequence, Knows}

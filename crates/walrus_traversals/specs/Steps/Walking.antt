@@ -1,11 +1,11 @@
 -- What the in-order walk keeps on its stack, and what comes of it.
 use Rattle.std.specs.Prelude.{◌≡◌, ℕ, zero, suc, ◌+◌, List, [], ◌∷◌, ◌++◌, Bool, true, false, map, reverse, slice_get, Option, Some, None}
 use Rattle.std.specs.List.{FoldsTo}
-use Rattle.instr.specs.declared.instr.Instr.{Instr}
+use Rattle.ir_instr.specs.declared.instr.Instr.{Instr}
 use Rattle.walrus_ir.specs.Calls.{Event, at, reported}
 use Rattle.walrus_ir.specs.Fields.{type_fields}
 use Rattle.walrus_ir.specs.Hooks.{start_instr_seq, end_instr_seq}
-use Rattle.instr.specs.Sequence.{Sequence}
+use Rattle.ir_instr.specs.Sequence.{Sequence}
 use Rattle.walrus_functions.specs.Body.{Body, sequence}
 use Rattle.walrus_functions.specs.Nesting.{children}
 use Rattle.walrus_traversals.specs.Events.{own_events, AfterFirst}

@@ -1,9 +1,7 @@
 -- The contents of section records tell the records.
 use Rattle.std.proofs.Common.{◌≡◌, List, [], ◌∷◌, refl, ap, sym, ◌∙◌, map}
-use Rattle.walrus_ty.specs.declared.records.CompAt.{CompAt}
+use Rattle.walrus_ty.specs.declared.records.{CompAt.CompAt, EntryAt.EntryAt, GroupAt.GroupAt}
 use Rattle.walrus_ty.specs.declared.records.CompAt.TheVariants as comp
-use Rattle.walrus_ty.specs.declared.records.EntryAt.{EntryAt}
-use Rattle.walrus_ty.specs.declared.records.GroupAt.{GroupAt}
 use Rattle.walrus_ty.specs.declared.records.GroupAt.TheVariants as group
 use Rattle.walrus_ty.specs.Definition.{Composite, Function, Struct, Array, Definition}
 use Rattle.walrus_ty.specs.Groups.{Group, Single, Rec}

@@ -1,16 +1,12 @@
 -- `==` of section records is sameness.
 use Rattle.std.proofs.Common.{◌≡◌, Bool, true, ◌&&◌, List, [], ◌∷◌, refl, ap, sym, ◌∙◌}
-use Rattle.std.specs.Prelude.{IsTrue, ◌↔◌}
-use Rattle.std.specs.Cmp.Lexicographic.{pointwise}
+use Rattle.std.specs.{Prelude.IsTrue, Prelude.◌↔◌, Cmp.Lexicographic.pointwise}
 use Rattle.walrus_ty.specs.contracts.records.EntryAtPartialEq.TheImpl as entry_equality
 use Rattle.walrus_ty.specs.contracts.records.GroupAtPartialEq.TheImpl as group_equality
-use Rattle.walrus_ty.specs.declared.records.EntryAt.{EntryAt}
-use Rattle.walrus_ty.specs.declared.records.GroupAt.{GroupAt}
+use Rattle.walrus_ty.specs.declared.records.{EntryAt.EntryAt, GroupAt.GroupAt}
 use Rattle.walrus_ty.specs.declared.records.GroupAt.TheVariants as group
 use Rattle.walrus_ty.specs.Records.{section_of}
-use Rattle.walrus_ty.proofs.Equality.Contents.{same_entry, same_section}
-use Rattle.walrus_ty.proofs.Orders.Records.{entry_equal}
-use Rattle.walrus_ty.proofs.Basics.{and_left, and_right}
+use Rattle.walrus_ty.proofs.{Equality.Contents.same_entry, Equality.Contents.same_section, Orders.Records.entry_equal, Basics.and_left, Basics.and_right}
 
 pub pointwise_exact :
     {A : Type 0} (E : A → A → Bool) → ((x y : A) → E x y ≡ true → x ≡ y) → (xs ys : List A) →

@@ -1,12 +1,10 @@
 -- Renaming and the order of definitions.
 use Rattle.std.proofs.Common.{◌≡◌, ℕ, ◌<◌, ap, sym, ◌∙◌, inl, inr, ◌⊎◌, subst}
 use Rattle.std.specs.declared.cmp.Ordering.TheVariants.{Less, Equal}
-use Rattle.std.specs.Ordering.{nat_cmp}
-use Rattle.std.specs.Cmp.{IsTotalOrder}
+use Rattle.std.specs.{Ordering.nat_cmp, Cmp.IsTotalOrder}
 use Rattle.walrus_ty.specs.Definition.{Definition, Names, rename, definition_cmp}
 use Rattle.walrus_ty.proofs.Spelling.Tokens as token
-use Rattle.walrus_ty.proofs.Spelling.Spelled.{spelled, renames, orders, told_if_named, named_if_told}
-use Rattle.walrus_ty.proofs.Spelling.Injective.{told}
+use Rattle.walrus_ty.proofs.Spelling.{Spelled.spelled, Spelled.renames, Spelled.orders, Spelled.told_if_named, Spelled.named_if_told, Injective.told}
 
 -- renamings that agree on the names
 pub rename_agree :

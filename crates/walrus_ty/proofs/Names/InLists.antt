@@ -1,13 +1,9 @@
 -- Lemmas on the names in value types.
 use Rattle.std.proofs.Common.{◌≡◌, ℕ, refl}
-use Rattle.walrus_ty.specs.declared.ty.value.Heap.{Heap}
+use Rattle.walrus_ty.specs.declared.ty.value.{Heap.Heap, Reference.Reference, Val.Val, Storage.Storage, Field.Field}
 use Rattle.walrus_ty.specs.declared.ty.value.Heap.TheVariants as heap
-use Rattle.walrus_ty.specs.declared.ty.value.Reference.{Reference}
-use Rattle.walrus_ty.specs.declared.ty.value.Val.{Val}
 use Rattle.walrus_ty.specs.declared.ty.value.Val.TheVariants as val
-use Rattle.walrus_ty.specs.declared.ty.value.Storage.{Storage}
 use Rattle.walrus_ty.specs.declared.ty.value.Storage.TheVariants as storage
-use Rattle.walrus_ty.specs.declared.ty.value.Field.{Field}
 use Rattle.walrus_ty.specs.Definition.{supertype_names}
 use Rattle.walrus_ty.specs.Value.{heap_name, reference_name, val_name, storage_name, field_name, heap_names, reference_names, val_names, storage_names, field_names}
 
@@ -22,12 +18,8 @@ pub reference_named : (r : Reference ℕ) → supertype_names (reference_name r)
 reference_named r = heap_named r.heap_type
 
 pub val_named : (v : Val ℕ) → supertype_names (val_name v) ≡ val_names v
-val_named val.I32 = refl
-val_named val.I64 = refl
-val_named val.F32 = refl
-val_named val.F64 = refl
-val_named val.V128 = refl
 val_named (val.Ref r) = heap_named r.heap_type
+val_named v = refl
 
 pub storage_named : (s : Storage ℕ) → supertype_names (storage_name s) ≡ storage_names s
 storage_named (storage.Val v) = val_named v

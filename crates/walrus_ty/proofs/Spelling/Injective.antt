@@ -1,15 +1,10 @@
 -- Definitions that are spelled alike are the same.
 use Rattle.std.proofs.Common.{◌≡◌, ℕ, Bool, true, false, List, [], ◌∷◌, Option, Some, None, refl, ap, sym, ◌∙◌, ◌==◌, cond}
-use Rattle.walrus_ty.specs.declared.ty.value.AbstractHeapType.{AbstractHeapType}
+use Rattle.walrus_ty.specs.declared.ty.value.{AbstractHeapType.AbstractHeapType, Heap.Heap, Reference.Reference, Val.Val, Storage.Storage, Field.Field}
 use Rattle.walrus_ty.specs.declared.ty.value.AbstractHeapType.TheVariants as abstract
-use Rattle.walrus_ty.specs.declared.ty.value.Heap.{Heap}
 use Rattle.walrus_ty.specs.declared.ty.value.Heap.TheVariants as heap
-use Rattle.walrus_ty.specs.declared.ty.value.Reference.{Reference}
-use Rattle.walrus_ty.specs.declared.ty.value.Val.{Val}
 use Rattle.walrus_ty.specs.declared.ty.value.Val.TheVariants as val
-use Rattle.walrus_ty.specs.declared.ty.value.Storage.{Storage}
 use Rattle.walrus_ty.specs.declared.ty.value.Storage.TheVariants as storage
-use Rattle.walrus_ty.specs.declared.ty.value.Field.{Field}
 use Rattle.walrus_ty.specs.Value.{bool_index, abstract_index}
 use Rattle.walrus_ty.specs.Definition.{Composite, Function, Struct, Array, Definition}
 use Rattle.walrus_ty.proofs.Spelling.Tokens.{Mark, Spelling}
@@ -27,17 +22,7 @@ abstract_at n = cond (n == 0) abstract.Func (cond (n == 1) abstract.Extern
 pub abstract_back : (a : AbstractHeapType) → abstract_at (abstract_index a) ≡ a
 unfolding abstract_at
 abstract_back abstract.Func = refl
-abstract_back abstract.Extern = refl
-abstract_back abstract.Any = refl
-abstract_back abstract.None = refl
-abstract_back abstract.NoExtern = refl
-abstract_back abstract.NoFunc = refl
-abstract_back abstract.Eq = refl
-abstract_back abstract.Struct = refl
-abstract_back abstract.Array = refl
-abstract_back abstract.I31 = refl
-abstract_back abstract.Exn = refl
-abstract_back abstract.NoExn = refl
+abstract_back a = refl
 
 abstract_of : (a b : AbstractHeapType) → abstract_index a ≡ abstract_index b → a ≡ b
 abstract_of a b h = sym (abstract_back a) ∙ (ap abstract_at h ∙ abstract_back b)
@@ -46,20 +31,14 @@ heap_told :
     (h g : Heap ℕ) (ts us : Spelling) → heap_spelled h ts ≡ heap_spelled g us → (h ≡ g) × (ts ≡ us)
 heap_told (heap.Abstract a) (heap.Abstract b) ts us e = let p : abstract_index a ≡ abstract_index b = cc in
     (ap heap.Abstract (abstract_of a b p), cc)
-heap_told (heap.Abstract a) (heap.Concrete l) ts us e = cc
-heap_told (heap.Abstract a) (heap.Exact l) ts us e = cc
-heap_told (heap.Concrete k) (heap.Abstract b) ts us e = cc
 heap_told (heap.Concrete k) (heap.Concrete l) ts us e = (cc, cc)
-heap_told (heap.Concrete k) (heap.Exact l) ts us e = cc
-heap_told (heap.Exact k) (heap.Abstract b) ts us e = cc
-heap_told (heap.Exact k) (heap.Concrete l) ts us e = cc
 heap_told (heap.Exact k) (heap.Exact l) ts us e = (cc, cc)
+heap_told h g ts us e = cc
 
 bool_of : (a b : Bool) → bool_index a ≡ bool_index b → a ≡ b
 bool_of false false h = refl
-bool_of false true h = cc
-bool_of true false h = cc
 bool_of true true h = refl
+bool_of a b h = cc
 
 same_reference :
     (r q : Reference ℕ) → r.nullable ≡ q.nullable → r.heap_type ≡ q.heap_type → r ≡ q
@@ -78,54 +57,20 @@ val_told :
     (v w : Val ℕ) (ts us : Spelling) → val_spelled v ts ≡ val_spelled w us → (v ≡ w) × (ts ≡ us)
 val_told (val.Ref r) (val.Ref q) ts us e = let h = reference_told r q ts us cc in (ap val.Ref h.0, h.1)
 val_told val.I32 val.I32 ts us e = (refl, cc)
-val_told val.I32 val.I64 ts us e = cc
-val_told val.I32 val.F32 ts us e = cc
-val_told val.I32 val.F64 ts us e = cc
-val_told val.I32 val.V128 ts us e = cc
-val_told val.I32 (val.Ref q) ts us e = cc
-val_told val.I64 val.I32 ts us e = cc
 val_told val.I64 val.I64 ts us e = (refl, cc)
-val_told val.I64 val.F32 ts us e = cc
-val_told val.I64 val.F64 ts us e = cc
-val_told val.I64 val.V128 ts us e = cc
-val_told val.I64 (val.Ref q) ts us e = cc
-val_told val.F32 val.I32 ts us e = cc
-val_told val.F32 val.I64 ts us e = cc
 val_told val.F32 val.F32 ts us e = (refl, cc)
-val_told val.F32 val.F64 ts us e = cc
-val_told val.F32 val.V128 ts us e = cc
-val_told val.F32 (val.Ref q) ts us e = cc
-val_told val.F64 val.I32 ts us e = cc
-val_told val.F64 val.I64 ts us e = cc
-val_told val.F64 val.F32 ts us e = cc
 val_told val.F64 val.F64 ts us e = (refl, cc)
-val_told val.F64 val.V128 ts us e = cc
-val_told val.F64 (val.Ref q) ts us e = cc
-val_told val.V128 val.I32 ts us e = cc
-val_told val.V128 val.I64 ts us e = cc
-val_told val.V128 val.F32 ts us e = cc
-val_told val.V128 val.F64 ts us e = cc
 val_told val.V128 val.V128 ts us e = (refl, cc)
-val_told val.V128 (val.Ref q) ts us e = cc
-val_told (val.Ref r) val.I32 ts us e = cc
-val_told (val.Ref r) val.I64 ts us e = cc
-val_told (val.Ref r) val.F32 ts us e = cc
-val_told (val.Ref r) val.F64 ts us e = cc
-val_told (val.Ref r) val.V128 ts us e = cc
+val_told v w ts us e = cc
 
 storage_told :
     (a b : Storage ℕ) (ts us : Spelling) → storage_spelled a ts ≡ storage_spelled b us →
     (a ≡ b) × (ts ≡ us)
 storage_told (storage.Val v) (storage.Val w) ts us e = let h = val_told v w ts us cc in
     (ap storage.Val h.0, h.1)
-storage_told (storage.Val v) storage.I8 ts us e = cc
-storage_told (storage.Val v) storage.I16 ts us e = cc
-storage_told storage.I8 (storage.Val w) ts us e = cc
 storage_told storage.I8 storage.I8 ts us e = (refl, cc)
-storage_told storage.I8 storage.I16 ts us e = cc
-storage_told storage.I16 (storage.Val w) ts us e = cc
-storage_told storage.I16 storage.I8 ts us e = cc
 storage_told storage.I16 storage.I16 ts us e = (refl, cc)
+storage_told a b ts us e = cc
 
 field_told :
     (f g : Field ℕ) (ts us : Spelling) → field_spelled f ts ≡ field_spelled g us →
@@ -163,21 +108,15 @@ composite_told :
 composite_told (Function ps rs) (Function qs ss) ts us e =
     let a = list_told val_spelled val_told ps qs _ _ cc in
     let b = list_told val_spelled val_told rs ss ts us a.1 in (same_function ps qs rs ss a.0 b.0, b.1)
-composite_told (Function ps rs) (Struct gs) ts us e = cc
-composite_told (Function ps rs) (Array g) ts us e = cc
-composite_told (Struct fs) (Function qs ss) ts us e = cc
 composite_told (Struct fs) (Struct gs) ts us e = let a = list_told field_spelled field_told fs gs ts us cc in
     (ap Struct a.0, a.1)
-composite_told (Struct fs) (Array g) ts us e = cc
-composite_told (Array f) (Function qs ss) ts us e = cc
-composite_told (Array f) (Struct gs) ts us e = cc
 composite_told (Array f) (Array g) ts us e = let a = field_told f g ts us cc in (ap Array a.0, a.1)
+composite_told c d ts us e = cc
 
 supertype_told : (o p : Option ℕ) → supertype_spelled o ≡ supertype_spelled p → o ≡ p
 supertype_told None None e = refl
-supertype_told None (Some l) e = cc
-supertype_told (Some k) None e = cc
 supertype_told (Some k) (Some l) e = cc
+supertype_told o p e = cc
 
 -- what is spelled alike is alike
 pub told : (d e : Definition) → spelled d ≡ spelled e → d ≡ e

@@ -1,20 +1,12 @@
 -- How definitions are spelled. The spelling of a renamed definition is the renamed spelling, the
 -- order of definitions is that of their spellings, and a definition names what its spelling tells.
 use Rattle.std.proofs.Common.{◌≡◌, ℕ, zero, suc, ◌<◌, List, [], ◌∷◌, ◌++◌, length, map, Option, Some, None, refl, ap, sym, ◌∙◌, inl, inr, arith, append_assoc}
-use Rattle.std.specs.Prelude.{option_map, slice_index_or}
-use Rattle.std.specs.List.{flat_map}
-use Rattle.std.specs.declared.cmp.Ordering.{Ordering}
-use Rattle.std.specs.declared.cmp.Ordering.TheVariants.{Less, Equal, Greater}
-use Rattle.std.specs.Ordering.{nat_cmp, ordering_then}
-use Rattle.std.specs.Cmp.Lexicographic.{slice_cmp}
-use Rattle.walrus_ty.specs.declared.ty.value.Heap.{Heap}
+use Rattle.std.specs.{Prelude.option_map, Prelude.slice_index_or, List.flat_map, Ordering.nat_cmp, Ordering.ordering_then, Cmp.Lexicographic.slice_cmp}
+use Rattle.std.specs.declared.cmp.Ordering.{Ordering, TheVariants.Less, TheVariants.Equal, TheVariants.Greater}
+use Rattle.walrus_ty.specs.declared.ty.value.{Heap.Heap, Reference.Reference, Val.Val, Storage.Storage, Field.Field}
 use Rattle.walrus_ty.specs.declared.ty.value.Heap.TheVariants as heap
-use Rattle.walrus_ty.specs.declared.ty.value.Reference.{Reference}
-use Rattle.walrus_ty.specs.declared.ty.value.Val.{Val}
 use Rattle.walrus_ty.specs.declared.ty.value.Val.TheVariants as val
-use Rattle.walrus_ty.specs.declared.ty.value.Storage.{Storage}
 use Rattle.walrus_ty.specs.declared.ty.value.Storage.TheVariants as storage
-use Rattle.walrus_ty.specs.declared.ty.value.Field.{Field}
 use Rattle.walrus_ty.specs.Value.{heap_names, val_names, storage_names, field_names, rename_heap, rename_val, rename_storage, rename_field, bool_index, abstract_index, val_index, heap_cmp, reference_cmp, val_cmp, storage_cmp, field_cmp, bool_cmp}
 use Rattle.walrus_ty.specs.Definition.{Composite, Function, Struct, Array, Definition, Names, names_of, composite_names, supertype_names, rename_composite, rename, composite_cmp, supertype_cmp, definition_cmp}
 use Rattle.walrus_ty.proofs.Spelling.Tokens.{Mark, Name, Spelling, Tells, retold, spelling_cmp}
@@ -72,14 +64,8 @@ heap_orders :
     spelling_cmp (heap_spelled h ts) (heap_spelled g us) ≡
     ordering_then (heap_cmp h g) (spelling_cmp ts us)
 heap_orders (heap.Abstract a) (heap.Abstract b) ts us = refl
-heap_orders (heap.Abstract a) (heap.Concrete l) ts us = refl
-heap_orders (heap.Abstract a) (heap.Exact l) ts us = refl
-heap_orders (heap.Concrete k) (heap.Abstract b) ts us = refl
-heap_orders (heap.Concrete k) (heap.Concrete l) ts us = refl
-heap_orders (heap.Concrete k) (heap.Exact l) ts us = refl
-heap_orders (heap.Exact k) (heap.Abstract b) ts us = refl
-heap_orders (heap.Exact k) (heap.Concrete l) ts us = refl
-heap_orders (heap.Exact k) (heap.Exact l) ts us = refl
+heap_orders h (heap.Abstract b) ts us = refl
+heap_orders h g ts us = refl
 
 reference_orders :
     (r q : Reference ℕ) (ts us : Spelling) →
@@ -95,41 +81,8 @@ val_orders :
     spelling_cmp (val_spelled v ts) (val_spelled w us) ≡
     ordering_then (val_cmp v w) (spelling_cmp ts us)
 val_orders (val.Ref r) (val.Ref q) ts us = reference_orders r q ts us
-val_orders val.I32 val.I32 ts us = refl
-val_orders val.I32 val.I64 ts us = refl
-val_orders val.I32 val.F32 ts us = refl
-val_orders val.I32 val.F64 ts us = refl
-val_orders val.I32 val.V128 ts us = refl
-val_orders val.I32 (val.Ref q) ts us = refl
-val_orders val.I64 val.I32 ts us = refl
-val_orders val.I64 val.I64 ts us = refl
-val_orders val.I64 val.F32 ts us = refl
-val_orders val.I64 val.F64 ts us = refl
-val_orders val.I64 val.V128 ts us = refl
-val_orders val.I64 (val.Ref q) ts us = refl
-val_orders val.F32 val.I32 ts us = refl
-val_orders val.F32 val.I64 ts us = refl
-val_orders val.F32 val.F32 ts us = refl
-val_orders val.F32 val.F64 ts us = refl
-val_orders val.F32 val.V128 ts us = refl
-val_orders val.F32 (val.Ref q) ts us = refl
-val_orders val.F64 val.I32 ts us = refl
-val_orders val.F64 val.I64 ts us = refl
-val_orders val.F64 val.F32 ts us = refl
-val_orders val.F64 val.F64 ts us = refl
-val_orders val.F64 val.V128 ts us = refl
-val_orders val.F64 (val.Ref q) ts us = refl
-val_orders val.V128 val.I32 ts us = refl
-val_orders val.V128 val.I64 ts us = refl
-val_orders val.V128 val.F32 ts us = refl
-val_orders val.V128 val.F64 ts us = refl
-val_orders val.V128 val.V128 ts us = refl
-val_orders val.V128 (val.Ref q) ts us = refl
-val_orders (val.Ref r) val.I32 ts us = refl
-val_orders (val.Ref r) val.I64 ts us = refl
-val_orders (val.Ref r) val.F32 ts us = refl
-val_orders (val.Ref r) val.F64 ts us = refl
-val_orders (val.Ref r) val.V128 ts us = refl
+val_orders v (val.Ref q) ts us = refl
+val_orders v w ts us = refl
 
 list_orders :
     {A : Type 0} (f : A → Spelling → Spelling) (c : A → A → Ordering) →
@@ -150,8 +103,7 @@ heap_renames :
     (m : ℕ → ℕ) (h : Heap ℕ) (ts : Spelling) →
     retold m (heap_spelled h ts) ≡ heap_spelled (rename_heap m h) (retold m ts)
 heap_renames m (heap.Abstract a) ts = refl
-heap_renames m (heap.Concrete k) ts = refl
-heap_renames m (heap.Exact k) ts = refl
+heap_renames m h ts = refl
 
 val_renames :
     (m : ℕ → ℕ) (v : Val ℕ) (ts : Spelling) →
@@ -174,14 +126,8 @@ storage_orders :
     spelling_cmp (storage_spelled a ts) (storage_spelled b us) ≡
     ordering_then (storage_cmp a b) (spelling_cmp ts us)
 storage_orders (storage.Val v) (storage.Val w) ts us = val_orders v w ts us
-storage_orders (storage.Val v) storage.I8 ts us = refl
-storage_orders (storage.Val v) storage.I16 ts us = refl
-storage_orders storage.I8 (storage.Val w) ts us = refl
-storage_orders storage.I8 storage.I8 ts us = refl
-storage_orders storage.I8 storage.I16 ts us = refl
-storage_orders storage.I16 (storage.Val w) ts us = refl
-storage_orders storage.I16 storage.I8 ts us = refl
-storage_orders storage.I16 storage.I16 ts us = refl
+storage_orders a (storage.Val w) ts us = refl
+storage_orders a b ts us = refl
 
 field_orders :
     (f g : Field ℕ) (ts us : Spelling) →
@@ -202,14 +148,9 @@ composite_orders (Function ps rs) (Function qs ss) ts us =
     (list_spelled val_spelled ss us)
     ∙ (ap (ordering_then (slice_cmp val_cmp ps qs)) (list_orders val_spelled val_cmp val_orders rs ss ts us)
     ∙ sym (then_assoc (slice_cmp val_cmp ps qs) (slice_cmp val_cmp rs ss) (spelling_cmp ts us)))
-composite_orders (Function ps rs) (Struct gs) ts us = refl
-composite_orders (Function ps rs) (Array g) ts us = refl
-composite_orders (Struct fs) (Function qs ss) ts us = refl
 composite_orders (Struct fs) (Struct gs) ts us = list_orders field_spelled field_cmp field_orders fs gs ts us
-composite_orders (Struct fs) (Array g) ts us = refl
-composite_orders (Array f) (Function qs ss) ts us = refl
-composite_orders (Array f) (Struct gs) ts us = refl
 composite_orders (Array f) (Array g) ts us = field_orders f g ts us
+composite_orders c d ts us = refl
 
 supertype_orders :
     (o p : Option ℕ) → spelling_cmp (supertype_spelled o) (supertype_spelled p) ≡ supertype_cmp o p
@@ -228,8 +169,7 @@ storage_renames :
     (m : ℕ → ℕ) (a : Storage ℕ) (ts : Spelling) →
     retold m (storage_spelled a ts) ≡ storage_spelled (rename_storage m a) (retold m ts)
 storage_renames m (storage.Val v) ts = ap (λ us. Mark 0 ∷ us) (val_renames m v ts)
-storage_renames m storage.I8 ts = refl
-storage_renames m storage.I16 ts = refl
+storage_renames m a ts = refl
 
 field_renames :
     (m : ℕ → ℕ) (f : Field ℕ) (ts : Spelling) →
@@ -267,8 +207,7 @@ told_names (Name k ∷ ts) = k ∷ told_names ts
 heap_tells :
     (h : Heap ℕ) (ts : Spelling) → told_names (heap_spelled h ts) ≡ heap_names h ++ told_names ts
 heap_tells (heap.Abstract a) ts = refl
-heap_tells (heap.Concrete k) ts = refl
-heap_tells (heap.Exact k) ts = refl
+heap_tells h ts = refl
 
 val_tells :
     (v : Val ℕ) (ts : Spelling) → told_names (val_spelled v ts) ≡ val_names v ++ told_names ts
@@ -279,8 +218,7 @@ storage_tells :
     (a : Storage ℕ) (ts : Spelling) →
     told_names (storage_spelled a ts) ≡ storage_names a ++ told_names ts
 storage_tells (storage.Val v) ts = val_tells v ts
-storage_tells storage.I8 ts = refl
-storage_tells storage.I16 ts = refl
+storage_tells a ts = refl
 
 field_tells :
     (f : Field ℕ) (ts : Spelling) → told_names (field_spelled f ts) ≡ field_names f ++ told_names ts
@@ -292,8 +230,7 @@ list_tells :
     (xs : List A) (ts : Spelling) →
     told_names (list_spelled f xs ts) ≡ flat_map g xs ++ told_names ts
 list_tells f g h [] ts = refl
-list_tells f g h (x ∷ xs) ts = h x (list_spelled f xs ts)
-    ∙ (ap (λ ys. g x ++ ys) (list_tells f g h xs ts)
+list_tells f g h (x ∷ xs) ts = h x (list_spelled f xs ts) ∙ (ap (λ ys. g x ++ ys) (list_tells f g h xs ts)
     ∙ sym (append_assoc (g x) (flat_map g xs) (told_names ts)))
 
 composite_tells :

@@ -1,13 +1,9 @@
 -- A definition spelled from left to right: marks for its shape, and the numbers that it names. For
 -- spellings, the laws of renaming and of the order each are one induction.
 use Rattle.std.proofs.Common.{◌≡◌, ℕ, ◌<◌, List, [], ◌∷◌, refl, ap, sym, ◌∙◌, inl, inr, ◌⊎◌, arith}
-use Rattle.std.specs.declared.cmp.Ordering.{Ordering}
-use Rattle.std.specs.declared.cmp.Ordering.TheVariants.{Less, Equal, Greater}
-use Rattle.std.specs.Ordering.{nat_cmp, ordering_then, ordering_reverse}
-use Rattle.std.specs.Cmp.{IsTotalOrder}
-use Rattle.std.specs.Cmp.Lexicographic.{slice_cmp}
-use Rattle.std.proofs.lemmas.Cmp.{nat_cmp_total, lists_total}
-use Rattle.std.proofs.lemmas.Bool.Decides.{nat_tests}
+use Rattle.std.specs.declared.cmp.Ordering.{Ordering, TheVariants.Less, TheVariants.Equal, TheVariants.Greater}
+use Rattle.std.specs.{Ordering.nat_cmp, Ordering.ordering_then, Ordering.ordering_reverse, Cmp.IsTotalOrder, Cmp.Lexicographic.slice_cmp}
+use Rattle.std.proofs.lemmas.{Cmp.nat_cmp_total, Cmp.lists_total, Bool.Decides.nat_tests}
 
 pub data Token : Type 0 where
   Mark : (n : ℕ) → Token

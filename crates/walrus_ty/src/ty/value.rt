@@ -5,6 +5,9 @@ ghost use Rattle.walrus_ty.specs.Definition.{supertype_names};
 ghost use Rattle.walrus_ty.specs.Value.{heap_name, reference_name, val_name, storage_name, field_name};
 ghost use Rattle.walrus_ty.specs.Value.{heap_names, reference_names, val_names, storage_names, field_names};
 
+mod display;
+mod views;
+
 use walrus_id::Id;
 
 /// A heap type of the WebAssembly core specification that no module defines.

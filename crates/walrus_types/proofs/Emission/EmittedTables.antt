@@ -1,35 +1,18 @@
 -- What is written for a table obeys the rule on pairs of its groups.
 use Rattle.std.proofs.Common.{◌≡◌, ℕ, ◌+◌, ◌<◌, ◌≤◌, List, map, take, length, refl, sym, ap, subst, ◌∙◌, arith, Some, None, Option, IsSome, true, false, Bool, [], ◌∷◌, nat_eq, length-append, All, get_or, unwrap_or}
 use Rattle.std.specs.List.{slice_get, slice_index, list_any}
-use Rattle.std.proofs.lemmas.Map.Steps.{length-le_from_distinct_below}
-use Rattle.walrus_types.proofs.Tables.Places.{any_has, live_below}
-use Rattle.walrus_types.proofs.Tables.DeadGroup.{distinct_from_once}
-use Rattle.walrus_types.proofs.Emission.WrittenFew.{written-cons}
-use Rattle.walrus_sections.specs.Refusal.{IsMissing, NameUse, written_count}
-use Rattle.std.proofs.lemmas.List.{get_or_default, get_or-map, length-map}
-use Rattle.std.proofs.lemmas.Option.{slice_get-get_or}
+use Rattle.std.proofs.lemmas.{Map.Steps.length-le_from_distinct_below, List.get_or_default, List.get_or-map, List.length-map, Option.slice_get-get_or}
+use Rattle.walrus_types.proofs.{Tables.Places.any_has, Tables.Places.live_below, Tables.DeadGroup.distinct_from_once, Emission.WrittenFew.written-cons}
+use Rattle.walrus_sections.specs.{Refusal.IsMissing, Refusal.NameUse, Refusal.written_count, SlotMap.TypeGroup, MissingNames.IsMissingIn}
 use Rattle.walrus_arena.specs.Arena.{IsLive}
 use Rattle.walrus_ty.specs.declared.records.GroupAt.{GroupAt}
-use Rattle.walrus_types.specs.declared.table.rec_group.RecGroup.{RecGroup}
-use Rattle.walrus_types.specs.declared.error.EmitError.{EmitError}
-use Rattle.walrus_types.specs.declared.error.EmitError.TheVariants as emit
-use Rattle.walrus_ty.specs.Definition.{Definition, rename}
-use Rattle.walrus_ty.specs.Groups.{Section}
-use Rattle.walrus_sections.specs.SlotMap.{TypeGroup}
+use Rattle.walrus_types.specs.{declared.table.rec_group.RecGroup.RecGroup, declared.emit.order.PendingGroup.PendingGroup, Table.Table, Table.IsTable, Steps.PendingGroups.groups_of, Steps.PendingGroups.places_of, Steps.WrittenGroups.AreWritten}
+use Rattle.walrus_ty.specs.{Definition.Definition, Definition.rename, Groups.Section, Indices.IndexMap, Lookups.value_or_zero}
 use Rattle.walrus_sections.specs.Emission.{no_group, group_at, IsMember, WrittenMember, IsEmission}
-use Rattle.walrus_module_types.specs.Indices.{IndexMap}
-use Rattle.walrus_module_types.specs.Lookups.{value_or_zero}
 use Rattle.walrus_types.specs.Table as table
-use Rattle.walrus_types.specs.Table.{Table, IsTable}
-use Rattle.walrus_types.specs.TableEmission.{type_groups, definition_at, is_entry_at, table_view, written_types, IfNameMissing, IsWrittenId, IsEmitted}
-use Rattle.walrus_types.specs.declared.emit.order.PendingGroup.{PendingGroup}
-use Rattle.walrus_types.specs.Steps.PendingGroups.{groups_of, places_of}
-use Rattle.walrus_types.specs.Steps.WrittenGroups.{AreWritten, IsMemoryOrMissing}
+use Rattle.walrus_types.specs.TableEmission.{type_groups, definition_at, is_entry_at, table_view, written_types, IsWrittenId, IsEmitted}
 use Rattle.walrus_sections.specs.WritingOrders.{IsApart, IsWritingOrder, ids_in, in_order, id_count, written_group}
-use Rattle.walrus_sections.specs.MissingNames.{IsMissingIn}
-use Rattle.walrus_sections.proofs.Emission.WrittenMembers.{written_member}
-use Rattle.walrus_sections.proofs.Emission.IndexOfId.{Home, home, member_at}
-use Rattle.walrus_sections.proofs.Emission.PairsOfGroups.{at_member, to_member, placed_member}
+use Rattle.walrus_sections.proofs.Emission.{WrittenMembers.written_member, IndexOfId.Home, IndexOfId.home, IndexOfId.member_at, PairsOfGroups.at_member, PairsOfGroups.to_member, PairsOfGroups.placed_member}
 use Rattle.walrus_types.proofs.Emission.OrderFromSort.{live_member, single, same_member}
 
 module _ (t : Table) (known : IsTable t) (order : List ℕ)
@@ -150,16 +133,6 @@ as_ordered from to ps qs e f = ap (λ (gs : List RecGroup). groups_of gs ps) e �
 pub carried :
     {A B : Type 0} (P : A → B → Type 0) (a a' : A) (b b' : B) → a ≡ a' → b ≡ b' → P a b → P a' b'
 carried P a a' b b' e f h = subst (λ x. P x b') e (subst (P a) f h)
-
-pub names_missing : (P : ℕ → ℕ → Type 0) (e : EmitError) → IsMemoryOrMissing e P → IfNameMissing e P
-names_missing P (emit.NoIndex i k) h = h
-names_missing P emit.TooMany h = absurd h
-names_missing P emit.Memory h = tt
-
-pub not_too_many : (P : ℕ → ℕ → Type 0) (e : EmitError) → IsMemoryOrMissing e P → ¬ (e ≡ emit.TooMany)
-not_too_many P (emit.NoIndex i k) h f = cc
-not_too_many P emit.TooMany h f = h
-not_too_many P emit.Memory h f = cc
 
 -- no more types are written than the table has slots
 

@@ -1,86 +1,49 @@
 -- The order in which groups are sorted is the order in which they are written.
-use Rattle.std.proofs.Common.{◌≡◌, ℕ, zero, suc, ◌<◌, ◌≤◌, ◌==◌, ◌||◌, ◌&&◌, List, [], ◌∷◌, length, refl, sym, ap, subst, ◌∙◌, arith, Some, None, Option, IsSome, Bool, true, false, not, get_or, All, eqb-true, eq-eqb, inl, inr}
+use Rattle.std.proofs.Common.{◌≡◌, ℕ, zero, suc, ◌<◌, ◌≤◌, ◌==◌, ◌||◌, ◌&&◌, List, [], ◌∷◌, length, refl, sym, ap, subst, ◌∙◌, arith, Some, None, Option, IsSome, Bool, true, false, not, get_or, eqb-true, eq-eqb, inl, inr}
 use Rattle.std.specs.List.{slice_get, slice_index, list_all, list_any, filter, range_with_len}
-use Rattle.std.specs.List.Sorted.{IsPermutation}
-use Rattle.std.specs.Option.{is_none}
-use Rattle.std.specs.Ordering.{ordering_then}
-use Rattle.std.specs.declared.cmp.Ordering.{Ordering}
-use Rattle.std.specs.declared.cmp.Ordering.TheVariants.{Less, Equal, Greater}
-use Rattle.std.proofs.lemmas.List.{length-map}
-use Rattle.std.proofs.lemmas.Option.{slice_get_within, slice_get-get_or, get_or_from_slice_get}
-use Rattle.std.proofs.lemmas.Bool.{cases_lt}
+use Rattle.std.specs.{List.Sorted.IsPermutation, Option.is_none, Ordering.ordering_then}
+use Rattle.std.specs.declared.cmp.Ordering.{Ordering, TheVariants.Less, TheVariants.Equal, TheVariants.Greater}
+use Rattle.std.proofs.lemmas.{List.Folds.Any-from_list_any, List.Folds.list_any_at, List.Sums.AllPass-from_list_all, List.Sums.list_all-from_AllPass, List.length-map, Option.slice_get_within, Option.slice_get-get_or, Option.get_or_from_slice_get, Bool.cases_lt}
 use Rattle.walrus_arena.specs.Arena.{Slots, get, IsLive}
-use Rattle.walrus_types.specs.declared.table.rec_group.RecGroup.{RecGroup}
+use Rattle.walrus_types.specs.{declared.table.rec_group.RecGroup.RecGroup, declared.emit.order.PendingGroup.PendingGroup, Steps.PendingGroups.pending_groups, Steps.PendingGroups.places_of, Table.Table, Table.IsTable}
 use Rattle.walrus_ty.specs.Definition.{Definition, Names, names_of, definition_cmp}
-use Rattle.walrus_ty.specs.Value.{bool_cmp}
-use Rattle.walrus_sections.specs.SlotMap.{TypeGroup}
+use Rattle.walrus_ty.specs.{Value.bool_cmp, Types.ModuleType, Types.type_definition}
+use Rattle.walrus_sections.specs.{SlotMap.TypeGroup, RunStarts.IsTurnedRound, RunStarts.StandsBefore, WritingOrders.IsWritingOrder, WritingOrders.id_count, Refusal.written_count}
 use Rattle.walrus_sections.specs.Emission as emission
 use Rattle.walrus_sections.specs.Emission.{TableView, IsMember, IsGrouped, IsWritten, IsFreeGroup, IsInversion, IsWrittenBefore}
-use Rattle.walrus_types.specs.declared.emit.order.PendingGroup.{PendingGroup}
-use Rattle.walrus_sections.specs.RunStarts.{IsTurnedRound, StandsBefore}
-use Rattle.walrus_types.specs.Steps.PendingGroups.{pending_groups, places_of}
-use Rattle.walrus_module_types.specs.Types.{ModuleType, type_definition}
 use Rattle.walrus_types.specs.Table as table
-use Rattle.walrus_types.specs.Table.{Table, IsTable}
 use Rattle.walrus_types.specs.TableEmission.{type_groups, slot_definition, definition_at, slot_is_entry, is_entry_at, table_view}
 use Rattle.walrus_types.specs.Steps.FreeGroups.{is_own_or_dead, slot_names_none_other, is_free_of, is_free_at, head, is_written_at}
-use Rattle.walrus_sections.specs.WritingOrders.{IsWritingOrder, id_count}
-use Rattle.walrus_sections.specs.Refusal.{written_count}
-use Rattle.walrus_types.proofs.Emission.SortedGroups.{each_written, moved, onto_written}
-use Rattle.walrus_types.proofs.Emission.WrittenCount.{count_of_order}
-use Rattle.walrus_module_types.proofs.Orders.Types.{type_cmp, type_is}
+use Rattle.walrus_types.proofs.Emission.{SortedGroups.each_written, SortedGroups.moved, SortedGroups.onto_written, WrittenCount.count_of_order}
+use Rattle.walrus_ty.proofs.{Orders.Types.type_cmp, Orders.Types.type_is, Basics.some_inj, Basics.then_less}
 use Rattle.walrus_sections.proofs.Emission.PairsOfGroups.{at_member, to_member}
-use Rattle.walrus_ty.proofs.Basics.{some_inj, then_less}
 
 -- tests of all and of some elements
 
 all_at :
     {X : Type 0} (p : X → Bool) (xs : List X) (u : ℕ) (x : X) → list_all p xs ≡ true →
     slice_get xs u ≡ Some x → p x ≡ true
-all_at p [] u x h at = cc
-all_at p (y ∷ xs) zero x h at = ap p (sym (some_inj at)) ∙ left (p y) (list_all p xs) h
-  where
-    left : (a b : Bool) → (a && b) ≡ true → a ≡ true
-    left true b e = refl
-    left false b e = cc
-all_at p (y ∷ xs) (suc u) x h at = all_at p xs u x (right (p y) (list_all p xs) h) at
-  where
-    right : (a b : Bool) → (a && b) ≡ true → b ≡ true
-    right true b e = e
-    right false b e = cc
+all_at p xs u x h at = ap p (sym (get_or_from_slice_get xs u x x at))
+    ∙ AllPass-from_list_all p xs h u x (slice_get_within xs u x at)
 
 all_from :
     {X : Type 0} (p : X → Bool) (xs : List X) →
     ((u : ℕ) (x : X) → slice_get xs u ≡ Some x → p x ≡ true) → list_all p xs ≡ true
-all_from p [] each = refl
-all_from p (y ∷ xs) each = both (p y) (list_all p xs) (each 0 y refl)
-    (all_from p xs (λ u x h. each (suc u) x h))
-  where
-    both : (a b : Bool) → a ≡ true → b ≡ true → (a && b) ≡ true
-    both a b e f = rw (e, f) refl
+all_from p xs each = list_all-from_AllPass p xs
+    (λ k d lt. each k (get_or xs k d) (slice_get-get_or xs k d lt))
 
 any_at :
     {X : Type 0} (p : X → Bool) (xs : List X) → list_any p xs ≡ true →
     (u : ℕ) × (x : X) × (slice_get xs u ≡ Some x) × (p x ≡ true)
-any_at p [] h = cc
-any_at {X = X} p (y ∷ xs) h = by (p y) refl h (λ f. any_at p xs f)
-  where
-    by : (b : Bool) → p y ≡ b → (b || list_any p xs) ≡ true →
-        (list_any p xs ≡ true → (u : ℕ) × (x : X) × (slice_get xs u ≡ Some x) × (p x ≡ true)) → (u : ℕ)
-        × (x : X) × (slice_get (y ∷ xs) u ≡ Some x) × (p x ≡ true)
-    by true e f rest = (0, y, refl, e)
-    by false e f rest = let r : _ = rest f in (suc r.0, r.1, r.2, r.3)
+any_at p xs h =
+    let a = Any-from_list_any p xs h in
+    (a.0, a.1, slice_get-get_or xs a.0 a.1 a.2 ∙ ap (λ x. Some x) a.3, a.4)
 
 any_from :
     {X : Type 0} (p : X → Bool) (xs : List X) (u : ℕ) (x : X) → slice_get xs u ≡ Some x →
     p x ≡ true → list_any p xs ≡ true
-any_from p [] u x at h = cc
-any_from p (y ∷ xs) zero x at h = let e : y ≡ x = some_inj at in let f : p y ≡ true = ap p e ∙ h in rw f refl
-any_from p (y ∷ xs) (suc u) x at h = by (p y) (any_from p xs u x at h)
-  where
-    by : (b : Bool) → list_any p xs ≡ true → (b || list_any p xs) ≡ true
-    by true f = refl
-    by false f = f
+any_from p xs u x at h = list_any_at p xs u x (slice_get_within xs u x at)
+    (ap p (get_or_from_slice_get xs u x x at) ∙ h)
 
 -- the groups of the table, by ids
 

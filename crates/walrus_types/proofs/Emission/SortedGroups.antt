@@ -1,14 +1,9 @@
 -- The groups that are written, when they are sorted.
 use Rattle.std.proofs.Common.{◌≡◌, ℕ, ◌<◌, List, [], ◌∷◌, ◌++◌, ◌+◌, cond, map, length, sym, ap, subst, ◌∙◌, arith, Some, Option, Bool, true, false, refl, get_or, All}
-use Rattle.std.specs.List.{slice_get, slice_index, filter, range_with_len}
-use Rattle.std.specs.List.Sorted.{IsPermutation, IsSorted}
-use Rattle.std.specs.Cmp.{IsTotalOrder}
-use Rattle.std.specs.Ordering.{nat_cmp, ordering_then}
+use Rattle.std.specs.{List.slice_get, List.slice_index, List.filter, List.range_with_len, List.Sorted.IsPermutation, List.Sorted.IsSorted, Cmp.IsTotalOrder, Ordering.nat_cmp, Ordering.ordering_then}
 use Rattle.std.specs.declared.cmp.Ordering.{Ordering}
-use Rattle.std.proofs.lemmas.List.{length-map, get_or-map, map-append}
-use Rattle.std.proofs.lemmas.List.Sorted.{All-permutation}
-use Rattle.std.proofs.lemmas.Option.{slice_get_within, get_or_from_slice_get}
-use Rattle.walrus_module_types.specs.Types.{ModuleType}
+use Rattle.std.proofs.lemmas.{List.length-map, List.get_or-map, List.map-append, List.Sorted.All-permutation, Option.slice_get_within, Option.get_or_from_slice_get}
+use Rattle.walrus_ty.specs.Types.{ModuleType}
 use Rattle.walrus_types.specs.declared.emit.order.PendingGroup.{PendingGroup}
 use Rattle.walrus_sections.specs.RunStarts.{StandsBefore, run_start, start_of}
 use Rattle.walrus_types.specs.Steps.PendingGroups.{places_of}

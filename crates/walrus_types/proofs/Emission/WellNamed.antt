@@ -2,27 +2,13 @@
 -- the end of its group, and no more definitions are written than the written groups have types.
 use Rattle.std.proofs.Common.{◌≡◌, ℕ, zero, suc, ◌+◌, ◌<◌, ◌≤◌, ◌^◌, ◌∙◌, refl, sym, ap, subst, arith, inl, inr, Bool, true, false, cond, not, List, [], ◌∷◌, ◌++◌, length, length-append, Contains, Some}
 use Rattle.std.specs.List.{list_any, slice_index_or}
-use Rattle.std.proofs.lemmas.Bool.{cases_Bool, cases_lt}
-use Rattle.std.proofs.lemmas.List.{get_or_default, get_or-map, length-map}
-use Rattle.std.proofs.lemmas.List.Elements.{Contains-append_left, Contains-append_right}
-use Rattle.std.proofs.lemmas.List.Folds.{list_any_at}
-use Rattle.std.proofs.lemmas.List.Sums.{sum_by-cons}
-use Rattle.std.proofs.lemmas.Option.{slice_get-get_or}
+use Rattle.std.proofs.lemmas.{Bool.cases_Bool, Bool.cases_lt, List.get_or_default, List.get_or-map, List.length-map, List.Elements.Contains-append_left, List.Elements.Contains-append_right, List.Folds.list_any_at, List.Sums.sum_by-cons, Option.slice_get-get_or}
 use Rattle.walrus_ty.specs.declared.records.GroupAt.{GroupAt}
-use Rattle.walrus_ty.specs.Definition.{Definition, Names, names_of}
-use Rattle.walrus_ty.specs.Groups.{Section}
-use Rattle.walrus_module_types.specs.Indices.{IndexMap}
-use Rattle.walrus_module_types.specs.Lookups.{value_or_zero}
-use Rattle.walrus_ty.specs.Records.{section_of}
+use Rattle.walrus_ty.specs.{Definition.Definition, Definition.Names, Definition.names_of, Groups.Section, Indices.IndexMap, Lookups.value_or_zero, Records.section_of}
 use Rattle.walrus_ty.proofs.Names.Definitions.{named_before, names_same}
-use Rattle.walrus_sections.specs.Section.{IndexSpace, index_space, NamesBelowEnds, IsWellNamed}
-use Rattle.walrus_sections.specs.SlotMap.{TypeGroup}
+use Rattle.walrus_sections.specs.{Section.IndexSpace, Section.index_space, Section.NamesBelowEnds, Section.IsWellNamed, SlotMap.TypeGroup, Refusal.NameUse, Refusal.HasIndexBy, Refusal.IsMissing, Refusal.written_count}
 use Rattle.walrus_sections.specs.Emission.{TableView, no_group, group_at, IsMember, WrittenMember, IsWrittenBefore, IsEmission}
-use Rattle.walrus_sections.specs.Refusal.{NameUse, HasIndexBy, IsMissing, written_count}
-use Rattle.walrus_sections.proofs.Sections.Lying.{IsLaidOut}
-use Rattle.walrus_sections.proofs.Sections.Rows.{laid_out}
-use Rattle.walrus_sections.proofs.NormalForms.Fewer.{fewer}
-use Rattle.walrus_sections.proofs.Emission.WrittenMembers.{written_member}
+use Rattle.walrus_sections.proofs.{Sections.Lying.IsLaidOut, Sections.Rows.laid_out, NormalForms.Fewer.fewer, Emission.WrittenMembers.written_member}
 use Rattle.walrus_types.specs.Table.{Table, no_rec_group, rec_group_at}
 use Rattle.walrus_types.specs.TableEmission.{contents, type_groups, definition_at, is_entry_at, table_view, written_types, IsEmitted}
 
@@ -52,8 +38,7 @@ module _ (table : TableView) where
 
   -- of a group that isn't explicit there is only a first member
   abbrev HasLoneTypes : Type 0
-  HasLoneTypes =
-      (g u i : ℕ) → IsMember gs g u i → (group_at gs g).is_explicit ≡ false → u ≡ 0
+  HasLoneTypes = (g u i : ℕ) → IsMember gs g u i → (group_at gs g).is_explicit ≡ false → u ≡ 0
 
   module _ (n : Section) (m : ℕ → ℕ) (em : IsEmission table n m) where
     abbrev end_of : ℕ → ℕ
@@ -101,10 +86,7 @@ module _ (table : TableView) where
         m j < end_of x.id
     indexed_below lone x j has =
         let y = written_member has.written has.member in
-        elim has.by [
-          | inl same ↦ mate_below lone x y (sym same)
-          | inr before ↦ earlier_below x y before
-        ]
+        elim has.by [ inl same ↦ mate_below lone x y (sym same) | inr before ↦ earlier_below x y before ]
 
     abbrev IsComplete : Type 0
     IsComplete = (name : NameUse) → ¬ (IsMissing table name)
@@ -231,6 +213,5 @@ module _ (t : Table) (single : HasSingles t) where
       let count = count_at_most is_entry table_groups definition n m em.section in
       record {
         few = omega (arith, count, bound);
-        below_ends =
-            names_below_ends (table_view t) n m em.section first_only em.complete;
+        below_ends = names_below_ends (table_view t) n m em.section first_only em.complete;
       }

@@ -1,29 +1,14 @@
 -- A table that a section was read into: what its groups hold, that it can be written, and what is
 -- written.
 use Rattle.std.proofs.Common.{◌≡◌, ℕ, ◌<◌, ◌∙◌, refl, sym, ap, subst, arith, inl, inr, Some, false, List, map, All, IsSome}
-use Rattle.std.proofs.lemmas.List.{get_or_default}
-use Rattle.std.proofs.lemmas.Option.{slice_get_within, get_or_from_slice_get}
+use Rattle.std.proofs.lemmas.{List.get_or_default, Option.slice_get_within, Option.get_or_from_slice_get}
 use Rattle.walrus_arena.specs.Arena.{get}
-use Rattle.walrus_ty.specs.Definition.{Definition, Names, names_of}
-use Rattle.walrus_ty.specs.Groups.{Section}
-use Rattle.walrus_sections.specs.Section.{index_space}
-use Rattle.walrus_sections.specs.NormalForm.{image, IsNormalForm}
-use Rattle.walrus_sections.specs.SlotMap.{TypeGroup, read_definition, read_groups}
-use Rattle.walrus_sections.specs.Emission.{TableView, IsMember, IsEmission}
+use Rattle.walrus_ty.specs.{Definition.Definition, Definition.Names, Definition.names_of, Groups.Section, Indices.IndexMap, Lookups.value_or_zero, Records.section_of}
+use Rattle.walrus_sections.specs.{Section.index_space, NormalForm.image, NormalForm.IsNormalForm, SlotMap.TypeGroup, SlotMap.read_definition, SlotMap.read_groups, Emission.TableView, Emission.IsMember, Emission.IsEmission, Refusal.NameUse, Refusal.HasIndexBy, Refusal.IsMissing}
 use Rattle.walrus_types.specs.TableEmission.{definition_at, slot_definition, is_entry_at, table_view, IsEmitted, IsWrittenId}
-use Rattle.walrus_module_types.specs.Indices.{IndexMap}
-use Rattle.walrus_module_types.specs.Lookups.{value_or_zero}
-use Rattle.walrus_sections.specs.Refusal.{NameUse, HasIndexBy, IsMissing}
-use Rattle.walrus_types.specs.ReadResult.{type_of_definition}
-use Rattle.walrus_types.specs.ReaderState.{IsReadInto}
-use Rattle.walrus_ty.specs.Records.{section_of}
-use Rattle.walrus_types.specs.Table.{Table}
+use Rattle.walrus_types.specs.{ReadResult.type_of_definition, ReaderState.IsReadInto, Table.Table}
 use Rattle.walrus_ty.specs.declared.records.GroupAt.{GroupAt}
-use Rattle.walrus_sections.proofs.Emission.ReadMembers.{member_is, member_of, sent_by_slots}
-use Rattle.walrus_sections.proofs.Emission.Emits.{read_then_emitted, names_stand}
-use Rattle.walrus_sections.proofs.Emission.Made.{down, twice}
-use Rattle.walrus_sections.proofs.Emission.SameMembers.{same_emission, same_stands}
-use Rattle.walrus_sections.proofs.Emission.WrittenMembers.{written_member}
+use Rattle.walrus_sections.proofs.Emission.{ReadMembers.member_is, ReadMembers.member_of, ReadMembers.sent_by_slots, Emits.read_then_emitted, Emits.names_stand, Made.down, Made.twice, SameMembers.same_emission, SameMembers.same_stands, WrittenMembers.written_member}
 use Rattle.walrus_types.proofs.Reading.Section.{stored_definition}
 
 module _ (s : Section) (t : Table) (ids : List ℕ) (has : IsReadInto s t ids) where

@@ -1,16 +1,10 @@
 -- How many types stand in written groups.
 use Rattle.std.proofs.Common.{◌≡◌, ℕ, suc, ◌+◌, ◌<◌, ◌≤◌, List, [], ◌∷◌, ◌++◌, take, drop, length, not, refl, sym, ap, ◌∙◌, arith, Bool, true, false, cond, get_or, length-append, take-append-drop, sum_by}
-use Rattle.std.specs.List.{list_any, filter, range_with_len, slice_index_or}
-use Rattle.std.specs.List.Sorted.{IsPermutation}
-use Rattle.std.proofs.lemmas.List.{take_more, map-append}
-use Rattle.std.proofs.lemmas.List.Sorted.{sum_by-IsPermutation}
-use Rattle.std.proofs.lemmas.List.Sums.{sum_by-cons, sum_by-append}
+use Rattle.std.specs.List.{list_any, filter, range_with_len, slice_index_or, Sorted.IsPermutation}
+use Rattle.std.proofs.lemmas.List.{take_more, map-append, Sorted.sum_by-IsPermutation, Sums.sum_by-cons, Sums.sum_by-append}
 use Rattle.walrus_types.specs.declared.table.rec_group.RecGroup.{RecGroup}
-use Rattle.walrus_sections.specs.SlotMap.{TypeGroup}
-use Rattle.walrus_sections.specs.Emission.{no_group, group_at}
+use Rattle.walrus_sections.specs.{SlotMap.TypeGroup, Emission.no_group, Emission.group_at, Refusal.written_count, WritingOrders.ids_in, WritingOrders.in_order, WritingOrders.id_count}
 use Rattle.walrus_types.specs.TableEmission.{type_groups}
-use Rattle.walrus_sections.specs.Refusal.{written_count}
-use Rattle.walrus_sections.specs.WritingOrders.{ids_in, in_order, id_count}
 
 module _ (is_entry : ℕ → Bool) where
   abbrev is_written : List ℕ → Bool

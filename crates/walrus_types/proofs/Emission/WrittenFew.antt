@@ -1,17 +1,10 @@
 -- A table that a section was read into has no more types than the section has definitions.
 use Rattle.std.proofs.Common.{◌≡◌, ℕ, suc, ◌+◌, ◌<◌, ◌≤◌, ◌^◌, ◌==◌, sym, subst, arith, Bool, true, false, cond, List, [], ◌∷◌, length}
-use Rattle.std.specs.List.{list_any, range_with_len}
-use Rattle.std.specs.Prelude.{if◌then◌else◌, not}
-use Rattle.std.proofs.lemmas.List.Sums.{sum_by-cons}
-use Rattle.std.proofs.lemmas.List.FromFn.{length-range_with_len}
+use Rattle.std.specs.{List.list_any, List.range_with_len, Prelude.if◌then◌else◌, Prelude.not}
+use Rattle.std.proofs.lemmas.List.{Sums.sum_by-cons, FromFn.length-range_with_len}
 use Rattle.walrus_ty.specs.Groups.{Section, Single, Rec}
-use Rattle.walrus_sections.specs.Section.{recs_after, places_from, index_space}
-use Rattle.walrus_sections.specs.NormalForm.{image}
-use Rattle.walrus_sections.specs.SlotMap.{TypeGroup, read_groups}
-use Rattle.walrus_types.specs.ReaderState.{IsReadInto}
-use Rattle.walrus_types.specs.TableEmission.{type_groups, is_entry_at}
-use Rattle.walrus_sections.specs.Refusal.{written_count}
-use Rattle.walrus_types.specs.Table.{Table}
+use Rattle.walrus_sections.specs.{Section.recs_after, Section.places_from, Section.index_space, NormalForm.image, SlotMap.TypeGroup, SlotMap.read_groups, Refusal.written_count}
+use Rattle.walrus_types.specs.{ReaderState.IsReadInto, TableEmission.type_groups, TableEmission.is_entry_at, Table.Table}
 use Rattle.walrus_sections.proofs.Sections.Rows.{length-rec_places}
 
 at_most : (b : Bool) (n : ℕ) → (if b then n else 0) ≤ n

@@ -1,27 +1,18 @@
 -- A section that was read, and one more group without error: what the ids, the slots, the map and
 -- the groups are then.
-use Rattle.std.proofs.Common.{◌≡◌, ℕ, suc, ◌+◌, ◌-◌, ◌^◌, ◌<◌, ◌≤◌, List, [], ◌∷◌, ◌++◌, length, get_or, refl, sym, ap, subst, ◌∙◌, arith, Some, None, Option, Bool, true, false, cond, ◌==◌, ◌⊎◌, inl, inr}
-use Rattle.std.specs.List.{range_with_len}
-use Rattle.std.specs.Option.{is_none}
-use Rattle.std.proofs.lemmas.List.{get_or_append_left, get_or_at, append-nil}
-use Rattle.std.proofs.lemmas.Bool.{cases_lt, eq-eqb, ne_eqb}
+use Rattle.std.proofs.Common.{◌≡◌, ℕ, suc, ◌+◌, ◌-◌, ◌<◌, ◌≤◌, List, [], ◌∷◌, ◌++◌, length, get_or, refl, sym, ap, subst, ◌∙◌, arith, Some, None, Option, Bool, true, false, cond, ◌==◌, ◌⊎◌, inl, inr}
+use Rattle.std.specs.{List.range_with_len, Option.is_none}
+use Rattle.std.proofs.lemmas.{List.get_or_append_left, List.get_or_at, List.append-nil, Bool.cases_lt, Bool.eq-eqb, Bool.ne_eqb}
 use Rattle.walrus_arena.specs.Arena.{Slots}
-use Rattle.walrus_ty.specs.Definition.{Definition, Names, rename}
-use Rattle.walrus_ty.specs.Groups.{Section, Group, Single, Rec}
-use Rattle.walrus_sections.specs.Section.{IndexSpace, index_space, IsSingle, IsWellNamed}
-use Rattle.walrus_sections.specs.NormalForm.{image}
-use Rattle.walrus_sections.specs.SlotMap.{TypeGroup, read_definition, read_groups}
-use Rattle.walrus_module_types.specs.Types.{ModuleType}
-use Rattle.walrus_sections.specs.FirstError.{group_error, definitions_of}
+use Rattle.walrus_ty.specs.{Definition.Definition, Definition.Names, Definition.rename, Groups.Section, Groups.Group, Groups.Single, Groups.Rec, Types.ModuleType}
+use Rattle.walrus_sections.specs.{Section.IndexSpace, Section.index_space, Section.IsSingle, NormalForm.image, SlotMap.TypeGroup, SlotMap.read_definition, SlotMap.read_groups, FirstError.group_error, FirstError.definitions_of}
 use Rattle.walrus_types.specs.ReadResult.{IsReadResult, IsCandidateFor, type_of_definition}
 use Rattle.walrus_types.specs.Steps.ReadSlots.{types_of_definitions, live_slots}
-use Rattle.walrus_ty.proofs.Names.Definitions.{rename_agree, Names-rename}
-use Rattle.walrus_sections.proofs.FirstError.Search.{sound_from_no_error}
+use Rattle.walrus_ty.proofs.{Names.Definitions.rename_agree, Names.Definitions.Names-rename, Basics.add_rest}
+use Rattle.walrus_sections.proofs.{FirstError.Laws.well_named_next, FirstError.Search.sound_from_no_error, Reading.Groups.groups_next}
 use Rattle.walrus_sections.proofs.Reading.NextGroup.{Follows, follows, single_rec_position, member_position}
-use Rattle.walrus_sections.proofs.Reading.Groups.{groups_next}
-use Rattle.walrus_types.proofs.Reading.NextIndex.{Holds, holds_same, read_found, read_new, read_members, members_slots}
+use Rattle.walrus_types.proofs.Reading.NextIndex.{Holds, below_or_last, holds_same, read_found, read_new, read_members, members_slots}
 use Rattle.walrus_types.proofs.Reading.Section.{TellsTypes, read_type, is_single, none_single, some_single, stored_definition, below_count, single_names, held, found_alike, reads_of}
-use Rattle.walrus_ty.proofs.Basics.{add_rest}
 
 -- the types stored for these definitions are the slots of the members
 stored_each :
@@ -36,8 +27,7 @@ stored_each f b (d ∷ ds) q h =
     ∙ (h 0 d (omega arith) ∙ ap (type_of_definition (rename f d)) here) in
     let rest : live_slots (types_of_definitions f (b + 1) ds) ≡ members_slots q (b + 1) (length ds) =
     stored_each f (b + 1) ds q (λ u e w. ap q (shift b u)
-    ∙ (h (suc u) e (omega arith) ∙ ap (type_of_definition (rename f (get_or ds u e))) (sym (shift b u))))
-    in
+    ∙ (h (suc u) e (omega arith) ∙ ap (type_of_definition (rename f (get_or ds u e))) (sym (shift b u)))) in
     ap (λ (x : ModuleType). Some x ∷ live_slots (types_of_definitions f (b + 1) ds)) (sym first)
     ∙ ap (λ (xs : Slots ModuleType). Some (q b) ∷ xs) rest
   where
@@ -68,28 +58,12 @@ module _ (eq : ModuleType → ModuleType → Bool) (tells : TellsTypes eq) (s : 
     new_definition i d h w = let e = add_rest n.count i h in let c = next.count in ap now.definition (sym e)
         ∙ next.new_definition (i - n.count) d (omega arith)
 
-    new_end : (i : ℕ) → n.count ≤ i → i < now.count → now.end i ≡ n.count + length ds
-    new_end i h w = let e = add_rest n.count i h in let c = next.count in ap now.end (sym e)
-        ∙ next.new_end (i - n.count) (omega arith)
-
     names_below : (i k : ℕ) → n.count ≤ i → i < now.count → Names (now.definition i) k →
         k < n.count + length ds
     names_below i k h w named =
         let c = next.count in
         (sound_from_no_error n.count ds fine).below (i - n.count) k (now.definition i) (omega arith)
         (subst (λ (d : Definition). Names d k) (new_definition i (now.definition i) h w) named)
-
-    pub still_well_named : IsWellNamed t
-    still_well_named = record {
-      few = (let c = next.count in let f = (sound_from_no_error n.count ds fine).few in
-          subst (λ (x : ℕ). x < 2 ^ 32) (sym c) f);
-      below_ends = λ i h k named. elim (cases_lt i n.count) [
-        | inl w ↦ (let e = next.end i w in let b =
-            is.well_named.below_ends i w k (subst (λ (d : Definition). Names d k) (next.definition i w) named)
-            in omega arith)
-        | inr w ↦ (let e = new_end i w h in let b = names_below i k w h named in omega arith)
-      ];
-    }
 
     -- with these ids at the end
     module _ (x : List ℕ) where
@@ -143,11 +117,7 @@ module _ (eq : ModuleType → ModuleType → Bool) (tells : TellsTypes eq) (s : 
     last j = get_or_at r j [] 0 n.count is.one_each
 
     below_or_here : (i : ℕ) → i < (index_space one).count → (i < n.count) ⊎ (i ≡ n.count)
-    below_or_here i h = elim (cases_lt i n.count) [
-      | inl w ↦ inl w
-      | inr w ↦
-          inr (let c = one_more in omega arith)
-    ]
+    below_or_here i h = below_or_last i n.count (let c = one_more in omega arith)
 
     -- it reads as a `Single` that is found
     module _ (j : ℕ) (found : map ty ≡ Some j) where
@@ -196,7 +166,7 @@ module _ (eq : ModuleType → ModuleType → Bool) (tells : TellsTypes eq) (s : 
       pub reads_found : IsReadResult one (r ++ j ∷ []) (slots ++ None ∷ []) map groups
       reads_found =
           reads_of eq tells one (r ++ j ∷ []) (slots ++ None ∷ []) map groups
-          (still_well_named (Single d) fine) (found_alike eq tells s r slots map groups is)
+          (well_named_next s (Single d) is.well_named fine) (found_alike eq tells s r slots map groups is)
           (record {
             holds = subst (λ (c : ℕ). Holds eq c (is_single (index_space one))
                 (read_type (index_space one) (r ++ j ∷ [])) (r ++ j ∷ []) (slots ++ None ∷ []) map)
@@ -244,7 +214,7 @@ module _ (eq : ModuleType → ModuleType → Bool) (tells : TellsTypes eq) (s : 
       reads_new =
           reads_of eq tells one (r ++ n.count ∷ []) (slots ++ Some ty ∷ []) map'
           (groups ++ record { ids = n.count ∷ []; is_explicit = false } ∷ [])
-          (still_well_named (Single d) fine) new_alike
+          (well_named_next s (Single d) is.well_named fine) new_alike
           (record {
             holds = subst (λ (c : ℕ). Holds eq c (is_single (index_space one))
                 (read_type (index_space one) (r ++ n.count ∷ [])) (r ++ n.count ∷ []) (slots ++ Some ty ∷ [])
@@ -292,7 +262,7 @@ module _ (eq : ModuleType → ModuleType → Bool) (tells : TellsTypes eq) (s : 
         (groups ++ record { ids = own; is_explicit = true } ∷ [])
     reads_rec =
         reads_of eq tells more ids (slots ++ members) map
-        (groups ++ record { ids = own; is_explicit = true } ∷ []) (still_well_named (Rec ds) fine)
+        (groups ++ record { ids = own; is_explicit = true } ∷ []) (well_named_next s (Rec ds) is.well_named fine)
         (found_alike eq tells s r slots map groups is)
         (record {
           holds = subst (λ (c : ℕ). Holds eq c (is_single (index_space more))

@@ -1,30 +1,18 @@
 -- What a reader has read, after one more group.
 use Rattle.std.proofs.Common.{◌≡◌, ℕ, ◌+◌, List, [], ◌∷◌, ◌++◌, length, map, refl, sym, ap, subst, ◌∙◌, Some, None, Option, Bool, true, false, cond, if◌then◌else◌, MatchOption, option_and_then}
-use Rattle.std.specs.List.{range_with_len}
-use Rattle.std.specs.Cmp.{IsEquivalence}
+use Rattle.std.specs.{List.range_with_len, Cmp.IsEquivalence}
 use Rattle.std.proofs.lemmas.List.{map-append, length-map}
 use Rattle.walrus_arena.specs.Arena.{Slots, get}
-use Rattle.walrus_module_types.specs.declared.ty.composite.CompositeType.{CompositeType}
-use Rattle.walrus_module_types.specs.declared.ty.composite.CompositeType.TheVariants as kind
-use Rattle.walrus_ty.specs.Definition.{Definition, rename}
-use Rattle.walrus_ty.specs.Groups.{Section, Single, Rec}
-use Rattle.walrus_sections.specs.Section.{index_space}
-use Rattle.walrus_sections.specs.NormalForm.{image}
-use Rattle.walrus_sections.specs.SlotMap.{TypeGroup}
-use Rattle.walrus_module_types.specs.contracts.ty.TypeEq.TheImpl.Laws.{laws-law}
-use Rattle.walrus_module_types.specs.Types.{ModuleType, kind_composite, unnamed_type}
-use Rattle.walrus_types.specs.TypesById.{TypesById, passes, known_id, found_id}
-use Rattle.walrus_module_types.specs.SameTypes.{type_eq}
+use Rattle.walrus_ty.specs.declared.ty.composite.CompositeType.{CompositeType}
+use Rattle.walrus_ty.specs.declared.ty.composite.CompositeType.TheVariants as kind
+use Rattle.walrus_ty.specs.{Definition.Definition, Definition.rename, Groups.Section, Groups.Single, Groups.Rec, contracts.ty.TypeEq.TheImpl.Laws.laws-law, Types.ModuleType, Types.kind_composite, Types.unnamed_type, SameTypes.type_eq}
+use Rattle.walrus_sections.specs.{Section.index_space, NormalForm.image, SlotMap.TypeGroup, FirstError.group_error}
+use Rattle.walrus_types.specs.{TypesById.TypesById, TypesById.passes, TypesById.known_id, TypesById.found_id, Steps.ReadSlots.types_of_definitions, Steps.ReadSlots.live_slots, TableEmission.contents, ReaderState.IsReadInto}
 use Rattle.walrus_types.specs.Table.{Table, AddsType, AddsGroup, Member, member_types, IsSameTable, next_id}
 use Rattle.walrus_types.specs.Steps.TableReads.{ReadsSingle, UsesUpId, member_definition}
-use Rattle.walrus_sections.specs.FirstError.{group_error}
 use Rattle.walrus_types.specs.ReadResult.{IsReadResult, type_of_definition, composite_kind}
-use Rattle.walrus_types.specs.Steps.ReadSlots.{types_of_definitions, live_slots}
-use Rattle.walrus_types.specs.TableEmission.{contents}
-use Rattle.walrus_types.specs.ReaderState.{IsReadInto}
-use Rattle.walrus_module_types.proofs.Equality.Types.{same_from_eq, eq_from_same}
-use Rattle.walrus_types.proofs.Reading.Section.{TellsTypes, stored_definition}
-use Rattle.walrus_types.proofs.Reading.NextGroup.{reads_found, reads_new, reads_rec}
+use Rattle.walrus_ty.proofs.Equality.Types.{same_from_eq, eq_from_same}
+use Rattle.walrus_types.proofs.Reading.{Section.TellsTypes, Section.stored_definition, NextGroup.reads_found, NextGroup.reads_new, NextGroup.reads_rec}
 
 pub kind_back : (k : CompositeType) → composite_kind (kind_composite k) ≡ k
 kind_back (kind.Function f) = refl
@@ -166,8 +154,7 @@ placed_is f id [] (d ∷ ds) h = absurd cc
 placed_is f id (m ∷ members) [] h = absurd cc
 placed_is f id (m ∷ members) (d ∷ ds) h =
     let first = member_stored m (rename f d) id
-    (head_same (member_definition m) (rename f d) (map member_definition members) (map (rename f) ds) h)
-    in
+    (head_same (member_definition m) (rename f d) (map member_definition members) (map (rename f) ds) h) in
     let rest = placed_is f (id + 1) members ds (tail_same (member_definition m) (rename f d)
     (map member_definition members) (map (rename f) ds) h) in
     ap (λ (x : ModuleType). x ∷ member_types (id + 1) members) first

@@ -2,26 +2,13 @@
 use Rattle.std.proofs.Common.{◌≡◌, ℕ, ◌+◌, ◌<◌, List, [], ◌∷◌, ◌++◌, length, map, get_or, set, take, drop, sym, ap, subst, ◌∙◌, Some, None, false, append_assoc, slice_get, ◌⊎◌, inl, inr, Result, Ok, Err, IsErrAnd, IfErr, OnErr}
 use Rattle.std.specs.List.{range_with_len}
 use Rattle.std.proofs.Math.Seq.{set-append_seam}
-use Rattle.std.proofs.lemmas.List.{take_more, take-append-drop, map-append}
-use Rattle.std.proofs.lemmas.Option.{unwrap_or-slice_get}
-use Rattle.walrus_module_types.specs.declared.convert.SubType.{SubType}
-use Rattle.walrus_sections.specs.declared.error.ReadError.{ReadError}
-use Rattle.walrus_sections.specs.declared.error.ReadError.TheVariants.{Memory}
-use Rattle.walrus_ty.specs.declared.records.EntryAt.{EntryAt}
-use Rattle.walrus_ty.specs.declared.records.GroupAt.{GroupAt}
-use Rattle.walrus_ty.specs.Definition.{Definition, rename}
-use Rattle.walrus_sections.specs.FirstError.{group_error, definitions_of, IsFirstError}
-use Rattle.walrus_module_types.specs.Lookups.{value_or_zero}
-use Rattle.walrus_sections.specs.NormalForm.{image}
-use Rattle.walrus_types.specs.ReaderState.{IsReadInto, ReaderState, IsSameState}
-use Rattle.walrus_types.specs.ReadResult.{type_of_definition}
-use Rattle.walrus_ty.specs.Records.{entry_definition, group_of, section_of}
-use Rattle.walrus_ty.specs.Groups.{Section, Single, Rec}
-use Rattle.walrus_sections.specs.Section.{index_space}
-use Rattle.walrus_module_types.specs.SubTypes.{sub_type_definition}
-use Rattle.walrus_types.specs.Table.{Table, Member}
+use Rattle.std.proofs.lemmas.{List.take_more, List.take-append-drop, List.map-append, Option.unwrap_or-slice_get}
+use Rattle.walrus_ty.specs.declared.{convert.SubType.SubType, records.EntryAt.EntryAt, records.GroupAt.GroupAt}
+use Rattle.walrus_sections.specs.declared.error.ReadError.{ReadError, TheVariants.Memory}
+use Rattle.walrus_ty.specs.{Definition.Definition, Definition.rename, Lookups.value_or_zero, Records.entry_definition, Records.group_of, Records.section_of, Groups.Section, Groups.Single, Groups.Rec, SubTypes.sub_type_definition, Types.ModuleType, Types.unnamed_type}
+use Rattle.walrus_sections.specs.{FirstError.group_error, FirstError.definitions_of, FirstError.IsFirstError, NormalForm.image, Section.index_space}
+use Rattle.walrus_types.specs.{ReaderState.IsReadInto, ReaderState.ReaderState, ReaderState.IsSameState, ReadResult.type_of_definition, Table.Table, Table.Member}
 use Rattle.walrus_types.specs.Steps.TableReads.{ReadsSingle, ReadsRec, member_definition}
-use Rattle.walrus_module_types.specs.Types.{ModuleType, unnamed_type}
 use Rattle.walrus_ty.proofs.Names.Definitions.{rename_agree}
 use Rattle.walrus_types.proofs.Reading.Reader.{read_still, single_read, rec_read, member_stored}
 
@@ -40,10 +27,10 @@ pub sub_type_stored :
 sub_type_stored sub ids d id h = member_stored (sub.kind, sub.is_final, sub.supertype) (rename (image ids) d)
     id (h ∙ looked_up ids d)
 
-entries_more :
-    (es : List EntryAt) (i : ℕ) (e : EntryAt) → i < length es → e ≡ get_or es i e →
-    take (i + 1) es ≡ take i es ++ e ∷ []
-entries_more es i e h at = take_more es i e h ∙ ap (λ (x : EntryAt). take i es ++ x ∷ []) (sym at)
+one_more :
+    {A : Type 0} (xs : List A) (i : ℕ) (x : A) → i < length xs → x ≡ get_or xs i x →
+    take (i + 1) xs ≡ take i xs ++ x ∷ []
+one_more xs i x h at = take_more xs i x h ∙ ap (λ x. take i xs ++ x ∷ []) (sym at)
 
 -- one more entry of a `Rec` is read
 pub members_more :
@@ -60,7 +47,7 @@ members_more ids ms sub es i e h at so_far one =
     ∙ (ap (λ (ds : List Definition). ds ++ member_definition m ∷ []) so_far
     ∙ (ap (λ (d : Definition). map f (map entry_definition (take i es)) ++ d ∷ []) (one
     ∙ looked_up ids (entry_definition e))
-    ∙ sym (ap (λ (xs : List EntryAt). map f (map entry_definition xs)) (entries_more es i e h at)
+    ∙ sym (ap (λ (xs : List EntryAt). map f (map entry_definition xs)) (one_more es i e h at)
     ∙ (ap (map f) (map-append entry_definition (take i es) (e ∷ []))
     ∙ map-append f (map entry_definition (take i es)) (entry_definition e ∷ [])))))
 
@@ -100,16 +87,11 @@ rec_pushed s old new r ids index ds is at pushed fine reads =
     (rec_read s old r is ds (subst (λ (i : ℕ). group_error i ds ≡ None) count fine) new reads.0 (reads.2
     ∙ ap (λ (xs : List ℕ). map (rename (image xs)) ds) same) reads.1)
 
-groups_more :
-    (gs : List GroupAt) (i : ℕ) (g : GroupAt) → i < length gs → g ≡ get_or gs i g →
-    take (i + 1) gs ≡ take i gs ++ g ∷ []
-groups_more gs i g h at = take_more gs i g h ∙ ap (λ (x : GroupAt). take i gs ++ x ∷ []) (sym at)
-
 -- the groups so far, with one more
 pub section_more :
     (gs : List GroupAt) (i : ℕ) (g : GroupAt) → i < length gs → g ≡ get_or gs i g →
     section_of (take (i + 1) gs) ≡ section_of (take i gs) ++ group_of g ∷ []
-section_more gs i g h at = ap section_of (groups_more gs i g h at) ∙ map-append group_of (take i gs) (g ∷ [])
+section_more gs i g h at = ap section_of (one_more gs i g h at) ∙ map-append group_of (take i gs) (g ∷ [])
 
 -- a group that is refused is the first, as those before it are read
 pub first_error :

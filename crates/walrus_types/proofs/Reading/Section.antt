@@ -1,19 +1,14 @@
 -- One more group of a section is read.
 use Rattle.std.proofs.Common.{◌≡◌, ℕ, ◌<◌, ◌≤◌, List, refl, sym, ap, subst, ◌∙◌, arith, Some, None, Option, Bool, true, false, inl, inr}
-use Rattle.std.specs.Option.{is_none}
-use Rattle.std.specs.Cmp.{IsEquivalence}
+use Rattle.std.specs.{Option.is_none, Cmp.IsEquivalence}
 use Rattle.std.proofs.lemmas.Bool.{cases_eq}
 use Rattle.walrus_arena.specs.Arena.{Slots}
 use Rattle.walrus_ty.specs.Definition.{Composite, Function, Struct, Array, Definition, Names}
-use Rattle.walrus_ty.specs.Groups.{Section}
-use Rattle.walrus_sections.specs.Section.{IndexSpace, index_space, IsSingle, IsWellNamed}
-use Rattle.walrus_sections.specs.NormalForm.{image}
-use Rattle.walrus_sections.specs.SlotMap.{IsSlotMap, IsCandidate, TypeGroup, read_definition, read_groups}
-use Rattle.walrus_module_types.specs.Types.{ModuleType, kind_composite, type_definition}
+use Rattle.walrus_ty.specs.{Groups.Section, Types.ModuleType, Types.kind_composite, Types.type_definition}
+use Rattle.walrus_sections.specs.{Section.IndexSpace, Section.index_space, Section.IsSingle, Section.IsWellNamed, NormalForm.image, SlotMap.IsSlotMap, SlotMap.IsCandidate, SlotMap.TypeGroup, SlotMap.read_definition, SlotMap.read_groups}
 use Rattle.walrus_types.specs.ReadResult.{IsReadResult, composite_kind, type_of_definition}
 use Rattle.walrus_ty.proofs.Names.Definitions.{Names-rename, named_before}
-use Rattle.walrus_sections.proofs.Sections.Lying.{in_or_out}
-use Rattle.walrus_sections.proofs.Sections.Rows.{laid_out}
+use Rattle.walrus_sections.proofs.Sections.{Lying.in_or_out, Rows.laid_out}
 use Rattle.walrus_types.proofs.Reading.NextIndex.{Holds, IsEarlier}
 
 -- two types are equal where they are defined alike and both are, or are not, for the entry of a
@@ -72,8 +67,7 @@ module _ (eq : ModuleType → ModuleType → Bool) (tells : TellsTypes eq) (n : 
   candidate i j e = record {
     earlier = e.below;
     single = rec_position_none (n.rec_position j) e.single;
-    live =
-        e.live;
+    live = e.live;
     same = read_same j i e.same;
   }
 
@@ -98,7 +92,7 @@ module _ (eq : ModuleType → ModuleType → Bool) (tells : TellsTypes eq) (n : 
     to_candidate = λ i h one other. candidate i (image r i) (is.holds.to_candidate i h other);
   }
 
--- the same value where each is there exactly where the other is
+-- two values are one where each is there exactly where the other is
 same_option :
     (o p : Option ℕ) → ((j : ℕ) → o ≡ Some j → p ≡ Some j) → ((j : ℕ) → p ≡ Some j → o ≡ Some j) →
     o ≡ p
@@ -172,8 +166,7 @@ module _ (eq : ModuleType → ModuleType → Bool) (tells : TellsTypes eq) (s : 
               below = h;
               single = rec_position_none (n.rec_position j) one;
               live = own;
-              same =
-                  stored_definition _ j;
+              same = stored_definition _ j;
               plain = refl;
             });
       };
@@ -191,8 +184,7 @@ module _ (eq : ModuleType → ModuleType → Bool) (tells : TellsTypes eq) (s : 
               below = f.below;
               single = f.single;
               live = f.live;
-              same =
-                  sym (tells.definition p q h) ∙ f.same;
+              same = sym (tells.definition p q h) ∙ f.same;
               plain = sym (tells.mark p q h) ∙ f.plain;
             })
 
@@ -209,13 +201,10 @@ module _ (eq : ModuleType → ModuleType → Bool) (tells : TellsTypes eq) (s : 
     candidates = λ q j. (
       (λ h. (let m = is.holds.mapped q j h in record {
         below = m.0;
-        single =
-            rec_position_none (n.rec_position j) m.1;
+        single = rec_position_none (n.rec_position j) m.1;
         live = m.2;
-        same =
-            sym (tells.definition (read_type n r j) q m.3) ∙ stored_definition _ j;
-        plain =
-            sym (tells.mark (read_type n r j) q m.3);
+        same = sym (tells.definition (read_type n r j) q m.3) ∙ stored_definition _ j;
+        plain = sym (tells.mark (read_type n r j) q m.3);
       })),
       (λ f. respects q (read_type n r j) (tells.same q (read_type n r j) (f.same
           ∙ sym (stored_definition _ j)) f.plain) ∙ is.holds.all j f.below

@@ -1,18 +1,12 @@
 -- A table whose next id is used up.
 use Rattle.std.proofs.Common.{◌≡◌, ℕ, zero, suc, ◌-◌, ◌≤◌, List, [], ◌∷◌, ◌++◌, length, refl, sym, ap, subst, ◌∙◌, arith, Some, None, IsSome, true, false, inl, inr}
 use Rattle.std.specs.List.{slice_index}
-use Rattle.std.proofs.lemmas.Bool.{cases_lt}
-use Rattle.std.proofs.lemmas.List.{length_push, get_or_append_left, get_or-append_right}
-use Rattle.walrus_arena.specs.Arena.{Slots, get, IsLive}
-use Rattle.walrus_arena.specs.Set.{Set}
+use Rattle.std.proofs.lemmas.{Bool.cases_lt, List.length_push, List.get_or_append_left, List.get_or-append_right}
+use Rattle.walrus_arena.specs.{Arena.Slots, Arena.get, Arena.IsLive, Set.Set}
 use Rattle.walrus_types.specs.declared.table.rec_group.RecGroup.{RecGroup}
-use Rattle.walrus_module_types.specs.Types.{ModuleType}
-use Rattle.walrus_types.specs.TypesById.{known_id}
-use Rattle.walrus_types.specs.Table.{Table, IsIdAt, rec_group_at}
-use Rattle.walrus_types.specs.Steps.TableIndex.{IsIndexed}
-use Rattle.walrus_types.specs.Steps.TableReads.{UsesUpId}
-use Rattle.walrus_types.proofs.Tables.Places.{live_below}
-use Rattle.walrus_types.proofs.Tables.TypeSet.{seen}
+use Rattle.walrus_ty.specs.Types.{ModuleType}
+use Rattle.walrus_types.specs.{TypesById.known_id, Table.Table, Table.IsIdAt, Table.rec_group_at, Steps.TableIndex.IsIndexed, Steps.TableReads.UsesUpId}
+use Rattle.walrus_types.proofs.Tables.{Places.live_below, TypeSet.seen}
 
 none_there : {T : Type 0} (k : ℕ) → get {T = T} (None ∷ []) k ≡ None
 none_there zero = refl

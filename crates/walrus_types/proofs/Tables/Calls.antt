@@ -1,27 +1,15 @@
 -- Each call keeps a table sound.
 use Rattle.std.proofs.Common.{◌≡◌, ℕ, zero, suc, ◌+◌, ◌<◌, List, [], ◌∷◌, ◌++◌, length, refl, sym, ap, subst, ◌∙◌, arith, Some, None, Option, IsSome, set, inl, inr, get_or-set_same, get_or-set_other, append-nil, All, Bool, true, false, nat_eq, is_some, map, if◌then◌else◌, MatchBool, MatchOption}
-use Rattle.std.specs.List.{slice_index, range_with_len, IsDistinct}
-use Rattle.std.proofs.lemmas.List.FromFn.{length-map-range_with_len, get_or-map-range_with_len}
-use Rattle.std.proofs.lemmas.Bool.{cases_lt}
-use Rattle.std.proofs.lemmas.List.{length-set, length_push}
-use Rattle.walrus_arena.specs.Arena.{Slots, get, IsLive}
-use Rattle.walrus_arena.specs.HashKeys.{InitialHasher}
+use Rattle.std.specs.{List.slice_index, List.range_with_len, List.IsDistinct, Option.IsSomeAnd}
+use Rattle.std.proofs.lemmas.{List.FromFn.length-map-range_with_len, List.FromFn.get_or-map-range_with_len, Bool.cases_eq, List.length-set, List.length_push}
+use Rattle.walrus_arena.specs.{Arena.Slots, Arena.get, Arena.IsLive, HashKeys.InitialHasher}
 use Rattle.walrus_types.specs.declared.table.rec_group.RecGroup.{RecGroup}
-use Rattle.walrus_module_types.specs.Types.{ModuleType}
-use Rattle.walrus_types.specs.TypesById.{LosesAll, found_id, known_id}
+use Rattle.walrus_ty.specs.{Types.ModuleType, Groups.Section}
+use Rattle.walrus_types.specs.{TypesById.LosesAll, TypesById.found_id, TypesById.known_id, ReaderState.IsReadInto, TableLends.with_type, Steps.TableIndex.IsIndexed}
 use Rattle.walrus_types.specs.Table.{Table, empty_table, IsTable, IsIdAt, IsSameTable, AddsType, rec_group_at, next_id, Deletes, DeletesAll, DeletesGroup, member_types}
-use Rattle.walrus_types.specs.ReaderState.{IsReadInto}
-use Rattle.walrus_ty.specs.Groups.{Section}
-use Rattle.walrus_types.specs.TableLends.{with_type}
-use Rattle.walrus_types.specs.Steps.TableIndex.{IsIndexed}
 use Rattle.walrus_types.specs.TableCalls.{Call, Adds, AddFails, AddsRec, AddRecFails, Writes, DeletesOne, DeletesMany, TriesToDelete, DeletesWhole, new_ids, Calls, Start, Read, Then, EveryTableIsSound}
 use Rattle.walrus_types.proofs.Tables.Places.{IsHome, is_table, indexed_same, live_below, member_below, group_answer, none_some, many_grown}
-use Rattle.walrus_types.proofs.Tables.NewType.{table_added}
-use Rattle.walrus_types.proofs.Tables.NewGroup.{table_grouped, length-placed}
-use Rattle.walrus_types.proofs.Tables.DeadTypes.{table_deleted}
-use Rattle.walrus_types.proofs.Tables.DeadGroup.{table_ended, groups_are}
-use Rattle.walrus_types.proofs.Tables.Deletions.{others_stay}
-use Rattle.std.specs.Option.{IsSomeAnd}
+use Rattle.walrus_types.proofs.Tables.{NewType.table_added, NewGroup.table_grouped, NewGroup.length-placed, DeadTypes.table_deleted, DeadGroup.table_ended, DeadGroup.groups_are, Deletions.others_stay}
 
 -- a table for which some list has the groups of its ids
 IsSomewhere : Table → Type 0
@@ -43,26 +31,18 @@ empty_indexed keys = record {
 written_live :
     {T : Type 0} (s : Slots T) (at id : ℕ) (x : T) → IsLive s at → IsLive (set s at (Some x)) id →
     IsLive s id
-written_live s at id x live h = elim (cases_lt id at) [
-  | inl w ↦ subst IsSome (get_or-set_other s at id (Some x) None (λ e. absurd (omega (arith, e, w)))) h
-  | inr w ↦ elim (cases_lt at id) [
-    | inl v ↦ subst IsSome (get_or-set_other s at id (Some x) None (λ e. absurd (omega (arith, e, v)))) h
-    | inr v ↦ (let e : at ≡ id = omega (arith, w, v) in subst (IsLive s) e live)
-  ]
+written_live s at id x live h = elim (cases_eq id at) [
+  | inl e ↦ subst (IsLive s) (sym e) live
+  | inr n ↦ subst IsSome (get_or-set_other s at id (Some x) None (λ e. n (omega (arith, e)))) h
 ]
 
 live_written :
     {T : Type 0} (s : Slots T) (at id : ℕ) (x : T) → IsLive s at → IsLive s id →
     IsLive (set s at (Some x)) id
-live_written s at id x live h = elim (cases_lt id at) [
-  | inl w ↦ subst IsSome (sym (get_or-set_other s at id (Some x) None (λ e. absurd (omega (arith, e, w))))) h
-  | inr w ↦ elim (cases_lt at id) [
-    | inl v ↦ subst IsSome (sym (get_or-set_other s at id (Some x) None (λ e. absurd (omega (arith, e, v)))))
-        h
-    | inr v ↦ (let e : at ≡ id = omega (arith, w, v) in
-        subst IsSome (sym (ap (get (set s at (Some x))) (sym e)
-        ∙ get_or-set_same s at (Some x) None (live_below s at live))) refl)
-  ]
+live_written s at id x live h = elim (cases_eq id at) [
+  | inl e ↦ subst IsSome (sym (ap (get (set s at (Some x))) e
+      ∙ get_or-set_same s at (Some x) None (live_below s at live))) refl
+  | inr n ↦ subst IsSome (sym (get_or-set_other s at id (Some x) None (λ e. n (omega (arith, e))))) h
 ]
 
 indexed_written :

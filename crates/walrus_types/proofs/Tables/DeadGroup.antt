@@ -1,17 +1,13 @@
 -- Lemmas on tables that lose a whole group.
 use Rattle.std.proofs.Common.{◌≡◌, ℕ, zero, suc, ◌<◌, ◌≤◌, List, [], ◌∷◌, length, map, refl, sym, ap, subst, ◌∙◌, arith, Some, None, Option, Bool, true, false, cond, nat_eq, set, All, ◌||◌, eqb-true}
-use Rattle.std.specs.Option.{IsSomeAnd}
-use Rattle.std.specs.List.{slice_get, list_any, IsDistinct, AllByRecursion}
-use Rattle.std.proofs.lemmas.List.{length-set}
-use Rattle.std.proofs.lemmas.Option.{slice_get-get_or}
+use Rattle.std.specs.{Option.IsSomeAnd, List.slice_get, List.list_any, List.IsDistinct, List.AllByRecursion}
+use Rattle.std.proofs.lemmas.{List.length-set, Option.slice_get-get_or}
 use Rattle.walrus_arena.specs.Arena.{Slots, get, IsLive}
 use Rattle.walrus_types.specs.declared.table.rec_group.RecGroup.{RecGroup}
-use Rattle.walrus_module_types.specs.Types.{ModuleType}
-use Rattle.walrus_types.specs.TypesById.{TypesById, known_id, is_known_as, LosesAll}
-use Rattle.walrus_types.specs.Table.{Table, rec_group_at, IsIdAt, DeletesGroup, group_ended}
-use Rattle.walrus_types.specs.Steps.TableIndex.{IsIndexed}
+use Rattle.walrus_ty.specs.Types.{ModuleType}
+use Rattle.walrus_types.specs.{TypesById.TypesById, TypesById.known_id, TypesById.is_known_as, TypesById.LosesAll, Table.Table, Table.rec_group_at, Table.IsIdAt, Table.DeletesGroup, Table.group_ended, Steps.TableIndex.IsIndexed}
 use Rattle.walrus_types.proofs.Tables.Places.{IsHome, live_below, none_some, has_any, any_has, group_answer}
-use Rattle.walrus_types.proofs.Tables.DeadTypes.{table_shrunk, without_at, kept_old}
+use Rattle.walrus_types.proofs.Tables.DeadTypes.{replaced, table_shrunk, without_at, kept_old}
 
 -- what the removal of these ids does to slots and map
 
@@ -60,21 +56,19 @@ group_at_ended (g ∷ gs) id zero = refl
 group_at_ended (g ∷ gs) id (suc k) = group_at_ended gs id k
 
 made_empty : RecGroup → RecGroup
-made_empty g = record { types = []; is_explicit = g.is_explicit }
+made_empty g = record g { types = [] }
 
 ended_has :
     (id : ℕ) (g : RecGroup) (u : ℕ) → slice_get g.types u ≡ Some id →
     group_ended id g ≡ made_empty g
 unfolding made_empty
-ended_has id g u h = ap (λ (b : Bool). cond b (record { types = []; is_explicit = g.is_explicit }) g)
-    (has_any g.types u id h)
+ended_has id g u h = ap (λ (b : Bool). cond b (record g { types = [] }) g) (has_any g.types u id h)
 
 ended_lacks :
     (id : ℕ) (g : RecGroup) → ((u : ℕ) → slice_get g.types u ≡ Some id → ⊥) → group_ended id g ≡ g
 ended_lacks id g none = by_test (list_any (nat_eq id) g.types) refl
   where
-    by_test : (b : Bool) → b ≡ list_any (nat_eq id) g.types →
-        cond b (record { types = []; is_explicit = g.is_explicit }) g ≡ g
+    by_test : (b : Bool) → b ≡ list_any (nat_eq id) g.types → cond b (record g { types = [] }) g ≡ g
     by_test true e = (let m : _ = any_has g.types id (sym e) in absurd (none m.0 m.1))
     by_test false e = refl
 
@@ -120,16 +114,12 @@ module _ (t : Table) (go : List ℕ) (id at : ℕ) (g : RecGroup) (is : IsIndexe
 module _ (t : Table) (go : List ℕ) (id at : ℕ) (g : RecGroup) (types : TypesById) (is : IsIndexed t go)
     (home : IsHome t id at g) (removes : LosesAll t.types g.types types) where
   abbrev new : Table
-  new = record {
-    types = types;
-    groups = set t.groups at (record { types = []; is_explicit = g.is_explicit });
-  }
+  new = replaced t types at g []
 
   pub groups_are : new.groups ≡ map (group_ended id) t.groups
   unfolding made_empty
   groups_are =
-      let one : record { types = []; is_explicit = g.is_explicit } ≡ made_empty (rec_group_at t.groups at) =
-      ap made_empty (sym home.here) in
+      let one : record g { types = [] } ≡ made_empty (rec_group_at t.groups at) = ap made_empty (sym home.here) in
       ap (set t.groups at) one ∙ ended_one id t.groups at home.member.0 home.member.1 home.only
 
   pub group_deleted : DeletesGroup t new id
@@ -149,7 +139,7 @@ module _ (t : Table) (go : List ℕ) (id at : ℕ) (g : RecGroup) (types : Types
       (subst (λ (r : RecGroup). slice_get r.types u ≡ Some i) (groups_at k) h)
     where
       by_test : (b : Bool) → b ≡ list_any (nat_eq id) (rec_group_at t.groups k).types →
-          slice_get (cond b (record { types = []; is_explicit = (rec_group_at t.groups k).is_explicit })
+          slice_get (cond b (record (rec_group_at t.groups k) { types = [] })
           (rec_group_at t.groups k)).types u ≡ Some i → IsIdAt t.groups k u i
           × (list_any (nat_eq id) (rec_group_at t.groups k).types ≡ false)
       by_test true e f = absurd (none_some f)
@@ -179,7 +169,7 @@ module _ (t : Table) (go : List ℕ) (id at : ℕ) (g : RecGroup) (types : Types
       (by_test (list_any (nat_eq id) (rec_group_at t.groups k).types) refl)
     where
       by_test : (b : Bool) → b ≡ list_any (nat_eq id) (rec_group_at t.groups k).types →
-          slice_get (cond b (record { types = []; is_explicit = (rec_group_at t.groups k).is_explicit })
+          slice_get (cond b (record (rec_group_at t.groups k) { types = [] })
           (rec_group_at t.groups k)).types v ≡ Some i
       by_test false e = m
       by_test true e =
@@ -191,13 +181,11 @@ module _ (t : Table) (go : List ℕ) (id at : ℕ) (g : RecGroup) (types : Types
           let c : ⊥ = cc in
           absurd c
 
-  ended_mark : (r : RecGroup) (b : Bool) → (cond b (record { types = []; is_explicit = r.is_explicit })
-      r).is_explicit ≡ r.is_explicit
+  ended_mark : (r : RecGroup) (b : Bool) → (cond b (record r { types = [] }) r).is_explicit ≡ r.is_explicit
   ended_mark r true = refl
   ended_mark r false = refl
 
-  ended_few : (r : RecGroup) (b : Bool) → length
-      (cond b (record { types = []; is_explicit = r.is_explicit }) r).types ≤ length r.types
+  ended_few : (r : RecGroup) (b : Bool) → length (cond b (record r { types = [] }) r).types ≤ length r.types
   ended_few r true = omega arith
   ended_few r false = omega arith
 
@@ -220,33 +208,17 @@ module _ (t : Table) (go : List ℕ) (id at : ℕ) (g : RecGroup) (types : Types
 
 pub ended_indexed : (t : Table) (go : List ℕ) (id at : ℕ) (g : RecGroup) (types : TypesById)
     (ids left : List ℕ) → IsIndexed t go → IsHome t id at g → ids ≡ g.types → left ≡ [] →
-    LosesAll t.types ids types → IsIndexed (record {
-      types = types;
-      groups =
-          set t.groups at (record { types = left; is_explicit = g.is_explicit });
-    }) go
+    LosesAll t.types ids types → IsIndexed (replaced t types at g left) go
 ended_indexed t go id at g types ids left is home ids_is left_is removes =
-    subst (λ (ns : List ℕ). IsIndexed (record {
-      types = types;
-      groups =
-          set t.groups at (record { types = ns; is_explicit = g.is_explicit });
-    }) go) (sym left_is)
+    subst (λ (ns : List ℕ). IsIndexed (replaced t types at g ns) go) (sym left_is)
     (table_ended t go id at g types is home (subst (λ (ns : List ℕ). LosesAll t.types ns types) ids_is
     removes))
 
 pub ended_deletes : (t : Table) (go : List ℕ) (id at : ℕ) (g : RecGroup) (types : TypesById)
     (ids left : List ℕ) → IsIndexed t go → IsHome t id at g → ids ≡ g.types → left ≡ [] →
-    LosesAll t.types ids types → DeletesGroup t
-    (record {
-      types = types;
-      groups = set t.groups at (record { types = left; is_explicit = g.is_explicit });
-    }) id
+    LosesAll t.types ids types → DeletesGroup t (replaced t types at g left) id
 ended_deletes t go id at g types ids left is home ids_is left_is removes =
-    subst (λ (ns : List ℕ). DeletesGroup t (record {
-      types = types;
-      groups =
-          set t.groups at (record { types = ns; is_explicit = g.is_explicit });
-    }) id) (sym left_is)
+    subst (λ (ns : List ℕ). DeletesGroup t (replaced t types at g ns) id) (sym left_is)
     (group_deleted t go id at g types is home
     (subst (λ (ns : List ℕ). LosesAll t.types ns types) ids_is removes))
 

@@ -1,15 +1,13 @@
 -- Lemmas on tables whose types die.
 use Rattle.std.proofs.Common.{◌≡◌, ℕ, zero, suc, ◌<◌, ◌≤◌, ◌-◌, List, [], ◌∷◌, length, map, take, refl, sym, ap, subst, ◌∙◌, arith, Some, None, Option, IsSome, Bool, true, false, cond, not, filter, nat_eq, set, eqb-true, get_or-set_same, get_or-set_other, Ok, Err, Result, IsOk, OnOk}
-use Rattle.std.proofs.lemmas.Bool.{eqb-false}
-use Rattle.std.proofs.lemmas.List.{length-set}
+use Rattle.std.proofs.lemmas.{Bool.eqb-false, List.length-set}
 use Rattle.std.specs.List.{slice_get, slice_index, IsDistinct, AllByRecursion}
 use Rattle.walrus_arena.specs.Arena.{Slots, get, IsLive}
 use Rattle.walrus_types.specs.declared.table.rec_group.RecGroup.{RecGroup}
-use Rattle.walrus_module_types.specs.Types.{ModuleType}
-use Rattle.walrus_types.specs.TypesById.{TypesById, known_id, is_known_as, Loses}
-use Rattle.walrus_types.specs.Table.{Table, rec_group_at, IsIdAt, Deletes, group_without}
-use Rattle.walrus_types.specs.Steps.TableIndex.{IsIndexed}
+use Rattle.walrus_ty.specs.Types.{ModuleType}
+use Rattle.walrus_types.specs.{TypesById.TypesById, TypesById.known_id, TypesById.is_known_as, TypesById.Loses, Table.Table, Table.rec_group_at, Table.IsIdAt, Table.Deletes, Table.group_without, Steps.TableIndex.IsIndexed}
 use Rattle.walrus_types.proofs.Tables.Places.{IsHome, live_below}
+use Rattle.walrus_sections.proofs.Ordering.FilteredPlaces.{filter_at, filter_onto}
 use Rattle.walrus_ty.proofs.Basics.{some_inj, false_from_not}
 
 -- these ids died and left their groups, and the map lost entries at most
@@ -54,35 +52,6 @@ module _ (gone : ℕ → Bool) (t new : Table) (go : List ℕ) (is : IsIndexed t
     }
 
 -- what stands in a filtered list
-filter_from :
-    (p : ℕ → Bool) (xs : List ℕ) (u i : ℕ) → slice_get (filter p xs) u ≡ Some i →
-    (v : ℕ) × slice_get xs v ≡ Some i × (p i ≡ true)
-filter_from p [] u i h = cc
-filter_from p (x ∷ xs) u i h = by_test (p x) refl u h (λ w g. filter_from p xs w i g)
-  where
-    by_test : (b : Bool) → b ≡ p x → (u : ℕ) → slice_get (cond b (x ∷ filter p xs) (filter p xs)) u ≡ Some i →
-        ((w : ℕ) → slice_get (filter p xs) w ≡ Some i → (v : ℕ) × slice_get xs v ≡ Some i × (p i ≡ true)) →
-        (v : ℕ) × slice_get (x ∷ xs) v ≡ Some i × (p i ≡ true)
-    by_test true e zero f rest = (0, f, ap p (sym (some_inj f)) ∙ sym e)
-    by_test true e (suc u) f rest = let r : _ = rest u f in (suc r.0, r.1, r.2)
-    by_test false e u f rest = let r : _ = rest u f in (suc r.0, r.1, r.2)
-
-filter_to :
-    (p : ℕ → Bool) (xs : List ℕ) (v i : ℕ) → slice_get xs v ≡ Some i → p i ≡ true →
-    (u : ℕ) × slice_get (filter p xs) u ≡ Some i
-filter_to p [] v i h t = cc
-filter_to p (x ∷ xs) zero i h t = (
-  0,
-  let e : p x ≡ true = ap p (some_inj h) ∙ t in
-      subst (λ (b : Bool). slice_get (cond b (x ∷ filter p xs) (filter p xs)) 0 ≡ Some i) (sym e) h,
-)
-filter_to p (x ∷ xs) (suc v) i h t = by_test (p x) (filter_to p xs v i h t)
-  where
-    by_test : (b : Bool) → (u : ℕ) × slice_get (filter p xs) u ≡ Some i → (u : ℕ)
-        × slice_get (cond b (x ∷ filter p xs) (filter p xs)) u ≡ Some i
-    by_test true r = (suc r.0, r.1)
-    by_test false r = r
-
 filter_once :
     (p : ℕ → Bool) (xs : List ℕ) →
     ((u v i : ℕ) → slice_get xs u ≡ Some i → slice_get xs v ≡ Some i → u ≡ v) → (u v i : ℕ) →
@@ -96,10 +65,10 @@ filter_once p (x ∷ xs) once u v i h h' = by_test (p x) u v h h'
         ((u v i : ℕ) → slice_get (filter p xs) u ≡ Some i → slice_get (filter p xs) v ≡ Some i → u ≡ v) →
         u ≡ v
     by_test true zero zero f f' rest = refl
-    by_test true zero (suc v) f f' rest = let r : _ = filter_from p xs v i f' in
-        absurd (omega (arith, once 0 (suc r.0) i f r.1))
-    by_test true (suc u) zero f f' rest = let r : _ = filter_from p xs u i f in
-        absurd (omega (arith, once 0 (suc r.0) i f' r.1))
+    by_test true zero (suc v) f f' rest = let r : _ = filter_at p xs v i f' in
+        absurd (omega (arith, once 0 (suc r.1) i f r.2))
+    by_test true (suc u) zero f f' rest = let r : _ = filter_at p xs u i f in
+        absurd (omega (arith, once 0 (suc r.1) i f' r.2))
     by_test true (suc u) (suc v) f f' rest = ap suc (rest u v i f f')
     by_test false u v f f' rest = rest u v i f f'
 
@@ -134,7 +103,7 @@ filter_all id (x ∷ xs) none = by_test (nat_eq x id) refl (filter_all id xs (λ
 group_kept :
     (id : ℕ) (g : RecGroup) → ((u : ℕ) → slice_get g.types u ≡ Some id → ⊥) → group_without id g ≡ g
 group_kept id g none = let made : List ℕ → RecGroup = λ t.
-    record { types = t; is_explicit = g.is_explicit } in ap made (filter_all id g.types none)
+    record g { types = t } in ap made (filter_all id g.types none)
 
 groups_kept :
     (id : ℕ) (gs : List RecGroup) → ((l u : ℕ) → IsIdAt gs l u id → ⊥) →
@@ -217,9 +186,9 @@ module _ (t new : Table) (go : List ℕ) (id : ℕ) (is : IsIndexed t go) (live 
         count = ap length del.types.slots ∙ length-set t.types.slots id None;
         slot = λ i. ap (λ (s : Slots ModuleType). get s i) del.types.slots
             ∙ without_at t.types.slots id i (live_below t.types.slots id live);
-        from = λ k u i h. (let f : _ = filter_from (λ i. not (nat_eq i id)) (rec_group_at t.groups k).types u
-            i (member k u i h) in (f.0, f.1, false_from_not (nat_eq i id) f.2));
-        to = λ k v i h here. (let f : _ = filter_to (λ i. not (nat_eq i id)) (rec_group_at t.groups k).types v
+        from = λ k u i h. (let f : _ = filter_at (λ i. not (nat_eq i id)) (rec_group_at t.groups k).types u
+            i (member k u i h) in (f.1, f.2, false_from_not (nat_eq i id) f.0));
+        to = λ k v i h here. (let f : _ = filter_onto (λ i. not (nat_eq i id)) (rec_group_at t.groups k).types v
             i h (ap not here) in (
               f.0,
               subst (λ (g : RecGroup). slice_get g.types f.0 ≡ Some i)
@@ -243,16 +212,16 @@ pub ok_holds : {X E P : Type 0} (r : Result X E) → IsOk r → OnOk r P → P
 ok_holds (Ok x) i h = h
 ok_holds (Err e) i h = let k : ⊥ = cc in absurd k
 
+-- the table with these types, in which the group g at this place has these ids
+abbrev pub replaced : Table → TypesById → ℕ → RecGroup → List ℕ → Table
+replaced t types at g ids = record { types = types; groups = set t.groups at (record g { types = ids }) }
+
 -- what the code's parts say of the table after a deletion
 pub deletes_from : (t : Table) (id at : ℕ) (g : RecGroup) (types : TypesById) (ids : List ℕ) →
     IsHome t id at g → ids ≡ filter (λ i. not (nat_eq i id)) g.types → Loses t.types types id →
-    Deletes t (record {
-      types = types;
-      groups =
-          set t.groups at (record { types = ids; is_explicit = g.is_explicit });
-    }) id
+    Deletes t (replaced t types at g ids) id
 deletes_from t id at g types ids home ids_is removes =
-    let made : List ℕ → RecGroup = λ ns. record { types = ns; is_explicit = g.is_explicit } in
+    let made : List ℕ → RecGroup = λ ns. record g { types = ns } in
     let one : made ids ≡ group_without id (rec_group_at t.groups at) = ap made ids_is
     ∙ ap (group_without id) (sym home.here) in
     record {

@@ -1,11 +1,10 @@
 -- Lemmas on tables that lose one type after the other, and on their live ids.
 use Rattle.std.proofs.Common.{◌≡◌, ℕ, zero, suc, ◌+◌, ◌<◌, List, [], ◌∷◌, All, length, map, drop, refl, sym, ap, subst, ◌∙◌, arith, Some, None, IsSome, false, nat_eq, cond, filter, is_some, get_or, get_or-set_other}
 use Rattle.std.specs.List.{range_with_len, IsDistinct, AllByRecursion}
-use Rattle.std.proofs.Math.Seq.{drop-cons, drop-length}
 use Rattle.std.proofs.lemmas.Bool.{eqb-false}
 use Rattle.walrus_arena.specs.Arena.{Slots, get, IsLive, items_from}
-use Rattle.walrus_module_types.specs.Types.{ModuleType}
-use Rattle.walrus_types.specs.Table.{Table, Deletes, DeletesAll}
+use Rattle.walrus_ty.specs.Types.{ModuleType}
+use Rattle.walrus_types.specs.Table.{Table, DeletesAll}
 
 -- another id stays live
 pub others_stay :
@@ -38,19 +37,6 @@ next_live old mid ids i k d next below live distinct all =
     let later = subst (λ (n : ℕ). DeletesAll old (drop n ids) mid) next all in
     others_stay old mid (drop (suc k) ids) (get_or ids k d) later (apart_from_later ids k d distinct below)
     (live k d below)
-
-pub next_deleted :
-    (old mid new : Table) (ids : List ℕ) (i k id : ℕ) → i ≡ suc k → k < length ids →
-    id ≡ get_or ids k id → DeletesAll old (drop i ids) mid → Deletes mid new id →
-    DeletesAll old (drop k ids) new
-next_deleted old mid new ids i k id next below is all last =
-    let later = subst (λ (n : ℕ). DeletesAll old (drop n ids) mid) next all in
-    let more : drop k ids ≡ id ∷ drop (suc k) ids = drop-cons ids k id below
-    ∙ ap (λ (n : ℕ). n ∷ drop (suc k) ids) (sym is) in
-    subst (λ (ns : List ℕ). DeletesAll old ns new) (sym more) (mid, later, last)
-
-pub none_deleted : (t : Table) (ids : List ℕ) → DeletesAll t (drop (length ids) ids) t
-none_deleted t ids = subst (λ (ns : List ℕ). DeletesAll t ns t) (sym (drop-length ids)) refl
 
 -- the ids of the live slots from b on
 ids_listed :

@@ -1,10 +1,8 @@
 -- What the contracts of a table's calls say, as calls.
-use Rattle.std.proofs.Common.{◌≡◌, ℕ, List, [], length, Bool, Result, Ok, Err, IfOk, OnOk, OnErr, MatchBool, All, nat_eq, refl, sym}
+use Rattle.std.proofs.Common.{◌≡◌, ℕ, List, length, Bool, Result, Ok, Err, IfOk, OnOk, OnErr, MatchBool, All, nat_eq, refl, sym, []}
 use Rattle.std.specs.List.{range_with_len, IsDistinct}
-use Rattle.std.specs.declared.alloc.Global.{Global}
-use Rattle.std.specs.declared.alloc.AllocError.{AllocError}
-use Rattle.std.specs.declared.vec.Vec.{Vec}
-use Rattle.walrus_module_types.specs.Types.{ModuleType}
+use Rattle.std.specs.declared.{alloc.Global.Global, alloc.AllocError.AllocError, vec.Vec.Vec}
+use Rattle.walrus_ty.specs.Types.{ModuleType}
 use Rattle.walrus_types.specs.TypesById.{IsLive}
 use Rattle.walrus_types.specs.Table.{Table, Member, next_id, IsSameTable, FindsOrAdds, AddsGroup, Builds, Deletes, DeletesAll, DeletesGroup}
 use Rattle.walrus_types.specs.TableCalls.{Adds, AddFails, AddsRec, AddRecFails, DeletesOne, DeletesMany, TriesToDelete, DeletesWhole, IsCall, IsAddition}

@@ -1,17 +1,12 @@
 -- Lemmas on whether a type is named in its group.
 use Rattle.std.proofs.Common.{◌≡◌, ◌≢◌, ◌↔◌, ℕ, ◌<◌, ◌≤◌, ◌+◌, inl, inr, List, length, get_or, Bool, true, false, not, nat_eq, Option, Some, IsTrue, refl, sym, ap, subst, ◌∙◌, arith}
-use Rattle.std.specs.List.{slice_get}
-use Rattle.std.specs.Option.{IsSomeAnd}
-use Rattle.std.proofs.lemmas.Bool.{cases_lt}
-use Rattle.std.proofs.lemmas.Option.{slice_get_within, slice_get_read}
-use Rattle.std.proofs.lemmas.Bool.Decides.{nat_tests}
+use Rattle.std.specs.{List.slice_get, Option.IsSomeAnd}
+use Rattle.std.proofs.lemmas.{Bool.cases_lt, Option.slice_get_within, Option.slice_get_read, Bool.Decides.nat_tests}
 use Rattle.walrus_arena.specs.Arena.{get}
 use Rattle.walrus_types.specs.declared.table.rec_group.RecGroup.{RecGroup}
-use Rattle.walrus_module_types.specs.Types.{ModuleType}
+use Rattle.walrus_ty.specs.{Types.ModuleType, Views.names}
 use Rattle.walrus_types.specs.Table.{Table, IsOtherNamer, IsNamedInGroup}
-use Rattle.walrus_module_types.specs.Views.{names}
-use Rattle.walrus_types.proofs.Tables.Places.{IsHome, group_answer}
-use Rattle.walrus_types.proofs.Tables.Search.{not_both}
+use Rattle.walrus_types.proofs.Tables.{Places.IsHome, Places.group_answer, Search.not_both}
 
 ne_of : (b : Bool) (n m : ℕ) → b ≡ not (nat_eq n m) → b ≡ true → n ≢ m
 ne_of b n m is h = λ e. grind (arith, nat_tests, is, h, e)

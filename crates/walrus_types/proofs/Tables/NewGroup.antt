@@ -3,11 +3,8 @@ use Rattle.std.proofs.Common.{◌≡◌, ℕ, zero, suc, ◌+◌, ◌-◌, ◌<�
 use Rattle.std.specs.List.{slice_index, range_with_len}
 use Rattle.std.proofs.lemmas.List.{get_or_append_left, get_or-append_right}
 use Rattle.std.proofs.Common.{length-append}
-use Rattle.walrus_types.specs.declared.table.rec_group.AddRecGroupError.{AddRecGroupError}
-use Rattle.walrus_types.specs.declared.table.rec_group.AddRecGroupError.TheVariants.{Count}
-use Rattle.walrus_types.specs.Table.{Table, Member, member_types, AddsGroup, next_id}
-use Rattle.walrus_types.specs.TypesById.{known_id}
-use Rattle.walrus_types.specs.Steps.TableIndex.{IsIndexed}
+use Rattle.walrus_types.specs.declared.table.rec_group.AddRecGroupError.{AddRecGroupError, TheVariants.Count}
+use Rattle.walrus_types.specs.{Table.Table, Table.Member, Table.member_types, Table.AddsGroup, Table.next_id, TypesById.known_id, Steps.TableIndex.IsIndexed}
 use Rattle.walrus_types.proofs.Tables.Places.{Grows, Extends, table_grown}
 
 range_push_suc :

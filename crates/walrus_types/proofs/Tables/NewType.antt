@@ -1,28 +1,20 @@
 -- Lemmas on tables that gain a type.
 use Rattle.std.proofs.Common.{◌≡◌, ℕ, zero, suc, ◌<◌, ◌≤◌, List, [], ◌∷◌, ◌++◌, length, get_or, refl, sym, ap, subst, ◌∙◌, arith, Some, None, Option, IsSome, IfSome, option_and_then, Bool, true, false, cond, ◌⊎◌, inl, inr, Result, Ok, Err, OnErr}
-use Rattle.std.specs.List.{slice_get, slice_index}
-use Rattle.std.specs.Option.{IsSomeAnd}
-use Rattle.std.proofs.lemmas.List.{length_push, get_or_append_left, get_or_at, get_or_default}
+use Rattle.std.specs.{List.slice_get, List.slice_index, Option.IsSomeAnd}
+use Rattle.std.proofs.lemmas.{List.length_push, List.get_or_append_left, List.get_or_at, List.get_or_default, Option.cond_some}
 use Rattle.walrus_arena.specs.Arena.{Slots, get}
 use Rattle.walrus_types.specs.declared.table.rec_group.RecGroup.{RecGroup}
-use Rattle.walrus_module_types.specs.Types.{ModuleType}
-use Rattle.walrus_module_types.specs.SameTypes.{type_eq, IsSameType}
-use Rattle.walrus_types.specs.TypesById.{passes, known_id, found_id}
+use Rattle.walrus_ty.specs.{Types.ModuleType, SameTypes.type_eq, SameTypes.IsSameType}
+use Rattle.walrus_types.specs.{TypesById.passes, TypesById.known_id, TypesById.found_id, Steps.TableIndex.IsIndexed}
 use Rattle.walrus_types.specs.Table.{Table, rec_group_at, no_rec_group, own_group, IsIdAt, AddsType, HoldsAlone}
-use Rattle.walrus_types.specs.Steps.TableIndex.{IsIndexed}
-use Rattle.walrus_module_types.proofs.Equality.Types.{same_from_eq}
+use Rattle.walrus_ty.proofs.{Equality.Types.same_from_eq, Basics.some_inj}
 use Rattle.walrus_types.proofs.Tables.Places.{Grows, Extends, table_grown, member_below, none_some}
-use Rattle.walrus_ty.proofs.Basics.{some_inj}
 
-one_of :
+pub one_of :
     (b : Bool) (x i : ℕ) (o : Option ℕ) → cond b (Some x) o ≡ Some i →
     ((b ≡ true) × (x ≡ i)) ⊎ (o ≡ Some i)
 one_of true x i o h = inl (refl, some_inj h)
 one_of false x i o h = inr h
-
-found_parts : (b : Bool) (id i : ℕ) → cond b (Some id) None ≡ Some i → (b ≡ true) × (id ≡ i)
-found_parts true id i h = (refl, some_inj h)
-found_parts false id i h = absurd (none_some h)
 
 pub extends_push : (go : List ℕ) (m : ℕ) → Extends go (go ++ m ∷ []) 1 m
 extends_push go m = record {
@@ -125,7 +117,7 @@ module _ (t : Table) (go : List ℕ) (ty : ModuleType) (is : IsIndexed t go) whe
           HoldsAlone t ty id
       by_map None e f = absurd (none_some f)
       by_map (Some i) e f =
-          let two : _ = found_parts (passes (type_eq ty) (get t.types.slots i)) i id f in
+          let two : _ = cond_some (passes (type_eq ty) (get t.types.slots i)) i id f in
           answer_mapped id (sym e ∙ ap Some two.1)
           (subst (λ (n : ℕ). passes (type_eq ty) (get t.types.slots n) ≡ true) two.1 two.0)
 

@@ -1,17 +1,13 @@
 -- Lemmas on tables: what stands where, and how a table grows.
-use Rattle.std.proofs.Common.{◌≡◌, ℕ, zero, suc, ◌+◌, ◌-◌, ◌<◌, ◌≤◌, List, [], ◌∷◌, ◌++◌, length, map, get_or, refl, sym, ap, subst, ◌∙◌, arith, Some, None, IsSome, Bool, true, false, cond, nat_eq, eqb-true, ◌||◌, ◌⊎◌, inl, inr}
+use Rattle.std.proofs.Common.{◌≡◌, ℕ, zero, suc, ◌+◌, ◌-◌, ◌<◌, ◌≤◌, List, [], ◌∷◌, ◌++◌, length, map, get_or, refl, sym, ap, subst, ◌∙◌, arith, Some, None, IsSome, Bool, true, false, cond, nat_eq, eqb-true, ◌⊎◌, inl, inr}
 use Rattle.std.specs.List.{slice_get, slice_index, list_any, range_with_len}
-use Rattle.std.proofs.lemmas.List.{length_push, get_or_append_left, get_or-append_right, get_or_past, get_or_at, get_or_default, length-map}
+use Rattle.std.proofs.lemmas.{List.length_push, List.get_or_append_left, List.get_or-append_right, List.get_or_past, List.get_or_at, List.get_or_default, List.length-map, Option.slice_get_within, Option.slice_get-get_or, Option.get_or_from_slice_get, List.Folds.Any-from_list_any, List.Folds.list_any_at, List.FromFn.length-range_with_len, List.FromFn.get_or-range_with_len, Bool.cases_lt, Bool.Decides.nat_tests}
 use Rattle.std.proofs.Common.{length-append}
-use Rattle.std.proofs.lemmas.Option.{slice_get_within}
-use Rattle.std.proofs.lemmas.Bool.{cases_lt}
-use Rattle.std.proofs.lemmas.Bool.Decides.{nat_tests}
 use Rattle.walrus_arena.specs.Arena.{Slots, get, IsLive}
 use Rattle.walrus_types.specs.declared.table.rec_group.RecGroup.{RecGroup}
-use Rattle.walrus_module_types.specs.Types.{ModuleType}
-use Rattle.walrus_types.specs.TypesById.{known_id}
+use Rattle.walrus_ty.specs.Types.{ModuleType}
+use Rattle.walrus_types.specs.{TypesById.known_id, Steps.TableIndex.IsIndexed}
 use Rattle.walrus_types.specs.Table.{Table, rec_group_at, no_rec_group, group_with, IsIdAt, IsTable, IsSameTable}
-use Rattle.walrus_types.specs.Steps.TableIndex.{IsIndexed}
 use Rattle.walrus_ty.proofs.Basics.{some_inj}
 
 pub none_some : {A : Type 0} {x : A} → None ≡ Some x → ⊥
@@ -72,14 +68,11 @@ member_last gs g u i h = subst (λ (h : RecGroup). slice_get h.types u ≡ Some 
 -- what stands where in a range
 pub range_get :
     (first count u : ℕ) → u < count → slice_get (range_with_len first count) u ≡ Some (first + u)
-range_get first zero u h = absurd (omega (arith, h))
-range_get first (suc count) zero h = let e : first ≡ first + 0 = omega arith in ap (λ (n : ℕ). Some n) e
-range_get first (suc count) (suc u) h = let e : first + 1 + u ≡ first + suc u = omega arith in
-    range_get (first + 1) count u (omega (arith, h)) ∙ ap (λ (n : ℕ). Some n) e
-
-pub length-range : (first count : ℕ) → length (range_with_len first count) ≡ count
-length-range first zero = refl
-length-range first (suc count) = ap suc (length-range (first + 1) count)
+range_get first count u h = slice_get-get_or (range_with_len first count) u 0 (omega (
+  arith,
+  h,
+  length-range_with_len first count,
+)) ∙ ap (λ (n : ℕ). Some n) (get_or-range_with_len first count u 0 h)
 
 pub range_member :
     (first count u i : ℕ) → slice_get (range_with_len first count) u ≡ Some i →
@@ -88,7 +81,7 @@ range_member first count u i h =
     let within : u < count = omega (
       arith,
       slice_get_within (range_with_len first count) u i h,
-      length-range first count,
+      length-range_with_len first count,
     ) in
     (within, some_inj (sym h ∙ range_get first count u within))
 
@@ -172,7 +165,7 @@ module _ (t new : Table) (go go' : List ℕ) (tys : List ModuleType) (g : RecGro
 
   few_types : g.is_explicit ≡ false → length g.types ≤ 1
   few_types h = (let few : length tys ≤ 1 = grows.single h in
-      omega (arith, few, ap length grows.members, length-range (length slots) (length tys)))
+      omega (arith, few, ap length grows.members, length-range_with_len (length slots) (length tys)))
 
   abbrev AtMostOne : RecGroup → Type 0
   AtMostOne h = h.is_explicit ≡ false → length h.types ≤ 1
@@ -282,25 +275,14 @@ eqb_same : (a b : ℕ) → a ≡ b → nat_eq a b ≡ true
 eqb_same a b e = grind (arith, nat_tests, e)
 
 pub has_any : (xs : List ℕ) (u id : ℕ) → slice_get xs u ≡ Some id → list_any (nat_eq id) xs ≡ true
-has_any [] u id h = cc
-has_any (x ∷ xs) zero id h = let e : nat_eq id x ≡ true = eqb_same id x (sym (some_inj h)) in
-    ap (λ (b : Bool). b || list_any (nat_eq id) xs) e
-has_any (x ∷ xs) (suc u) id h = by_test (nat_eq id x) (has_any xs u id h)
-  where
-    by_test : (b : Bool) → list_any (nat_eq id) xs ≡ true → (b || list_any (nat_eq id) xs) ≡ true
-    by_test true h = refl
-    by_test false h = h
+has_any xs u id h = list_any_at (nat_eq id) xs u id (slice_get_within xs u id h)
+    (eqb_same id (get_or xs u id) (sym (get_or_from_slice_get xs u id id h)))
 
 pub any_has :
     (xs : List ℕ) (id : ℕ) → list_any (nat_eq id) xs ≡ true → (u : ℕ) × slice_get xs u ≡ Some id
-any_has [] id h = cc
-any_has (x ∷ xs) id h = by_test (nat_eq id x) refl h (any_has xs id)
-  where
-    by_test : (b : Bool) → b ≡ nat_eq id x → (b || list_any (nat_eq id) xs) ≡ true →
-        (list_any (nat_eq id) xs ≡ true → (u : ℕ) × slice_get xs u ≡ Some id) → (u : ℕ)
-        × slice_get (x ∷ xs) u ≡ Some id
-    by_test true e h rest = (0, ap (λ (n : ℕ). Some n) (sym (eqb-true id x (sym e))))
-    by_test false e h rest = (let r : _ = rest h in (suc r.0, r.1))
+any_has xs id h =
+    let a = Any-from_list_any (nat_eq id) xs h in
+    (a.0, slice_get-get_or xs a.0 a.1 a.2 ∙ ap (λ (n : ℕ). Some n) (a.3 ∙ sym (eqb-true id a.1 a.4)))
 
 pub group_of_member :
     (gs : List RecGroup) (id k u : ℕ) → IsIdAt gs k u id → ((l v : ℕ) → IsIdAt gs l v id → l ≡ k) →

@@ -77,15 +77,6 @@ module _ {T : Type 0} where
     pub left_is : left ≡ items_from first rest
     pub none : (j : ℕ) → j < first → IsSomeAnd (get slots j) P → ⊥
 
-  pub passed_none : (P : T → Type 0) (slots : Slots T) → HasPassed P slots (items_from 0 slots)
-  passed_none P slots = record {
-    first = 0;
-    rest = slots;
-    same = λ j. (let e : 0 + j ≡ j = omega arith in ap (get slots) e);
-    left_is = refl;
-    none = λ j low. absurd (omega (arith, low));
-  }
-
   -- the next item, whose slot is the first of those that are left
   pub record IsReached (P : T → Type 0) (slots : Slots T) (id : ℕ) (x : T)
       (left : List (ℕ × T)) : Type 0 where

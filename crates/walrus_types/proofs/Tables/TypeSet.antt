@@ -1,13 +1,11 @@
 -- What the set of types in a table's code says in the words of the table.
 use Rattle.std.proofs.Common.{◌≡◌, ℕ, zero, suc, ◌+◌, List, [], ◌∷◌, map, refl, ap, ◌∙◌, Option, Some, None, option_and_then, Bool, cond}
-use Rattle.std.specs.List.{filter_map, range_with_len}
-use Rattle.std.specs.Map.{lookup}
+use Rattle.std.specs.{List.filter_map, List.range_with_len, Map.lookup}
 use Rattle.walrus_arena.specs.Arena.{Slots, get, items_from, range}
 use Rattle.walrus_arena.specs.Set as arena
 use Rattle.walrus_arena.specs.Set.{Set, IsSame, Adds, Removes, RemovesAll}
-use Rattle.walrus_module_types.specs.Types.{ModuleType}
+use Rattle.walrus_ty.specs.{Types.ModuleType, SameTypes.type_eq}
 use Rattle.walrus_types.specs.TypesById.{TypesById, passes, known_id, found_id, is_known_as, IsUnchanged, Gains, Loses, LosesAll}
-use Rattle.walrus_module_types.specs.SameTypes.{type_eq}
 
 -- the types of a set
 abbrev pub seen : Set ModuleType → TypesById
@@ -38,8 +36,7 @@ adds_seen old new ty id adds = record {
   is_next = adds.named;
   slots = adds.slots;
   map = adds.map;
-  keys =
-      adds.keys;
+  keys = adds.keys;
 }
 
 pub removes_seen :

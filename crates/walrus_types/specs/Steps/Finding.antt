@@ -1,5 +1,5 @@
 -- What a type of the table is looked for by.
-use Rattle.walrus_module_types.specs.Types.{ModuleType}
+use Rattle.walrus_ty.specs.Types.{ModuleType}
 use Rattle.walrus_types.specs.Table.{IsNamed, IsPlainFunction, IsEntryType}
 use Rattle.walrus_types.specs.declared.table.find.Wanted.{Wanted}
 use Rattle.walrus_types.specs.declared.table.find.Wanted.TheVariants as wanted

@@ -3,7 +3,7 @@
 -- specification, "Modules", types.
 use Rattle.std.specs.Prelude.{ℕ, ◌==◌, ◌||◌, ◌&&◌, List, [], ◌∷◌, Bool, true, false, not, is_none, Option, Some, None, option_and_then}
 use Rattle.std.specs.List.{list_all, list_any}
-use Rattle.walrus_module_types.specs.Types.{ModuleType, type_definition}
+use Rattle.walrus_ty.specs.Types.{ModuleType, type_definition}
 use Rattle.walrus_ty.specs.Definition.{names_of}
 use Rattle.walrus_types.specs.declared.table.rec_group.RecGroup.{RecGroup}
 use Rattle.walrus_types.specs.TypesById.{TypeSlots, live_type}

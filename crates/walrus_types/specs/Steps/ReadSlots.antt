@@ -3,7 +3,7 @@
 -- specification, "Modules", types.
 use Rattle.std.specs.Prelude.{ℕ, ◌+◌, List, [], ◌∷◌, map, Some}
 use Rattle.walrus_ty.specs.Definition.{Definition, rename}
-use Rattle.walrus_module_types.specs.Types.{ModuleType}
+use Rattle.walrus_ty.specs.Types.{ModuleType}
 use Rattle.walrus_types.specs.TypesById.{TypeSlots}
 use Rattle.walrus_types.specs.ReadResult.{type_of_definition}
 

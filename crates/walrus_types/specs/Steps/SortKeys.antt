@@ -1,8 +1,8 @@
 -- The sort key of a type: that of what it is composed of.
 -- Of this crate's own working; it serves the order of types, in which a table is written.
 -- WebAssembly core specification, "Types", composite types.
-use Rattle.walrus_module_types.specs.declared.ty.composite.CompositeType.{CompositeType}
-use Rattle.walrus_module_types.specs.Types.{ModuleType, kind_composite}
+use Rattle.walrus_ty.specs.declared.ty.composite.CompositeType.{CompositeType}
+use Rattle.walrus_ty.specs.Types.{ModuleType, kind_composite}
 use Rattle.walrus_normal_form.specs.SortKeys.{SortKey, composite_sort_key}
 
 abbrev pub kind_sort_key : CompositeType → SortKey

@@ -2,7 +2,7 @@
 -- Of this crate's own working; it serves the groups of a table. WebAssembly core specification,
 -- "Types", recursive types.
 use Rattle.std.specs.Prelude.{◌≡◌, ℕ, ◌<◌, ◌≤◌, List, length, slice_index, Some, false}
-use Rattle.walrus_module_types.specs.Types.{ModuleType}
+use Rattle.walrus_ty.specs.Types.{ModuleType}
 use Rattle.walrus_types.specs.TypesById.{IsLive, known_id}
 use Rattle.walrus_types.specs.Table.{Table, IsIdAt, rec_group_at}
 

@@ -5,7 +5,7 @@ use Rattle.std.specs.Prelude.{◌≡◌, ℕ, List, [], ◌∷◌, ◌++◌, map
 use Rattle.walrus_ty.specs.Definition.{Definition}
 use Rattle.walrus_types.specs.TypesById.{KnowsSame, found_id}
 use Rattle.walrus_types.specs.Table.{Table, Member, AddsType, AddsGroup}
-use Rattle.walrus_module_types.specs.Types.{ModuleType, kind_composite}
+use Rattle.walrus_ty.specs.Types.{ModuleType, kind_composite}
 
 -- the next id is used up: its slot is dead, and nothing else changes
 pub record UsesUpId (old new : Table) : Type 0 where

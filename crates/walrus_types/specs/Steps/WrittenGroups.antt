@@ -9,11 +9,11 @@ use Rattle.walrus_types.specs.declared.table.rec_group.RecGroup.{RecGroup}
 use Rattle.walrus_ty.specs.declared.records.GroupAt.{GroupAt}
 use Rattle.walrus_types.specs.declared.error.EmitError.{EmitError}
 use Rattle.walrus_types.specs.declared.error.EmitError.TheVariants as emit
-use Rattle.walrus_module_types.specs.declared.error.ToRecordError.{ToRecordError}
-use Rattle.walrus_module_types.specs.declared.error.ToRecordError.TheVariants as to_record
-use Rattle.walrus_module_types.specs.declared.error.NoIndex.TheVariants.{OfType, OfFunc, OfGlobal}
-use Rattle.walrus_module_types.specs.Indices.{IndexMap, Indexes}
-use Rattle.walrus_module_types.specs.Lookups.{first_missing}
+use Rattle.walrus_ty.specs.declared.error.ToRecordError.{ToRecordError}
+use Rattle.walrus_ty.specs.declared.error.ToRecordError.TheVariants as to_record
+use Rattle.walrus_ty.specs.declared.error.NoIndex.TheVariants.{OfType, OfFunc, OfGlobal}
+use Rattle.walrus_ty.specs.Indices.{IndexMap, Indexes}
+use Rattle.walrus_ty.specs.Lookups.{first_missing}
 use Rattle.walrus_sections.specs.Refusal.{NameUse}
 use Rattle.walrus_sections.specs.WritingOrders.{ids_in, with_indices, written_group}
 use Rattle.walrus_sections.specs.MissingNames.{IsMissingIn}
@@ -60,7 +60,7 @@ RefusesType (to_record.NoIndex (OfFunc func)) = ⊥
 RefusesType (to_record.NoIndex (OfGlobal global)) = ⊥
 RefusesType to_record.Memory = Unit {0}
 
--- the same error, in a type
+-- the error of a record that can't be written, as one of emission
 abbrev pub emit_error : ℕ → ToRecordError → EmitError
 emit_error from (to_record.NoIndex (OfType to)) = emit.NoIndex from to
 emit_error from (to_record.NoIndex (OfFunc func)) = emit.Memory

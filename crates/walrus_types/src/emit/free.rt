@@ -5,7 +5,7 @@ ghost use Rattle.walrus_types.specs.TypesById.{IsLive};
 ghost use Rattle.walrus_types.specs.declared.table.rec_group.RecGroup.{RecGroup};
 ghost use Rattle.walrus_ty.specs.Definition.{composite_names, supertype_names, names_of};
 ghost use Rattle.walrus_types.specs.Steps.FreeGroups.{names_none_other, is_free, head, is_written_group};
-ghost use Rattle.walrus_module_types.specs.Types.{kind_composite, type_definition};
+ghost use Rattle.walrus_ty.specs.Types.{kind_composite, type_definition};
 ghost use Rattle.walrus_ty.specs.Value.{val_names, field_names};
 
 use super::sort_key::KeyedType;

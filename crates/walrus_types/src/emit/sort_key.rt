@@ -1,9 +1,9 @@
 //! Types with their sort keys. Of two types the one with the lesser key is less.
 ghost use Rattle.std.specs.Prelude.{◌≡◌};
-ghost use Rattle.walrus_module_types.specs.contracts.ty.TypeEq.TheImpl.Laws as type_eq;
-ghost use Rattle.walrus_module_types.specs.contracts.ty.TypeOrd.TheImpl.Laws as type_ord;
-ghost use Rattle.walrus_module_types.specs.contracts.ty.TypePartialEq.TheImpl.Laws as type_partial_eq;
-ghost use Rattle.walrus_module_types.specs.contracts.ty.TypePartialOrd.TheImpl.Laws as type_partial_ord;
+ghost use Rattle.walrus_ty.specs.contracts.ty.TypeEq.TheImpl.Laws as type_eq;
+ghost use Rattle.walrus_ty.specs.contracts.ty.TypeOrd.TheImpl.Laws as type_ord;
+ghost use Rattle.walrus_ty.specs.contracts.ty.TypePartialEq.TheImpl.Laws as type_partial_eq;
+ghost use Rattle.walrus_ty.specs.contracts.ty.TypePartialOrd.TheImpl.Laws as type_partial_ord;
 ghost use Rattle.walrus_types.specs.Steps.SortKeys.{type_sort_key};
 
 use crate::{CompositeType, Type};
@@ -23,7 +23,7 @@ pub(super) struct KeyedType<'a> {
 impl<'a> Model for KeyedType<'a> {
     ghost use Rattle.std.specs.Prelude.{◌≡◌};
     ghost use Rattle.walrus_types.specs.Steps.SortKeys.{type_sort_key};
-    ghost use Rattle.walrus_module_types.specs.Types.{ModuleType};
+    ghost use Rattle.walrus_ty.specs.Types.{ModuleType};
 
     ghost Value = { ModuleType };
 

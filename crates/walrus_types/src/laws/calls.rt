@@ -5,8 +5,8 @@
 ghost use Rattle.std.specs.Prelude.{[], ◌∷◌, ◌≡◌, All, IfOk, MatchBool, None, OnErr, OnOk, true, false, nat_eq};
 ghost use Rattle.std.specs.Fn.{FnOnceTakesAt};
 ghost use Rattle.std.specs.List.{IsDistinct, range_with_len};
-ghost use Rattle.walrus_module_types.specs.Types.{unnamed_type, function};
-ghost use Rattle.walrus_module_types.specs.declared.ty.composite.CompositeType.TheVariants as kind;
+ghost use Rattle.walrus_ty.specs.Types.{unnamed_type, function};
+ghost use Rattle.walrus_ty.specs.declared.ty.composite.CompositeType.TheVariants as kind;
 ghost use Rattle.walrus_types.specs.Table.{Deletes, DeletesAll, DeletesGroup, IsNamedInGroup, next_id};
 ghost use Rattle.walrus_types.specs.TableCalls.{IsAddition, IsCall};
 ghost use Rattle.walrus_types.specs.TableLends.{with_type};

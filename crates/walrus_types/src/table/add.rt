@@ -1,9 +1,9 @@
 //! Adding types to a table.
 ghost use Rattle.std.specs.Prelude.{◌≡◌, [], IfOk, OnErr, Some, None, IfSome, true, false};
 ghost use Rattle.walrus_types.specs.TypesById.{found_id};
-ghost use Rattle.walrus_module_types.specs.Types.{unnamed_type, function};
+ghost use Rattle.walrus_ty.specs.Types.{unnamed_type, function};
 ghost use Rattle.walrus_types.specs.Table.{FindsOrAdds, HoldsAlone, AddsType, IsSameTable, next_id};
-ghost use Rattle.walrus_module_types.specs.declared.ty.composite.CompositeType.TheVariants as kind;
+ghost use Rattle.walrus_ty.specs.declared.ty.composite.CompositeType.TheVariants as kind;
 
 use super::{ModuleTypes, RecGroup};
 use crate::{

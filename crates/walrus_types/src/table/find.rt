@@ -1,7 +1,7 @@
 //! Finding types in a table.
 ghost use Rattle.std.specs.Prelude.{◌≡◌, ◌↔◌, IsTrue, true, false, option_map, Some, [], length};
 ghost use Rattle.std.specs.String.{string_bytes};
-ghost use Rattle.walrus_module_types.specs.Types.{function};
+ghost use Rattle.walrus_ty.specs.Types.{function};
 ghost use Rattle.walrus_types.specs.Table.{IsFirst, IsPlainFunction, IsEntryType, IsNamed};
 ghost use Rattle.walrus_types.specs.Steps.Finding.{IsWanted};
 

@@ -13,7 +13,7 @@ pub struct TypesIter<'a> {
 
 impl<'a> Model for TypesIter<'a> {
     ghost use Rattle.std.specs.Prelude.{List, map};
-    ghost use Rattle.walrus_module_types.specs.Types.{ModuleType};
+    ghost use Rattle.walrus_ty.specs.Types.{ModuleType};
 
     ghost Value = { List ModuleType };
 

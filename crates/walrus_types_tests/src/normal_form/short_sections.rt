@@ -1,5 +1,5 @@
 //! Every section of one to three entries out of five, grouped in every way without empty `Rec`s.
-use crate::fixtures::{Shape, entry, to};
+use crate::fixtures::entry;
 use std::alloc::{AllocError, Global};
 use std::slice;
 use walrus_types::{
@@ -14,11 +14,14 @@ const GROUPINGS: u32 = 3;
 const CHOICES: u32 = 5 * GROUPINGS;
 
 fn shaped(alloc: Global, shape: u32) -> Result<EntryAt, AllocError> {
-    match shape {
-        0 => entry(alloc, Shape::Func(&[])),
-        1 => entry(alloc, Shape::Struct(&[ValAt::I32])),
-        _ => entry(alloc, Shape::Struct(&[to(shape - 2)])),
-    }
+    let word = match shape {
+        0 => "f",
+        1 => "si",
+        2 => "s0",
+        3 => "s1",
+        _ => "s2",
+    };
+    entry(alloc, word)
 }
 
 // Ends the `Rec` that was begun, if one was.

@@ -24,7 +24,7 @@ fn namers(
 
 fn namer(alloc: Global, name: Option<usize>) -> Result<CompositeType, AllocError> {
     match name {
-        Some(index) => structure(alloc, &[reference(TypeId::from_index(index))]),
+        Some(index) => structure(alloc, &[reference(index)]),
         None => structure(alloc, &[]),
     }
 }

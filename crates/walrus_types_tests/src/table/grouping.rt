@@ -1,62 +1,40 @@
 //! Explicit groups.
+mod refusals;
+
 use super::*;
 use crate::assertions::assert_equal;
 
-// A final type without supertype that names the type with this id.
-fn namer(
-    alloc: Global,
-    id: Option<&TypeId>,
-) -> Result<(CompositeType, bool, Option<TypeId>), AllocError> {
-    match id {
-        Some(id) => Ok(member(structure(alloc, &[reference(*id)])?)),
-        None => Ok(member(function(alloc))),
-    }
+// A table of a function type, and a group of two that name each other.
+fn with_pair(rt: &impl Abort, alloc: Global) -> ModuleTypes {
+    let mut types = ModuleTypes::new(alloc);
+    types.add(&[], &[]).expect(rt, "memory");
+    let ids = add_pair(alloc, &mut types, 2).expect(rt, "memory");
+    assert!(rt; are(ids.as_slice(), &[1, 2]));
+    types
 }
 
-// Two types, of which each names the other.
-fn two_namers(
-    alloc: Global,
-    ids: &[TypeId],
-) -> Result<Vec<(CompositeType, bool, Option<TypeId>)>, AllocError> {
-    Ok(vec![in alloc; namer(alloc, ids.get(1))?, namer(alloc, ids.first())?]?)
-}
-
-// Whether the type is a struct of one reference to the other.
-fn names_just(
-    rt: &impl Abort,
-    alloc: Global,
-    types: &ModuleTypes,
-    id: TypeId,
-    other: TypeId,
-) -> bool {
-    let wanted = structure(alloc, &[reference(other)]).expect(rt, "memory");
-    types.contains(id) && *types.get(id).kind() == wanted
+// Whether the type is a function type whose one parameter names the other.
+fn names_just(types: &ModuleTypes, id: TypeId, other: TypeId) -> bool {
+    types.contains(id)
+        && types
+            .get(id)
+            .kind()
+            .is_function_of(&[reference(other.index())], &[])
 }
 
 #[test]
 fn the_types_of_a_group_may_name_each_other(rt: HostRuntime) {
-    let alloc = rt.alloc();
-    let mut types = ModuleTypes::new(alloc);
-    types.add(&[], &[]).expect(&rt, "memory");
-    let ids = types
-        .add_rec_group(2, |ids| two_namers(alloc, ids))
-        .expect(&rt, "memory");
-    assert!(rt; are(ids.as_slice(), &[1, 2]));
+    let types = with_pair(&rt, rt.alloc());
     let (first, second) = (TypeId::from_index(1), TypeId::from_index(2));
-    assert!(rt; names_just(&rt, alloc, &types, first, second));
-    assert!(rt; names_just(&rt, alloc, &types, second, first));
+    assert!(rt; names_just(&types, first, second));
+    assert!(rt; names_just(&types, second, first));
     assert!(rt; types.contains(first));
     assert_equal(&rt, types.get(first).id(), first);
 }
 
 #[test]
 fn a_group_knows_its_types(rt: HostRuntime) {
-    let alloc = rt.alloc();
-    let mut types = ModuleTypes::new(alloc);
-    types.add(&[], &[]).expect(&rt, "memory");
-    types
-        .add_rec_group(2, |ids| two_namers(alloc, ids))
-        .expect(&rt, "memory");
+    let types = with_pair(&rt, rt.alloc());
     let groups = types.rec_groups();
     assert_equal(&rt, groups.len(), 2);
     assert!(rt; !groups[0].is_explicit);
@@ -67,12 +45,7 @@ fn a_group_knows_its_types(rt: HostRuntime) {
 
 #[test]
 fn a_type_knows_its_group(rt: HostRuntime) {
-    let alloc = rt.alloc();
-    let mut types = ModuleTypes::new(alloc);
-    types.add(&[], &[]).expect(&rt, "memory");
-    types
-        .add_rec_group(2, |ids| two_namers(alloc, ids))
-        .expect(&rt, "memory");
+    let types = with_pair(&rt, rt.alloc());
     let group = types.rec_group_for_type(TypeId::from_index(2));
     assert!(rt; group.is_some_and(|g| g.is_explicit && are(g.types.as_slice(), &[1, 2])));
     let group = types.rec_group_for_type(TypeId::from_index(0));
@@ -103,21 +76,17 @@ fn a_group_that_was_not_built_uses_up_no_id(rt: HostRuntime) {
     assert_equal(&rt, types.add(&[], &[]).expect(&rt, "memory").index(), 0);
 }
 
-// Why a group of one type is refused where this many are wanted.
-fn refusal(alloc: Global, types: &mut ModuleTypes, count: usize) -> Option<AddRecGroupError> {
-    let added = types.add_rec_group(count, |_| Ok(vec![in alloc; member(function(alloc))]?));
-    added.err()
+// A group of one type is refused where this many are wanted.
+fn refuses(rt: &impl Abort, alloc: Global, types: &mut ModuleTypes, wanted: usize) {
+    let added = types.add_rec_group(wanted, |_| Ok(vec![in alloc; member(function(alloc))]?));
+    let refused = Some(AddRecGroupError::Count { wanted, got: 1 });
+    assert_equal(rt, added.err(), refused);
 }
 
 #[test]
 fn a_group_with_a_type_too_few_uses_up_no_id(rt: HostRuntime) {
     let mut types = ModuleTypes::new(rt.alloc());
-    let refused = refusal(rt.alloc(), &mut types, 2);
-    assert_equal(
-        &rt,
-        refused,
-        Some(AddRecGroupError::Count { wanted: 2, got: 1 }),
-    );
+    refuses(&rt, rt.alloc(), &mut types, 2);
     assert_equal(&rt, types.rec_groups().len(), 0);
     assert_equal(&rt, types.add(&[], &[]).expect(&rt, "memory").index(), 0);
 }
@@ -125,11 +94,6 @@ fn a_group_with_a_type_too_few_uses_up_no_id(rt: HostRuntime) {
 #[test]
 fn a_group_with_a_type_too_many_is_refused(rt: HostRuntime) {
     let mut types = ModuleTypes::new(rt.alloc());
-    let refused = refusal(rt.alloc(), &mut types, 0);
-    assert_equal(
-        &rt,
-        refused,
-        Some(AddRecGroupError::Count { wanted: 0, got: 1 }),
-    );
+    refuses(&rt, rt.alloc(), &mut types, 0);
     assert_equal(&rt, types.rec_groups().len(), 0);
 }

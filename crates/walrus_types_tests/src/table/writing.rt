@@ -16,16 +16,6 @@ fn a_type_is_rewritten_in_its_place(rt: HostRuntime) {
     assert_equal(&rt, types.find(&[], &[]), None);
 }
 
-// A clone of the type of one id is written over the type of another.
-fn copy_over(rt: &impl Abort, types: &mut ModuleTypes, from: usize, to: usize) {
-    let from = TypeId::from_index(from);
-    let to = TypeId::from_index(to);
-    assert!(rt; types.contains(from));
-    assert!(rt; types.contains(to));
-    let copy = types.get(from).clone().expect(rt, "memory");
-    *types.get_mut(to) = copy;
-}
-
 #[test]
 fn a_whole_type_brings_its_id(rt: HostRuntime) {
     let alloc = rt.alloc();
@@ -51,13 +41,8 @@ fn first(rt: &impl Abort, types: &ModuleTypes) -> Result<Type, AllocError> {
 fn a_dead_type_gives_back_its_lists(rt: HostRuntime) {
     let alloc = rt.alloc();
     let mut types = ModuleTypes::new(alloc);
-    types
-        .add_composite(
-            structure(alloc, &[Val::I32]).expect(&rt, "memory"),
-            false,
-            None,
-        )
-        .expect(&rt, "memory");
+    let kind = structure(alloc, &[Val::I32]).expect(&rt, "memory");
+    types.add_composite(kind, false, None).expect(&rt, "memory");
     let mut ty = first(&rt, &types).expect(&rt, "memory");
     ty.on_delete();
     assert!(rt; *ty.kind() == function(alloc));

@@ -2,9 +2,9 @@
 use Rattle.std.proofs.Common.{◌≡◌, ◌≢◌, ℕ, Bool, true, false, cond, ◌&&◌, nat_eq, eqb-true, List, [], ◌∷◌, refl, sym, ap, subst, ◌∙◌, Some, None, Option, Contains, get_or-set_other, inl, inr}
 use Rattle.std.specs.Option.{option_eq, option_and_then}
 use Rattle.std.specs.Map.{lookup}
-use Rattle.walrus_module_types.specs.Types.{ModuleType}
-use Rattle.walrus_module_types.specs.SameTypes.{type_eq, IsSameType}
-use Rattle.walrus_module_types.proofs.Equality.Types.{same_from_eq, eq_from_same}
+use Rattle.walrus_ty.specs.Types.{ModuleType}
+use Rattle.walrus_ty.specs.SameTypes.{type_eq, IsSameType}
+use Rattle.walrus_ty.proofs.Equality.Types.{same_from_eq, eq_from_same}
 use Rattle.walrus_ty.proofs.Basics.{and_left, and_right, some_inj}
 use Rattle.walrus_types.specs.TypesById.{TypesById, TypeSlots, live_type, passes, known_id, found_id, is_known_as, Loses}
 use Rattle.walrus_types.specs.Table.{Table, DeletesAll}

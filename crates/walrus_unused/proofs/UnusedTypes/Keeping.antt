@@ -2,8 +2,8 @@
 use Rattle.std.proofs.Common.{◌≡◌, ◌↔◌, ℕ, Bool, true, false, List, refl, sym, ap, subst, ◌∙◌, Some, None, Option, IsSome, Contains, All, nat_eq}
 use Rattle.std.specs.List.{list_any}
 use Rattle.std.proofs.lemmas.List.Elements.{All-contains}
-use Rattle.walrus_module_types.specs.Types.{ModuleType}
-use Rattle.walrus_module_types.specs.SameTypes.{type_eq}
+use Rattle.walrus_ty.specs.Types.{ModuleType}
+use Rattle.walrus_ty.specs.SameTypes.{type_eq}
 use Rattle.walrus_types.specs.TypesById.{live_type, IsLive, passes}
 use Rattle.walrus_types.specs.Table.{Table, IsTable, rec_group_at, DeletesAll}
 use Rattle.walrus_types.proofs.Tables.Places.{any_has, has_any}

@@ -2,7 +2,7 @@
 use Rattle.std.proofs.Common.{◌≡◌, ℕ, ◌<◌, ◌⊎◌, inl, inr, Bool, true, false, cond, List, [], ◌∷◌, ◌++◌, length, refl, sym, subst, arith, Some, None, Option, Contains, All, get_or}
 use Rattle.std.proofs.lemmas.List.Elements.{All-contains, Contains-append_left, Contains-append_right, Contains-append_cases, Contains-get_or}
 use Rattle.std.specs.Option.{IsSomeAnd}
-use Rattle.walrus_module_types.specs.Types.{ModuleType, type_definition, kind_composite}
+use Rattle.walrus_ty.specs.Types.{ModuleType, type_definition, kind_composite}
 use Rattle.walrus_ty.specs.Definition.{Names, composite_names, supertype_names}
 use Rattle.walrus_types.specs.TypesById.{live_type, IsLive}
 use Rattle.walrus_types.specs.Table.{Table}

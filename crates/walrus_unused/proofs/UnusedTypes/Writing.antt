@@ -3,7 +3,7 @@ use Rattle.std.proofs.Common.{◌≡◌, ℕ, zero, suc, inl, inr, List, [], ◌
 use Rattle.std.specs.List.{slice_get}
 use Rattle.std.specs.Option.{IsSomeAnd}
 use Rattle.walrus_ty.specs.Definition.{Definition, Names, names_of}
-use Rattle.walrus_module_types.specs.Types.{ModuleType, type_definition}
+use Rattle.walrus_ty.specs.Types.{ModuleType, type_definition}
 use Rattle.walrus_types.specs.Emission.{group_at, IsMember, IsWritten, IsFreeGroup}
 use Rattle.walrus_types.specs.Refusal.{HasIndexBy}
 use Rattle.walrus_types.specs.declared.table.rec_group.RecGroup.{RecGroup}

@@ -7,7 +7,7 @@ use Rattle.std.proofs.lemmas.List.FromFn.{length-range_with_len, get_or-range_wi
 use Rattle.walrus_ty.proofs.Basics.{some_inj}
 use Rattle.walrus_ty.specs.Definition.{Names, rename, definition_cmp}
 use Rattle.walrus_ty.specs.Groups.{Section}
-use Rattle.walrus_module_types.specs.Lookups.{value_or_zero}
+use Rattle.walrus_ty.specs.Lookups.{value_or_zero}
 use Rattle.walrus_ty.proofs.Names.Definitions.{Names-rename, named_before, names_same, rename_id, cmp_or_less, cmp_same}
 use Rattle.walrus_sections.specs.Section.{IndexSpace, index_space, NamesBelowEnds, IsSingle, IsFilled, IsWellNamed}
 use Rattle.walrus_sections.specs.SlotMap.{IsSlotMap}

@@ -3,7 +3,7 @@ use Rattle.std.proofs.Common.{◌≡◌, ℕ, ◌<◌, refl, ap, sym, ◌∙◌,
 use Rattle.std.proofs.lemmas.List.Elements.{All-contains}
 use Rattle.walrus_ty.specs.Definition.{rename}
 use Rattle.walrus_ty.specs.Groups.{Section}
-use Rattle.walrus_module_types.specs.Lookups.{value_or_zero}
+use Rattle.walrus_ty.specs.Lookups.{value_or_zero}
 use Rattle.walrus_ty.proofs.Names.Definitions.{Names-rename, named_before, names_same, rename_twice}
 use Rattle.walrus_sections.specs.Section.{IndexSpace, index_space, NamesBelowEnds}
 use Rattle.walrus_unused.specs.UsedSections.{IsUsed, at_root, by_name, by_group, by_equality, KeepsUsed}

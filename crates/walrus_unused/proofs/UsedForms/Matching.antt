@@ -4,7 +4,7 @@ use Rattle.std.specs.Prelude.{unwrap_or}
 use Rattle.std.proofs.lemmas.Bool.{cases_lt}
 use Rattle.walrus_ty.specs.Definition.{Names, rename}
 use Rattle.walrus_ty.specs.Groups.{Section}
-use Rattle.walrus_module_types.specs.Lookups.{value_or_zero}
+use Rattle.walrus_ty.specs.Lookups.{value_or_zero}
 use Rattle.walrus_ty.proofs.Names.Definitions.{rename_agree, rename_twice}
 use Rattle.walrus_sections.specs.Section.{IndexSpace, index_space, IsSingle, IsFilled}
 use Rattle.walrus_sections.proofs.Sections.Lying.{in_or_out}

@@ -4,7 +4,7 @@ use Rattle.std.proofs.lemmas.Bool.{cases_lt, cases_eq}
 use Rattle.std.proofs.lemmas.List.{get_or-map, length-map}
 use Rattle.walrus_ty.specs.Definition.{rename}
 use Rattle.walrus_ty.specs.Groups.{Section}
-use Rattle.walrus_module_types.specs.Lookups.{value_or_zero}
+use Rattle.walrus_ty.specs.Lookups.{value_or_zero}
 use Rattle.walrus_sections.specs.Moves.{exchange, skip, DropsEmptyRec, DropsRepeat, SwapsNeighbours}
 use Rattle.walrus_sections.specs.NormalForm.{image}
 use Rattle.walrus_sections.specs.Section.{IndexSpace, index_space, index_space_of_places, IsSingle, IsWellNamed}
@@ -21,7 +21,7 @@ use Rattle.walrus_unused.specs.IndexMaps.{new_index}
 use Rattle.walrus_unused.specs.UsedSections.{KeepsUsed, SortsUsed, IsUsedNormal}
 use Rattle.walrus_unused.proofs.UsedForms.Following.{Follows, keeps_before}
 use Rattle.walrus_unused.proofs.UsedForms.FollowingOrder.{FollowsInOrder, sorts_before}
-use Rattle.walrus_unused.proofs.UsedForms.Kernels.{one_slot, one_image}
+use Rattle.walrus_unused.proofs.UsedForms.OneImage.{one_slot, one_image}
 use Rattle.walrus_unused.proofs.UsedForms.Matching.{same_form}
 use Rattle.walrus_unused.proofs.UsedForms.Moves.{skip_within, follows, in_order, swap_follows, turned_in_order, still_in_order, either_slot}
 use Rattle.walrus_unused.proofs.UsedForms.OneForm.{matches, same_each, one_used_form}

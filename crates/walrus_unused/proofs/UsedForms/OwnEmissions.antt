@@ -10,8 +10,8 @@ use Rattle.std.proofs.lemmas.List.Sums.{sum_by-cons}
 use Rattle.walrus_ty.specs.declared.records.GroupAt.{GroupAt}
 use Rattle.walrus_ty.specs.Definition.{rename, definition_cmp}
 use Rattle.walrus_ty.specs.Groups.{Section, Single, Rec}
-use Rattle.walrus_module_types.specs.Indices.{IndexMap}
-use Rattle.walrus_module_types.specs.Lookups.{value_or_zero}
+use Rattle.walrus_ty.specs.Indices.{IndexMap}
+use Rattle.walrus_ty.specs.Lookups.{value_or_zero}
 use Rattle.walrus_ty.specs.Records.{section_of}
 use Rattle.walrus_ty.proofs.Names.Definitions.{rename_id, rename_agree, names_same, cmp_same, definitions_total}
 use Rattle.walrus_sections.specs.Emission.{TableView, WrittenMember, IsFreeGroup, IsInversion, group_at, IsEmission}

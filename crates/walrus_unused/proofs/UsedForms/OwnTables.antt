@@ -8,8 +8,8 @@ use Rattle.std.proofs.lemmas.List.FromFn.{length-range_with_len, get_or-range_wi
 use Rattle.walrus_id.specs.HashKeys.{fixed_hasher}
 use Rattle.walrus_ty.proofs.Basics.{some_inj}
 use Rattle.walrus_ty.specs.Groups.{Section}
-use Rattle.walrus_module_types.specs.SameTypes.{type_eq}
-use Rattle.walrus_module_types.specs.Types.{ModuleType, type_definition}
+use Rattle.walrus_ty.specs.SameTypes.{type_eq}
+use Rattle.walrus_ty.specs.Types.{ModuleType, type_definition}
 use Rattle.walrus_ty.proofs.Names.Definitions.{rename_id, rename_agree}
 use Rattle.walrus_sections.specs.NormalForm.{IsNormal, identity, image}
 use Rattle.walrus_sections.specs.Section.{IndexSpace, index_space, IsWellNamed}

@@ -6,7 +6,7 @@ use Rattle.std.proofs.lemmas.List.{length-map}
 use Rattle.std.proofs.lemmas.List.FromFn.{length-range_with_len, get_or-range_with_len}
 use Rattle.walrus_ty.specs.Definition.{rename}
 use Rattle.walrus_ty.specs.Groups.{Section}
-use Rattle.walrus_module_types.specs.Lookups.{value_or_zero}
+use Rattle.walrus_ty.specs.Lookups.{value_or_zero}
 use Rattle.walrus_ty.proofs.Basics.{some_inj}
 use Rattle.walrus_ty.proofs.Names.Definitions.{rename_id, rename_agree}
 use Rattle.walrus_sections.specs.Section.{IndexSpace, index_space, NamesBelowEnds, IsSingle, IsFilled, IsWellNamed}

@@ -7,9 +7,9 @@ use Rattle.std.proofs.lemmas.List.Sums.{sum_by-cons}
 use Rattle.walrus_ty.proofs.Basics.{some_inj}
 use Rattle.walrus_ty.specs.declared.records.GroupAt.{GroupAt}
 use Rattle.walrus_ty.specs.Groups.{Section}
-use Rattle.walrus_module_types.specs.Indices.{IndexMap}
+use Rattle.walrus_ty.specs.Indices.{IndexMap}
 use Rattle.walrus_ty.specs.Records.{section_of}
-use Rattle.walrus_module_types.specs.Types.{ModuleType}
+use Rattle.walrus_ty.specs.Types.{ModuleType}
 use Rattle.walrus_types.specs.Section.{IsWellNamed}
 use Rattle.walrus_types.specs.SlotMap.{TypeGroup}
 use Rattle.walrus_types.specs.Refusal.{written_count}

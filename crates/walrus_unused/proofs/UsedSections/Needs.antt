@@ -6,7 +6,7 @@ use Rattle.std.proofs.lemmas.List.Elements.{All-contains}
 use Rattle.std.proofs.lemmas.List.{get_or-map, length-map}
 use Rattle.walrus_ty.specs.Definition.{Definition, Names}
 use Rattle.walrus_ty.specs.Groups.{Section}
-use Rattle.walrus_module_types.specs.Types.{ModuleType, type_definition}
+use Rattle.walrus_ty.specs.Types.{ModuleType, type_definition}
 use Rattle.walrus_ty.proofs.Names.Definitions.{Names-rename, named_before, names_same}
 use Rattle.walrus_types.specs.Section.{IndexSpace, index_space}
 use Rattle.walrus_types.specs.NormalForm.{image}

@@ -7,7 +7,7 @@ use Rattle.std.proofs.lemmas.Bool.{cases_lt, cases_eq}
 use Rattle.walrus_ty.specs.declared.records.GroupAt.{GroupAt}
 use Rattle.walrus_ty.specs.Definition.{Names, rename, definition_cmp}
 use Rattle.walrus_ty.specs.Groups.{Section}
-use Rattle.walrus_module_types.specs.Lookups.{value_or_zero}
+use Rattle.walrus_ty.specs.Lookups.{value_or_zero}
 use Rattle.walrus_ty.specs.Records.{section_of}
 use Rattle.walrus_ty.proofs.Names.Definitions.{Names-rename, named_before, names_same, rename_id, rename_agree, cmp_same, definitions_total}
 use Rattle.walrus_types.specs.Section.{IndexSpace, IsSingle, IsInRec, index_space}

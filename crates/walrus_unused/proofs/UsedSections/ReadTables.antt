@@ -5,7 +5,7 @@ use Rattle.std.proofs.lemmas.Bool.{cases_lt, cases_eq}
 use Rattle.std.proofs.lemmas.List.{get_or_past}
 use Rattle.walrus_ty.proofs.Basics.{some_inj}
 use Rattle.walrus_ty.specs.Groups.{Section}
-use Rattle.walrus_module_types.specs.Types.{ModuleType}
+use Rattle.walrus_ty.specs.Types.{ModuleType}
 use Rattle.walrus_types.specs.Section.{IndexSpace, Place, index_space, places_from, no_place}
 use Rattle.walrus_types.specs.NormalForm.{image}
 use Rattle.walrus_types.specs.SlotMap.{TypeGroup, read_definition, read_groups}

@@ -1,8 +1,8 @@
 -- How far the marking of needed types has come.
 use Rattle.std.specs.Prelude.{◌≡◌, ℕ, ◌+◌, ◌<◌, ◌↔◌, Bool, true, false, List, [], ◌∷◌, length, replicate, slice_index_or, slice_set, if◌then◌else◌, Option, Some, None}
 use Rattle.std.specs.List.{fold}
-use Rattle.walrus_module_types.specs.Types.{ModuleType}
-use Rattle.walrus_module_types.specs.Views.{referenced_ids}
+use Rattle.walrus_ty.specs.Types.{ModuleType}
+use Rattle.walrus_ty.specs.Views.{referenced_ids}
 use Rattle.walrus_types.specs.declared.table.rec_group.RecGroup.{RecGroup}
 use Rattle.walrus_types.specs.TypesById.{live_type, IsLive}
 use Rattle.walrus_types.specs.Table.{Table, IsTable, group_with}

@@ -3,9 +3,9 @@ use Rattle.std.specs.Prelude.{ℕ, List, Option, None, Some}
 use Rattle.std.specs.Io.KnownBytes.{Keeps}
 use Rattle.error_context.specs.Contexts.{IsContext}
 use Rattle.error_context.specs.declared.context.Context.{Context}
-use Rattle.walrus_normalise.specs.Hazards.{HasNoHazard, IsHazard}
-use Rattle.walrus_normalise.specs.declared.hazards.Hazard.{Hazard}
-use Rattle.walrus_normalise.specs.declared.hazards.Hazard.TheVariants as hazard
+use Rattle.wasm_normalise.specs.Hazards.{HasNoHazard, IsHazard}
+use Rattle.wasm_normalise.specs.declared.hazards.Hazard.{Hazard}
+use Rattle.wasm_normalise.specs.declared.hazards.Hazard.TheVariants as hazard
 use Rattle.wasmnorm.specs.declared.warning.Warning.{Warning}
 use Rattle.wasmnorm.specs.Runs.{Warns}
 

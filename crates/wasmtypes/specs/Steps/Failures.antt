@@ -1,11 +1,11 @@
 -- What a failure says of the bytes, `Explains`, and the exit status that it has.
 use Rattle.std.specs.Prelude.{ℕ, List, IfSome}
-use Rattle.walrus_binary.specs.declared.error.DecodeError.{DecodeError}
-use Rattle.walrus_binary.specs.declared.error.DecodeError.TheVariants as decode
-use Rattle.walrus_binary.specs.Faults.{error_offset}
+use Rattle.wasm_binary.specs.declared.error.DecodeError.{DecodeError}
+use Rattle.wasm_binary.specs.declared.error.DecodeError.TheVariants as decode
+use Rattle.wasm_binary.specs.Faults.{error_offset}
 use Rattle.wasmtypes.specs.declared.failure.Failure.{Failure}
 use Rattle.wasmtypes.specs.declared.failure.Failure.TheVariants as failure
-use Rattle.walrus_binary.specs.ModuleSections.{HasBadTypes}
+use Rattle.wasm_binary.specs.ModuleSections.{HasBadTypes}
 use Rattle.error_context.specs.Contexts.{IsErrorContext}
 
 -- what a failure says of the bytes

@@ -1,6 +1,6 @@
 //! What the libraries of Ruffdresser need of the Rattle toolchain's standard library, over Rust's.
 //!
-//! Containers are Rust's own. A call that takes memory has a twin here that returns an error where
+//! Containers are Rust's own. A call that takes memory has a fallible form here that returns an error where
 //! memory is refused, such as [`try_push`](vec::VecExt::try_push) for `push`. The allocator is
 //! Rust's, so that no call takes one.
 #![forbid(unsafe_code)]

@@ -1,5 +1,5 @@
 use Rattle.std.proofs.Common.{ℕ, List, sym, subst}
-use Rattle.walrus_binary.specs.CustomSections.{BeginsCustom}
+use Rattle.wasm_binary.specs.CustomSections.{BeginsCustom}
 use Rattle.error_context.proofs.context.name_of.Goals as goal
 
 pub returns-in-None-clause-none : goal.returns-in-None-clause-none

@@ -7,8 +7,8 @@ use Rattle.walrus_normal_form.specs.Steps.WrittenRecords.{AreNumbered, groups_at
 use Rattle.walrus_normal_form.proofs.Writing.Numbering.{all_groups, all_within, few_more, group_taken, left_more, next_is, numbered_more, place_below, renamed, renamed_more}
 use Rattle.walrus_normal_form.proofs.write.write_groups.Goals as goal
 
-pub give_indices-next-requires-clause-within : goal.give_indices-next-requires-clause-within
-give_indices-next-requires-clause-within c t lt =
+pub give_indices-next-requires : goal.give_indices-next-requires
+give_indices-next-requires c =
     let gs = groups_at c.args.groups.items c.args.order.now in
     let i = c.loop-place.place-index in
     let g = c.take_group-first.result in
@@ -16,19 +16,17 @@ give_indices-next-requires-clause-within c t lt =
     c.loop-place-test.true c.loop-place.invariant.left in
     let at = group_taken c.args.groups.items c.loop-place.groups.items c.args.order.now i
     c.loop-place-test.true c.loop-place.invariant.left g c.take_group-first.ensures.group in
-    subst (λ (n : ℕ). g.first + t < n) (sym c.loop-place.invariant.slots)
-    (all_within gs i g below at c.args.count c.requires.below t (omega (arith, lt, c.entry_count.ensures)))
-
-pub give_indices-next-requires-clause-few : goal.give_indices-next-requires-clause-few
-give_indices-next-requires-clause-few c =
-    let gs = groups_at c.args.groups.items c.args.order.now in
-    let i = c.loop-place.place-index in
-    let g = c.take_group-first.result in
-    let below = place_below c.args.groups.items c.loop-place.groups.items c.args.order.now i
-    c.loop-place-test.true c.loop-place.invariant.left in
-    let at = group_taken c.args.groups.items c.loop-place.groups.items c.args.order.now i
-    c.loop-place-test.true c.loop-place.invariant.left g c.take_group-first.ensures.group in
-    omega (arith, few_more gs i g below at c.requires.few, c.loop-place.invariant.next, c.entry_count.ensures)
+    record {
+      within = λ t lt. subst (λ (n : ℕ). g.first + t < n) (sym c.loop-place.invariant.slots)
+          (all_within gs i g below at c.args.count c.requires.below t
+          (omega (arith, lt, c.entry_count.ensures)));
+      few = omega (
+        arith,
+        few_more gs i g below at c.requires.few,
+        c.loop-place.invariant.next,
+        c.entry_count.ensures,
+      );
+    }
 
 pub loop-place-preserved : goal.loop-place-preserved
 loop-place-preserved c =

@@ -1,6 +1,6 @@
 use Rattle.std.proofs.Common.{◌∙◌, ap, map, take, ◌++◌, arith}
 use Rattle.std.proofs.lemmas.Result.{on_ok_weaker}
-use Rattle.instr.specs.declared.instr.Instr.TheVariants.{LocalGet, Call}
+use Rattle.ir_instr.specs.declared.instr.Instr.TheVariants.{LocalGet, Call}
 use Rattle.walrus_functions.specs.Body.{with_instrs, instrs_of}
 use Rattle.walrus_functions.specs.Building.{function_of, seq_id}
 use Rattle.walrus_passes.specs.Adapters.{get_of}

@@ -1,13 +1,15 @@
 use Rattle.std.proofs.lemmas.Result.{on_ok_weaker, IfErr-weaker}
 use Rattle.walrus_functions.specs.Building.{seq_id, function_of}
+use Rattle.walrus_passes.specs.ConvertingAdapters.{both}
 use Rattle.walrus_passes.proofs.Conversions.{call-converted, call-failed}
 use Rattle.walrus_passes.proofs.converting_adapters.convert_call.Goals as goal
 
 pub returns-clause-ok : goal.returns-clause-ok
 returns-clause-ok g c =
-    on_ok_weaker c.convert_each-2.result (λ behind. call-converted (goal.P-step g) c.args.convert_param
-    (goal.R-step g) c.args.convert_result (seq_id c.args.body.now) (seq_id c.convert_each.new.body)
-    (seq_id c.call_and_store.new.body) c.args.func c.args.params.now c.args.results.now
+    on_ok_weaker c.convert_each-2.result (λ behind. call-converted
+    (both (goal.P-step g) c.args.convert_param (goal.R-step g) c.args.convert_result)
+    (seq_id c.args.body.now) (seq_id c.convert_each.new.body) (seq_id c.call_and_store.new.body)
+    (record { func = c.args.func; params = c.args.params.now; results = c.args.results.now })
     (function_of c.args.body.now) (function_of c.convert_each.new.body)
     (function_of c.call_and_store.new.body) (function_of c.convert_each-2.new.body)
     c.in_ok-convert_each.ensures.ok c.in_ok-convert_each.ensures.same.0
@@ -16,9 +18,10 @@ returns-clause-ok g c =
 
 pub returns-clause-err : goal.returns-clause-err
 returns-clause-err g c =
-    IfErr-weaker c.convert_each-2.result _ _ (λ e fails. call-failed (goal.P-step g) c.args.convert_param
-    (goal.R-step g) c.args.convert_result (seq_id c.args.body.now) (seq_id c.convert_each.new.body)
-    (seq_id c.call_and_store.new.body) c.args.func c.args.params.now c.args.results.now
+    IfErr-weaker c.convert_each-2.result _ _ (λ e fails. call-failed
+    (both (goal.P-step g) c.args.convert_param (goal.R-step g) c.args.convert_result)
+    (seq_id c.args.body.now) (seq_id c.convert_each.new.body) (seq_id c.call_and_store.new.body)
+    (record { func = c.args.func; params = c.args.params.now; results = c.args.results.now })
     (function_of c.args.body.now) (function_of c.convert_each.new.body)
     (function_of c.call_and_store.new.body) e c.in_ok-convert_each.ensures.ok
     c.in_ok-convert_each.ensures.same.0 c.in_ok-call_and_store.ensures.same.0

@@ -1,7 +1,6 @@
 use Rattle.std.proofs.Common.{arith, ap, sym, ◌∙◌, option_map}
 use Rattle.walrus_sections.specs.FirstError.{IndexUse}
-use Rattle.walrus_sections.specs.declared.error.ReadError.{ReadError}
-use Rattle.walrus_sections.specs.declared.error.ReadError.TheVariants.{BadIndex}
+use Rattle.walrus_sections.specs.declared.error.ReadError.{ReadError, TheVariants.BadIndex}
 use Rattle.walrus_sections.proofs.FirstError.Search.{bad_from}
 use Rattle.walrus_sections.proofs.group_error.bad_entry.Goals as goal
 

@@ -1,5 +1,5 @@
 use Rattle.std.proofs.lemmas.Result.{on_ok_weaker, on_err_weaker}
-use Rattle.instr.specs.declared.instr.Instr.TheVariants as instr
+use Rattle.ir_instr.specs.declared.instr.Instr.TheVariants as instr
 use Rattle.walrus_ir.specs.Fields.{clause_fields, legacy_fields}
 use Rattle.walrus_traversals.proofs.Walks.Folds.{after_two, folds_list, after_list}
 use Rattle.walrus_traversals.proofs.fields.report_fields.Goals as goal

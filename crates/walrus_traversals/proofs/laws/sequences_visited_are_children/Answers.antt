@@ -1,11 +1,11 @@
 use Rattle.std.proofs.Common.{◌≡◌, List, [], ◌∷◌, ◌++◌, refl, ap, ◌∙◌, flat_map}
 use Rattle.std.proofs.lemmas.List.Concat.{flat_map-append}
-use Rattle.instr.specs.declared.instr.Instr.{Instr}
-use Rattle.instr.specs.declared.instr.Instr.TheVariants as instr
-use Rattle.instr.specs.declared.exceptions.LegacyCatch.{LegacyCatch}
-use Rattle.instr.specs.declared.exceptions.LegacyCatch.TheVariants as legacy
-use Rattle.instr.specs.declared.exceptions.TryTableCatch.{TryTableCatch}
-use Rattle.instr.specs.declared.exceptions.TryTableCatch.TheVariants as clause
+use Rattle.ir_instr.specs.declared.instr.Instr.{Instr}
+use Rattle.ir_instr.specs.declared.instr.Instr.TheVariants as instr
+use Rattle.ir_instr.specs.declared.exceptions.LegacyCatch.{LegacyCatch}
+use Rattle.ir_instr.specs.declared.exceptions.LegacyCatch.TheVariants as legacy
+use Rattle.ir_instr.specs.declared.exceptions.TryTableCatch.{TryTableCatch}
+use Rattle.ir_instr.specs.declared.exceptions.TryTableCatch.TheVariants as clause
 use Rattle.walrus_ir.specs.Calls.{Calls, leaves, and_then, each, reported}
 use Rattle.walrus_ir.specs.Fields.{fields, clause_fields, legacy_fields}
 use Rattle.walrus_ir.proofs.Reported.{reported_each, reported_put}

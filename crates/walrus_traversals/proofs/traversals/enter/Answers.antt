@@ -4,7 +4,7 @@ use Rattle.std.proofs.lemmas.Result.{on_ok_weaker, on_err_weaker}
 use Rattle.walrus_ir.specs.Calls.{at, reported}
 use Rattle.walrus_ir.specs.Fields.{type_fields}
 use Rattle.walrus_ir.specs.Hooks.{start_instr_seq}
-use Rattle.instr.specs.Sequence.{Sequence}
+use Rattle.ir_instr.specs.Sequence.{Sequence}
 use Rattle.walrus_traversals.proofs.Walks.Turns.{goes_first, stops_first}
 use Rattle.walrus_traversals.proofs.traversals.enter.Goals as goal
 

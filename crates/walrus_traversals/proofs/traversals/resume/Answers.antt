@@ -2,7 +2,7 @@ use Rattle.std.proofs.Common.{◌≤◌, ◌<◌, ◌+◌, suc, List, ◌++◌, 
 use Rattle.walrus_functions.specs.Nesting.{children}
 use Rattle.walrus_ir.specs.Calls.{at}
 use Rattle.walrus_ir.specs.Hooks.{end_instr_seq}
-use Rattle.instr.specs.Sequence.{Sequence}
+use Rattle.ir_instr.specs.Sequence.{Sequence}
 use Rattle.walrus_traversals.specs.declared.traversals.stack.Work.{Work}
 use Rattle.walrus_traversals.specs.declared.traversals.stack.Work.TheVariants.{Enter, Resume}
 use Rattle.walrus_traversals.proofs.Walks.Folds.{after_all}

@@ -1,5 +1,5 @@
 use Rattle.std.proofs.Common.{ℕ}
-use Rattle.instr.specs.declared.exceptions.TryTableCatch.{TryTableCatch}
+use Rattle.ir_instr.specs.declared.exceptions.TryTableCatch.{TryTableCatch}
 use Rattle.walrus_ir.specs.Fields.{clause_fields}
 use Rattle.walrus_ir.proofs.Calls.{Done}
 use Rattle.walrus_traversals_mut.specs.Steps.{keeping}

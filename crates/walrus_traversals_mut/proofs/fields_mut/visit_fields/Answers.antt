@@ -1,6 +1,6 @@
 use Rattle.std.proofs.Common.{rules}
 use Rattle.std.proofs.lemmas.Result.{err_from_is_err_and, on_ok_weaker, on_err_weaker}
-use Rattle.instr.specs.declared.instr.Instr.TheVariants as instr
+use Rattle.ir_instr.specs.declared.instr.Instr.TheVariants as instr
 use Rattle.walrus_ir.specs.Calls.{Full, Partial}
 use Rattle.walrus_ir.specs.Fields.{clause_fields, legacy_fields}
 use Rattle.walrus_ir.specs.Hooks.{visit_instr_seq_id}

@@ -1,5 +1,5 @@
 use Rattle.std.proofs.Common.{◌≡◌, ◌++◌, ℕ, take, reverse, flat_map}
-use Rattle.instr.specs.declared.instr.Instr.{Instr}
+use Rattle.ir_instr.specs.declared.instr.Instr.{Instr}
 use Rattle.walrus_functions.specs.Nesting.{children}
 use Rattle.walrus_ir.specs.Fields.{instr_calls}
 use Rattle.walrus_ir.proofs.Calls.{Done}

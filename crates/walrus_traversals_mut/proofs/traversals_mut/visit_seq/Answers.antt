@@ -1,6 +1,6 @@
 use Rattle.std.proofs.Common.{◌++◌, ◌∙◌, ℕ, List, ap, sym, reverse}
 use Rattle.std.proofs.lemmas.Result.{err_from_is_err_and}
-use Rattle.instr.specs.Sequence.{Sequence}
+use Rattle.ir_instr.specs.Sequence.{Sequence}
 use Rattle.walrus_traversals_mut.specs.Steps.{keeping}
 use Rattle.walrus_traversals_mut.proofs.Keeping.{last_first_kept}
 use Rattle.walrus_traversals_mut.proofs.Sequences.{refused_sequence, begun_in_type, begun_in_instrs, begun_before_end, whole_sequence}

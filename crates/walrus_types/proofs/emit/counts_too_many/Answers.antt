@@ -8,8 +8,7 @@ pub returns-then-count-ge-TOO_MANY : goal.returns-then-count-ge-TOO_MANY
 returns-then-count-ge-TOO_MANY c =
     let entry = is_entry_at c.args.table.now.types.slots in
     let more = count_more_written entry c.args.groups.now c.loop-group.group-index c.group-item.result
-    c.loop-group-test.true c.group-item.is (sym c.is_written_group.ensures ∙ c.if-is_written_group.true)
-    in
+    c.loop-group-test.true c.group-item.is (sym c.is_written_group.ensures ∙ c.if-is_written_group.true) in
     let part = count_part entry c.args.groups.now (c.loop-group.group-index + 1) in (
       (λ _. omega (
         arith,
@@ -47,7 +46,6 @@ loop-group-preserved c =
           (sym c.is_written_group.ensures ∙ w.if-is_written_group.false) in
           record {
             counted = omega (arith, w.count-is, c.loop-group.invariant.counted, more);
-            few =
-                omega (arith, w.count-is, c.loop-group.invariant.few);
+            few = omega (arith, w.count-is, c.loop-group.invariant.few);
           }
     ]

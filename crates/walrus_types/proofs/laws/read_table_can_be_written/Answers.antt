@@ -1,5 +1,4 @@
-use Rattle.walrus_types.proofs.Emission.WrittenAgain.{never_missing}
-use Rattle.walrus_types.proofs.Emission.WrittenFew.{written_few}
+use Rattle.walrus_types.proofs.Emission.{WrittenAgain.never_missing, WrittenFew.written_few}
 use Rattle.walrus_types.proofs.laws.read_table_can_be_written.Goals as goal
 
 pub returns-clause-named : goal.returns-clause-named

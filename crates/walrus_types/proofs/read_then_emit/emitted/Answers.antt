@@ -1,7 +1,6 @@
-use Rattle.std.proofs.Common.{◌<◌, ◌≤◌, ◌^◌, sym, ap, subst, arith, Err}
-use Rattle.walrus_module_types.specs.Indices.{type_indices}
+use Rattle.std.proofs.Common.{◌≤◌, ◌^◌, sym, ap, subst, arith, Err}
+use Rattle.walrus_ty.specs.{Indices.type_indices, Records.section_of}
 use Rattle.walrus_sections.specs.NormalForm.{IsNormalForm}
-use Rattle.walrus_ty.specs.Records.{section_of}
 use Rattle.walrus_types.specs.TableEmission.{MissesFirst, written_types}
 use Rattle.walrus_types.proofs.read_then_emit.emitted.Goals as goal
 

@@ -1,6 +1,5 @@
 use Rattle.std.proofs.Common.{◌≡◌, map, take}
-use Rattle.walrus_module_types.specs.Indices.{type_index}
-use Rattle.walrus_module_types.specs.Lookups.{value_or_zero}
+use Rattle.walrus_ty.specs.{Indices.type_index, Lookups.value_or_zero}
 use Rattle.walrus_types.proofs.read_then_emit.indices_of.Given as goal
 
 abbrev pub invariant-loop-id : goal.invariant-loop-id

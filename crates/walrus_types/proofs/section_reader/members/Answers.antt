@@ -1,6 +1,5 @@
 use Rattle.std.proofs.Common.{arith, ap, map, List, ◌∙◌}
-use Rattle.walrus_types.specs.Table.{Member}
-use Rattle.walrus_types.specs.Steps.TableReads.{member_definition}
+use Rattle.walrus_types.specs.{Table.Member, Steps.TableReads.member_definition}
 use Rattle.walrus_types.proofs.Reading.ReaderCalls.{members_more}
 use Rattle.walrus_types.proofs.section_reader.members.Goals as goal
 

@@ -1,7 +1,6 @@
 use Rattle.std.proofs.Common.{◌≡◌, map, take}
-use Rattle.walrus_ty.specs.Definition.{rename}
+use Rattle.walrus_ty.specs.{Definition.rename, Records.entry_definition}
 use Rattle.walrus_sections.specs.NormalForm.{image}
-use Rattle.walrus_ty.specs.Records.{entry_definition}
 use Rattle.walrus_types.specs.Steps.TableReads.{member_definition}
 use Rattle.walrus_types.proofs.section_reader.members.Given as goal
 

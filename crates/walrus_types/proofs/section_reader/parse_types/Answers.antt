@@ -1,6 +1,5 @@
 use Rattle.std.proofs.Common.{◌≡◌, ◌⊎◌, subst, arith}
-use Rattle.walrus_sections.specs.declared.error.ReadError.{ReadError}
-use Rattle.walrus_sections.specs.declared.error.ReadError.TheVariants.{Memory}
+use Rattle.walrus_sections.specs.declared.error.ReadError.{ReadError, TheVariants.Memory}
 use Rattle.walrus_sections.specs.FirstError.{IsFirstError}
 use Rattle.walrus_ty.specs.Records.{section_of}
 use Rattle.walrus_types.proofs.Reading.ReaderCalls.{first_error, if_err_from}
@@ -9,8 +8,7 @@ use Rattle.walrus_types.proofs.section_reader.parse_types.Goals as goal
 pub loop-group-init : goal.loop-group-init
 loop-group-init c = record {
   read = c.with_hash_keys-reader.ensures.section;
-  keys =
-      c.with_hash_keys-reader.ensures.keys;
+  keys = c.with_hash_keys-reader.ensures.keys;
 }
 
 pub returns-in_err-push_group-clause-err : goal.returns-in_err-push_group-clause-err

@@ -1,10 +1,7 @@
 use Rattle.std.proofs.Common.{◌≡◌, ℕ, length, ap, subst, ◌∙◌, false}
-use Rattle.walrus_ty.specs.Definition.{rename}
+use Rattle.walrus_ty.specs.{Definition.rename, Records.entry_definition, Types.ModuleType, Types.unnamed_type}
 use Rattle.walrus_sections.specs.NormalForm.{image}
-use Rattle.walrus_types.specs.ReadResult.{type_of_definition}
-use Rattle.walrus_ty.specs.Records.{entry_definition}
-use Rattle.walrus_types.specs.Steps.TableReads.{ReadsSingle}
-use Rattle.walrus_module_types.specs.Types.{ModuleType, unnamed_type}
+use Rattle.walrus_types.specs.{ReadResult.type_of_definition, Steps.TableReads.ReadsSingle}
 use Rattle.walrus_types.proofs.Reading.ReaderCalls.{sub_type_stored}
 use Rattle.walrus_types.proofs.section_reader.read_single.Goals as goal
 

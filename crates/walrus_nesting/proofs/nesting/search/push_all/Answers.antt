@@ -1,5 +1,5 @@
 use Rattle.std.proofs.Common.{◌≡◌, ◌-◌, ℕ, sym, subst, arith}
-use Rattle.instr.specs.declared.instr.Instr.{Instr}
+use Rattle.ir_instr.specs.declared.instr.Instr.{Instr}
 use Rattle.walrus_functions.specs.Nesting.{children}
 use Rattle.walrus_nesting.specs.Pushing.{Pushes}
 use Rattle.walrus_nesting.specs.declared.nesting.search.Work.TheVariants.{Enter}

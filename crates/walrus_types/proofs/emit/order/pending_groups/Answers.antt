@@ -1,6 +1,6 @@
 use Rattle.std.proofs.Common.{◌≡◌, sym, ap, ◌∙◌, ℕ, Bool, Option}
 use Rattle.std.proofs.lemmas.List.{get_or_default}
-use Rattle.walrus_module_types.specs.Types.{ModuleType}
+use Rattle.walrus_ty.specs.Types.{ModuleType}
 use Rattle.walrus_types.specs.Table.{no_rec_group, rec_group_at}
 use Rattle.walrus_types.specs.Steps.FreeGroups.{head, is_free, is_free_at, is_written_at, is_written_group}
 use Rattle.walrus_sections.proofs.Ordering.RunStarts.{run_more}

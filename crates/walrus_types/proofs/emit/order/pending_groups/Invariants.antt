@@ -1,7 +1,6 @@
 use Rattle.std.proofs.Common.{◌≡◌}
-use Rattle.walrus_types.specs.Steps.FreeGroups.{is_free_at}
+use Rattle.walrus_types.specs.Steps.{FreeGroups.is_free_at, PendingGroups.pending_groups}
 use Rattle.walrus_sections.specs.RunStarts.{run_start}
-use Rattle.walrus_types.specs.Steps.PendingGroups.{pending_groups}
 use Rattle.walrus_types.proofs.emit.order.pending_groups.Given as goal
 
 abbrev pub invariant-loop-place : goal.invariant-loop-place

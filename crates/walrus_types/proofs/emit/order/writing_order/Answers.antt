@@ -1,10 +1,9 @@
 use Rattle.std.proofs.Common.{length, refl}
-use Rattle.walrus_module_types.specs.contracts.ty.TypeOrd.TheImpl.Laws as type_ord
+use Rattle.walrus_ty.specs.contracts.ty.TypeOrd.TheImpl.Laws as type_ord
 use Rattle.walrus_types.specs.contracts.emit.order.PendingGroupOrd.TheImpl.Laws as pending_ord
 use Rattle.walrus_types.specs.Table.{rec_group_at}
 use Rattle.walrus_types.specs.Steps.FreeGroups.{head, is_free_at, is_written_at}
-use Rattle.walrus_types.proofs.Emission.OrderFromSort.{sorted_from, order_from_sort, count_from_sort}
-use Rattle.walrus_types.proofs.Emission.SortedGroups.{stands_sorted}
+use Rattle.walrus_types.proofs.Emission.{OrderFromSort.sorted_from, OrderFromSort.order_from_sort, OrderFromSort.count_from_sort, SortedGroups.stands_sorted}
 use Rattle.walrus_types.proofs.emit.order.writing_order.Goals as goal
 
 pub returns-clause-order : goal.returns-clause-order

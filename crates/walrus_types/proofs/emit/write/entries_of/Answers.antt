@@ -1,10 +1,7 @@
 use Rattle.std.proofs.Common.{◌≡◌, arith, None}
 use Rattle.std.proofs.lemmas.Option.{slice_get_within}
-use Rattle.walrus_ty.specs.Definition.{names_of}
+use Rattle.walrus_ty.specs.{Definition.names_of, Indices.type_index, Lookups.first_missing, Records.entry_definition}
 use Rattle.walrus_types.specs.TableEmission.{definition_at}
-use Rattle.walrus_module_types.specs.Indices.{type_index}
-use Rattle.walrus_module_types.specs.Lookups.{first_missing}
-use Rattle.walrus_ty.specs.Records.{entry_definition}
 use Rattle.walrus_sections.specs.WritingOrders.{with_indices}
 use Rattle.walrus_types.proofs.Emission.WrittenEntries.{done_more, each_more}
 use Rattle.walrus_types.proofs.emit.write.entries_of.Goals as goal

@@ -1,10 +1,7 @@
 use Rattle.std.proofs.Common.{◌≡◌, ℕ, ◌<◌, take, map, Some, None}
 use Rattle.std.specs.List.{slice_get}
-use Rattle.walrus_ty.specs.Definition.{names_of}
+use Rattle.walrus_ty.specs.{Definition.names_of, Indices.type_index, Lookups.first_missing, Records.entry_definition}
 use Rattle.walrus_types.specs.TableEmission.{definition_at}
-use Rattle.walrus_module_types.specs.Indices.{type_index}
-use Rattle.walrus_module_types.specs.Lookups.{first_missing}
-use Rattle.walrus_ty.specs.Records.{entry_definition}
 use Rattle.walrus_sections.specs.WritingOrders.{with_indices}
 use Rattle.walrus_types.proofs.emit.write.entries_of.Given as goal
 

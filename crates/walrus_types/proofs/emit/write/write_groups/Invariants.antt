@@ -1,6 +1,5 @@
-use Rattle.walrus_types.specs.TableEmission.{definition_at}
-use Rattle.walrus_module_types.specs.Indices.{IsEmpty, type_indices, func_indices, global_indices}
-use Rattle.walrus_types.specs.Steps.PendingGroups.{groups_of}
+use Rattle.walrus_types.specs.{TableEmission.definition_at, Steps.PendingGroups.groups_of}
+use Rattle.walrus_ty.specs.Indices.{IsEmpty, type_indices, func_indices, global_indices}
 use Rattle.walrus_types.proofs.Emission.WriteLoop.{IsProgress}
 use Rattle.walrus_types.proofs.emit.write.write_groups.Given as goal
 

@@ -1,5 +1,4 @@
-use Rattle.std.specs.Fn.{FnOnceReturnsAt}
-use Rattle.std.specs.List.{range_with_len}
+use Rattle.std.specs.{Fn.FnOnceReturnsAt, List.range_with_len}
 use Rattle.walrus_types.specs.Table.{next_id}
 use Rattle.walrus_types.proofs.Tables.MadeCalls.{group_added, no_group_added}
 use Rattle.walrus_types.proofs.laws.calls.add_rec_group.Goals as goal

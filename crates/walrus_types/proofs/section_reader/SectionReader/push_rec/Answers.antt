@@ -1,10 +1,8 @@
 use Rattle.std.proofs.Common.{◌≡◌, ℕ, List, ◌++◌, length, map, None, ap, sym, ◌∙◌}
 use Rattle.std.specs.List.{range_with_len}
 use Rattle.std.proofs.lemmas.List.{length-map}
-use Rattle.walrus_ty.specs.Definition.{Definition}
+use Rattle.walrus_ty.specs.{Definition.Definition, IdLists.IdLists, Records.entry_definition}
 use Rattle.walrus_sections.specs.FirstError.{group_error}
-use Rattle.walrus_module_types.specs.IdLists.{IdLists}
-use Rattle.walrus_ty.specs.Records.{entry_definition}
 use Rattle.walrus_types.proofs.Reading.ReaderCalls.{rec_pushed}
 use Rattle.walrus_types.proofs.section_reader.SectionReader.push_rec.Goals as goal
 

@@ -1,8 +1,7 @@
 use Rattle.std.proofs.Common.{◌≡◌, ℕ, List, [], ◌∷◌, ◌++◌, map, None, ap, sym, ◌∙◌}
 use Rattle.walrus_ty.specs.declared.records.EntryAt.{EntryAt}
 use Rattle.walrus_sections.specs.FirstError.{group_error}
-use Rattle.walrus_module_types.specs.IdLists.{IdLists}
-use Rattle.walrus_ty.specs.Records.{entry_definition}
+use Rattle.walrus_ty.specs.{IdLists.IdLists, Records.entry_definition}
 use Rattle.walrus_types.proofs.Reading.ReaderCalls.{single_pushed}
 use Rattle.walrus_types.proofs.section_reader.SectionReader.push_single.Goals as goal
 

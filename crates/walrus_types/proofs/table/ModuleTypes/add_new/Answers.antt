@@ -1,10 +1,8 @@
 use Rattle.std.proofs.Common.{◌≡◌, ℕ, [], ◌∷◌, ◌∙◌, length, refl, sym, ap, arith}
 use Rattle.walrus_types.specs.Table.{Table, AddsType, IsSameTable}
-use Rattle.walrus_module_types.specs.SameTypes.{type_eq}
-use Rattle.walrus_types.proofs.Tables.NewType.{table_added, answer_new, on_err_holds}
-use Rattle.walrus_module_types.proofs.Equality.Types.{clones_equal}
-use Rattle.walrus_types.proofs.Tables.Places.{indexed_same}
-use Rattle.walrus_types.proofs.Tables.TypeSet.{seen, same_seen, adds_seen}
+use Rattle.walrus_ty.specs.SameTypes.{type_eq}
+use Rattle.walrus_types.proofs.Tables.{NewType.table_added, NewType.answer_new, NewType.on_err_holds, Places.indexed_same, TypeSet.seen, TypeSet.same_seen, TypeSet.adds_seen}
+use Rattle.walrus_ty.proofs.Equality.Types.{clones_equal}
 use Rattle.walrus_types.proofs.table.ModuleTypes.add_new.Goals as goal
 
 pub alloc_and_register-requires : goal.alloc_and_register-requires
@@ -50,8 +48,7 @@ invariant_of-self-2 c =
     let old : Table = record { types = seen c.self.inside.types; groups = c.self.inside.groups.items } in
     let new : Table = record {
       types = seen c.alloc_and_register.new.self;
-      groups =
-          c.push_reserved-2.new.self.items;
+      groups = c.push_reserved-2.new.self.items;
     } in
     let is = table_added old new c.self.inside.group_of.items c.args.ty c.in_ok-id.id c.self.invariant
     (added c) in
@@ -71,8 +68,7 @@ returns-clause-holds c =
     let old : Table = record { types = seen c.self.inside.types; groups = c.self.inside.groups.items } in
     let new : Table = record {
       types = seen c.alloc_and_register.new.self;
-      groups =
-          c.push_reserved-2.new.self.items;
+      groups = c.push_reserved-2.new.self.items;
     } in
     answer_new old new c.args.ty c.in_ok-id.id (added c)
 

@@ -16,18 +16,8 @@ returns-then-len-count-clause-count g c = λ wanted got same.
       )),
       (
         c.in_ok-members.members,
-        (
-          c.as_slice.result,
-          search rules,
-          c.as_slice.ensures.value
-              ∙ c.in_ok-ids.ensures,
-        ),
-        omega (
-          arith,
-          parts.1,
-          c.len-then-len-count.ensures,
-          c.in_ok-members.members.ok,
-        ),
+        (c.as_slice.result, search rules, c.as_slice.ensures.value ∙ c.in_ok-ids.ensures),
+        omega (arith, parts.1, c.len-then-len-count.ensures, c.in_ok-members.members.ok),
       ),
     )
 

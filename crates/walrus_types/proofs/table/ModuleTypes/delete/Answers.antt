@@ -1,11 +1,8 @@
 use Rattle.std.proofs.lemmas.Result.{on_ok_weaker}
 use Rattle.walrus_arena.specs.Set.{Removes}
 use Rattle.walrus_types.specs.Table.{Table}
-use Rattle.walrus_module_types.specs.SameTypes.{type_eq}
-use Rattle.walrus_types.proofs.Tables.Places.{home_of}
-use Rattle.walrus_types.proofs.Tables.DeadTypes.{table_deleted, deletes_from, ok_holds}
-use Rattle.walrus_types.proofs.Tables.DeadGroup.{members_once, distinct_from_once}
-use Rattle.walrus_types.proofs.Tables.TypeSet.{seen, removes_seen}
+use Rattle.walrus_ty.specs.SameTypes.{type_eq}
+use Rattle.walrus_types.proofs.Tables.{Places.home_of, DeadTypes.table_deleted, DeadTypes.deletes_from, DeadTypes.ok_holds, DeadGroup.members_once, DeadGroup.distinct_from_once, TypeSet.seen, TypeSet.removes_seen}
 use Rattle.walrus_types.proofs.table.ModuleTypes.delete.Goals as goal
 
 pub remove_id-requires : goal.remove_id-requires

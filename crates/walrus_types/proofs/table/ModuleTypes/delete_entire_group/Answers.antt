@@ -1,40 +1,30 @@
 use Rattle.std.proofs.Common.{ℕ, List, All, nat_eq, subst, sym, ◌∙◌}
 use Rattle.std.specs.List.{IsDistinct}
 use Rattle.std.proofs.lemmas.Result.{on_ok_weaker}
-use Rattle.walrus_arena.specs.Arena.{IsLive}
-use Rattle.walrus_arena.specs.Set.{RemovesAll}
+use Rattle.walrus_arena.specs.{Arena.IsLive, Set.RemovesAll}
 use Rattle.walrus_types.specs.Table.{Table}
-use Rattle.walrus_module_types.specs.SameTypes.{type_eq}
-use Rattle.walrus_types.proofs.Tables.Places.{home_of}
-use Rattle.walrus_types.proofs.Tables.DeadTypes.{ok_holds}
+use Rattle.walrus_ty.specs.SameTypes.{type_eq}
+use Rattle.walrus_types.proofs.Tables.{Places.home_of, DeadTypes.ok_holds, TypeSet.seen, TypeSet.removes_all_seen}
 use Rattle.walrus_types.proofs.Tables.DeadGroup.{all_live, members_once, distinct_from_once, ended_indexed, ended_deletes}
-use Rattle.walrus_types.proofs.Tables.TypeSet.{seen, removes_all_seen}
 use Rattle.walrus_types.proofs.table.ModuleTypes.delete_entire_group.Goals as goal
 
-pub remove_all-requires-clause-live : goal.remove_all-requires-clause-live
-remove_all-requires-clause-live c =
+pub remove_all-requires : goal.remove_all-requires
+remove_all-requires c =
     let t : Table = record { types = seen c.self.inside.types; groups = c.self.inside.groups.items } in
     let live = rw (← c.self.view_is) at c.requires in
     let at = rw c.index.ensures at c.index-at.ensures in
     let home = home_of t c.self.inside.group_of.items c.args.id c.index-at.result.now
     c.index_mut-group.result.now c.self.invariant live at c.index_mut-group.ensures.value in
-    subst (λ (ids : List ℕ). All (IsLive c.self.inside.types.slots) ids)
-    (sym (c.as_slice.ensures ∙ c.replace-members.ensures.value))
-    (all_live t c.self.inside.group_of.items c.args.id c.index-at.result.now c.index_mut-group.result.now
-    c.self.invariant home)
-
-pub remove_all-requires-clause-distinct : goal.remove_all-requires-clause-distinct
-remove_all-requires-clause-distinct c =
-    let t : Table = record { types = seen c.self.inside.types; groups = c.self.inside.groups.items } in
-    let live = rw (← c.self.view_is) at c.requires in
-    let at = rw c.index.ensures at c.index-at.ensures in
-    let home = home_of t c.self.inside.group_of.items c.args.id c.index-at.result.now
-    c.index_mut-group.result.now c.self.invariant live at c.index_mut-group.ensures.value in
-    subst (λ (ids : List ℕ). IsDistinct nat_eq ids)
-    (sym (c.as_slice.ensures ∙ c.replace-members.ensures.value))
-    (distinct_from_once c.index_mut-group.result.now.types
-    (members_once t c.self.inside.group_of.items c.args.id c.index-at.result.now
-    c.index_mut-group.result.now c.self.invariant home))
+    let whole = sym (c.as_slice.ensures ∙ c.replace-members.ensures.value) in
+    record {
+      live = subst (λ (ids : List ℕ). All (IsLive c.self.inside.types.slots) ids) whole
+          (all_live t c.self.inside.group_of.items c.args.id c.index-at.result.now
+          c.index_mut-group.result.now c.self.invariant home);
+      distinct = subst (λ (ids : List ℕ). IsDistinct nat_eq ids) whole
+          (distinct_from_once c.index_mut-group.result.now.types
+          (members_once t c.self.inside.group_of.items c.args.id c.index-at.result.now
+          c.index_mut-group.result.now c.self.invariant home));
+    }
 
 pub invariant_of-self : goal.invariant_of-self
 unfolding type_eq

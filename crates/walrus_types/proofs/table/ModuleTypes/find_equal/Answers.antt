@@ -1,8 +1,7 @@
 use Rattle.std.proofs.Common.{◌∙◌}
 use Rattle.walrus_types.specs.Table.{Table}
-use Rattle.walrus_module_types.specs.SameTypes.{type_eq}
-use Rattle.walrus_types.proofs.Tables.NewType.{found-holds}
-use Rattle.walrus_types.proofs.Tables.TypeSet.{seen, found_seen}
+use Rattle.walrus_ty.specs.SameTypes.{type_eq}
+use Rattle.walrus_types.proofs.Tables.{NewType.found-holds, TypeSet.seen, TypeSet.found_seen}
 use Rattle.walrus_types.proofs.table.ModuleTypes.find_equal.Goals as goal
 
 pub returns-clause-value : goal.returns-clause-value

@@ -1,5 +1,5 @@
 use Rattle.std.proofs.Common.{ℕ, List, subst}
-use Rattle.walrus_module_types.specs.Types.{ModuleType}
+use Rattle.walrus_ty.specs.Types.{ModuleType}
 use Rattle.walrus_types.specs.Steps.Finding.{IsWanted}
 use Rattle.walrus_types.proofs.Tables.Search.{HasPassed, reached, passed_all, some_is, not_both}
 use Rattle.walrus_types.proofs.table.ModuleTypes.first.Goals as goal

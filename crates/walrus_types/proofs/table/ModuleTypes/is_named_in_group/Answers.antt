@@ -1,11 +1,7 @@
 use Rattle.std.proofs.Common.{◌∙◌, ℕ, List, ap, sym, refl}
 use Rattle.std.specs.List.{slice_get}
 use Rattle.walrus_types.specs.Table.{Table}
-use Rattle.walrus_types.proofs.Tables.Places.{home_of}
-use Rattle.walrus_types.proofs.Tables.Search.{not_both}
-use Rattle.walrus_types.proofs.Tables.DeadGroup.{members_live}
-use Rattle.walrus_types.proofs.Tables.NamedInGroup.{member_read, none_more, named_here, named_nowhere}
-use Rattle.walrus_types.proofs.Tables.TypeSet.{seen}
+use Rattle.walrus_types.proofs.Tables.{Places.home_of, Search.not_both, DeadGroup.members_live, NamedInGroup.member_read, NamedInGroup.none_more, NamedInGroup.named_here, NamedInGroup.named_nowhere, TypeSet.seen}
 use Rattle.walrus_types.proofs.table.ModuleTypes.is_named_in_group.Goals as goal
 
 pub is_other_namer-requires : goal.is_other_namer-requires

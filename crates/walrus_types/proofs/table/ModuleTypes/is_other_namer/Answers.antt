@@ -1,5 +1,4 @@
-use Rattle.walrus_types.proofs.Tables.NamedInGroup.{namer_test, self_test}
-use Rattle.walrus_types.proofs.Tables.TypeSet.{seen}
+use Rattle.walrus_types.proofs.Tables.{NamedInGroup.namer_test, NamedInGroup.self_test, TypeSet.seen}
 use Rattle.walrus_types.proofs.table.ModuleTypes.is_other_namer.Goals as goal
 
 pub returns-then-ne : goal.returns-then-ne

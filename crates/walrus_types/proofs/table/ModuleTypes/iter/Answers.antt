@@ -1,5 +1,5 @@
 use Rattle.std.proofs.Common.{ℕ, List, map, ap, ◌∙◌}
-use Rattle.walrus_module_types.specs.Types.{ModuleType}
+use Rattle.walrus_ty.specs.Types.{ModuleType}
 use Rattle.walrus_types.proofs.Tables.TypeSet.{items_seen}
 use Rattle.walrus_types.proofs.table.ModuleTypes.iter.Goals as goal
 

@@ -1,4 +1,4 @@
-use Rattle.std.proofs.Common.{ℕ, List, ◌∙◌, ◌+◌, ap, ◌++◌, ◌∷◌, [], refl, arith}
+use Rattle.std.proofs.Common.{ℕ, List, ◌∙◌, ◌+◌, ap, ◌++◌, [], ◌∷◌, refl, arith}
 use Rattle.std.specs.List.{range_with_len}
 use Rattle.walrus_types.proofs.Tables.NewGroup.{range_push}
 use Rattle.walrus_types.proofs.table.ModuleTypes.next_ids.Goals as goal

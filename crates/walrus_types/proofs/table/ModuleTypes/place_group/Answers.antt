@@ -1,11 +1,10 @@
-use Rattle.std.proofs.Common.{◌≡◌, ℕ, List, ◌++◌, ◌∷◌, [], ◌∙◌, length, map, Some, true, ap, arith}
+use Rattle.std.proofs.Common.{◌≡◌, ℕ, List, ◌++◌, [], ◌∷◌, ◌∙◌, length, map, Some, true, ap, arith}
 use Rattle.std.specs.List.{range_with_len}
 use Rattle.walrus_arena.specs.Set.{Set}
 use Rattle.walrus_types.specs.declared.table.rec_group.RecGroup.{RecGroup}
-use Rattle.walrus_module_types.specs.Types.{ModuleType}
+use Rattle.walrus_ty.specs.Types.{ModuleType}
 use Rattle.walrus_types.specs.Table.{Table, AddsGroup, member_types}
-use Rattle.walrus_types.proofs.Tables.NewGroup.{table_grouped, length-placed}
-use Rattle.walrus_types.proofs.Tables.TypeSet.{seen, range_seen}
+use Rattle.walrus_types.proofs.Tables.{NewGroup.table_grouped, NewGroup.length-placed, TypeSet.seen, TypeSet.range_seen}
 use Rattle.walrus_types.proofs.table.ModuleTypes.place_group.Goals as goal
 
 added : (c : goal.After-push_reserved) → AddsGroup
@@ -29,8 +28,7 @@ added c =
     record {
       types = ap (λ (s : Set ModuleType). seen s) c.in_ok-ids.ensures.ok
           ∙ ap (λ (tys : List ModuleType). record (seen c.self.inside.types) {
-            slots =
-                c.self.inside.types.slots ++ map Some tys;
+            slots = c.self.inside.types.slots ++ map Some tys;
           }) types;
       groups = c.push_reserved.ensures.items ∙ (ap (λ (gs : List RecGroup). gs ++ made c.from_vec.result ∷ [])
           c.reserve.ensures.items ∙ ap (λ (ns : List ℕ). c.self.inside.groups.items ++ made ns ∷ []) ids);

@@ -1,8 +1,7 @@
 use Rattle.std.proofs.Common.{◌≡◌, true}
 use Rattle.walrus_arena.specs.Arena.{IsLive}
 use Rattle.walrus_types.specs.Table.{Table}
-use Rattle.walrus_types.proofs.Tables.Places.{home_of, group_answer, group_absent}
-use Rattle.walrus_types.proofs.Tables.TypeSet.{seen}
+use Rattle.walrus_types.proofs.Tables.{Places.home_of, Places.group_answer, Places.group_absent, TypeSet.seen}
 use Rattle.walrus_types.proofs.table.ModuleTypes.rec_group_for_type.Goals as goal
 
 pub returns-then-contains : goal.returns-then-contains

@@ -1,5 +1,4 @@
-use Rattle.walrus_types.proofs.Tables.Places.{is_table}
-use Rattle.walrus_types.proofs.Tables.TypeSet.{seen}
+use Rattle.walrus_types.proofs.Tables.{Places.is_table, TypeSet.seen}
 use Rattle.walrus_types.proofs.table.ModuleTypes.rec_groups.Goals as goal
 
 pub returns-clause-grouping : goal.returns-clause-grouping

@@ -1,6 +1,5 @@
 use Rattle.walrus_types.specs.Table.{Table}
-use Rattle.walrus_types.proofs.Reading.UsedUpId.{used_up_indexed, uses_up}
-use Rattle.walrus_types.proofs.Tables.TypeSet.{seen}
+use Rattle.walrus_types.proofs.{Reading.UsedUpId.used_up_indexed, Reading.UsedUpId.uses_up, Tables.TypeSet.seen}
 use Rattle.walrus_types.proofs.table.ModuleTypes.use_up_id.Goals as goal
 
 pub invariant_of-self-2 : goal.invariant_of-self-2

@@ -1,4 +1,4 @@
-use Rattle.std.proofs.Common.{ℕ, List, ◌∙◌, ◌+◌, ap, ◌++◌, ◌∷◌, [], refl, arith, replicate, append_assoc}
+use Rattle.std.proofs.Common.{ℕ, List, ◌∙◌, ◌+◌, ap, ◌++◌, [], ◌∷◌, refl, arith, replicate, append_assoc}
 use Rattle.walrus_types.proofs.Tables.NewGroup.{replicate_push}
 use Rattle.walrus_types.proofs.table.rec_group.push_all.Goals as goal
 

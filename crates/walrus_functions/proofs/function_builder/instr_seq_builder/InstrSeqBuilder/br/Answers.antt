@@ -1,4 +1,4 @@
 use Rattle.walrus_functions.proofs.function_builder.instr_seq_builder.InstrSeqBuilder.br.Goals as goal
 
-pub returns-clause-ok : goal.returns-clause-ok
-returns-clause-ok c = c.push.ensures.ok
+pub returns : goal.returns
+returns c = c.push.ensures

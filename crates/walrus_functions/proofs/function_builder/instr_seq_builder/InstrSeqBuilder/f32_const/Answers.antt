@@ -1,4 +1,4 @@
 use Rattle.walrus_functions.proofs.function_builder.instr_seq_builder.InstrSeqBuilder.f32_const.Goals as goal
 
-pub returns-clause-ok : goal.returns-clause-ok
-returns-clause-ok c = c.const_.ensures.ok
+pub returns : goal.returns
+returns c = c.const_.ensures

@@ -1,5 +1,5 @@
-use Rattle.std.proofs.Common.{rules, ◌∙◌, Some}
-use Rattle.walrus_functions.specs.NestedForms.{FailsToAttach}
+use Rattle.std.proofs.Common.{rules, ◌∙◌}
+use Rattle.walrus_functions.specs.NestedForms.{FailsToAttach, behind}
 use Rattle.walrus_functions.proofs.NestingLemmas.{both_not}
 use Rattle.walrus_functions.proofs.function_builder.instr_seq_builder.InstrSeqBuilder.if_else_at.Goals as goal
 
@@ -7,7 +7,7 @@ pub returns-clause-err : goal.returns-clause-err
 returns-clause-err g c =
     let same = c.fill_new-2.ensures.same.0 ∙ c.fill_new.ensures.same.0 in
     both_not _ _ c.args.ty c.args.self.now.builder.now _ _ _ (λ p f e.
-    FailsToAttach f p (Some c.args.position) e) _ _ c.attach_at.result same c.in_ok-first.ensures.ok
+    FailsToAttach f (behind p c.args.position) e) _ _ c.attach_at.result same c.in_ok-first.ensures.ok
     c.in_ok-second.ensures.ok c.attach_at.ensures.err
 
 pub returns-clause-ok : goal.returns-clause-ok

@@ -1,6 +1,6 @@
 use Rattle.std.proofs.Common.{◌∙◌, ap}
 use Rattle.std.proofs.lemmas.Result.{on_ok_weaker}
-use Rattle.instr.specs.Sequence.{Sequence}
+use Rattle.ir_instr.specs.Sequence.{Sequence}
 use Rattle.walrus_nesting.specs.contracts.nesting.search.Search.{the_view}
 use Rattle.walrus_nesting.specs.declared.nesting.search.Work.TheVariants.{Leave}
 use Rattle.walrus_nesting.proofs.Nested.SearchSteps.{Enters, entered_is, pushed_first}

@@ -1,8 +1,7 @@
 use Rattle.std.proofs.Common.{◌∙◌, ap, sym}
 use Rattle.std.specs.Ordering.{ordering_then}
-use Rattle.walrus_module_types.specs.Types.{type_definition}
-use Rattle.walrus_ty.specs.Value.{bool_cmp}
-use Rattle.walrus_module_types.proofs.Orders.Types.{type_is}
+use Rattle.walrus_ty.specs.{Types.type_definition, Value.bool_cmp}
+use Rattle.walrus_ty.proofs.Orders.Types.{type_is}
 use Rattle.walrus_types.specs.Steps.SortKeys.{type_sort_key}
 use Rattle.walrus_types.proofs.emit.sort_key.KeyedTypeOrd.cmp.Goals as goal
 

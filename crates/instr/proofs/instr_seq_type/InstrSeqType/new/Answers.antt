@@ -1,5 +1,0 @@
-use Rattle.std.proofs.Common.{rules}
-use Rattle.instr.proofs.instr_seq_type.InstrSeqType.new.Goals as goal
-
-pub returns-in-Some-clause-simple : goal.returns-in-Some-clause-simple
-returns-in-Some-clause-simple c = search rules

@@ -1,5 +1,0 @@
-use Rattle.std.proofs.Common.{rules}
-use Rattle.operators.proofs.atomics.AtomicWidth.bytes.Goals as goal
-
-pub returns-in-I64 : goal.returns-in-I64
-returns-in-I64 c = search rules

@@ -1,8 +1,0 @@
-use Rattle.std.proofs.Common.{◌≡◌, ◌-◌}
-use Rattle.walrus_binary.specs.Steps.Reading.{items_at}
-use Rattle.walrus_binary.proofs.Lists.{with_front}
-use Rattle.walrus_binary.proofs.decode.list.read_items.Given as goal
-
-abbrev pub invariant-loop : goal.invariant-loop
-invariant-loop g l = with_front l.items.items (items_at g.T.Decode.reading (l.count - l.counter) l.input.now)
-    ≡ items_at g.T.Decode.reading l.count l.fn.input.now

@@ -1,5 +1,0 @@
-use Rattle.walrus_binary.proofs.Modules.Uniqueness.{located_types}
-use Rattle.walrus_binary.proofs.laws.located_types.Goals as goal
-
-pub returns : goal.returns
-returns c = located_types

@@ -1,5 +1,0 @@
-use Rattle.walrus_binary.proofs.Sections.{one_first_bad_byte}
-use Rattle.walrus_binary.proofs.laws.one_first_bad_byte.Goals as goal
-
-pub returns : goal.returns
-returns c = one_first_bad_byte

@@ -1,5 +1,0 @@
-use Rattle.walrus_binary.proofs.Modules.Uniqueness.{one_module}
-use Rattle.walrus_binary.proofs.laws.one_module.Goals as goal
-
-pub returns : goal.returns
-returns c = one_module

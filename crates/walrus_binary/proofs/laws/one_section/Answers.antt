@@ -1,5 +1,0 @@
-use Rattle.walrus_binary.proofs.Sections.{one_section}
-use Rattle.walrus_binary.proofs.laws.one_section.Goals as goal
-
-pub returns : goal.returns
-returns c = one_section

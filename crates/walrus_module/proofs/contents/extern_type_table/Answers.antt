@@ -1,7 +1,0 @@
-use Rattle.std.proofs.Common.{refl}
-use Rattle.walrus_module.specs.Contents.{extern_types}
-use Rattle.walrus_module.proofs.Tables.{is_table}
-use Rattle.walrus_module.proofs.contents.extern_type_table.Goals as goal
-
-pub returns : goal.returns
-returns c = is_table extern_types _ refl refl

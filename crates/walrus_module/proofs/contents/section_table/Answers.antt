@@ -1,7 +1,0 @@
-use Rattle.std.proofs.Common.{refl}
-use Rattle.walrus_module.specs.Contents.{section_rows}
-use Rattle.walrus_module.proofs.Tables.{is_table}
-use Rattle.walrus_module.proofs.contents.section_table.Goals as goal
-
-pub returns : goal.returns
-returns c = is_table section_rows _ refl refl

@@ -1,5 +1,0 @@
-use Rattle.walrus_module.proofs.SecondModules.{module_stays}
-use Rattle.walrus_module.proofs.laws.renamed_module_stays.Goals as goal
-
-pub returns : goal.returns
-returns c = λ types first again widths bytes new own. module_stays first again own widths types bytes new

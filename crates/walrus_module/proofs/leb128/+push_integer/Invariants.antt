@@ -1,5 +1,0 @@
-use Rattle.std.proofs.Common.{◌+◌}
-use Rattle.walrus_module.proofs.leb128.+push_integer.Given as goal
-
-abbrev pub decreases-push_integer : goal.decreases-push_integer
-decreases-push_integer l = l.number + l.least

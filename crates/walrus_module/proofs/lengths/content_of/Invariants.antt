@@ -1,8 +1,0 @@
-use Rattle.walrus_module.specs.Lengths.{IsNot}
-use Rattle.walrus_module.proofs.ModuleLengths.{Passed}
-use Rattle.walrus_module.proofs.lengths.content_of.Given as goal
-
-abbrev pub invariant-loop-section : goal.invariant-loop-section
-invariant-loop-section l =
-    (goal.iterator-loop-section).can_next l.left × (goal.iterator-loop-section).is_finite l.left
-    × Passed (IsNot l.fn.id) l.initial.left l.left

@@ -1,6 +1,0 @@
-use Rattle.walrus_module.specs.Steps.Lengths.{TakesBodies}
-use Rattle.walrus_module.proofs.lengths.measure_code.Given as goal
-
-abbrev pub invariant-loop : goal.invariant-loop
-invariant-loop l =
-    TakesBodies l.counter l.initial.rest l.rest l.fn.lengths.items l.lengths.items

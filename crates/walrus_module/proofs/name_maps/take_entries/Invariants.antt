@@ -1,7 +1,0 @@
-use Rattle.walrus_module.specs.Steps.NameSections.{IsFollowing, TakesEntries}
-use Rattle.walrus_module.proofs.name_maps.take_entries.Given as goal
-
-abbrev pub invariant-loop : goal.invariant-loop
-invariant-loop l =
-    TakesEntries (IsFollowing l.fn.follows) l.fn.new_indices l.counter l.kept.entries l.fn.input.now
-    l.input.now

@@ -1,6 +1,0 @@
-use Rattle.walrus_module.proofs.TypeMaps.{IsWrittenUpTo}
-use Rattle.walrus_module.proofs.name_maps.write_map.Given as goal
-
-abbrev pub invariant-loop-new_index : goal.invariant-loop-new_index
-invariant-loop-new_index l =
-    IsWrittenUpTo l.widths l.least l.kept.entries l.new_index-iterator l.out.items

@@ -1,7 +1,0 @@
-use Rattle.std.proofs.Common.{refl}
-use Rattle.walrus_module.specs.Opcodes.{atomic_opcodes}
-use Rattle.walrus_module.proofs.Tables.{is_table}
-use Rattle.walrus_module.proofs.opcodes.atomics.Goals as goal
-
-pub returns : goal.returns
-returns c = is_table atomic_opcodes _ refl refl

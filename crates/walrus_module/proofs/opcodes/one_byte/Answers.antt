@@ -1,7 +1,0 @@
-use Rattle.std.proofs.Common.{refl}
-use Rattle.walrus_module.specs.Opcodes.{opcodes}
-use Rattle.walrus_module.proofs.Tables.{is_table}
-use Rattle.walrus_module.proofs.opcodes.one_byte.Goals as goal
-
-pub returns : goal.returns
-returns c = is_table opcodes _ refl refl

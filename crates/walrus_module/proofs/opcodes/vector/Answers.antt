@@ -1,5 +1,0 @@
-use Rattle.std.proofs.Common.{rules}
-use Rattle.walrus_module.proofs.opcodes.vector.Goals as goal
-
-pub returns : goal.returns
-returns c = search (rules, c.vectors.ensures c.args.number)

@@ -1,9 +1,0 @@
-use Rattle.std.proofs.Common.{arith}
-use Rattle.walrus_module.proofs.PlainInstructions.{mem_arg_passed}
-use Rattle.walrus_module.proofs.plain.behind_mem_arg.Goals as goal
-
-pub returns : goal.returns
-returns c =
-    mem_arg_passed c.in_ok-alignment.alignment c.args.bytes.now c.read_u32.new.input.now
-    c.skip_u64.new.input.now c.in_ok-alignment.ensures (omega (arith, c.if-alignment-gt63.false))
-    c.in_ok-skip_u64.ensures

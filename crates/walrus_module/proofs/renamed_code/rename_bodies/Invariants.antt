@@ -1,8 +1,0 @@
-use Rattle.walrus_module.specs.RenamedSections.{RenamesBody}
-use Rattle.walrus_module.proofs.Changing.{Written}
-use Rattle.walrus_module.proofs.renamed_code.rename_bodies.Given as goal
-
-abbrev pub invariant-loop : goal.invariant-loop
-invariant-loop l =
-    Written (RenamesBody l.fn.new_indices l.fn.widths) l.counter l.fn.input.now l.input.now l.unwritten
-    l.out.items

@@ -1,5 +1,0 @@
--- Bytes that begin with others.
-use Rattle.std.specs.Prelude.{◌≡◌, ℕ, List, ◌++◌}
-
-abbrev pub BeginsWith : List ℕ → List ℕ → Type 0
-BeginsWith front bytes = (rest : List ℕ) × (bytes ≡ front ++ rest)

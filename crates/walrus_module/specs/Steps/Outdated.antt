@@ -1,9 +1,0 @@
--- Kinds of sections for which it is known that they fit.
-use Rattle.std.specs.Prelude.{ℕ, List}
-use Rattle.std.specs.List.{All}
-use Rattle.walrus_module.specs.declared.description_kinds.DescriptionKind.{DescriptionKind}
-use Rattle.walrus_module.specs.Outdated.{Stays}
-
--- what sections of these kinds describe stays
-abbrev pub AllStay : List ℕ → List ℕ → List DescriptionKind → Type 0
-AllStay bytes new kinds = All (λ k. Stays k bytes new) kinds

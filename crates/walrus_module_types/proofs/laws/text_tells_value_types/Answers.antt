@@ -1,5 +1,0 @@
-use Rattle.walrus_module_types.proofs.Texts.ReadBack.{same_from_text}
-use Rattle.walrus_module_types.proofs.laws.text_tells_value_types.Goals as goal
-
-pub returns : goal.returns
-returns c = same_from_text

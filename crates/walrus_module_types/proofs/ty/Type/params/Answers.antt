@@ -1,5 +1,0 @@
-use Rattle.std.proofs.Common.{rules}
-use Rattle.walrus_module_types.proofs.ty.Type.params.Goals as goal
-
-pub returns : goal.returns
-returns c = search rules

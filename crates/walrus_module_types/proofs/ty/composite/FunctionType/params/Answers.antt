@@ -1,4 +1,0 @@
-use Rattle.walrus_module_types.proofs.ty.composite.FunctionType.params.Goals as goal
-
-pub returns : goal.returns
-returns c = rw (← c.self.view_is) c.as_slice.ensures

@@ -1,0 +1,182 @@
+//! Functions whose body is replaced.
+ghost use Rattle.std.specs.Prelude.{IsSome};
+ghost use Rattle.walrus_types.specs.Table.{signature_at};
+
+use crate::assertions::{are, assert_equal};
+use std::alloc::{AllocError, Global};
+use std::process::Abort;
+use walrus_functions::{BuildError, FunctionBuilder, LocalFunction, LocalFunctions};
+use walrus_ir::{Instr, InstrLocId, InstrSeqType, LoadKind, LocalId, MemArg, UnaryOp, Value};
+use walrus_passes::{replace_with, snip};
+use walrus_types::{FunctionId, Id, ModuleTypes, TypeId, ValType};
+
+pub(crate) const ARG: MemArg = MemArg {
+    align: 4,
+    offset: 0,
+};
+
+// The sequence of an index has instructions of this text, which is made again after a refusal.
+pub(crate) fn has(
+    rt: &impl Abort,
+    alloc: Global,
+    func: &LocalFunction,
+    index: usize,
+    expected: &str,
+) {
+    let id = Id::from_index(index);
+    assert!(rt; func.contains_block(id));
+    let instrs = func.block(id).instrs.as_slice();
+    let text = text_of(alloc, instrs).or_else(|_| text_of(alloc, instrs));
+    assert_equal(rt, text.expect(rt, "memory").as_str(), expected);
+}
+
+fn text_of(alloc: Global, instrs: &[(Instr, InstrLocId)]) -> Result<String, AllocError> {
+    let mut text = String::new(alloc);
+    let mut gap = "";
+    for (instr, _) in instrs {
+        text.push_str(gap)?;
+        add_instr(&mut text, instr)?;
+        gap = ", ";
+    }
+    Ok(text)
+}
+
+fn add_instr(text: &mut String, instr: &Instr) -> Result<(), AllocError> {
+    let (word, number) = match instr {
+        Instr::Call(x) => ("call", x.func.index()),
+        Instr::ReturnCall(x) => ("return_call", x.func.index()),
+        Instr::RefFunc(x) => ("ref.func", x.func.index()),
+        Instr::LocalGet(x) => ("local.get", x.local.index()),
+        Instr::LocalSet(x) => ("local.set", x.local.index()),
+        Instr::TableGet(x) => ("table.get", x.table.index()),
+        Instr::Load(x) if x.kind == LoadKind::V128 && x.arg == ARG => {
+            ("v128.load", x.memory.index())
+        }
+        Instr::Const(x) => return add_value(text, x.value),
+        Instr::Unreachable(_) => return text.push_str("unreachable"),
+        Instr::Unop(x) if x.op == UnaryOp::I32WrapI64 => return text.push_str("i32.wrap_i64"),
+        _ => return text.push_str("another"),
+    };
+    Ok(write!(text, "{word} {number}")?)
+}
+
+fn add_value(text: &mut String, value: Value) -> Result<(), AllocError> {
+    match value {
+        Value::I32(n) => Ok(write!(text, "i32 {n}")?),
+        _ => text.push_str("another"),
+    }
+}
+
+// The entry of the function is the sequence 0, which is of this type.
+pub(crate) fn entry_is_of(rt: &impl Abort, func: &LocalFunction, ty: InstrSeqType) {
+    let entry = Id::from_index(0);
+    assert_equal(rt, func.entry(), Some(Id::from_index(0)));
+    assert!(rt; func.contains_block(entry));
+    assert_equal(rt, func.block(entry).ty, ty);
+}
+
+// The id of this index, which has to be of a function type.
+pub(crate) fn function_type(rt: &impl Abort, types: &ModuleTypes, index: usize) -> TypeId
+    ensures { IsSome (signature_at types.now result) }
+{
+    let ty = TypeId::from_index(index);
+    assert!(rt; types.contains(ty) && types.get(ty).is_function());
+    ty
+}
+
+// A function `f` that takes an `i32` as the local 3 and leaves 7.
+pub(crate) fn seven(alloc: Global) -> Result<LocalFunction, BuildError> {
+    let mut types = ModuleTypes::new(alloc);
+    let mut f = FunctionBuilder::new(alloc, &mut types, &[ValType::I32], &[ValType::I32])?;
+    f.name(String::from_str(alloc, "f")?);
+    let mut body = f.func_body();
+    body.i32_const(7)?;
+    Ok(f.local_func(third_local(alloc)?))
+}
+
+pub(crate) fn third_local(alloc: Global) -> Result<Vec<LocalId>, AllocError> {
+    Ok(vec![in alloc; Id::from_index(3)]?)
+}
+
+// Such functions, so many.
+pub(crate) fn sevens(alloc: Global, count: usize) -> Result<LocalFunctions, BuildError> {
+    let mut funcs = LocalFunctions::new(alloc);
+    for _ in 0..count {
+        if funcs.add(seven(alloc)?).is_err() {
+            return Err(BuildError::Memory);
+        }
+    }
+    Ok(funcs)
+}
+
+// A builder of a body that leaves 8.
+pub(crate) fn eight(alloc: Global) -> Result<FunctionBuilder, BuildError> {
+    let mut f = FunctionBuilder::without_entry(alloc, Id::from_index(0));
+    let mut body = f.dangling_instr_seq(InstrSeqType::Simple(Some(ValType::I32)))?;
+    body.i32_const(8)?;
+    Ok(f)
+}
+
+pub(crate) fn replace_first(
+    rt: &impl Abort,
+    alloc: Global,
+    funcs: &mut LocalFunctions,
+    body: FunctionBuilder,
+) -> Result<(), AllocError> {
+    let id: FunctionId = Id::from_index(0);
+    assert!(rt; funcs.contains(id));
+    replace_with(alloc, funcs, id, body)
+}
+
+pub(crate) fn snip_first(
+    rt: &impl Abort,
+    alloc: Global,
+    funcs: &mut LocalFunctions,
+) -> Result<(), AllocError> {
+    let id: FunctionId = Id::from_index(0);
+    assert!(rt; funcs.contains(id));
+    snip(alloc, funcs, id)
+}
+
+// The function of an index has this name and argument, and these instructions.
+pub(crate) fn is(rt: &impl Abort, alloc: Global, funcs: &LocalFunctions, index: usize, text: &str) {
+    let id: FunctionId = Id::from_index(index);
+    assert!(rt; funcs.contains(id));
+    let func = funcs.get(id);
+    assert_equal(rt, func.name(), Some("f"));
+    assert!(rt; are(func.args.as_slice(), &[3]));
+    assert_equal(rt, func.ty().index(), 0);
+    assert_equal(rt, func.block_count(), 1);
+    has(rt, alloc, func, 0, text);
+}
+
+#[test]
+fn a_snipped_function_is_unreachable(rt: HostRuntime) {
+    let mut funcs = sevens(rt.alloc(), 2).expect(&rt, "memory");
+    is(&rt, rt.alloc(), &funcs, 0, "i32 7");
+    snip_first(&rt, rt.alloc(), &mut funcs).expect(&rt, "memory");
+    is(&rt, rt.alloc(), &funcs, 0, "unreachable");
+    is(&rt, rt.alloc(), &funcs, 1, "i32 7");
+}
+
+#[test]
+fn a_snipped_entry_keeps_its_type(rt: HostRuntime) {
+    let mut funcs = sevens(rt.alloc(), 2).expect(&rt, "memory");
+    snip_first(&rt, rt.alloc(), &mut funcs).expect(&rt, "memory");
+    let id: FunctionId = Id::from_index(0);
+    assert!(rt; funcs.contains(id));
+    entry_is_of(
+        &rt,
+        funcs.get(id),
+        InstrSeqType::MultiValue(TypeId::from_index(1)),
+    );
+}
+
+#[test]
+fn a_replaced_function_has_the_body_that_was_built(rt: HostRuntime) {
+    let mut funcs = sevens(rt.alloc(), 2).expect(&rt, "memory");
+    let f = eight(rt.alloc()).expect(&rt, "memory");
+    replace_first(&rt, rt.alloc(), &mut funcs, f).expect(&rt, "memory");
+    is(&rt, rt.alloc(), &funcs, 0, "i32 8");
+    is(&rt, rt.alloc(), &funcs, 1, "i32 7");
+}

@@ -1,2 +1,0 @@
-//! Records that are read with ids, and types that are written as records.
-mod refusals;

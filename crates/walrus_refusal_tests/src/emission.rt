@@ -1,2 +1,0 @@
-//! Sections that tables are written as.
-mod refusals;

@@ -1,2 +1,0 @@
-//! Explicit groups of the type table.
-mod refusals;

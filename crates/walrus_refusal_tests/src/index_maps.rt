@@ -1,2 +1,0 @@
-//! The maps between indices and ids.
-mod refusals;

@@ -1,2 +1,0 @@
-//! Instructions, locals and constant expressions.
-mod refusals;

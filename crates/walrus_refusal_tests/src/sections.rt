@@ -1,2 +1,0 @@
-//! Reading sections, and their normal form.
-mod refusals;

@@ -1,2 +1,0 @@
-//! The type table.
-mod refusals;

@@ -1,0 +1,12 @@
+use Rattle.std.proofs.Common.{◌≡◌, map, take, drop}
+use Rattle.std.specs.List.{flat_map}
+use Rattle.walrus_ty.specs.{Indices.type_index, Lookups.first_missing, Lookups.value_or_zero, Value.field_names, Value.rename_field}
+use Rattle.walrus_ty.proofs.convert.fields_to.Given as goal
+
+abbrev pub invariant-loop-ty : goal.invariant-loop-ty
+invariant-loop-ty l = record {
+  left : first_missing (type_index l.indices) (flat_map field_names (drop l.ty-index l.types)) ≡ first_missing
+      (type_index l.indices) (flat_map field_names l.types);
+  done : l.records.items ≡ map (rename_field (value_or_zero (type_index l.indices)))
+      (take l.ty-index l.types);
+}

@@ -1,0 +1,105 @@
+-- Laws of code with other indices: there is one result, what stays, and which types are named.
+use Rattle.std.proofs.Common.{◌≡◌, ℕ, List, [], ◌∷◌, ◌++◌, length, map, Option, Some, refl, sym, ap, subst, ◌∙◌}
+use Rattle.std.proofs.lemmas.List.{map-append}
+use Rattle.wasm_module.specs.declared.kind.Kind.{Kind}
+use Rattle.wasm_module.specs.declared.renaming.Widths.{Widths}
+use Rattle.wasm_module.specs.declared.renaming.Widths.TheVariants.{Kept}
+use Rattle.wasm_module.specs.Composition.{AreOwn}
+use Rattle.wasm_module.specs.Immediates.{Token, Begins, index as index_begins, signed_index, Runs, stop, step, type_names}
+use Rattle.wasm_module.specs.Pieces.{Piece, bytes_of, names_in, Turns, unchanged, renumbers, unresized, resizes, joins, unmapped, remaps, retypes}
+use Rattle.wasm_module.specs.Renaming.{NewIndices, new_index, type_maps, least_width, Renames, AreRenamed}
+use Rattle.wasm_module.proofs.Pieces.{one_piece, turns_again}
+use Rattle.wasm_module.proofs.PiecesOfTexts.{HoldsOfMaps, TextsBy, piece_of, pieces, unnamed_piece, pieces_bytes, pieces_names, pieces_hold, still_bytes, texts_again, found_texts}
+use Rattle.wasm_module.proofs.NumberTexts.{text_once, own_width}
+use Rattle.wasm_module.proofs.Tokens.{View, u32_type, s33_type, other, view, token_text}
+
+-- code has no maps
+abbrev Never : List ℕ → Type 0
+Never names = ⊥
+
+-- what names the types of a renamed text
+pub texts_renamed : (m : NewIndices) (w : Widths) (kinds : List Kind) (bytes new : List ℕ) →
+    Renames (type_maps m) (least_width w) kinds bytes new →
+    (names : List ℕ) × TextsBy kinds [] m w bytes new names
+texts_renamed m w kinds bytes new h =
+    (type_names h.tokens, record { naming = record { tokens = h.tokens; are = h.are; named = refl }; renames = h })
+
+pub code_once : (m : NewIndices) (w : Widths) (kinds : List Kind) (bytes a b : List ℕ) →
+    Renames (type_maps m) (least_width w) kinds bytes a →
+    Renames (type_maps m) (least_width w) kinds bytes b → a ≡ b
+code_once m w kinds bytes a b h g =
+    let x = texts_renamed m w kinds bytes a h in
+    let y = texts_renamed m w kinds bytes b g in
+    let f = found_texts Never [] m w kinds bytes a x.0 x.1 in
+    let k = f.is.to [] m w bytes b y.0 y.1 f.part.text_is in
+    sym f.part.new_is
+    ∙ ap bytes_of (one_piece [] m w f.part.piece f.part.becomes k.piece f.part.turns k.turns) ∙ k.new_is
+
+pub code_stays : (first again : NewIndices) → AreOwn first again → (w : Widths) (kinds : List Kind)
+    (bytes new : List ℕ) → Renames (type_maps first) (least_width w) kinds bytes new →
+    Renames (type_maps again) (least_width w) kinds new new
+code_stays first again own w kinds bytes new h =
+    let x = texts_renamed first w kinds bytes new h in
+    let f = found_texts Never [] first w kinds bytes new x.0 x.1 in
+    let p = f.part in
+    let k = f.is_again.from [] again w p.becomes
+    (turns_again first again own [] w p.piece p.becomes p.turns) in
+    subst (λ (u : List ℕ). Renames (type_maps again) (least_width w) kinds u u) p.new_is k.renames
+
+-- ---- the types that are named
+
+names_mapped : (m : NewIndices) (w : Widths) (p q : Piece) → Turns [] m w p q → HoldsOfMaps Never p →
+    map (λ k. new_index m k) (names_in p) ≡ map (λ k. Some k) (names_in q)
+names_mapped m w _ _ (unchanged text) never = refl
+names_mapped m w _ _ (renumbers end k n text new to is) never = ap (λ o. o ∷ []) to
+names_mapped m w _ _ (unresized size p q nameless same h) never = names_mapped m w p q h never
+names_mapped m w _ _ (resizes size new p q some is h) never = names_mapped m w p q h never
+names_mapped m w _ _ (joins p q r s h g) never =
+    map-append (λ k. new_index m k) (names_in p) (names_in q)
+    ∙ ap (λ (u : List (Option ℕ)). u ++ map (λ k. new_index m k) (names_in q)) (names_mapped m w p r h never.0)
+    ∙ ap (λ (u : List (Option ℕ)). map (λ k. Some k) (names_in r) ++ u) (names_mapped m w q s g never.1)
+    ∙ sym (map-append (λ k. Some k) (names_in r) (names_in s))
+names_mapped m w _ _ (unmapped count texts es nothing) never = absurd never
+names_mapped m w _ _ (remaps count texts new news es fs kept some is n a) never = absurd never
+names_mapped m w _ _ (retypes size content new is) never = refl
+
+pub names_follow : (m : NewIndices) (w : Widths) (kinds : List Kind) (bytes new : List ℕ) →
+    Renames (type_maps m) (least_width w) kinds bytes new → AreRenamed m kinds bytes new
+names_follow m w kinds bytes new h =
+    let r = texts_again [] m w kinds bytes h.tokens [] new h.are h.renamed in
+    record {
+      names = type_names h.tokens;
+      new_names = type_names r.tokens;
+      before = record { tokens = h.tokens; are = h.are; named = refl };
+      after = record { tokens = r.tokens; are = r.runs; named = refl };
+      mapped = ap (λ (u : List ℕ). map (λ k. new_index m k) u) (sym (pieces_names h.tokens))
+          ∙ names_mapped m w (pieces h.tokens) (pieces r.tokens) r.turns (pieces_hold Never h.tokens)
+          ∙ ap (λ (u : List ℕ). map (λ k. Some k) u) (pieces_names r.tokens);
+    }
+
+-- ---- the identity
+
+module _ (m : NewIndices) (own : (k n : ℕ) → new_index m k ≡ Some n → n ≡ k) where
+  token_keeps : (k : Kind) (text : List ℕ) (p : Token) (more : List Kind) (q : Piece) → View p →
+      Begins k text p more → Turns [] m Kept (piece_of p) q → bytes_of q ≡ text
+  token_keeps _ _ _ _ _ (u32_type _ _) (index_begins s text k h) (renumbers _ _ n _ new to is) =
+      text_once 0x80 (length text) new text n k is (own_width 0x80 text k h) (own k n to)
+  token_keeps _ _ _ _ _ (s33_type _ _) (signed_index _ text k may h) (renumbers _ _ n _ new to is) =
+      text_once 0x40 (length text) new text n k is (own_width 0x40 text k h) (own k n to)
+  token_keeps k text p more q (other _ unnamed maps) h b =
+      sym (token_text k text p more h
+      ∙ still_bytes [] m Kept _ q (subst (λ (u : Piece). Turns [] m Kept u q) (unnamed_piece p unnamed) b))
+
+  tokens_keep : (kinds : List Kind) (text : List ℕ) (ps : List Token) (left : List Kind) (q : Piece) →
+      Runs kinds text ps left → Turns [] m Kept (pieces ps) q → bytes_of q ≡ text
+  tokens_keep _ _ _ _ _ (stop _) (unchanged _) = refl
+  tokens_keep _ _ _ left _ (step k more kinds _ text others p ps h runs) (joins _ _ r s b bs) =
+      ap (λ (u : List ℕ). u ++ bytes_of s) (token_keeps k text p more r (view p) h b)
+      ∙ ap (λ (u : List ℕ). text ++ u) (tokens_keep (more ++ kinds) others ps left s runs bs)
+
+  pub identity_keeps : (kinds : List Kind) (bytes new : List ℕ) →
+      Renames (type_maps m) (least_width Kept) kinds bytes new → new ≡ bytes
+  identity_keeps kinds bytes new h =
+      let r = texts_again [] m Kept kinds bytes h.tokens [] new h.are h.renamed in
+      sym (pieces_bytes kinds new r.tokens [] r.runs)
+      ∙ tokens_keep kinds bytes h.tokens [] (pieces r.tokens) h.are r.turns

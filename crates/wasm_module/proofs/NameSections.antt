@@ -1,0 +1,180 @@
+-- Custom sections with other indices of types.
+use Rattle.std.proofs.Common.{◌≡◌, ℕ, zero, Bool, true, false, not, List, [], ◌++◌, length, refl, sym, ap, subst, ◌∙◌, append_assoc, append-nil}
+use Rattle.std.specs.Bool.{Decides}
+use Rattle.std.specs.Str.{bytes_eq}
+use Rattle.std.proofs.lemmas.Slice.Eq.{bytes_eq-Decides}
+use Rattle.wasm_binary.specs.Leb128.{IsU32}
+use Rattle.wasm_module.specs.declared.renaming.Widths.{Widths}
+use Rattle.wasm_module.specs.Changes.{Changes, ChangeAll, none, IsMalformed}
+use Rattle.wasm_module.specs.NameSections.{RenamesSubsection, name_bytes, RenamesCustom, name_section, other, FirstSubsectionIn, in_subsection}
+use Rattle.wasm_module.specs.Steps.NameSections.{BeginsNone, TakesSized, BeginsUnsized, IsRenamedUpTo, IsSomeSubsection, BeginsSubsectionIn, begins}
+use Rattle.wasm_module.specs.Renaming.{NewIndices}
+use Rattle.wasm_module.proofs.SizedContents.{same_content}
+use Rattle.wasm_module.proofs.Subsections.{next_subsection}
+
+-- ---- their names
+
+same_by : (b : Bool) {P : Type 0} → Decides b P → false ≡ not b → P
+same_by true d e = d.0 refl
+same_by false d e = absurd cc
+
+other_by : (b : Bool) {P : Type 0} → Decides b P → true ≡ not b → P → ⊥
+other_by true d e p = absurd cc
+other_by false d e p = let k = d.1 p in absurd cc
+
+pub same_bytes : (a b : List ℕ) → false ≡ not (bytes_eq a b) → a ≡ b
+same_bytes a b e = same_by (bytes_eq a b) (bytes_eq-Decides a b) e
+
+pub other_bytes : (a b : List ℕ) → true ≡ not (bytes_eq a b) → a ≡ b → ⊥
+other_bytes a b e = other_by (bytes_eq a b) (bytes_eq-Decides a b) e
+
+-- ---- their subsections
+
+-- the content is a name section whose subsections become others up to `rest`
+pub record IsSectionUpTo (new_indices : NewIndices) (widths : Widths) (content unwritten rest out : List ℕ) :
+    Type 0 where
+  pub size : List ℕ
+  pub is_size : IsU32 size (length name_bytes)
+  pub so_far : IsRenamedUpTo new_indices widths (size ++ name_bytes) content unwritten rest out
+
+pub section_begun : (new_indices : NewIndices) (widths : Widths) (content name rest out : List ℕ) →
+    TakesSized name content rest → name ≡ name_bytes → out ≡ [] →
+    IsSectionUpTo new_indices widths content content rest out
+section_begun new_indices widths content name rest out t e o =
+    let parts : content ≡ (t.size ++ name_bytes) ++ rest = t.parts
+    ∙ ap (λ (u : List ℕ). t.size ++ (u ++ rest)) e ∙ sym (append_assoc t.size name_bytes rest) in
+    record {
+      size = t.size;
+      is_size = subst (λ (u : List ℕ). IsU32 t.size (length u)) e t.is_size;
+      so_far = record {
+        count = zero;
+        texts = [];
+        new = [];
+        names = [];
+        passed = t.size ++ name_bytes;
+        so_far = none;
+        parts = parts;
+        not_written = parts;
+        written = append-nil (t.size ++ name_bytes) ∙ ap (λ (u : List ℕ). u ++ (t.size ++ name_bytes))
+            (sym o);
+        untouched = λ h. refl;
+        nameless = λ h. refl;
+        naming = λ h. o;
+      };
+    }
+
+-- ---- what the whole says
+
+whole_again : (size content rest texts : List ℕ) → rest ≡ [] →
+    content ≡ (size ++ name_bytes) ++ (texts ++ rest) → content ≡ size ++ (name_bytes ++ texts)
+whole_again size content rest texts e p =
+    p ∙ ap (λ (u : List ℕ). (size ++ name_bytes) ++ (texts ++ u)) e
+    ∙ ap (λ (u : List ℕ). (size ++ name_bytes) ++ u) (append-nil texts) ∙ append_assoc size name_bytes texts
+
+section_is : (new_indices : NewIndices) (widths : Widths) (content unwritten rest out : List ℕ) →
+    (s : IsSectionUpTo new_indices widths content unwritten rest out) → rest ≡ [] →
+    RenamesCustom new_indices widths content (s.size ++ (name_bytes ++ s.so_far.new)) s.so_far.names
+section_is new_indices widths content unwritten rest out s e =
+    let u = s.so_far in
+    subst (λ (x : List ℕ). RenamesCustom new_indices widths x (s.size ++ (name_bytes ++ u.new)) u.names)
+    (sym (whole_again s.size content rest u.texts e u.parts))
+    (name_section u.count s.size u.texts u.new u.names s.is_size u.so_far)
+
+pub section_stays : (new_indices : NewIndices) (widths : Widths) (content unwritten rest out : List ℕ) →
+    IsSectionUpTo new_indices widths content unwritten rest out → rest ≡ [] → out ≡ [] →
+    RenamesCustom new_indices widths content content []
+section_stays new_indices widths content unwritten rest out s e o =
+    let u = s.so_far in
+    let passed-is : u.passed ≡ content = sym (append-nil u.passed)
+    ∙ ap (λ (x : List ℕ). u.passed ++ x) (sym e) ∙ sym u.not_written ∙ u.untouched o in
+    let new-is : s.size ++ (name_bytes ++ u.new) ≡ content = sym (append_assoc s.size name_bytes u.new)
+    ∙ u.written ∙ ap (λ (x : List ℕ). x ++ u.passed) o ∙ passed-is in
+    subst (λ (x : List ℕ). RenamesCustom new_indices widths content x []) new-is
+    (subst (λ (x : List ℕ). RenamesCustom new_indices widths content (s.size ++ (name_bytes ++ u.new)) x)
+    (u.nameless o) (section_is new_indices widths content unwritten rest out s e))
+
+pub section_changes : (new_indices : NewIndices) (widths : Widths)
+    (content unwritten rest out final : List ℕ) →
+    IsSectionUpTo new_indices widths content unwritten rest out → rest ≡ [] → (out ≡ [] → ⊥) →
+    final ≡ out ++ unwritten → Changes (RenamesCustom new_indices widths) content final
+section_changes new_indices widths content unwritten rest out final s e some f =
+    let u = s.so_far in
+    let unwritten-is : unwritten ≡ u.passed = u.not_written ∙ ap (λ (x : List ℕ). u.passed ++ x) e
+    ∙ append-nil u.passed in
+    let new-is : s.size ++ (name_bytes ++ u.new) ≡ final = sym (append_assoc s.size name_bytes u.new)
+    ∙ u.written ∙ ap (λ (x : List ℕ). out ++ x) (sym unwritten-is) ∙ sym f in
+    record {
+      names = u.names;
+      becomes = subst (λ (x : List ℕ). RenamesCustom new_indices widths content x u.names) new-is
+          (section_is new_indices widths content unwritten rest out s e);
+      is_naming = λ h. some (u.naming h);
+    }
+
+pub section_first : (new_indices : NewIndices) (widths : Widths) (F : ℕ → List ℕ → Type 0)
+    (content unwritten rest out : List ℕ) → IsSectionUpTo new_indices widths content unwritten rest out →
+    BeginsSubsectionIn F rest → FirstSubsectionIn new_indices widths F content
+section_first new_indices widths F content unwritten rest out s b =
+    let u = s.so_far in
+    subst (λ (x : List ℕ). FirstSubsectionIn new_indices widths F x)
+    (sym (u.parts ∙ append_assoc s.size name_bytes (u.texts ++ rest))) (first rest b)
+  where
+    first : (rest : List ℕ) → BeginsSubsectionIn F rest →
+        FirstSubsectionIn new_indices widths F (s.size ++ (name_bytes ++ (s.so_far.texts ++ rest)))
+    first _ (begins id behind i) =
+        in_subsection s.so_far.count s.size s.so_far.texts behind s.so_far.new s.so_far.names id s.is_size
+        s.so_far.so_far i
+
+-- a name, and what follows it
+record Named (new_indices : NewIndices) (widths : Widths) (content new names : List ℕ) : Type 0 where
+  name : List ℕ
+  follows : List ℕ
+  takes : TakesSized name content follows
+  are : name ≡ name_bytes → (count : ℕ) × (others : List ℕ)
+      × ChangeAll (RenamesSubsection new_indices widths) count follows others names
+
+named : (new_indices : NewIndices) (widths : Widths) (content new names : List ℕ) →
+    RenamesCustom new_indices widths content new names → Named new_indices widths content new names
+named new_indices widths _ _ _ (name_section count size texts new names h c) =
+    record {
+      name = name_bytes;
+      follows = texts;
+      takes = record { size = size; is_size = h; parts = refl };
+      are = λ e. (count, new, c);
+    }
+named new_indices widths _ _ _ (other size bytes follows h not_name) =
+    record {
+      name = bytes;
+      follows = follows;
+      takes = record { size = size; is_size = h; parts = refl };
+      are = λ e. absurd (not_name e);
+    }
+
+pub custom_nameless : (content : List ℕ) → BeginsUnsized content → IsMalformed RenamesCustom content
+custom_nameless content h new_indices widths new names r =
+    let n = named new_indices widths content new names r in h n.name n.follows n.takes
+
+pub custom_other : (new_indices : NewIndices) (widths : Widths) (content name rest : List ℕ) →
+    TakesSized name content rest → (name ≡ name_bytes → ⊥) →
+    RenamesCustom new_indices widths content content []
+custom_other new_indices widths content name rest t e =
+    subst (λ (u : List ℕ). RenamesCustom new_indices widths u u []) (sym t.parts)
+    (other t.size name rest t.is_size e)
+
+pub section_malformed : (old_indices : NewIndices) (old_widths : Widths)
+    (content unwritten rest out : List ℕ) →
+    IsSectionUpTo old_indices old_widths content unwritten rest out → (rest ≡ [] → ⊥) →
+    BeginsNone IsSomeSubsection rest → IsMalformed RenamesCustom content
+section_malformed old_indices old_widths content unwritten rest out s some h new_indices widths new names r =
+    let u = s.so_far in
+    let n = named new_indices widths content new names r in
+    let it : TakesSized name_bytes content (u.texts ++ rest) = record {
+      size = s.size;
+      is_size = s.is_size;
+      parts = u.parts ∙ append_assoc s.size name_bytes (u.texts ++ rest);
+    } in
+    let same = same_content content name_bytes (u.texts ++ rest) n.name n.follows it n.takes in
+    let a = n.are (sym same.0) in
+    let k = next_subsection old_indices new_indices old_widths widths u.count a.0 u.texts u.new u.names
+    n.follows a.1
+    names rest u.so_far a.2 same.1 some in
+    h k.0 k.1

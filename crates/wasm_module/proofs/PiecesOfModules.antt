@@ -1,0 +1,272 @@
+-- The pieces of modules: there is one result, and what was renamed stays where each new index is its
+-- own.
+use Rattle.std.proofs.Common.{◌≡◌, ℕ, List, [], ◌∷◌, ◌++◌, length, refl, sym, ap, subst, ◌∙◌}
+use Rattle.std.proofs.lemmas.List.{append_cancel_left, length-map}
+use Rattle.wasm_binary.specs.Leb128.{IsU32}
+use Rattle.wasm_binary.specs.Modules.{Section, ids, IsModule, header}
+use Rattle.wasm_binary.proofs.Modules.Uniqueness.{one_module}
+use Rattle.wasm_module.specs.declared.renaming.Widths.{Widths}
+use Rattle.wasm_module.specs.Changes.{ChangesSized, ChangeAll}
+use Rattle.wasm_module.specs.Composition.{AreOwn}
+use Rattle.wasm_module.specs.CustomNames.{NamesInCustom, NamesInCustoms}
+use Rattle.wasm_module.specs.Pieces.{Piece, types, bytes_of, names_in, Turns, retypes}
+use Rattle.wasm_module.specs.RenamedModules.{RenamesAny, RenamesSection, RenamesModule}
+use Rattle.wasm_module.specs.RenamedModules.RenamesAny.{custom, other as other_content}
+use Rattle.wasm_module.specs.RenamedModules.RenamesSection.{type_section, other as other_section}
+use Rattle.wasm_module.specs.Renaming.{NewIndices, IsTextOf}
+use Rattle.wasm_module.proofs.ModuleLaws.{have_same_ids}
+use Rattle.wasm_module.proofs.NamingCustoms.{ChangesNaming, sized_naming, CustomNaming, module_naming}
+use Rattle.wasm_module.proofs.Pieces.{one_piece, turns_again}
+use Rattle.wasm_module.proofs.PiecesOfNames.{Opened, found_behind, Divides, CustomBy, found_custom}
+use Rattle.wasm_module.proofs.SizedContents.{same_content}
+use Rattle.wasm_module.proofs.SameTexts.{taken}
+use Rattle.wasm_module.proofs.PiecesOfTexts.{Changing, Writes, ReadsFirst, IsWhole, IsItem, Found, HoldsOfMaps}
+use Rattle.wasm_module.proofs.PiecesOfContents.{WithSize, InTurn, ContentBy, found_as, found_sized, found_all, found_content}
+use Rattle.wasm_module.proofs.OwnEntries.{all_from}
+
+-- ---- contents of sections
+
+abbrev AnyBy : ℕ → Changing
+AnyBy id t m w = RenamesAny id m w
+
+module _ (id : ℕ) (t : List ℕ) (m : NewIndices) (w : Widths) (text new names : List ℕ) where
+  of_custom : id ≡ 0 → AnyBy id t m w text new names → CustomBy t m w text new names
+  of_custom is (custom _ _ _ is' h) = h
+  of_custom is (other_content _ _ _ fails h) = absurd (fails is)
+
+  of_other : (id ≡ 0 → ⊥) → AnyBy id t m w text new names → ContentBy id t m w text new names
+  of_other fails (custom _ _ _ is h) = absurd (fails is)
+  of_other fails (other_content _ _ _ fails' h) = h
+
+-- ---- sections
+
+-- the type section behind its id
+data RenamesTypes (t : List ℕ) : List ℕ → List ℕ → List ℕ → Type 0 where
+  sized_types :
+      (size content new_size : List ℕ) → IsU32 size (length content)
+      → IsTextOf 0x80 0 new_size (length t) → RenamesTypes t (size ++ content) (new_size ++ t) []
+
+abbrev TypesBy : Changing
+TypesBy t m w = RenamesTypes t
+
+module _ (size content : List ℕ) (h : IsU32 size (length content)) where
+  types_to : ReadsFirst TypesBy (types size content)
+  types_to t m w _ _ _ r s (sized_types size' content' new_size h' n) e =
+      let c = same_content ((size ++ content) ++ r) content r content' s (taken size content r _ h refl)
+      (taken size' content' s _ h' e) in (
+        record {
+          piece = types new_size t;
+          turns = retypes size content new_size n;
+          new_is = refl;
+          names_are = refl;
+        },
+        c.1,
+      )
+
+  types_from : Writes TypesBy (types size content)
+  types_from t m w _ (retypes _ _ new_size n) = sized_types size content new_size h n
+
+  item_types : IsItem TypesBy (types size content)
+  item_types = record { to = types_to; from = types_from }
+
+abbrev SectionBy : Changing
+SectionBy t m w = RenamesSection t m w
+
+open_types : (t : List ℕ) (m : NewIndices) (w : Widths) (text new names : List ℕ) →
+    SectionBy t m w text new names → Opened TypesBy 1 t m w text new names
+open_types t m w _ _ _ (type_section size content new_size h n) =
+    record {
+      first = 1;
+      behind = size ++ content;
+      new_behind = new_size ++ t;
+      parts = refl;
+      new_parts = λ e. refl;
+      becomes = λ e. sized_types size content new_size h n;
+    }
+open_types t m w _ _ _ (other_section id text new names fails h) =
+    record {
+      first = id;
+      behind = text;
+      new_behind = new;
+      parts = refl;
+      new_parts = λ e. absurd (fails (sym e));
+      becomes = λ e. absurd (fails (sym e));
+    }
+
+close_types : (t : List ℕ) (m : NewIndices) (w : Widths) (text new names : List ℕ) →
+    TypesBy t m w text new names → SectionBy t m w (1 ∷ text) (1 ∷ new) names
+close_types t m w _ _ _ (sized_types size content new_size h n) = type_section size content new_size h n
+
+open_section : (id : ℕ) → (id ≡ 1 → ⊥) → (t : List ℕ) (m : NewIndices) (w : Widths)
+    (text new names : List ℕ) → SectionBy t m w text new names →
+    Opened (WithSize (AnyBy id)) id t m w text new names
+open_section id fails t m w _ _ _ (type_section size content new_size h n) =
+    record {
+      first = 1;
+      behind = size ++ content;
+      new_behind = new_size ++ t;
+      parts = refl;
+      new_parts = λ e. absurd (fails e);
+      becomes = λ e. absurd (fails e);
+    }
+open_section id fails t m w _ _ _ (other_section id' text new names fails' h) =
+    record {
+      first = id';
+      behind = text;
+      new_behind = new;
+      parts = refl;
+      new_parts = λ e. ap (λ k. k ∷ new) e;
+      becomes = λ e. subst (λ k. ChangesSized w (RenamesAny k m w) text new names) (sym e) h;
+    }
+
+module _ (P : List ℕ → Type 0) (divides : Divides P) (t : List ℕ) (m : NewIndices) (w : Widths) where
+  found_any : (id : ℕ) (text new names : List ℕ) → AnyBy id t m w text new names → (id ≡ 0 → P names) →
+      Found (IsWhole (AnyBy id)) P t m w text new names
+  found_any id text new names (custom _ _ _ is h) holds =
+      found_as P t m w CustomBy (AnyBy id)
+      (λ t m w a b ns. ((λ k. custom a b ns is k), (λ k. of_custom id t m w a b ns is k))) text new names
+      (found_custom P divides t m w text new names h (holds is))
+  found_any id text new names (other_content _ _ _ fails h) holds =
+      found_as P t m w (ContentBy id) (AnyBy id)
+      (λ t m w a b ns. ((λ k. other_content a b ns fails k), (λ k. of_other id t m w a b ns fails k))) text
+      new names (found_content P t m w id text new names h)
+
+  found_section : (text new names : List ℕ) → SectionBy t m w text new names →
+      ((rest : List ℕ) → text ≡ 0 ∷ rest → P names) → Found (IsItem SectionBy) P t m w text new names
+  found_section _ _ _ (type_section size content new_size h n) holds =
+      found_behind TypesBy SectionBy 1 open_types close_types P t m w (size ++ content) (new_size ++ t) []
+      (record {
+        part = record {
+          piece = types size content;
+          becomes = types new_size t;
+          turns = retypes size content new_size n;
+          text_is = refl;
+          new_is = refl;
+          names_are = refl;
+          holds = tt;
+        };
+        is = item_types size content h;
+        is_again = item_types new_size t n.is_text;
+      })
+  found_section _ _ _ (other_section id text new names fails h) holds =
+      let Q : List ℕ → Type 0 = λ u. id ≡ 0 → P u in
+      found_behind (WithSize (AnyBy id)) SectionBy id (open_section id fails)
+      (λ t m w text new names k. other_section id text new names fails k) P t m w text new names
+      (found_sized P t m w (AnyBy id) (ChangesNaming Q (RenamesAny id m w))
+      (λ text new names k. found_any id text new names k.becomes k.holds) text new names
+      (sized_naming w Q (RenamesAny id m w) text new names h
+      (λ is. holds text (ap (λ k. k ∷ text) is))))
+
+-- ---- modules
+
+-- as many sections
+as_many : (a b : List Section) → ids a ≡ ids b → length a ≡ length b
+as_many a b e =
+    sym (length-map a (λ (s : Section). s.id)) ∙ ap (λ (u : List ℕ). length u) e
+    ∙ length-map b (λ (s : Section). s.id)
+
+-- the module has this piece behind its header
+pub record HasPiece (bytes : List ℕ) (p : Piece) : Type 0 where
+  pub to :
+      (t : List ℕ) (m : NewIndices) (w : Widths) (new : List ℕ) → RenamesModule t m w bytes new
+      → (q : Piece) × Turns t m w p q × (header ++ bytes_of q ≡ new)
+  pub from :
+      (t : List ℕ) (m : NewIndices) (w : Widths) (q : Piece) → Turns t m w p q
+      → RenamesModule t m w bytes (header ++ bytes_of q)
+
+has_piece : (bytes : List ℕ) (sections : List Section) (p : Piece) → IsModule bytes sections →
+    bytes ≡ header ++ bytes_of p → IsItem (InTurn (length sections) SectionBy) p → HasPiece bytes p
+has_piece bytes sections p is_module parts is =
+    record {
+      to = λ t m w new r. (
+          let many : length r.sections ≡ length sections =
+          ap (λ (u : List Section). length u) (one_module bytes r.sections sections r.is_module is_module) in
+          let texts-are : bytes_of p ≡ r.texts = append_cancel_left header (bytes_of p) r.texts
+          (sym parts ∙ r.parts) in
+          let k = is.to t m w r.texts r.new_texts r.names [] []
+          (subst (λ n. ChangeAll (RenamesSection t m w) n r.texts r.new_texts r.names) many r.renames)
+          (ap (λ (u : List ℕ). u ++ []) texts-are) in
+          (k.0.piece, k.0.turns, ap (λ (u : List ℕ). header ++ u) k.0.new_is ∙ sym r.new_parts));
+      from = λ t m w q h. record {
+        sections = sections;
+        is_module = is_module;
+        texts = bytes_of p;
+        new_texts = bytes_of q;
+        names = names_in p;
+        parts = parts;
+        new_parts = refl;
+        renames = is.from t m w q h;
+      };
+    }
+
+-- the pieces of a module and of what it becomes
+pub record ModulePieces (P : List ℕ → Type 0) (t : List ℕ) (m : NewIndices) (w : Widths)
+    (bytes new : List ℕ) : Type 0 where
+  pub piece : Piece
+  pub becomes : Piece
+  pub has : HasPiece bytes piece
+  pub has_again : HasPiece new becomes
+  pub turns : Turns t m w piece becomes
+  pub new_is : header ++ bytes_of becomes ≡ new
+  pub holds : HoldsOfMaps P piece
+
+pub module_pieces : (P : List ℕ → Type 0) → Divides P → (t : List ℕ) (m : NewIndices) (w : Widths)
+    (bytes new : List ℕ) → RenamesModule t m w bytes new → NamesInCustoms P bytes →
+    ModulePieces P t m w bytes new
+module_pieces P divides t m w bytes new r among =
+    let h = have_same_ids t m w bytes new r in
+    let old : h.sections ≡ r.sections = one_module bytes h.sections r.sections h.before r.is_module in
+    let many : length r.sections ≡ length h.new_sections =
+    sym (as_many h.new_sections r.sections (h.same ∙ ap ids old)) in
+    let f = found_all P t m w SectionBy (CustomNaming P t m w)
+    (λ text next names k. found_section P divides t m w text next names k.becomes k.holds)
+    (length r.sections) r.texts r.new_texts r.names (module_naming P t m w bytes new r among) in
+    let p = f.part in
+    record {
+      piece = p.piece;
+      becomes = p.becomes;
+      has = has_piece bytes r.sections p.piece r.is_module
+          (r.parts ∙ ap (λ (u : List ℕ). header ++ u) (sym p.text_is)) f.is;
+      has_again = has_piece new h.new_sections p.becomes h.after
+          (r.new_parts ∙ ap (λ (u : List ℕ). header ++ u) (sym p.new_is))
+          (subst (λ n. IsItem (InTurn n SectionBy) p.becomes) many f.is_again);
+      turns = p.turns;
+      new_is = ap (λ (u : List ℕ). header ++ u) p.new_is ∙ sym r.new_parts;
+      holds = p.holds;
+    }
+
+-- ---- laws
+
+abbrev pub Nothing : List ℕ → Type 0
+Nothing names = Unit {0}
+
+-- what holds of all types holds of those that custom sections name
+pub module_over : (P : List ℕ → Type 0) → ((names : List ℕ) → P names) → (t : List ℕ) (m : NewIndices)
+    (w : Widths) (bytes new : List ℕ) → RenamesModule t m w bytes new → NamesInCustoms P bytes
+module_over P holds t m w bytes new r =
+    record {
+      sections = r.sections;
+      is_module = r.is_module;
+      are = all_from (λ (s : Section). s.id ≡ 0 → NamesInCustom P s.content) r.sections
+          (λ s there is indices others next names changed. holds names);
+    }
+
+any_pieces : (t : List ℕ) (m : NewIndices) (w : Widths) (bytes new : List ℕ) →
+    RenamesModule t m w bytes new → ModulePieces Nothing t m w bytes new
+any_pieces t m w bytes new r =
+    module_pieces Nothing (λ names more k. (tt, tt)) t m w bytes new r
+    (module_over Nothing (λ names. tt) t m w bytes new r)
+
+pub renamed_once : (t : List ℕ) (m : NewIndices) (w : Widths) (bytes a b : List ℕ) →
+    RenamesModule t m w bytes a → RenamesModule t m w bytes b → a ≡ b
+renamed_once t m w bytes a b h g =
+    let f = any_pieces t m w bytes a h in
+    let k = f.has.to t m w b g in
+    sym f.new_is ∙ ap (λ u. header ++ bytes_of u) (one_piece t m w f.piece f.becomes k.0 f.turns k.1) ∙ k.2
+
+pub module_stays : (first again : NewIndices) → AreOwn first again → (w : Widths)
+    (t bytes new : List ℕ) → RenamesModule t first w bytes new → RenamesModule t again w new new
+module_stays first again own w t bytes new r =
+    let f = any_pieces t first w bytes new r in
+    subst (λ (u : List ℕ). RenamesModule t again w new u) f.new_is
+    (f.has_again.from t again w f.becomes (turns_again first again own t w f.piece f.becomes f.turns))

@@ -1,0 +1,393 @@
+-- The pieces of maps from types, of their subsections, and of contents of custom sections.
+use Rattle.std.proofs.Common.{◌≡◌, ℕ, suc, List, [], ◌∷◌, ◌++◌, length, refl, sym, ap, subst, ◌∙◌, arith, append-nil}
+use Rattle.std.specs.List.{Contains}
+use Rattle.std.proofs.lemmas.List.{append_cancel_right}
+use Rattle.wasm_binary.specs.Grammar.{AreItems, none, next}
+use Rattle.wasm_binary.specs.Leb128.{IsU32}
+use Rattle.wasm_module.specs.declared.renaming.Widths.{Widths}
+use Rattle.wasm_module.specs.Changes.{ChangesSized, ChangeAll}
+use Rattle.wasm_module.specs.Changes.ChangeAll.{none as no_change, next as next_change}
+use Rattle.wasm_module.specs.NameSections.{TypeEntry, type_entry, IsEntry, entry, AreKept, IsName, IsNameMap, IsNewEntry, renumbered, RenamesMap, empty, entries, RenamesNames, type_names, field_names, RenamesSubsection, subsection, name_bytes, RenamesCustom, name_section}
+use Rattle.wasm_module.specs.NameSections.RenamesCustom.{other as other_name}
+use Rattle.wasm_module.specs.NameSections.RenamesNames.{others as other_names}
+use Rattle.wasm_module.specs.Pieces.{Piece, still, joined, mapped, bytes_of, names_in, AreWritten, unchanged, joins, unmapped, remaps}
+use Rattle.wasm_module.specs.Pieces.AreWritten.{none as none_written, next as next_written}
+use Rattle.wasm_module.specs.Renaming.{NewIndices, least_width, IsTextOf}
+use Rattle.wasm_module.proofs.NameMaps.{name_free, name_map_free}
+use Rattle.wasm_module.proofs.NamingCustoms.{ChangesNaming, sized_naming}
+use Rattle.wasm_module.proofs.Pieces.{written_indices}
+use Rattle.wasm_module.proofs.SizedContents.{same_content}
+use Rattle.wasm_module.proofs.TextItems.{IsPrefixFree}
+use Rattle.wasm_module.proofs.Entries.{Kept, first_in, later_in, no_entries_counted, entries_counted_once}
+use Rattle.wasm_module.proofs.SameTexts.{same_first, same_later, named}
+use Rattle.wasm_module.proofs.PiecesOfTexts.{Changing, Fits, Writes, Reads, ReadsFirst, IsWhole, IsItem, Found, StaysAsItIs, stays_by, fits_still, fits_both}
+use Rattle.wasm_module.proofs.PiecesOfContents.{WithSize, found_as, part_still, part_both, found_still, found_sized}
+use Rattle.wasm_module.proofs.OwnEntries.{indices_of, found_long, follows_in}
+use Rattle.wasm_module.proofs.EntriesInTurn.{least_in}
+
+-- ---- entries
+
+as_written : (w : Widths) (texts : List ℕ) (kept : Kept) → AreItems (IsNewEntry w) texts kept →
+    (es : List TypeEntry) × AreWritten w kept texts es
+as_written w _ _ none = ([], none_written)
+as_written w _ _ (next _ others _ ps (renumbered new n e is) hs) =
+    let r = as_written w others ps hs in (
+      type_entry n (length new) e.follows ∷ r.0,
+      next_written n e new ps others r.0 is r.1,
+    )
+
+as_items : (w : Widths) (kept : Kept) (texts : List ℕ) (es : List TypeEntry) → AreWritten w kept texts es →
+    AreItems (IsNewEntry w) texts kept
+as_items w _ _ _ none_written = none
+as_items w _ _ _ (next_written n e new kept texts es is h) =
+    next (new ++ e.follows) texts (n, e) kept (renumbered new n e is) (as_items w kept texts es h)
+
+module _ (Follows : List ℕ → Type 0) where
+  -- what was written are entries again
+  as_entries : (w : Widths) (kept : Kept) (texts : List ℕ) (es : List TypeEntry) →
+      AreWritten w kept texts es → ((n : ℕ) (e : TypeEntry) → Contains kept (n, e) → Follows e.follows) →
+      AreItems (IsEntry Follows) texts es
+  as_entries w _ _ _ none_written f = none
+  as_entries w _ _ _ (next_written n e new kept texts es is h) f =
+      next (new ++ e.follows) texts (type_entry n (length new) e.follows) es
+      (entry new e.follows n is.is_text (f n e (first_in (n, e) kept)))
+      (as_entries w kept texts es h (λ k g there. f k g (later_in (n, e) (k, g) kept there)))
+
+  -- ---- maps
+
+  abbrev MapBy : Changing
+  MapBy t m w = RenamesMap Follows m w
+
+  empty_map : (m : NewIndices) (w : Widths) (count texts : List ℕ) (es : List TypeEntry) →
+      IsU32 count (length es) → AreItems (IsEntry Follows) texts es → es ≡ [] →
+      RenamesMap Follows m w (count ++ texts) (count ++ texts) (indices_of es)
+  empty_map m w count _ _ h none e =
+      subst (λ (u : List ℕ). RenamesMap Follows m w u u []) (sym (append-nil count)) (empty count h)
+  empty_map m w count _ _ h (next text others x xs k ks) e = absurd cc
+
+  module _ (free : IsPrefixFree Follows) where
+    module _ (count texts : List ℕ) (es : List TypeEntry) (h : IsU32 count (length es))
+        (are : AreItems (IsEntry Follows) texts es) where
+      map_to : Reads MapBy (mapped count texts es)
+      map_to t m w _ _ _ (empty count' h') e =
+          let nothing : es ≡ [] = no_entries_counted count' count texts es h' h (sym e) in
+          record {
+            piece = mapped count texts es;
+            turns = unmapped count texts es nothing;
+            new_is = e;
+            names_are = sym (ap indices_of nothing);
+          }
+      map_to t m w _ _ _ (entries count' texts' new_count news es' kept h' are' some is n written) e =
+          let c = entries_counted_once Follows free count texts count' texts' es es' h h' are are' e in
+          let one : count ≡ count' = append_cancel_right count count' texts
+          (e ∙ ap (λ (u : List ℕ). count' ++ u) (sym c.1)) in
+          let a = as_written w news kept written in
+          record {
+            piece = mapped new_count news a.0;
+            turns =
+                remaps count texts new_count news es a.0 kept (λ u. some (sym c.0 ∙ u))
+                (subst (λ (u : List TypeEntry). AreKept m u kept) (sym c.0) is)
+                (subst (λ (u : List ℕ). IsTextOf 0x80 (least_width w (length u)) new_count (length kept))
+                (sym one) n) a.1;
+            new_is = refl;
+            names_are = ap indices_of (sym c.0);
+          }
+
+      map_from : Writes MapBy (mapped count texts es)
+      map_from t m w _ (unmapped _ _ _ nothing) = empty_map m w count texts es h are nothing
+      map_from t m w _ (remaps _ _ new_count news _ fs kept some is n a) =
+          entries count texts new_count news es kept h are some is n (as_items w kept news fs a)
+
+      whole_map : IsWhole MapBy (mapped count texts es)
+      whole_map = record { to = map_to; from = map_from }
+
+    found_map : (P : List ℕ → Type 0) (t : List ℕ) (m : NewIndices) (w : Widths) (text new names : List ℕ) →
+        MapBy t m w text new names → P names → Found (IsWhole MapBy) P t m w text new names
+    found_map P t m w _ _ _ (empty count h) holds =
+        record {
+          part = record {
+            piece = mapped count [] [];
+            becomes = mapped count [] [];
+            turns = unmapped count [] [] refl;
+            text_is = append-nil count;
+            new_is = append-nil count;
+            names_are = refl;
+            holds = holds;
+          };
+          is = whole_map count [] [] h none;
+          is_again = whole_map count [] [] h none;
+        }
+    found_map P t m w _ _ _ (entries count texts new_count news es kept h are some is n written) holds =
+        let a = as_written w news kept written in
+        let long : length kept ≡ length a.0 = sym (found_long a.0 kept (written_indices w kept news a.0 a.1)) in
+        record {
+          part = record {
+            piece = mapped count texts es;
+            becomes = mapped new_count news a.0;
+            turns = remaps count texts new_count news es a.0 kept some is n a.1;
+            text_is = refl;
+            new_is = refl;
+            names_are = refl;
+            holds = holds;
+          };
+          is = whole_map count texts es h are;
+          is_again = whole_map new_count news a.0 (subst (λ k. IsU32 new_count k) long n.is_text)
+              (as_entries w kept news a.0 a.1
+              (λ k e there. follows_in Follows texts es are e (least_in m es e (is.are_least k e there).1)));
+        }
+
+-- ---- contents of subsections
+
+abbrev NamesBy : ℕ → Changing
+NamesBy id t m w = RenamesNames id m w
+
+module _ (id : ℕ) (t : List ℕ) (m : NewIndices) (w : Widths) where
+  of_type_names : (text new names : List ℕ) → id ≡ 4 → NamesBy id t m w text new names →
+      RenamesMap IsName m w text new names
+  of_type_names text new names is (type_names _ _ _ is' h) = h
+  of_type_names text new names is (field_names _ _ _ is' h) = absurd (omega (arith, is, is'))
+  of_type_names text _ _ is (other_names _ fails lacks) = absurd (fails is)
+
+  of_field_names : (text new names : List ℕ) → id ≡ 10 → NamesBy id t m w text new names →
+      RenamesMap IsNameMap m w text new names
+  of_field_names text new names is (type_names _ _ _ is' h) = absurd (omega (arith, is, is'))
+  of_field_names text new names is (field_names _ _ _ is' h) = h
+  of_field_names text _ _ is (other_names _ fails lacks) = absurd (lacks is)
+
+  of_others : (text new names : List ℕ) → (id ≡ 4 → ⊥) → (id ≡ 10 → ⊥) → NamesBy id t m w text new names →
+      StaysAsItIs t m w text new names
+  of_others text new names fails lacks (type_names _ _ _ is h) = absurd (fails is)
+  of_others text new names fails lacks (field_names _ _ _ is h) = absurd (lacks is)
+  of_others text _ _ fails lacks (other_names _ fails' lacks') = (refl, refl)
+
+-- ---- a text behind a byte
+
+-- the first byte, and what is behind it where the byte is this one
+pub record Opened (C : Changing) (id : ℕ) (t : List ℕ) (m : NewIndices) (w : Widths)
+    (text new names : List ℕ) : Type 0 where
+  pub first : ℕ
+  pub behind : List ℕ
+  pub new_behind : List ℕ
+  pub parts : text ≡ first ∷ behind
+  pub new_parts : id ≡ first → id ∷ new_behind ≡ new
+  pub becomes : id ≡ first → C t m w behind new_behind names
+
+module _ (C D : Changing) (id : ℕ)
+    (opens : (t : List ℕ) (m : NewIndices) (w : Widths) (text new names : List ℕ) → D t m w text new names →
+    Opened C id t m w text new names)
+    (closes : (t : List ℕ) (m : NewIndices) (w : Widths) (text new names : List ℕ) →
+    C t m w text new names → D t m w (id ∷ text) (id ∷ new) names) where
+  abbrev behind_id : Piece → Piece
+  behind_id p = joined (still (id ∷ [])) p
+
+  module _ (p : Piece) (is : IsItem C p) where
+    behind_to : ReadsFirst D (behind_id p)
+    behind_to t m w text new names r s h e =
+        let o = opens t m w text new names h in
+        let bytes : id ∷ (bytes_of p ++ r) ≡ o.first ∷ (o.behind ++ s) =
+        e ∙ ap (λ (u : List ℕ). u ++ s) o.parts in
+        let one = same_first id o.first (bytes_of p ++ r) (o.behind ++ s) bytes in
+        let k = is.to t m w o.behind o.new_behind names r s (o.becomes one)
+        (same_later id o.first (bytes_of p ++ r) (o.behind ++ s) bytes) in
+        let f : Fits t m w (behind_id p) (id ∷ o.new_behind) names =
+        fits_both t m w (still (id ∷ [])) p (id ∷ []) o.new_behind [] names
+        (fits_still t m w (id ∷ []) (id ∷ []) refl) k.0 in
+        (subst (λ (u : List ℕ). Fits t m w (behind_id p) u names) (o.new_parts one) f, k.1)
+
+    behind_from : Writes D (behind_id p)
+    behind_from t m w _ (joins _ _ _ q (unchanged _) k) =
+        closes t m w (bytes_of p) (bytes_of q) (names_in p) (is.from t m w q k)
+
+    item_behind : IsItem D (behind_id p)
+    item_behind = record { to = behind_to; from = behind_from }
+
+  pub found_behind : (P : List ℕ → Type 0) (t : List ℕ) (m : NewIndices) (w : Widths)
+      (text new names : List ℕ) → Found (IsItem C) P t m w text new names →
+      Found (IsItem D) P t m w (id ∷ text) (id ∷ new) names
+  found_behind P t m w text new names f =
+      record {
+        part = part_both P t m w (id ∷ []) (id ∷ []) [] text new names (part_still P t m w (id ∷ [])) f.part;
+        is = item_behind f.part.piece f.is;
+        is_again = item_behind f.part.becomes f.is_again;
+      }
+
+-- ---- subsections
+
+abbrev SubsectionBy : Changing
+SubsectionBy t m w = RenamesSubsection m w
+
+open_subsection : (id : ℕ) (t : List ℕ) (m : NewIndices) (w : Widths) (text new names : List ℕ) →
+    SubsectionBy t m w text new names → Opened (WithSize (NamesBy id)) id t m w text new names
+open_subsection id t m w _ _ _ (subsection id' text new names h) =
+    record {
+      first = id';
+      behind = text;
+      new_behind = new;
+      parts = refl;
+      new_parts = λ e. ap (λ k. k ∷ new) e;
+      becomes = λ e. subst (λ k. ChangesSized w (RenamesNames k m w) text new names) (sym e) h;
+    }
+
+-- some bytes are in front
+abbrev Begins : List ℕ → Type 0
+Begins text = (rest : List ℕ) → [] ≡ text ++ rest → ⊥
+
+begins : (t : List ℕ) (m : NewIndices) (w : Widths) (text new names : List ℕ) →
+    SubsectionBy t m w text new names → Begins text × Begins new
+begins t m w _ _ _ (subsection id text new names h) = ((λ rest e. absurd cc), (λ rest e. absurd cc))
+
+-- any number of them
+abbrev SeveralBy : Changing
+SeveralBy t m w text new names = (count : ℕ) × ChangeAll (RenamesSubsection m w) count text new names
+
+none_to : (t : List ℕ) (m : NewIndices) (w : Widths) (count : ℕ) (text new names : List ℕ) →
+    ChangeAll (RenamesSubsection m w) count text new names → [] ≡ text → Fits t m w (still []) new names
+none_to t m w _ _ _ _ no_change e = fits_still t m w [] [] refl
+none_to t m w _ _ _ _ (next_change count text others new news names more h hs) e =
+    absurd ((begins t m w text new names h).0 others e)
+
+none_from : Writes SeveralBy (still [])
+none_from t m w _ (unchanged _) = (0, no_change)
+
+several_none : IsWhole SeveralBy (still [])
+several_none =
+    record { to = λ t m w text new names h e. none_to t m w h.0 text new names h.1 e; from = none_from }
+
+module _ (p q : Piece) (is : IsItem SubsectionBy p) (some : Begins (bytes_of p)) (are : IsWhole SeveralBy q)
+  where
+    next_to : (t : List ℕ) (m : NewIndices) (w : Widths) (count : ℕ) (text new names : List ℕ) →
+        ChangeAll (RenamesSubsection m w) count text new names → bytes_of p ++ bytes_of q ≡ text →
+        Fits t m w (joined p q) new names
+    next_to t m w _ _ _ _ no_change e = absurd (some (bytes_of q) (sym e))
+    next_to t m w _ _ _ _ (next_change count text others new news names more h hs) e =
+        let a = is.to t m w text new names (bytes_of q) others h e in
+        fits_both t m w p q new news names more a.0 (are.to t m w others news more (count, hs) a.1)
+
+    next_from : Writes SeveralBy (joined p q)
+    next_from t m w _ (joins _ _ r s h g) =
+        let k = are.from t m w s g in (
+          suc k.0,
+          next_change k.0 (bytes_of p) (bytes_of q) (bytes_of r) (bytes_of s) (names_in p) (names_in q)
+              (is.from t m w r h) k.1,
+        )
+
+    several_next : IsWhole SeveralBy (joined p q)
+    several_next =
+        record { to = λ t m w text new names h e. next_to t m w h.0 text new names h.1 e; from = next_from }
+
+-- ---- custom sections
+
+abbrev pub CustomBy : Changing
+CustomBy t m w = RenamesCustom m w
+
+module _ (size : List ℕ) (p : Piece) (h : IsU32 size (length name_bytes)) (are : IsWhole SeveralBy p) where
+  abbrev section_names : Piece
+  section_names = joined (still size) (joined (still name_bytes) p)
+
+  section_to : Reads CustomBy section_names
+  section_to t m w _ _ _ (name_section count size' text new names h' hs) e =
+      let c = same_content (size ++ (name_bytes ++ bytes_of p)) name_bytes (bytes_of p) name_bytes text
+      (named size name_bytes (bytes_of p) _ h refl) (named size' name_bytes text _ h' e) in
+      let one : size ≡ size' = append_cancel_right size size' (name_bytes ++ bytes_of p)
+      (e ∙ ap (λ (u : List ℕ). size' ++ (name_bytes ++ u)) (sym c.1)) in
+      fits_both t m w (still size) (joined (still name_bytes) p) size' (name_bytes ++ new) [] names
+      (fits_still t m w size size' one)
+      (fits_both t m w (still name_bytes) p name_bytes new [] names
+      (fits_still t m w name_bytes name_bytes refl) (are.to t m w text new names (count, hs) c.1))
+  section_to t m w _ _ _ (other_name size' bytes follows h' different) e =
+      let c = same_content (size ++ (name_bytes ++ bytes_of p)) name_bytes (bytes_of p) bytes follows
+      (named size name_bytes (bytes_of p) _ h refl) (named size' bytes follows _ h' e) in
+      absurd (different (sym c.0))
+
+  section_from : Writes CustomBy section_names
+  section_from t m w _ (joins _ _ _ _ (unchanged _) (joins _ _ _ q (unchanged _) k)) =
+      let s = are.from t m w q k in name_section s.0 size (bytes_of p) (bytes_of q) (names_in p) h s.1
+
+  whole_section : IsWhole CustomBy section_names
+  whole_section = record { to = section_to; from = section_from }
+
+module _ (size bytes follows : List ℕ) (h : IsU32 size (length bytes)) (different : bytes ≡ name_bytes → ⊥)
+  where
+    abbrev whole_text : List ℕ
+    whole_text = size ++ (bytes ++ follows)
+
+    other_to : Reads CustomBy (still whole_text)
+    other_to t m w _ _ _ (name_section count size' text new names h' hs) e =
+        let c = same_content whole_text bytes follows name_bytes text (named size bytes follows _ h refl)
+        (named size' name_bytes text _ h' e) in
+        absurd (different c.0)
+    other_to t m w _ _ _ (other_name size' bytes' follows' h' different') e =
+        fits_still t m w whole_text (size' ++ (bytes' ++ follows')) e
+
+    other_from : Writes CustomBy (still whole_text)
+    other_from t m w _ (unchanged _) = other_name size bytes follows h different
+
+    whole_other : IsWhole CustomBy (still whole_text)
+    whole_other = record { to = other_to; from = other_from }
+
+-- ---- the pieces of what becomes something
+
+-- what holds of these types holds of the first and of the others
+abbrev pub Divides : (List ℕ → Type 0) → Type 0
+Divides P = (names more : List ℕ) → P (names ++ more) → P names × P more
+
+module _ (P : List ℕ → Type 0) (divides : Divides P) (t : List ℕ) (m : NewIndices) (w : Widths) where
+  found_names : (id : ℕ) (text new names : List ℕ) → NamesBy id t m w text new names → P names →
+      Found (IsWhole (NamesBy id)) P t m w text new names
+  found_names id text new names (type_names _ _ _ is h) holds =
+      found_as P t m w (MapBy IsName) (NamesBy id)
+      (λ t m w a b ns. ((λ k. type_names a b ns is k), (λ k. of_type_names id t m w a b ns is k))) text new
+      names (found_map IsName name_free P t m w text new names h holds)
+  found_names id text new names (field_names _ _ _ is h) holds =
+      found_as P t m w (MapBy IsNameMap) (NamesBy id)
+      (λ t m w a b ns. ((λ k. field_names a b ns is k), (λ k. of_field_names id t m w a b ns is k))) text
+      new names (found_map IsNameMap name_map_free P t m w text new names h holds)
+  found_names id text _ _ (other_names _ fails lacks) holds =
+      found_as P t m w StaysAsItIs (NamesBy id)
+      (λ t m w a b ns. (
+        (λ k. stays_by (NamesBy id) t m w a b ns (other_names a fails lacks) k),
+        (λ k. of_others id t m w a b ns fails lacks k),
+      )) text text [] (found_still P t m w text)
+
+  found_subsection : (text new names : List ℕ) → SubsectionBy t m w text new names → P names →
+      Found (IsItem SubsectionBy) P t m w text new names
+  found_subsection _ _ _ (subsection id text new names h) holds =
+      found_behind (WithSize (NamesBy id)) SubsectionBy id (open_subsection id)
+      (λ t m w text new names k. subsection id text new names k) P t m w text new names
+      (found_sized P t m w (NamesBy id) (ChangesNaming P (RenamesNames id m w))
+      (λ a b ns k. found_names id a b ns k.becomes k.holds) text new names (sized_naming w P (RenamesNames id m w) text new names h holds))
+
+  found_several : (count : ℕ) (text new names : List ℕ) →
+      ChangeAll (RenamesSubsection m w) count text new names → P names →
+      Found (IsWhole SeveralBy) P t m w text new names
+  found_several _ _ _ _ no_change holds =
+      record { part = part_still P t m w []; is = several_none; is_again = several_none }
+  found_several _ _ _ _ (next_change count text others new news names more h hs) holds =
+      let d = divides names more holds in
+      let b = begins t m w text new names h in
+      let f = found_subsection text new names h d.0 in
+      let g = found_several count others news more hs d.1 in
+      record {
+        part = part_both P t m w text new names others news more f.part g.part;
+        is = several_next f.part.piece g.part.piece f.is (subst Begins (sym f.part.text_is) b.0) g.is;
+        is_again = several_next f.part.becomes g.part.becomes f.is_again
+            (subst Begins (sym f.part.new_is) b.1) g.is_again;
+      }
+
+  pub found_custom : (text new names : List ℕ) → CustomBy t m w text new names → P names →
+      Found (IsWhole CustomBy) P t m w text new names
+  found_custom _ _ _ (name_section count size text new names h hs) holds =
+      let f = found_several count text new names hs holds in
+      record {
+        part = part_both P t m w size size [] (name_bytes ++ text) (name_bytes ++ new) names
+            (part_still P t m w size)
+            (part_both P t m w name_bytes name_bytes [] text new names (part_still P t m w name_bytes) f.part);
+        is = whole_section size f.part.piece h f.is;
+        is_again = whole_section size f.part.becomes h f.is_again;
+      }
+  found_custom _ _ _ (other_name size bytes follows h different) holds =
+      record {
+        part = part_still P t m w (size ++ (bytes ++ follows));
+        is = whole_other size bytes follows h different;
+        is_again = whole_other size bytes follows h different;
+      }

@@ -1,0 +1,239 @@
+-- Going on to the next index of a type.
+use Rattle.std.proofs.Common.{◌≡◌, ℕ, zero, suc, ◌+◌, ◌-◌, ◌*◌, ◌/◌, ◌^◌, ◌<◌, ◌≤◌, List, [], ◌∷◌, ◌++◌, length, Option, Some, None, Ok, cond, Bool, true, false, refl, sym, ap, subst, ◌∙◌, arith, append_assoc, append-nil, length-append}
+use Rattle.std.proofs.lemmas.Grind.{flat_map-append}
+use Rattle.wasm_binary.specs.Leb128.{IsInteger, last, more}
+use Rattle.wasm_module.specs.declared.kind.Space.{Space}
+use Rattle.wasm_module.specs.declared.kind.Space.TheVariants as space
+use Rattle.wasm_module.specs.declared.kind.Kind.{Kind}
+use Rattle.wasm_module.specs.declared.scan.ScanError.{ScanError}
+use Rattle.wasm_module.specs.declared.scan.ScanError.TheVariants as scan
+use Rattle.wasm_module.specs.declared.scan.TypeIndex.{TypeIndex}
+use Rattle.wasm_module.specs.Immediates.{Token, unsigned, signed, type_name, may_be_index, Begins, index, signed_index, number, byte, offset, i32, i64, raw, byte_vec, import, Runs, stop, step, AreTexts, names_of, type_names}
+use Rattle.wasm_module.specs.Steps.Heads.{Beginning, begin_at}
+use Rattle.wasm_module.specs.Steps.Scans.{IsRefused, Reads, token_of, PassesType, PassesNone, Passes}
+use Rattle.wasm_module.proofs.Heads.{begin_sound}
+use Rattle.wasm_module.proofs.Scanning.{State, runs_on, begins_long, shorter, follows}
+
+-- ---- a token that names a type
+
+unsigned_is : (s : Space) (text : List ℕ) (k n : ℕ) → type_name (unsigned s text k) ≡ Some n →
+    unsigned s text k ≡ unsigned space.Type text n
+unsigned_is space.Type text k n e = cc
+unsigned_is space.Function text k n e = absurd cc
+unsigned_is space.Table text k n e = absurd cc
+unsigned_is space.Memory text k n e = absurd cc
+unsigned_is space.Tag text k n e = absurd cc
+unsigned_is space.Global text k n e = absurd cc
+unsigned_is space.Element text k n e = absurd cc
+unsigned_is space.Data text k n e = absurd cc
+unsigned_is space.Local text k n e = absurd cc
+unsigned_is space.Label text k n e = absurd cc
+unsigned_is space.Field text k n e = absurd cc
+
+abbrev index_token : Kind → List ℕ → ℕ → Token
+index_token k text n = cond (may_be_index k) (signed space.Type text n) (unsigned space.Type text n)
+
+pub token_is : (k : Kind) (text : List ℕ) (token : Token) (kinds : List Kind) (n : ℕ) →
+    Begins k text token kinds → type_name token ≡ Some n → token ≡ index_token k text n
+token_is _ _ _ _ n (index s text k h) e = unsigned_is s text k n e
+token_is _ _ _ _ n (signed_index k text m may h) e = rw may cc
+token_is _ _ _ _ n (number k text m kinds h e1) e = absurd cc
+token_is _ _ _ _ n (byte k x kinds e1) e = absurd cc
+token_is _ _ _ _ n (offset text m h) e = absurd cc
+token_is _ _ _ _ n (i32 text h) e = absurd cc
+token_is _ _ _ _ n (i64 text h) e = absurd cc
+token_is _ _ _ _ n (raw text m some h) e = absurd cc
+token_is _ _ _ _ n (byte_vec count bytes h) e = absurd cc
+token_is _ _ _ _ n (import count name h) e = absurd cc
+
+-- an integer below 16 * 128 ^ count has no more bytes before its last
+short_below : (end count limit : ℕ) (text : List ℕ) (n : ℕ) → limit ≤ 16 * 128 ^ count →
+    IsInteger end limit text n → length text ≤ suc count
+short_below end count _ _ _ le (last limit b low ends fits) = omega arith
+short_below end zero _ _ _ le (more limit b high bytes big is wide texts) = absurd (omega (arith, le, wide))
+short_below end (suc count) _ _ _ le (more limit b high bytes big is wide texts) =
+    let less : limit / 0x80 ≤ 16 * 128 ^ count = omega (arith, le) in
+    let k = short_below end count (limit / 0x80) bytes high less texts in omega (arith, k)
+
+pub integer_short : (end : ℕ) (text : List ℕ) (n : ℕ) → IsInteger end (2 ^ 32) text n → length text ≤ 5
+integer_short end text n h = short_below end 4 (2 ^ 32) text n (omega arith) h
+
+token_short : (k : Kind) (text : List ℕ) (token : Token) (kinds : List Kind) (n : ℕ) →
+    Begins k text token kinds → type_name token ≡ Some n → length text ≤ 5
+token_short _ _ _ _ n (index s text k h) e = integer_short 0x80 text k h
+token_short _ _ _ _ n (signed_index k text m may h) e = integer_short 0x40 text m h
+token_short _ _ _ _ n (number k text m kinds h e1) e = absurd cc
+token_short _ _ _ _ n (byte k x kinds e1) e = absurd cc
+token_short _ _ _ _ n (offset text m h) e = absurd cc
+token_short _ _ _ _ n (i32 text h) e = absurd cc
+token_short _ _ _ _ n (i64 text h) e = absurd cc
+token_short _ _ _ _ n (raw text m some h) e = absurd cc
+token_short _ _ _ _ n (byte_vec count bytes h) e = absurd cc
+token_short _ _ _ _ n (import count name h) e = absurd cc
+
+-- ---- the search
+
+pub no_longer : (k : Kind) (bytes : List ℕ) (b : Beginning) (rest : List ℕ) → begin_at k bytes ≡ Ok (b, rest)
+    → length rest ≤ length bytes
+no_longer k bytes b rest e = let h = shorter k bytes b rest e in omega (arith, h)
+
+pub not_some : (o : Option ℕ) → ((x : ℕ) → o ≡ Some x → ⊥) → o ≡ None
+not_some (Some x) h = absurd (h x refl)
+not_some None h = refl
+
+pub passes_type : (t : TypeIndex) (start : List Kind) (bytes rest after : List ℕ) (next : Kind)
+    (stack new : List Kind) (b : Beginning) → State start bytes rest (next ∷ stack) []
+    → begin_at next rest ≡ Ok (b, after) → new ≡ b.more ++ stack → Some t.index ≡ b.named
+    → t.is_signed ≡ may_be_index next → t.length ≡ length rest - length after
+    → PassesType t start new bytes after
+passes_type t start bytes rest after next stack new b s e new-is index-is signed-is long-is =
+    let h = begin_sound next rest b after e in
+    let g = h.is_text in
+    let names : type_name g.token ≡ Some t.index = g.names ∙ sym index-is in
+    let is : g.token ≡ token_of t h.text = token_is next h.text g.token b.more t.index g.begins names
+    ∙ ap (λ x. cond x (signed space.Type h.text t.index) (unsigned space.Type h.text t.index)) (sym signed-is)
+    in
+    let long : length rest ≡ length h.text + length after = ap (λ (u : List ℕ). length u) h.parts
+    ∙ length-append h.text after in
+    let all : length bytes ≡ length s.text + length rest = ap (λ (u : List ℕ). length u) s.parts
+    ∙ length-append s.text rest in
+    let short = token_short next h.text g.token b.more t.index g.begins names in
+    let some = begins_long next h.text g.token b.more g.begins in
+    record {
+      passed = s.tokens;
+      text = h.text;
+      reads = record {
+        text = s.text ++ h.text;
+        parts = s.parts ∙ ap (λ (u : List ℕ). s.text ++ u) h.parts ∙ sym (append_assoc s.text h.text after);
+        runs = subst (λ (u : List Kind). Runs start (s.text ++ h.text) (s.tokens ++ token_of t h.text ∷ []) u)
+            (sym new-is)
+            (subst (λ p. Runs start (s.text ++ h.text) (s.tokens ++ p ∷ []) (b.more ++ stack)) is
+            (runs_on start s.text s.tokens next stack h.text g.token b.more s.runs g.begins));
+      };
+      none = sym s.names;
+      long = omega (arith, long, long-is);
+      short = omega (arith, long, long-is, short);
+      some = omega (arith, long, long-is, some);
+      fits = omega (arith, long, long-is, all);
+    }
+
+pub passes_none : (start : List Kind) (bytes rest : List ℕ) (stack new : List Kind) →
+    State start bytes rest stack [] → stack ≡ [] → PassesNone start new bytes rest
+passes_none start bytes rest stack new s e =
+    let all : length bytes ≡ length s.text + length rest = ap (λ (u : List ℕ). length u) s.parts
+    ∙ length-append s.text rest in
+    record {
+      passed = s.tokens;
+      reads = record {
+        text = s.text;
+        parts = s.parts;
+        runs = subst (λ (u : List Kind). Runs start s.text s.tokens u) e s.runs;
+      };
+      none = sym s.names;
+      fits = omega (arith, all);
+    }
+
+-- ---- from one search to the next
+
+pub runs_join : (start : List Kind) (text : List ℕ) (tokens : List Token) (left : List Kind)
+    (others : List ℕ) (further : List Token) (new : List Kind) → Runs start text tokens left
+    → Runs left others further new → Runs start (text ++ others) (tokens ++ further) new
+runs_join _ _ _ left others further new (stop _) b = b
+runs_join _ _ _ left others further new (step k inner kinds _ text behind first tokens h runs) b =
+    subst (λ (u : List ℕ). Runs (k ∷ kinds) u (first ∷ (tokens ++ further)) new)
+    (sym (append_assoc text behind others))
+    (step k inner kinds new text (behind ++ others) first (tokens ++ further) h
+    (runs_join (inner ++ kinds) behind tokens left others further new runs b))
+
+pub reads_join : (start stack left : List Kind) (tokens further : List Token) (bytes rest after : List ℕ) →
+    Reads start stack tokens bytes rest → Reads stack left further rest after →
+    Reads start left (tokens ++ further) bytes after
+reads_join start stack left tokens further bytes rest after a b =
+    record {
+      text = a.text ++ b.text;
+      parts = a.parts ∙ ap (λ (u : List ℕ). a.text ++ u) b.parts ∙ sym (append_assoc a.text b.text after);
+      runs = runs_join start a.text tokens stack b.text further left a.runs b.runs;
+    }
+
+pub found_type : (o : Option TypeIndex) (t : TypeIndex) (kinds left : List Kind) (bytes rest : List ℕ) →
+    o ≡ Some t → Passes o kinds left bytes rest → PassesType t kinds left bytes rest
+found_type o t kinds left bytes rest e h = subst (λ x. Passes x kinds left bytes rest) e h
+
+pub found_none : (o : Option TypeIndex) (kinds left : List Kind) (bytes rest : List ℕ) →
+    ((t : TypeIndex) → o ≡ Some t → ⊥) → Passes o kinds left bytes rest → PassesNone kinds left bytes rest
+found_none (Some t) kinds left bytes rest none h = absurd (none t refl)
+found_none None kinds left bytes rest none h = h
+
+pub passes_shorter : (t : TypeIndex) (kinds left : List Kind) (bytes rest : List ℕ) →
+    PassesType t kinds left bytes rest → length rest < length bytes
+passes_shorter t kinds left bytes rest h = omega (arith, h.fits, h.some)
+
+-- no text begins where none goes on behind what was read
+pub none_goes_on : (start stack : List Kind) (tokens : List Token) (bytes rest : List ℕ) →
+    Reads start stack tokens bytes rest
+    → ((text after : List ℕ) (ps : List Token) → rest ≡ text ++ after → AreTexts stack text ps → ⊥)
+    → (text after : List ℕ) (ps : List Token) → bytes ≡ text ++ after → AreTexts start text ps → ⊥
+none_goes_on start stack tokens bytes rest a none text after ps parts h =
+    let r = follows start a.text tokens stack rest text ps after a.runs h (sym a.parts ∙ parts) in
+    none r.text after r.tokens r.parts r.are
+
+pub refused_behind : (start stack : List Kind) (tokens : List Token) (bytes rest : List ℕ) (e : ScanError) →
+    Reads start stack tokens bytes rest → IsRefused stack rest e → IsRefused start bytes e
+refused_behind start stack tokens bytes rest (scan.Malformed place) a h =
+    none_goes_on start stack tokens bytes rest a h
+refused_behind start stack tokens bytes rest scan.Memory a h = tt
+
+pub state_reads : (start : List Kind) (bytes rest : List ℕ) (stack : List Kind) (named : List ℕ)
+    (s : State start bytes rest stack named) → Reads start stack s.tokens bytes rest
+state_reads start bytes rest stack named s = record { text = s.text; parts = s.parts; runs = s.runs }
+
+pub type_names_append : (a b : List Token) → type_names (a ++ b) ≡ type_names a ++ type_names b
+type_names_append a b = flat_map-append (λ p. names_of (type_name p)) a b
+
+index_name : (is_signed : Bool) (text : List ℕ) (k : ℕ) →
+    type_name (cond is_signed (signed space.Type text k) (unsigned space.Type text k)) ≡ Some k
+index_name true text k = refl
+index_name false text k = refl
+
+token_names : (t : TypeIndex) (text : List ℕ) → type_names (token_of t text ∷ []) ≡ t.index ∷ []
+token_names t text = ap (λ o. names_of o ++ []) (index_name t.is_signed text t.index)
+
+-- the names of what was passed over, and of the index behind it
+pub passed_names : (t : TypeIndex) (kinds left : List Kind) (bytes rest : List ℕ)
+    (h : PassesType t kinds left bytes rest) →
+    type_names (h.passed ++ token_of t h.text ∷ []) ≡ t.index ∷ []
+passed_names t kinds left bytes rest h =
+    type_names_append h.passed (token_of t h.text ∷ [])
+    ∙ ap (λ (u : List ℕ). u ++ type_names (token_of t h.text ∷ [])) h.none ∙ token_names t h.text
+
+pub noted : (start : List Kind) (bytes rest after : List ℕ) (stack left : List Kind)
+    (named later : List ℕ) (t : TypeIndex) → State start bytes rest stack named
+    → PassesType t stack left rest after → later ≡ named ++ t.index ∷ [] → State start bytes after left later
+noted start bytes rest after stack left named later t s h e =
+    let further = h.passed ++ token_of t h.text ∷ [] in
+    let r = reads_join start stack left s.tokens further bytes rest after
+    (state_reads start bytes rest stack named s) h.reads in
+    record {
+      text = r.text;
+      tokens = s.tokens ++ further;
+      parts = r.parts;
+      runs = r.runs;
+      names = e ∙ ap (λ (u : List ℕ). u ++ t.index ∷ []) s.names
+          ∙ ap (λ (u : List ℕ). type_names s.tokens ++ u) (sym (passed_names t stack left rest after h))
+          ∙ sym (type_names_append s.tokens further);
+    }
+
+pub ended : (start : List Kind) (bytes rest after : List ℕ) (stack left : List Kind) (named : List ℕ) →
+    State start bytes rest stack named → PassesNone stack left rest after → State start bytes after [] named
+ended start bytes rest after stack left named s h =
+    let r = reads_join start stack [] s.tokens h.passed bytes rest after
+    (state_reads start bytes rest stack named s) h.reads in
+    record {
+      text = r.text;
+      tokens = s.tokens ++ h.passed;
+      parts = r.parts;
+      runs = r.runs;
+      names = s.names ∙ sym (append-nil (type_names s.tokens))
+          ∙ ap (λ (u : List ℕ). type_names s.tokens ++ u) (sym h.none)
+          ∙ sym (type_names_append s.tokens h.passed);
+    }

@@ -1,0 +1,198 @@
+-- Instructions that name no type and open no block, one after another.
+use Rattle.std.proofs.Common.{◌≡◌, ℕ, ◌+◌, ◌^◌, ◌<◌, ◌≤◌, List, [], ◌∷◌, ◌++◌, length, Some, None, Ok, refl, sym, ap, subst, ◌∙◌, arith, append_assoc, append-nil, length-append, ne_eqb, le-leb, suc, ◌-◌, take, drop, slice_index_or, Option}
+use Rattle.wasm_binary.specs.Steps.Reading.{u32_at}
+use Rattle.wasm_module.specs.declared.kind.Kind.{Kind}
+use Rattle.wasm_module.specs.declared.kind.Kind.TheVariants as kind
+use Rattle.wasm_module.specs.declared.kind.Immediates.{Immediates}
+use Rattle.wasm_module.specs.declared.kind.Immediates.TheVariants as immediates
+use Rattle.wasm_module.specs.Opcodes.{kinds_in, opcodes}
+use Rattle.wasm_module.specs.Immediates.{Token, Runs, stop, step, type_names}
+use Rattle.wasm_module.specs.Steps.Heads.{beginning, begin_at, number_at, skip_at}
+use Rattle.wasm_module.specs.Steps.Tables.{row_kinds}
+use Rattle.wasm_module.specs.Steps.Scans.{PassesTokens, PassesInstructions, HasInstructions}
+use Rattle.wasm_module.proofs.Taking.{first_apart}
+use Rattle.wasm_module.proofs.Heads.{byte_again}
+use Rattle.wasm_module.proofs.Scanning.{State, begun, goes_on}
+use Rattle.wasm_module.proofs.Searching.{reads_join, state_reads, type_names_append}
+
+-- ---- tokens that name no type
+
+passed_of : (kinds left : List Kind) (bytes rest : List ℕ) → State kinds bytes rest left [] →
+    PassesTokens kinds left bytes rest
+passed_of kinds left bytes rest s =
+    record { passed = s.tokens; reads = state_reads kinds bytes rest left [] s; none = sym s.names }
+
+pub passed_none : (kinds : List Kind) (bytes : List ℕ) → PassesTokens kinds kinds bytes bytes
+passed_none kinds bytes = passed_of kinds kinds bytes bytes (begun kinds bytes)
+
+pub passed_beginning : (k : Kind) (more : List Kind) (bytes rest : List ℕ) →
+    begin_at k bytes ≡ Ok (beginning None more, rest) → PassesTokens (k ∷ []) more bytes rest
+passed_beginning k more bytes rest e =
+    passed_of (k ∷ []) more bytes rest
+    (goes_on (k ∷ []) bytes bytes rest k [] more [] [] (beginning None more) (begun (k ∷ []) bytes) e
+    (sym (append-nil more)) refl)
+
+pub passed_joined : (kinds between left : List Kind) (bytes rest after : List ℕ) →
+    PassesTokens kinds between bytes rest → PassesTokens between left rest after →
+    PassesTokens kinds left bytes after
+passed_joined kinds between left bytes rest after p q =
+    record {
+      passed = p.passed ++ q.passed;
+      reads = reads_join kinds between left p.passed q.passed bytes rest after p.reads q.reads;
+      none =
+          type_names_append p.passed q.passed ∙ ap (λ (u : List ℕ). u ++ type_names q.passed) p.none ∙ q.none;
+    }
+
+runs_framed : (kinds left more : List Kind) (text : List ℕ) (tokens : List Token) →
+    Runs kinds text tokens left → Runs (kinds ++ more) text tokens (left ++ more)
+runs_framed _ _ more _ _ (stop kinds) = stop (kinds ++ more)
+runs_framed _ _ more _ _ (step k inner kinds left text others token tokens b runs) =
+    step k inner (kinds ++ more) (left ++ more) text others token tokens b
+    (subst (λ (u : List Kind). Runs u others tokens (left ++ more)) (append_assoc inner kinds more)
+    (runs_framed (inner ++ kinds) left more others tokens runs))
+
+-- with more kinds behind them
+pub passed_framed : (kinds left more : List Kind) (bytes rest : List ℕ) → PassesTokens kinds left bytes rest →
+    PassesTokens (kinds ++ more) (left ++ more) bytes rest
+passed_framed kinds left more bytes rest p =
+    let r = p.reads in
+    record {
+      passed = p.passed;
+      reads = record {
+        text = r.text;
+        parts = r.parts;
+        runs = runs_framed kinds left more r.text p.passed r.runs;
+      };
+      none = p.none;
+    }
+
+pub passed_shorter : (kinds left : List Kind) (bytes rest : List ℕ) → PassesTokens kinds left bytes rest →
+    length rest ≤ length bytes
+passed_shorter kinds left bytes rest p =
+    let long : length bytes ≡ length p.reads.text + length rest = ap (λ (u : List ℕ). length u) p.reads.parts
+    ∙ length-append p.reads.text rest in
+    omega (arith, long)
+
+-- the next kind was taken from the stack, and tokens of it were passed over
+pub state_passed : (start : List Kind) (bytes rest after : List ℕ) (next : Kind) (stack old : List Kind) →
+    State start bytes rest old [] → old ≡ next ∷ stack →
+    PassesTokens (next ∷ []) (next ∷ []) rest after → State start bytes after (next ∷ stack) []
+state_passed start bytes rest after next stack old s e p =
+    let q = passed_joined start (next ∷ stack) (next ∷ stack) bytes rest after
+    (passed_of start (next ∷ stack) bytes rest (subst (λ (u : List Kind). State start bytes rest u []) e s))
+    (passed_framed (next ∷ []) (next ∷ []) stack rest after p) in
+    record {
+      text = q.reads.text;
+      tokens = q.passed;
+      parts = q.reads.parts;
+      runs = q.reads.runs;
+      names = sym q.none;
+    }
+
+-- ---- an alignment and an offset
+
+alignment_reads : (n : ℕ) (bytes rest : List ℕ) → u32_at bytes ≡ Ok (n, rest) → n ≤ 63 →
+    begin_at kind.MemArg bytes ≡ Ok (beginning None (kind.U64 ∷ []), rest)
+unfolding begin_at number_at
+alignment_reads n bytes rest e low = rw (e, le-leb n 63 low) refl
+
+offset_reads : (bytes rest : List ℕ) → skip_at (2 ^ 64) bytes ≡ Ok (tt, rest) →
+    begin_at kind.U64 bytes ≡ Ok (beginning None [], rest)
+unfolding begin_at
+offset_reads bytes rest e = rw e refl
+
+pub mem_arg_passed : (n : ℕ) (bytes between rest : List ℕ) → u32_at bytes ≡ Ok (n, between) → n ≤ 63 →
+    skip_at (2 ^ 64) between ≡ Ok (tt, rest) → PassesTokens (kind.MemArg ∷ []) [] bytes rest
+mem_arg_passed n bytes between rest e low h =
+    passed_joined (kind.MemArg ∷ []) (kind.U64 ∷ []) [] bytes between rest
+    (passed_beginning kind.MemArg (kind.U64 ∷ []) bytes between (alignment_reads n bytes between e low))
+    (passed_beginning kind.U64 [] between rest (offset_reads between rest h))
+
+-- ---- instructions
+
+opcode_passed : (here : Kind) (opcode : ℕ) (kinds : List Kind) (rest : List ℕ) → HasInstructions here →
+    kinds_in opcodes opcode ≡ Some kinds →
+    PassesTokens (here ∷ []) (kinds ++ here ∷ []) (opcode ∷ rest) rest
+opcode_passed here opcode kinds rest has e =
+    passed_beginning here (kinds ++ here ∷ []) (opcode ∷ rest) rest
+    (byte_again here opcode (kinds ++ here ∷ []) rest (has opcode kinds e))
+
+pub instruction_bare : (opcode : ℕ) (rest : List ℕ) → kinds_in opcodes opcode ≡ Some [] →
+    PassesInstructions (opcode ∷ rest) rest
+instruction_bare opcode rest e here has = opcode_passed here opcode [] rest has e
+
+pub instruction_passed : (opcode : ℕ) (k : Kind) (between rest : List ℕ) →
+    kinds_in opcodes opcode ≡ Some (k ∷ []) → PassesTokens (k ∷ []) [] between rest →
+    PassesInstructions (opcode ∷ between) rest
+instruction_passed opcode k between rest e p here has =
+    passed_joined (here ∷ []) (k ∷ here ∷ []) (here ∷ []) (opcode ∷ between) between rest
+    (opcode_passed here opcode (k ∷ []) between has e)
+    (passed_framed (k ∷ []) [] (here ∷ []) between rest p)
+
+pub instructions_none : (bytes : List ℕ) → PassesInstructions bytes bytes
+instructions_none bytes here has = passed_none (here ∷ []) bytes
+
+pub instructions_joined : (bytes rest after : List ℕ) → PassesInstructions bytes rest →
+    PassesInstructions rest after → PassesInstructions bytes after
+instructions_joined bytes rest after p q here has =
+    passed_joined (here ∷ []) (here ∷ []) (here ∷ []) bytes rest after (p here has) (q here has)
+
+-- the first byte of these, and the bytes behind it
+abbrev first_byte : List ℕ → ℕ
+first_byte bytes = slice_index_or bytes 0 0
+
+abbrev behind_first : List ℕ → List ℕ
+behind_first bytes = take (length bytes - 1) (drop 1 bytes)
+
+from_first : (bytes rest : List ℕ) → 1 ≤ length bytes →
+    PassesInstructions (first_byte bytes ∷ behind_first bytes) rest → PassesInstructions bytes rest
+from_first bytes rest some p =
+    subst (λ (u : List ℕ). PassesInstructions u rest) (sym (first_apart bytes some)) p
+
+row_is : (row same : Immediates) (kinds : Option (List Kind)) → row ≡ same → row_kinds row ≡ kinds →
+    kinds ≡ row_kinds same
+row_is row same kinds is e = sym e ∙ ap row_kinds is
+
+pub bare_at_prefix : (bytes : List ℕ) (row : Immediates) → 1 ≤ length bytes → row ≡ immediates.Zero →
+    row_kinds row ≡ kinds_in opcodes (first_byte bytes) → PassesInstructions bytes (behind_first bytes)
+bare_at_prefix bytes row some is e =
+    from_first bytes (behind_first bytes) some
+    (instruction_bare (first_byte bytes) (behind_first bytes)
+    (row_is row immediates.Zero (kinds_in opcodes (first_byte bytes)) is e))
+
+pub passed_at_prefix : (bytes : List ℕ) (row : Immediates) (k : Kind) (rest : List ℕ) → 1 ≤ length bytes →
+    row ≡ immediates.One k → row_kinds row ≡ kinds_in opcodes (first_byte bytes) →
+    PassesTokens (k ∷ []) [] (behind_first bytes) rest → PassesInstructions bytes rest
+passed_at_prefix bytes row k rest some is e p =
+    from_first bytes rest some
+    (instruction_passed (first_byte bytes) k (behind_first bytes) rest
+    (row_is row (immediates.One k) (kinds_in opcodes (first_byte bytes)) is e) p)
+
+pub shorter_behind_first : (k : Kind) (bytes rest : List ℕ) → 1 ≤ length bytes →
+    PassesTokens (k ∷ []) [] (behind_first bytes) rest → length rest < length bytes
+shorter_behind_first k bytes rest some p =
+    let long : length bytes ≡ suc (length (behind_first bytes)) = ap (λ (u : List ℕ). length u)
+    (first_apart bytes some) in
+    omega (arith, long, passed_shorter (k ∷ []) [] (behind_first bytes) rest p)
+
+-- ---- what has instructions
+
+no_row : (kinds : List Kind) → None ≡ Some kinds → ⊥
+no_row kinds e = absurd cc
+
+no_end : (opcode : ℕ) (kinds : List Kind) → kinds_in opcodes opcode ≡ Some kinds → opcode ≡ 0x0B → ⊥
+no_end opcode kinds e is = no_row kinds (sym (ap (kinds_in opcodes) is) ∙ e)
+
+no_delegate : (opcode : ℕ) (kinds : List Kind) → kinds_in opcodes opcode ≡ Some kinds → opcode ≡ 0x18 → ⊥
+no_delegate opcode kinds e is = no_row kinds (sym (ap (kinds_in opcodes) is) ∙ e)
+
+pub expression_has : HasInstructions kind.Expression
+expression_has opcode kinds e = rw (ne_eqb opcode 0x0B (no_end opcode kinds e), e) refl
+
+pub block_has : HasInstructions kind.Block
+block_has opcode kinds e =
+    rw (ne_eqb opcode 0x0B (no_end opcode kinds e), ne_eqb opcode 0x18 (no_delegate opcode kinds e), e) refl
+
+pub instructions_shorter : (bytes rest : List ℕ) → PassesInstructions bytes rest → length rest ≤ length bytes
+instructions_shorter bytes rest p =
+    passed_shorter (kind.Expression ∷ []) (kind.Expression ∷ []) bytes rest (p kind.Expression expression_has)

@@ -1,0 +1,7 @@
+use Rattle.std.proofs.Common.{refl}
+use Rattle.wasm_module.specs.Contents.{table_limits}
+use Rattle.wasm_module.proofs.Tables.{is_table}
+use Rattle.wasm_module.proofs.contents.table_limits_table.Goals as goal
+
+pub returns : goal.returns
+returns c = is_table table_limits _ refl refl

@@ -1,0 +1,5 @@
+use Rattle.wasm_module.proofs.PiecesOfModules.{renamed_once}
+use Rattle.wasm_module.proofs.laws.one_module.Goals as goal
+
+pub returns : goal.returns
+returns c = renamed_once

@@ -1,0 +1,70 @@
+use Rattle.std.proofs.Common.{◌∙◌, ◌-◌, Err, length, refl, sym, ap, subst, arith}
+use Rattle.std.proofs.lemmas.Result.{err_from_is_err_and}
+use Rattle.wasm_module.specs.declared.renaming.RenameError.TheVariants as rename
+use Rattle.wasm_module.specs.Steps.NameSections.{IsFollowing, IsNewMap}
+use Rattle.wasm_module.proofs.Taking.{u32_shorter}
+use Rattle.wasm_module.proofs.NameMaps.{following_free}
+use Rattle.wasm_module.proofs.Rewriting.{same_failure}
+use Rattle.wasm_module.proofs.TypeMaps.{kept_narrow, map_unknown, count_short, map_stays, map_changes, map_countless, map_malformed, map_left_over, least_short}
+use Rattle.wasm_module.proofs.WholeTexts.{empty, not_empty}
+use Rattle.wasm_module.proofs.name_maps.rename_map.Goals as goal
+
+pub returns-in_default-clause-malformed : goal.returns-in_default-clause-malformed
+returns-in_default-clause-malformed c = λ place e.
+    map_countless (IsFollowing c.args.follows) c.args.content.now c.read_u32.new.input.now
+    c.in_default.ensures
+
+pub overflow_sub-width : goal.overflow_sub-width
+overflow_sub-width c =
+    u32_shorter c.args.content.now c.in-Some.count c.read_u32.new.input.now c.in-Some.ensures
+
+pub returns-in_err-kept-clause-malformed : goal.returns-in_err-kept-clause-malformed
+returns-in_err-kept-clause-malformed c =
+    let p = err_from_is_err_and c.from_residual.result c.from_residual.ensures.1 in
+    λ place e. let is = sym p.2 ∙ same_failure c.from_residual.result p.0 (rename.Malformed place) p.1 e in
+    map_malformed (IsFollowing c.args.follows) c.args.content.now c.in-Some.count c.read_u32.new.input.now
+    c.in-Some.ensures (c.in_err-kept.ensures.malformed place (ap (λ x. Err x) is))
+
+pub returns-in_err-kept-clause-unknown : goal.returns-in_err-kept-clause-unknown
+returns-in_err-kept-clause-unknown c =
+    let p = err_from_is_err_and c.from_residual.result c.from_residual.ensures.1 in
+    λ k place e. let is = sym p.2 ∙ same_failure c.from_residual.result p.0 (rename.UnknownType k place) p.1 e in
+    map_unknown (IsFollowing c.args.follows) c.args.new_indices.now c.args.content.now c.in-Some.count k
+    c.read_u32.new.input.now c.in-Some.ensures (c.in_err-kept.ensures.unknown k place (ap (λ x. Err x) is))
+
+pub returns-then-not-is_empty-clause-malformed : goal.returns-then-not-is_empty-clause-malformed
+returns-then-not-is_empty-clause-malformed c = λ place e.
+    map_left_over (IsFollowing c.args.follows) (following_free c.args.follows) c.args.new_indices.now
+    c.args.content.now c.in-Some.count c.read_u32.new.input.now c.take_entries.new.input.now
+    c.in_ok-kept.kept.entries c.in-Some.ensures c.in_ok-kept.ensures.taken
+    (not_empty c.take_entries.new.input.now c.if-not-is_empty.ensures)
+
+pub returns-then-count-eq0-clause-stays : goal.returns-then-count-eq0-clause-stays
+returns-then-count-eq0-clause-stays c =
+    map_stays (IsFollowing c.args.follows) c.args.new_indices.now c.args.widths c.args.content.now
+    c.in-Some.count c.read_u32.new.input.now c.take_entries.new.input.now c.in_ok-kept.kept.entries
+    c.in-Some.ensures c.in_ok-kept.ensures.taken
+    (empty c.take_entries.new.input.now c.if-not-is_empty.ensures) (omega (arith, c.if-count-eq0.true))
+
+pub write_map-requires-clause-short : goal.write_map-requires-clause-short
+write_map-requires-clause-short c =
+    least_short c.args.widths c.least_width.result
+    (length c.args.content.now - length c.read_u32.new.input.now) c.least_width.ensures
+    (count_short (IsFollowing c.args.follows) c.args.new_indices.now c.args.content.now c.in-Some.count
+    c.read_u32.new.input.now c.in-Some.ensures)
+
+pub write_map-requires-clause-narrow : goal.write_map-requires-clause-narrow
+write_map-requires-clause-narrow c =
+    kept_narrow (IsFollowing c.args.follows) c.args.new_indices.now c.in-Some.count c.in_ok-kept.kept.entries
+    c.read_u32.new.input.now c.take_entries.new.input.now c.in_ok-kept.ensures.taken
+
+pub returns-clause-changes : goal.returns-clause-changes
+returns-clause-changes c =
+    map_changes (IsFollowing c.args.follows) c.args.new_indices.now c.args.widths c.args.content.now
+    c.in-Some.count (length c.args.content.now - length c.read_u32.new.input.now) c.read_u32.new.input.now
+    c.take_entries.new.input.now c.in_ok-kept.kept.entries c.in_ok-new.new.items c.in-Some.ensures refl
+    c.in_ok-kept.ensures.taken (empty c.take_entries.new.input.now c.if-not-is_empty.ensures)
+    (λ e. omega (arith, c.if-count-eq0.false, e))
+    (subst (λ n. IsNewMap c.args.widths n c.in_ok-kept.kept.entries c.in_ok-new.new.items)
+    c.least_width.ensures
+    c.in_ok-new.ensures)

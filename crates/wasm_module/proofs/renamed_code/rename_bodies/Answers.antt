@@ -1,0 +1,98 @@
+use Rattle.std.proofs.Common.{◌≡◌, ◌∙◌, ◌+◌, ◌++◌, List, ℕ, Err, sym, ap, subst, arith}
+use Rattle.std.proofs.lemmas.Result.{err_from_is_err_and}
+use Rattle.wasm_module.specs.declared.renaming.RenameError.TheVariants as rename
+use Rattle.wasm_module.specs.declared.scan.ScanError.TheVariants as scan
+use Rattle.wasm_module.specs.Bodies.{body}
+use Rattle.wasm_module.specs.Changes.{ChangeAll, BecomesTooLong, InSized}
+use Rattle.wasm_module.specs.RenamedSections.{RenamesTexts, RenamesBody}
+use Rattle.wasm_module.specs.Renaming.{NamesUnknown}
+use Rattle.wasm_module.proofs.Changing.{if_none, if_some, written_none, written_is, written_passed, written_on, written_first, written_changes}
+use Rattle.wasm_module.proofs.ChangedCode.{changed_some, written_bodies}
+use Rattle.wasm_module.proofs.CodeSections.{bodies_malformed}
+use Rattle.wasm_module.proofs.Rewriting.{same_failure}
+use Rattle.wasm_module.proofs.WholeTexts.{not_empty}
+use Rattle.wasm_module.specs.Steps.Changes.{ChangesPrefix}
+use Rattle.wasm_module.proofs.renamed_code.rename_bodies.Goals.{in-Some+in_ok-append_prefix+in_ok-extend_from_slice, in_default}
+use Rattle.wasm_module.proofs.renamed_code.rename_bodies.Goals as goal
+
+pub loop-init : goal.loop-init
+loop-init c =
+    written_none (RenamesBody c.args.new_indices.now c.args.widths) c.args.input.now.now
+    c.new-out.result.items c.new-out.ensures.items
+
+pub returns-in_err-new-clause-malformed : goal.returns-in_err-new-clause-malformed
+returns-in_err-new-clause-malformed c =
+    let l = c.loop in
+    let r = c.from_residual in
+    let p = err_from_is_err_and r.result r.ensures.1 in
+    λ place e. let is = sym p.2 ∙ same_failure r.result p.0 (rename.Malformed place) p.1 e in
+    bodies_malformed c.args.count l.counter c.args.input.now.now l.input.now l.invariant.names
+    (scan.Malformed place)
+    (written_bodies c.args.new_indices.now c.args.widths l.counter c.args.input.now.now l.input.now
+    l.unwritten.now l.out.items l.invariant) c.loop-test.true
+    (c.in_err-new.ensures.malformed place (ap (λ x. Err x) is))
+
+pub returns-in_err-new-clause-unknown : goal.returns-in_err-new-clause-unknown
+returns-in_err-new-clause-unknown c =
+    let l = c.loop in
+    let r = c.from_residual in
+    let p = err_from_is_err_and r.result r.ensures.1 in
+    λ k place e. let is = sym p.2 ∙ same_failure r.result p.0 (rename.UnknownType k place) p.1 e in
+    written_first (RenamesBody c.args.new_indices.now c.args.widths)
+    (InSized (λ b. NamesUnknown c.args.new_indices.now body b k)) c.args.count l.counter
+    c.args.input.now.now l.input.now l.unwritten.now l.out.items l.invariant c.loop-test.true
+    (c.in_err-new.ensures.unknown k place (ap (λ x. Err x) is))
+
+pub returns-in_err-new-clause-too_long : goal.returns-in_err-new-clause-too_long
+returns-in_err-new-clause-too_long c =
+    let l = c.loop in
+    let r = c.from_residual in
+    let p = err_from_is_err_and r.result r.ensures.1 in
+    λ e. let is = sym p.2 ∙ same_failure r.result p.0 rename.TooLong p.1 e in
+    written_first (RenamesBody c.args.new_indices.now c.args.widths)
+    (InSized (BecomesTooLong (RenamesTexts c.args.new_indices.now c.args.widths body))) c.args.count
+    l.counter c.args.input.now.now l.input.now l.unwritten.now l.out.items l.invariant c.loop-test.true
+    (c.in_err-new.ensures.too_long (ap (λ x. Err x) is))
+
+pub loop-preserved : goal.loop-preserved
+loop-preserved c =
+    let l = c.loop in
+    let new_indices = c.args.new_indices.now in
+    let w = c.args.widths in
+    let R = RenamesBody new_indices w in
+    let bytes = c.args.input.now.now in
+    let rest = l.input.now in
+    let after = c.rename_sized_body.new.input.now in
+    let merged = c.match-branch-2 in
+    elim c.match-branch-2.branch [
+      | in-Some+in_ok-append_prefix+in_ok-extend_from_slice b ↦
+          let new = b.in-Some.new.items in
+          let changes = if_some c.in_ok-new.field-0 b.in-Some.new (λ x. ChangesPrefix R rest after x.items)
+          b.in-Some.is c.in_ok-new.ensures.changes in
+          written_is R (l.counter + 1) bytes after merged.unwritten.now after merged.out.items
+          b.extend_from_slice.new.self.items (ap (λ x. x.now) b.unwritten-is)
+          (ap (λ v. v.items) b.out-is)
+          (written_on R l.counter bytes rest after l.unwritten.now l.out.items
+          b.append_prefix.new.out.items new b.extend_from_slice.new.self.items l.invariant
+          changes (changed_some w (RenamesTexts new_indices w body) rest after new changes)
+          b.in_ok-append_prefix.ensures
+          (b.in_ok-extend_from_slice.ensures.items
+          ∙ ap (λ (u : List ℕ). b.append_prefix.new.out.items ++ u) b.deref.ensures.value))
+      | in_default b ↦
+          written_is R (l.counter + 1) bytes after merged.unwritten.now l.unwritten.now merged.out.items
+          l.out.items (ap (λ x. x.now) b.unwritten-is) (ap (λ v. v.items) b.out-is)
+          (written_passed R l.counter bytes rest after l.unwritten.now l.out.items l.invariant
+          (if_none c.in_ok-new.field-0 _ b.in_default.not-Some c.in_ok-new.ensures.stays))
+    ]
+
+pub returns-clause-changes : goal.returns-clause-changes
+returns-clause-changes c =
+    let l = c.loop in
+    let R = RenamesBody c.args.new_indices.now c.args.widths in
+    let bytes = c.args.input.now.now in
+    let last = c.extend_from_slice-2.new.self.items in
+    let all : l.counter ≡ c.args.count = omega (arith, c.loop-test.false, l.auto.counter-end) in
+    subst (λ (n : ℕ). ChangesPrefix (ChangeAll R n) bytes l.input.now last) all
+    (written_changes R l.counter bytes l.input.now l.unwritten.now l.out.items last l.invariant
+    (λ e. not_empty c.as_slice.result.now c.if-is_empty.ensures (c.as_slice.ensures.value ∙ e))
+    c.in_ok-extend_from_slice-2.ensures.items)

@@ -1,0 +1,94 @@
+use Rattle.std.proofs.Common.{◌∙◌, Err, sym, ap, rules}
+use Rattle.std.proofs.lemmas.Result.{err_from_is_err_and}
+use Rattle.wasm_module.specs.declared.renaming.RenameError.TheVariants as rename
+use Rattle.wasm_module.specs.Sections.{placed}
+use Rattle.wasm_module.proofs.Rewriting.{same_failure}
+use Rattle.wasm_module.proofs.RenamedModules.{section_placed, section_whole, module_begun, module_on, module_renamed, module_malformed, module_unknown, module_too_long}
+use Rattle.wasm_module.proofs.renamed_module.rename_module.Goals as goal
+
+pub loop-section-init : goal.loop-section-init
+loop-section-init c = (
+  tt,
+  tt,
+  module_begun c.args.types.now c.args.new_indices.now c.args.widths c.args.bytes.now c.in-Ok.found
+      c.extend_from_slice.new.self.items c.in-Ok.ensures.module c.in-Ok.ensures.placed
+      (search (rules, c.in_ok-extend_from_slice.ensures.items, c.new-out.ensures.items)),
+)
+
+pub section_text-text-requires-clause-ordered : goal.section_text-text-requires-clause-ordered
+section_text-text-requires-clause-ordered c =
+    let s = c.in-Some.section in
+    let p = section_placed c.args.types.now c.args.new_indices.now c.args.widths c.args.bytes.now
+    c.in-Ok.found c.loop-section.left c.next.new.self c.loop-section.out.items
+    (placed s.offset s.content_offset s.id s.content.now) c.loop-section.invariant.2
+    c.in-Some.ensures.steps in
+    p.ordered
+
+pub section_text-text-requires-clause-fits : goal.section_text-text-requires-clause-fits
+section_text-text-requires-clause-fits c =
+    let s = c.in-Some.section in
+    let p = section_placed c.args.types.now c.args.new_indices.now c.args.widths c.args.bytes.now
+    c.in-Ok.found c.loop-section.left c.next.new.self c.loop-section.out.items
+    (placed s.offset s.content_offset s.id s.content.now) c.loop-section.invariant.2
+    c.in-Some.ensures.steps in
+    p.fits
+
+pub write_section-requires : goal.write_section-requires
+write_section-requires c =
+    let s = c.in-Some.section in
+    section_whole c.args.types.now c.args.new_indices.now c.args.widths c.args.bytes.now c.in-Ok.found
+    c.loop-section.left c.next.new.self c.loop-section.out.items
+    (placed s.offset s.content_offset s.id s.content.now) c.section_text-text.result.now
+    c.loop-section.invariant.2 c.in-Some.ensures.steps c.section_text-text.ensures
+
+pub loop-section-preserved : goal.loop-section-preserved
+loop-section-preserved c =
+    let s = c.in-Some.section in (
+      tt,
+      tt,
+      module_on c.args.types.now c.args.new_indices.now c.args.widths c.args.bytes.now c.in-Ok.found
+          c.loop-section.left c.next.new.self c.loop-section.out.items c.write_section.new.out.items
+          (placed s.offset s.content_offset s.id s.content.now) c.section_text-text.result.now
+          c.loop-section.invariant.2 c.in-Some.ensures.steps c.section_text-text.ensures
+          c.in_ok-write_section.ensures.written,
+    )
+
+pub returns-in_err-write_section-clause-malformed : goal.returns-in_err-write_section-clause-malformed
+returns-in_err-write_section-clause-malformed c =
+    let s = c.in-Some.section in
+    let r = c.from_residual-in_err-write_section in
+    let p = err_from_is_err_and r.result r.ensures.1 in
+    λ place e. let is = sym p.2 ∙ same_failure r.result p.0 (rename.Malformed place) p.1 e in
+    module_malformed c.args.types.now c.args.new_indices.now c.args.widths c.args.bytes.now c.in-Ok.found
+    c.loop-section.left c.next.new.self c.loop-section.out.items
+    (placed s.offset s.content_offset s.id s.content.now) c.in-Ok.ensures.module c.loop-section.invariant.2
+    c.in-Some.ensures.steps (c.in_err-write_section.ensures.malformed place (ap (λ x. Err x) is))
+
+pub returns-in_err-write_section-clause-unknown : goal.returns-in_err-write_section-clause-unknown
+returns-in_err-write_section-clause-unknown c =
+    let s = c.in-Some.section in
+    let r = c.from_residual-in_err-write_section in
+    let p = err_from_is_err_and r.result r.ensures.1 in
+    λ k place e. let is = sym p.2 ∙ same_failure r.result p.0 (rename.UnknownType k place) p.1 e in
+    module_unknown c.args.types.now c.args.new_indices.now c.args.widths k c.args.bytes.now c.in-Ok.found
+    c.loop-section.left c.next.new.self c.loop-section.out.items
+    (placed s.offset s.content_offset s.id s.content.now) c.in-Ok.ensures.module c.loop-section.invariant.2
+    c.in-Some.ensures.steps (c.in_err-write_section.ensures.unknown k place (ap (λ x. Err x) is))
+
+pub returns-in_err-write_section-clause-too_long : goal.returns-in_err-write_section-clause-too_long
+returns-in_err-write_section-clause-too_long c =
+    let s = c.in-Some.section in
+    let r = c.from_residual-in_err-write_section in
+    let p = err_from_is_err_and r.result r.ensures.1 in
+    λ e. let is = sym p.2 ∙ same_failure r.result p.0 rename.TooLong p.1 e in
+    module_too_long c.args.types.now c.args.new_indices.now c.args.widths c.args.bytes.now c.in-Ok.found
+    c.loop-section.left c.next.new.self c.loop-section.out.items
+    (placed s.offset s.content_offset s.id s.content.now) c.section_text-text.result.now
+    c.in-Ok.ensures.module c.loop-section.invariant.2 c.in-Some.ensures.steps c.section_text-text.ensures
+    (c.in_err-write_section.ensures.too_long (ap (λ x. Err x) is))
+
+pub returns-clause-renamed : goal.returns-clause-renamed
+returns-clause-renamed c =
+    module_renamed c.args.types.now c.args.new_indices.now c.args.widths c.args.bytes.now c.in-Ok.found
+    c.loop-section.left c.loop-section.out.items c.in-Ok.ensures.module c.loop-section.invariant.2
+    c.in_default.ensures.steps.0

@@ -1,0 +1,89 @@
+-- Custom sections that describe other bytes of their module, and modules without these.
+-- WebAssembly core specification, "Binary Format", "Custom Section". The names are conventions of
+-- tools.
+use Rattle.std.specs.Prelude.{◌≡◌, ℕ, List, [], ◌∷◌, ◌++◌, length, drop, codes}
+use Rattle.std.specs.List.{All}
+use Rattle.wasm_binary.specs.Leb128.{IsU32}
+use Rattle.wasm_binary.specs.Modules.{Section, IsSection, IsModule, header}
+use Rattle.wasm_module.specs.Sections.{PlacedSection, ArePlaced, framing}
+
+-- ---- names
+
+-- Sections of these names describe other bytes of their module: debug data elsewhere, linking,
+-- signatures and source maps, debug data, branch hints and other annotations of code, and
+-- relocations.
+pub data IsDescriptionName : List ℕ → Type 0 where
+  external_debug_info : IsDescriptionName (codes "external_debug_info")
+  linking : IsDescriptionName (codes "linking")
+  signature : IsDescriptionName (codes "signature")
+  source_mapping_url : IsDescriptionName (codes "sourceMappingURL")
+  debug : (rest : List ℕ) → IsDescriptionName (codes ".debug_" ++ rest)
+  code_metadata : (rest : List ℕ) → IsDescriptionName (codes "metadata.code." ++ rest)
+  relocations : (rest : List ℕ) → IsDescriptionName (codes "reloc." ++ rest)
+
+-- ---- sections
+
+-- the content of a custom section of this name
+pub record HasName (name content : List ℕ) : Type 0 where
+  pub size : List ℕ
+  pub follows : List ℕ
+  pub is_size : IsU32 size (length name)
+  pub parts : content ≡ size ++ (name ++ follows)
+
+-- a custom section that describes other bytes of its module
+pub record IsDescription (s : Section) : Type 0 where
+  pub is_custom : s.id ≡ 0
+  pub name : List ℕ
+  pub has_name : HasName name s.content
+  pub is_description : IsDescriptionName name
+
+-- ---- modules without them
+
+-- the text of a section, and what is left of it: nothing of one that describes other bytes
+pub data IsStrippedSection : List ℕ → List ℕ → Type 0 where
+  left_out :
+      (text : List ℕ) (s : Section) → IsSection text s → IsDescription s
+      → IsStrippedSection text []
+  kept :
+      (text : List ℕ) (s : Section) → IsSection text s → (IsDescription s → ⊥)
+      → IsStrippedSection text text
+
+-- the text of sections one after another, and what is left of it
+pub data AreStripped : List ℕ → List ℕ → Type 0 where
+  none : AreStripped [] []
+  next :
+      (text new texts new_texts : List ℕ) → IsStrippedSection text new
+      → AreStripped texts new_texts → AreStripped (text ++ texts) (new ++ new_texts)
+
+-- the bytes are a module, and `new` is the same without sections that describe other bytes
+pub record IsStripped (bytes new : List ℕ) : Type 0 where
+  pub sections : List Section
+  pub is_module : IsModule bytes sections
+  pub texts : List ℕ
+  pub new_texts : List ℕ
+  pub parts : bytes ≡ header ++ texts
+  pub new_parts : new ≡ header ++ new_texts
+  pub are : AreStripped texts new_texts
+
+-- ---- where the first of them is
+
+-- the bytes are a module of these sections, at these places
+pub record HasSections (bytes : List ℕ) (sections : List PlacedSection) : Type 0 where
+  pub is_module : IsModule bytes (framing sections)
+  pub places : ArePlaced (length header) (drop (length header) bytes) sections
+
+-- no section of the module describes other bytes
+pub record HasNoDescription (bytes : List ℕ) : Type 0 where
+  pub sections : List PlacedSection
+  pub has : HasSections bytes sections
+  pub none : All (λ s. IsDescription s.framed → ⊥) sections
+
+-- the first section of the module that describes other bytes begins at this place
+pub record HasDescriptionAt (bytes : List ℕ) (offset : ℕ) : Type 0 where
+  pub before : List PlacedSection
+  pub first : PlacedSection
+  pub behind : List PlacedSection
+  pub has : HasSections bytes (before ++ first ∷ behind)
+  pub none_before : All (λ s. IsDescription s.framed → ⊥) before
+  pub is_description : IsDescription first.framed
+  pub place : first.offset ≡ offset

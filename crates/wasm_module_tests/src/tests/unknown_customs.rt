@@ -1,0 +1,128 @@
+//! Custom sections of an unknown kind. The modules are put together by hand from the
+//! specification's grammar.
+use crate::assertions::assert_equal;
+use crate::tests::customs::{HEADER, module_of};
+use std::alloc::Global;
+use std::test::*;
+use wasm_binary::{DecodeError, Expected};
+use wasm_module::find_unknown_custom;
+
+/// Whether the section is of a known kind.
+fn is_known(alloc: Global, section: &[u8]) -> bool {
+    match module_of(alloc, section) {
+        Ok(bytes) => find_unknown_custom(bytes.as_slice()) == Ok(None),
+        Err(_) => false,
+    }
+}
+
+/// Whether the section is found.
+fn is_found(alloc: Global, section: &[u8]) -> bool {
+    match module_of(alloc, section) {
+        Ok(bytes) => find_unknown_custom(bytes.as_slice()) == Ok(Some(8)),
+        Err(_) => false,
+    }
+}
+
+// Where not said otherwise a section has the byte 7 behind its name.
+
+#[test]
+fn sections_that_refer_to_nothing_are_known(rt: HostRuntime) {
+    assert!(rt; is_known(rt.alloc(), b"\x00\x0B\x09producers\x07"));
+    assert!(rt; is_known(rt.alloc(), b"\x00\x11\x0Ftarget_features\x07"));
+    assert!(rt; is_known(rt.alloc(), b"\x00\x0A\x08dylink.0\x07"));
+    assert!(rt; is_known(rt.alloc(), b"\x00\x0A\x08build_id\x07"));
+}
+
+#[test]
+fn the_section_name_is_known(rt: HostRuntime) {
+    assert!(rt; is_known(rt.alloc(), b"\x00\x06\x04name\x07"));
+    assert!(rt; is_known(rt.alloc(), b"\x00\x05\x04name"));
+}
+
+#[test]
+fn sections_that_describe_other_bytes_are_known(rt: HostRuntime) {
+    assert!(rt; is_known(rt.alloc(), b"\x00\x15\x13external_debug_info\x07"));
+    assert!(rt; is_known(rt.alloc(), b"\x00\x09\x07linking\x07"));
+    assert!(rt; is_known(rt.alloc(), b"\x00\x0B\x09signature\x07"));
+    assert!(rt; is_known(rt.alloc(), b"\x00\x12\x10sourceMappingURL\x07"));
+    assert!(rt; is_known(rt.alloc(), b"\x00\x0D\x0B.debug_info\x07"));
+    assert!(rt; is_known(rt.alloc(), b"\x00\x1B\x19metadata.code.branch_hint\x07"));
+    assert!(rt; is_known(rt.alloc(), b"\x00\x0C\x0Areloc.CODE\x07"));
+}
+
+#[test]
+fn sections_of_other_names_are_found(rt: HostRuntime) {
+    assert!(rt; is_found(rt.alloc(), b"\x00\x04\x02.x\x07"));
+    // the empty name
+    assert!(rt; is_found(rt.alloc(), b"\x00\x02\x00\x07"));
+    assert!(rt; is_found(rt.alloc(), b"\x00\x01\x00"));
+    assert!(rt; is_found(rt.alloc(), b"\x00\x06\x04Name\x07"));
+    assert!(rt; is_found(rt.alloc(), b"\x00\x0A\x08dylink.1\x07"));
+}
+
+#[test]
+fn names_that_begin_as_known_ones_are_unknown(rt: HostRuntime) {
+    assert!(rt; is_found(rt.alloc(), b"\x00\x0C\x0Aproducers2\x07"));
+    assert!(rt; is_found(rt.alloc(), b"\x00\x07\x05names\x07"));
+    assert!(rt; is_found(rt.alloc(), b"\x00\x12\x10target_features2\x07"));
+    assert!(rt; is_found(rt.alloc(), b"\x00\x0B\x09dylink.01\x07"));
+    assert!(rt; is_found(rt.alloc(), b"\x00\x0B\x09build_ids\x07"));
+    assert!(rt; is_found(rt.alloc(), b"\x00\x0A\x08linking2\x07"));
+}
+
+#[test]
+fn beginnings_of_known_names_are_unknown(rt: HostRuntime) {
+    assert!(rt; is_found(rt.alloc(), b"\x00\x0A\x08producer\x07"));
+    assert!(rt; is_found(rt.alloc(), b"\x00\x05\x03nam\x07"));
+    assert!(rt; is_found(rt.alloc(), b"\x00\x08\x06.debug\x07"));
+}
+
+#[test]
+fn a_section_without_a_whole_name_is_unknown(rt: HostRuntime) {
+    // no size; a size that does not end; `name` and `producers` that are cut off
+    assert!(rt; is_found(rt.alloc(), b"\x00\x00"));
+    assert!(rt; is_found(rt.alloc(), b"\x00\x01\x87"));
+    assert!(rt; is_found(rt.alloc(), b"\x00\x04\x04nam"));
+    assert!(rt; is_found(rt.alloc(), b"\x00\x09\x09producer"));
+}
+
+#[test]
+fn padded_sizes_play_no_role(rt: HostRuntime) {
+    // `name` with padded sizes, and `x` with padded sizes
+    assert!(rt; is_known(rt.alloc(), b"\x00\x86\x00\x84\x00name"));
+    assert!(rt; is_found(rt.alloc(), b"\x00\x83\x00\x81\x00x"));
+}
+
+#[test]
+fn a_section_of_another_id_is_known(rt: HostRuntime) {
+    // data with a content that begins as a custom section of the name `x` would
+    assert!(rt; is_known(rt.alloc(), b"\x0B\x02\x01x"));
+}
+
+#[test]
+fn a_module_without_sections_has_none(rt: HostRuntime) {
+    assert!(rt; find_unknown_custom(&HEADER) == Ok(None));
+}
+
+#[test]
+fn the_first_unknown_one_of_several_is_found(rt: HostRuntime) {
+    // `name`, types, `linking`, `x`, functions, `y`
+    let bytes = [
+        0, 0x61, 0x73, 0x6D, 1, 0, 0, 0, 0, 5, 4, 0x6E, 0x61, 0x6D, 0x65, 1, 4, 1, 0x60, 0, 0, 0,
+        8, 7, 0x6C, 0x69, 0x6E, 0x6B, 0x69, 0x6E, 0x67, 0, 2, 1, 0x78, 3, 2, 1, 0, 0, 2, 1, 0x79,
+    ];
+    assert!(rt; find_unknown_custom(&bytes) == Ok(Some(31)));
+    assert!(rt; find_unknown_custom(&bytes[..31]) == Ok(None));
+}
+
+#[test]
+fn what_is_no_module_is_refused(rt: HostRuntime) {
+    // `x`, and a function section whose content is cut off
+    let bytes = [0, 0x61, 0x73, 0x6D, 1, 0, 0, 0, 0, 2, 1, 0x78, 3, 2, 1];
+    let (offset, expected) = (15, Expected::Content);
+    let error = Some(DecodeError::Malformed { offset, expected });
+    assert_equal(&rt, find_unknown_custom(&bytes).err(), error);
+    let (offset, expected) = (0, Expected::Magic);
+    let error = Some(DecodeError::Malformed { offset, expected });
+    assert_equal(&rt, find_unknown_custom(&[]).err(), error);
+}

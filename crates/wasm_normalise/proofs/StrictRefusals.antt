@@ -1,0 +1,18 @@
+-- What the errors of the steps of `normalise_strictly` say.
+use Rattle.std.proofs.Common.{◌≡◌, ℕ, List, Result, Ok, Err, sym, subst}
+use Rattle.std.specs.Prelude.{IfErr, IsErrAnd}
+use Rattle.wasm_normalise.specs.NormalModules.{IsRefusedBy}
+use Rattle.wasm_normalise.specs.StrictErrors.{IsStrictError}
+use Rattle.wasm_normalise.specs.declared.error.NormaliseModuleError.{NormaliseModuleError}
+use Rattle.wasm_normalise.specs.declared.options.NormaliseOptions.{NormaliseOptions}
+use Rattle.wasm_normalise.specs.declared.strict.StrictError.{StrictError}
+use Rattle.wasm_normalise.specs.declared.strict.StrictError.TheVariants as failure
+
+-- an error of a step ends the call
+pub step_refused :
+    {A : Type 0} (options : NormaliseOptions) (bytes : List ℕ) (result : Result A StrictError)
+    (e : NormaliseModuleError) → IsErrAnd result (λ x. x ≡ failure.Refused e)
+    → IsRefusedBy options bytes e → IfErr result (IsStrictError options bytes)
+step_refused options bytes (Ok new) e is why = tt
+step_refused options bytes (Err x) e is why =
+    subst (λ y. IsStrictError options bytes y) (sym is) why

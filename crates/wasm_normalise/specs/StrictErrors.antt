@@ -1,0 +1,20 @@
+-- What an error says of bytes that are not normalised, or only with a result that can be wrong.
+use Rattle.std.specs.Prelude.{◌≡◌, ℕ, List}
+use Rattle.wasm_normalise.specs.Hazards.{IsHazard}
+use Rattle.wasm_normalise.specs.NormalModules.{DescriptionsFit, IsNormalised, IsRefusedBy}
+use Rattle.wasm_normalise.specs.declared.hazards.Hazard.{Hazard}
+use Rattle.wasm_normalise.specs.declared.options.Descriptions.TheVariants as descriptions
+use Rattle.wasm_normalise.specs.declared.options.NormaliseOptions.{NormaliseOptions}
+use Rattle.wasm_normalise.specs.declared.strict.StrictError.{StrictError}
+use Rattle.wasm_normalise.specs.declared.strict.StrictError.TheVariants as failure
+
+-- the bytes are a module with a normal form, in which this can be wrong
+pub record HasHazard (options : NormaliseOptions) (bytes : List ℕ) (h : Hazard) : Type 0 where
+  pub new : List ℕ
+  pub is_normalised : IsNormalised options bytes new
+  pub fits : options.descriptions ≡ descriptions.Kept → DescriptionsFit bytes new
+  pub is_hazard : IsHazard bytes h
+
+abbrev pub IsStrictError : NormaliseOptions → List ℕ → StrictError → Type 0
+IsStrictError options bytes (failure.Refused e) = IsRefusedBy options bytes e
+IsStrictError options bytes (failure.Hazard h) = HasHazard options bytes h

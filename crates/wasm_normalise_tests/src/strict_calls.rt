@@ -1,0 +1,90 @@
+//! Modules that are normalised only if nothing can be wrong in the result. The modules and the
+//! results are put together by hand from the specification's grammar.
+use crate::changed_types::JOINS;
+use crate::tests::NORMAL;
+use std::alloc::Global;
+use std::test::*;
+use wasm_normalise::{
+    HashKeys, Hazard, NormaliseModuleError, NormaliseOptions, StrictError, UnusedTypes,
+    normalise_strictly,
+};
+
+// (type (struct)) (type (func)) (func (type 1))
+const SAFE: [u8; 20] = [
+    0, 0x61, 0x73, 0x6D, 1, 0, 0, 0, 1, 6, 2, 0x5F, 0, 0x60, 0, 0, 3, 2, 1, 1,
+];
+
+// the same with its types in normal form, without the type that nothing uses
+const PRUNED: [u8; 18] = [
+    0, 0x61, 0x73, 0x6D, 1, 0, 0, 0, 1, 4, 1, 0x60, 0, 0, 3, 2, 1, 0,
+];
+
+// a custom section with the name "x"
+const UNKNOWN: [u8; 12] = [0, 0x61, 0x73, 0x6D, 1, 0, 0, 0, 0, 2, 1, b'x'];
+
+// (type (func)), a function with a type that is not there, and the same custom section
+const ILL_NAMED: [u8; 22] = [
+    0, 0x61, 0x73, 0x6D, 1, 0, 0, 0, 1, 4, 1, 0x60, 0, 0, 3, 2, 1, 1, 0, 2, 1, b'x',
+];
+
+// the types that are joined, the same custom section, and one that has to fit all bytes
+const SIGNED: [u8; 37] = [
+    0, 0x61, 0x73, 0x6D, 1, 0, 0, 0, 1, 11, 2, 0x60, 1, 0x63, 0, 0, 0x60, 1, 0x63, 0, 0, 0, 2, 1,
+    b'x', 0, 10, 9, b's', b'i', b'g', b'n', b'a', b't', b'u', b'r', b'e',
+];
+
+/// Whether the bytes become these.
+fn becomes(alloc: Global, bytes: &[u8], unused: UnusedTypes, expected: &[u8]) -> bool {
+    let options = NormaliseOptions {
+        unused,
+        ..NormaliseOptions::default()
+    };
+    match normalise_strictly(alloc, HashKeys::fixed(), bytes, options) {
+        Ok(new) => new.as_slice() == expected,
+        Err(_) => false,
+    }
+}
+
+/// The error of bytes that are not normalised.
+fn error_of(alloc: Global, bytes: &[u8]) -> Option<StrictError> {
+    normalise_strictly(alloc, HashKeys::fixed(), bytes, NormaliseOptions::default()).err()
+}
+
+#[test]
+fn a_module_without_hazards_is_normalised(rt: HostRuntime) {
+    assert!(rt; becomes(rt.alloc(), &SAFE, UnusedTypes::Kept, &NORMAL));
+    assert!(rt; becomes(rt.alloc(), &SAFE, UnusedTypes::Deleted, &PRUNED));
+}
+
+#[test]
+fn a_hazard_is_an_error(rt: HostRuntime) {
+    let changed = StrictError::Hazard(Hazard::ChangedType { index: 1 });
+    let unknown = StrictError::Hazard(Hazard::UnknownSection { offset: 8 });
+    assert!(rt; error_of(rt.alloc(), &JOINS) == Some(changed));
+    assert!(rt; error_of(rt.alloc(), &UNKNOWN) == Some(unknown));
+}
+
+#[test]
+fn what_is_refused_comes_before_a_hazard(rt: HostRuntime) {
+    let unknown = NormaliseModuleError::UnknownType {
+        index: 1,
+        count: 1,
+        offset: 17,
+    };
+    let outdated = NormaliseModuleError::Outdated { offset: 25 };
+    assert!(rt; error_of(rt.alloc(), &ILL_NAMED) == Some(StrictError::Refused(unknown)));
+    assert!(rt; error_of(rt.alloc(), &SIGNED) == Some(StrictError::Refused(outdated)));
+}
+
+#[test]
+fn errors_are_shown_as_what_is_in_them(rt: HostRuntime) {
+    let alloc = rt.alloc();
+    let refused = StrictError::Refused(NormaliseModuleError::TooMany)
+        .to_string(alloc)
+        .expect(&rt, "memory");
+    let unknown = StrictError::Hazard(Hazard::UnknownSection { offset: 8 })
+        .to_string(alloc)
+        .expect(&rt, "memory");
+    assert!(rt; refused.as_str() == "too many entries");
+    assert!(rt; unknown.as_str() == "the custom section at byte 8 is of an unknown kind");
+}
