@@ -1,12 +1,14 @@
 //! What the arguments of a program ask for.
-ghost use Rattle.std.specs.Prelude.{◌≡◌, ◌≤◌, ◌↔◌, All, IfOk, IsTrue, OnOk, bytes_eq};
-ghost use Rattle.std.specs.List.{Any, list_any};
+ghost use Rattle.std.specs.Prelude.{◌≡◌, ◌↔◌, ◌++◌, map, drop, IfErr, IfOk, IsTrue, OnOk, bytes_eq};
+ghost use Rattle.std.specs.List.{list_any};
 ghost use Rattle.std.specs.String.{string_bytes};
-ghost use Rattle.command_line.specs.Arguments.{HasNames, HasOptionsOf, HasValuesOf, IsName, IsNoWork};
+ghost use Rattle.std.specs.Vec.Iter.{into_iter_items, into_iter_len};
+ghost use Rattle.command_line.specs.Arguments.{AsksFor, IsName, IsOneOf, IsWithoutWork, file_name};
+ghost use Rattle.command_line.specs.declared.arguments.Request.TheVariants.{NotUtf8};
 
 use std::alloc::{AllocError, Global};
-use std::env::{self, Args, Env};
-use std::io::ErrorKind;
+use std::env::Args;
+use std::io::{self, ErrorKind};
 
 /// An option with its value.
 #[derive(Debug, Drop)]
@@ -43,35 +45,37 @@ pub enum Request {
 /// The line for an argument that is not UTF-8.
 pub const NOT_UTF8: &str = "an argument is not UTF-8\n";
 
-/// Returns what the arguments ask for. `options` are the options that the program has besides
-/// `--help` and `--version`, and `with_value` are the ones that have a value: the argument behind
-/// them, whatever it is. Without that argument they are wrong, and so is any other argument that
-/// begins with `-` and is longer. The first argument that is wrong, or is `--help` or `--version`,
-/// decides. One that is not UTF-8 is wrong wherever it is. All arguments behind `--` are names of
-/// files. Such a name that begins with `-` and is longer is returned with `./` before it.
+/// Returns what the arguments of a program ask for, which [`env::args`](std::env::args) gives: the
+/// first is its own name. `options` are the options that the program has besides `--help` and
+/// `--version`, and `with_value` are the ones that have a value: the argument behind them, whatever
+/// it is. Without that argument they are wrong, and so is any other argument that begins with `-`
+/// and is longer. The first argument that is wrong, or is `--help` or `--version`, decides. All
+/// arguments behind `--` are names of files. Such a name that begins with `-` and is longer is
+/// returned with `./` before it. One argument that is not UTF-8, wherever it is, makes the request
+/// [`Request::NotUtf8`].
 ///
 /// # Errors
 ///
 /// An error comes where memory was refused.
-pub fn parse_arguments<R: Env + AllocGlobal>(
-    rt: &R,
+pub fn parse_arguments(
+    alloc: Global,
+    arguments: io::Result<Args>,
     options: &[&str],
     with_value: &[&str],
 ) -> Result<Request, AllocError>
-    // Each name that is returned is the name of a file.
-    ensures names { IfOk result HasNames }
-    // Each option that is returned is one of the program.
-    ensures options { IfOk result (HasOptionsOf (λ o. Any (λ k. k.now ≡ o) options.now)) }
-    // Each option with a value is one of the program.
-    ensures values { IfOk result (HasValuesOf (λ o. Any (λ k. k.now ≡ o) with_value.now)) }
+    ensures asked { IfOk arguments (λ given. IfOk result (AsksFor
+        record { own = options.now; valued = with_value.now }
+        (drop 1 (map string_bytes (into_iter_items given))))) }
+    ensures unread { IfErr arguments (λ _. IfOk result (λ request. request ≡ NotUtf8)) }
 {
-    let mut arguments = match env::args(rt) {
-        Ok(arguments) => arguments,
-        Err(error) if error.kind() == ErrorKind::OutOfMemory => return Err(AllocError),
-        Err(_) => return Ok(Request::NotUtf8),
-    };
-    let _program = arguments.next();
-    work(rt.alloc(), arguments, options, with_value)
+    match arguments {
+        Ok(mut given) => {
+            let _program = given.next();
+            requested(alloc, given, options, with_value)
+        }
+        Err(error) if error.kind() == ErrorKind::OutOfMemory => Err(AllocError),
+        Err(_) => Ok(Request::NotUtf8),
+    }
 }
 
 /// Whether an option is among the ones that are there.
@@ -86,16 +90,15 @@ pub fn has_option(options: &[String], option: &str) -> bool
     false
 }
 
-/// The names of files among the arguments, and the options.
-fn work(
+/// What the arguments ask for.
+fn requested(
     alloc: Global,
     arguments: Args,
     own: &[&str],
     with_value: &[&str],
 ) -> Result<Request, AllocError>
-    ensures names { IfOk result HasNames }
-    ensures options { IfOk result (HasOptionsOf (λ o. Any (λ k. k.now ≡ o) own.now)) }
-    ensures values { IfOk result (HasValuesOf (λ o. Any (λ k. k.now ≡ o) with_value.now)) }
+    ensures { IfOk result (AsksFor record { own = own.now; valued = with_value.now }
+        (map string_bytes (into_iter_items arguments))) }
 {
     let mut left = arguments;
     let mut names = Vec::new(alloc);
@@ -115,7 +118,12 @@ fn work(
         } else if is_name(argument.as_str()) {
             names.push(argument)?;
         } else if argument.as_str() == "--" {
-            push_names(alloc, &mut left, &mut names)?;
+            names = with_names(alloc, names, left)?;
+            return Ok(Request::Work {
+                names,
+                options,
+                values,
+            });
         } else {
             return Ok(without_work(argument.as_str()));
         }
@@ -127,21 +135,21 @@ fn work(
     })
 }
 
-/// Takes the arguments that are left, which are all names of files.
-fn push_names(alloc: Global, left: &mut Args, names: &mut Vec<String>) -> Result<(), AllocError>
-    ensures names { All (λ name. IsName (string_bytes name)) names.old.items →
-        OnOk result (All (λ name. IsName (string_bytes name)) names.new.items) }
-    ensures shorter { left.new.rest.len ≤ left.old.rest.len }
+/// The names with those of the arguments that are left, which are all names of files.
+fn with_names(alloc: Global, names: Vec<String>, left: Args) -> Result<Vec<String>, AllocError>
+    ensures { IfOk result (λ all. map string_bytes all.items ≡ map string_bytes names.items ++
+        map file_name (map string_bytes (into_iter_items left))) }
 {
-    while let Some(argument) = left.next() {
-        names.push(as_name(alloc, argument)?)?;
+    let mut all = names;
+    for argument in left {
+        all.push(as_name(alloc, argument)?)?;
     }
-    Ok(())
+    Ok(all)
 }
 
 /// The argument as a name of a file: `./` goes before one that begins with `-` and is longer.
 fn as_name(alloc: Global, argument: String) -> Result<String, AllocError>
-    ensures { IfOk result (λ name. IsName (string_bytes name)) }
+    ensures { IfOk result (λ name. string_bytes name ≡ file_name (string_bytes argument)) }
 {
     if is_name(argument.as_str()) {
         return Ok(argument);
@@ -151,7 +159,7 @@ fn as_name(alloc: Global, argument: String) -> Result<String, AllocError>
 
 /// What an argument asks for that is no name and no option of the program.
 fn without_work(argument: &str) -> Request
-    ensures { IsNoWork result }
+    ensures { IsWithoutWork argument.now result }
 {
     match argument {
         "--help" => Request::Help,
@@ -162,7 +170,7 @@ fn without_work(argument: &str) -> Request
 
 /// Whether an argument is one of these options.
 fn is_option(argument: &str, own: &[&str]) -> bool
-    ensures { IsTrue result ↔ Any (λ k. k.now ≡ argument.now) own.now }
+    ensures { IsTrue result ↔ IsOneOf own.now argument.now }
 {
     own.contains(&argument)
 }

@@ -17,6 +17,7 @@ use command_line::{Input, NOT_UTF8, Request, open, parse_arguments, report_usage
 use failure::{Failure, InputError, Names, report};
 use normal_form::{index_of_difference, read_normal_form};
 use std::alloc::Global;
+use std::env;
 use std::io::{self, Read, Write};
 use std::process::ExitCode;
 use texts::{HELP, USAGE};
@@ -132,7 +133,7 @@ fn main(rt: HostRuntime) -> ExitCode {
 /// Does what the arguments ask for, and returns the exit status.
 fn start<E: Write>(rt: &HostRuntime, err: &mut E) -> u8 {
     let no_names = Names { a: "", b: "" };
-    let request = match parse_arguments(rt, &[], &[]) {
+    let request = match parse_arguments(rt.alloc(), env::args(rt), &[], &[]) {
         Ok(request) => request,
         Err(_) => return report(&Failure::Memory, no_names, err),
     };

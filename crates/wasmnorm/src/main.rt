@@ -27,6 +27,7 @@ use command_line::{
 use failure::{Failure, failed_input, refusal, report};
 use options::{RunOptions, run_options};
 use std::alloc::Global;
+use std::env;
 use std::hash::BuildHasher;
 use std::io::{self, Read, Write};
 use std::process::ExitCode;
@@ -191,7 +192,12 @@ fn main(rt: HostRuntime) -> ExitCode {
 
 /// Does what the arguments ask for, and returns the exit status.
 fn start<E: Write>(rt: &HostRuntime, err: &mut E) -> Result<u8, Failure> {
-    match parse_arguments(rt, &[KEEP_WIDTHS, PRUNE, STRIP, STRICT], &[OUTPUT])? {
+    match parse_arguments(
+        rt.alloc(),
+        env::args(rt),
+        &[KEEP_WIDTHS, PRUNE, STRIP, STRICT],
+        &[OUTPUT],
+    )? {
         Request::Help => printed(rt.stdout().write_all(HELP.as_bytes())),
         Request::Version => printed(write_version("wasmnorm", &mut rt.stdout())),
         Request::Work {

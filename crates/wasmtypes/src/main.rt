@@ -17,6 +17,7 @@ use command_line::{
 };
 use failure::{Failure, failed_input, refusal, report};
 use std::alloc::{AllocError, Global};
+use std::env;
 use std::io::{self, Read, Write};
 use std::process::ExitCode;
 use texts::{HELP, USAGE};
@@ -112,7 +113,7 @@ fn main(rt: HostRuntime) -> ExitCode {
 
 /// Does what the arguments ask for, and returns the exit status.
 fn start<E: Write>(rt: &HostRuntime, err: &mut E) -> Result<u8, Failure> {
-    match parse_arguments(rt, &[], &[])? {
+    match parse_arguments(rt.alloc(), env::args(rt), &[], &[])? {
         Request::Help => printed(rt.stdout().write_all(HELP.as_bytes())),
         Request::Version => printed(write_version("wasmtypes", &mut rt.stdout())),
         Request::Work { names, .. } => match names.as_slice() {
