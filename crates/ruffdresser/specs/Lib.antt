@@ -34,6 +34,14 @@ pub use Rattle.walrus_sections.specs.FirstError
 pub use Rattle.walrus_sections.specs.SlotMap
 pub use Rattle.walrus_sections.specs.WritingOrders
 pub use Rattle.walrus_sections.specs.MissingNames
+pub use Rattle.walrus_canonical.specs.EqualTypes
+pub use Rattle.walrus_canonical.specs.Listing as CanonicalListing
+pub use Rattle.walrus_canonical.specs.Greedy as CanonicalOrder
+pub use Rattle.walrus_canonical.specs.Keys as GroupKeys
+pub use Rattle.walrus_canonical.specs.Renamed as RenamedGroups
+pub use Rattle.walrus_canonical.specs.Roots
+pub use Rattle.walrus_canonical.specs.Refusals as CanonicalRefusals
+pub use Rattle.walrus_canonical.specs.Examples as CanonicalExamples
 pub use Rattle.walrus_types.specs.TypesById
 pub use Rattle.walrus_types.specs.Differences
 pub use Rattle.walrus_types.specs.Table
@@ -54,6 +62,7 @@ pub use Rattle.walrus_ty.specs.declared.ty.value.Heap
 pub use Rattle.walrus_ty.specs.declared.ty.value.Val
 pub use Rattle.walrus_ty.specs.declared.ty.value.Storage
 pub use Rattle.walrus_sections.specs.declared.error.ReadError
+pub use Rattle.walrus_canonical.specs.declared.error.CanonicalError
 pub use Rattle.walrus_types.specs.declared.error.EmitError
 pub use Rattle.walrus_types.specs.declared.table.rec_group.AddRecGroupError
 -- Instructions.

@@ -2,7 +2,7 @@
 //!
 //! - Arena: [`TombstoneArena`], [`ArenaSet`].
 //! - Types: [`Type`], [`ModuleTypes`].
-//! - Sections: [`GroupAt`], [`normalise`], [`same_up_to_moves`].
+//! - Sections: [`GroupAt`], [`normalise`], [`canonicalise`], [`same_up_to_moves`].
 //! - Instructions: [`Instr`], [`InstrSeq`], [`ConstExpr`].
 //! - Builders: [`FunctionBuilder`], [`LocalFunction`].
 //! - Walks: [`dfs_in_order`], [`dfs_pre_order_mut`], [`check_nesting`].
@@ -48,7 +48,8 @@ pub use walrus_types::{
     AddRecGroupError, ModuleTypes, RecGroup, RecGroupId, TypesIter, laws as table_laws,
 };
 
-// Sections: the records of a type section, and its normal form.
+// Sections: the records of a type section, its normal form, and its canonical form.
+pub use walrus_canonical::{CanonicalError, canonicalise, laws as canonical_laws};
 pub use walrus_normal_form_check::is_normal_form;
 pub use walrus_sections::{ReadError, first_error, laws as section_laws};
 pub use walrus_ty::{

@@ -8,6 +8,8 @@
 #[cfg(test)]
 mod assertions;
 #[cfg(test)]
+mod canonical;
+#[cfg(test)]
 mod difference;
 #[cfg(test)]
 mod emit;

@@ -1,0 +1,159 @@
+-- A greedy listing is the least one.
+use Rattle.std.proofs.Common.{◌≡◌, ℕ, ◌+◌, ◌<◌, List, [], ◌∷◌, ◌++◌, length, append_assoc, append-nil, refl, sym, ap, subst, ◌∙◌, Some, slice_get, arith}
+use Rattle.std.specs.declared.cmp.Ordering.{Ordering}
+use Rattle.std.specs.declared.cmp.Ordering.TheVariants.{Less, Equal, Greater}
+use Rattle.std.specs.Ordering.{ordering_then}
+use Rattle.std.proofs.lemmas.Option.{same_Some}
+use Rattle.walrus_ty.specs.Definition.{Definition}
+use Rattle.walrus_ty.specs.Groups.{Group, Section}
+use Rattle.walrus_sections.specs.Section.{IndexSpace, index_space}
+use Rattle.walrus_canonical.specs.EqualTypes.{IsMember, AreShapedAlike, NamesAt, NameAtOnce, AreEqual}
+use Rattle.walrus_canonical.specs.Listing.{NewIndices, new_index, HasPlainGroups, group_definitions, group_cmp, section_cmp, IsListing, IsCanonical, Covers}
+use Rattle.walrus_canonical.specs.Greedy.{StandsFor, IsWrittenAs, CanComeNext, IsGreedy}
+use Rattle.walrus_canonical.proofs.Equality.Definitions.{names_what_stands}
+use Rattle.walrus_canonical.proofs.Equality.EqualTypes.{groups_of, named_of, equal_back, equal_over, equal_within}
+use Rattle.walrus_canonical.proofs.Equality.Members.{named_outside}
+use Rattle.walrus_canonical.proofs.Forms.Orders.{plain_once}
+use Rattle.walrus_canonical.proofs.Forms.Listings.{new_of, needed_of, fewest}
+use Rattle.walrus_canonical.proofs.Forms.Beginnings.{equal_before, named_below_before}
+use Rattle.walrus_canonical.proofs.Forms.NextGroups.{BeginsAt, begins, plain_right}
+
+-- the group that comes next in a listing can come next
+module _ (s : Section) (roots : List ℕ) (pre ys : Section) (w : NewIndices)
+    (g : IsListing s roots (pre ++ ys) w) (i : ℕ) (e : new_index w i ≡ Some (index_space pre).count)
+    (ds : List Definition) (b : BeginsAt (index_space (pre ++ ys)) (index_space pre).count ds) where
+  abbrev S : IndexSpace
+  S = index_space s
+
+  abbrev P : IndexSpace
+  P = index_space pre
+
+  abbrev O : IndexSpace
+  O = index_space (pre ++ ys)
+
+  before : (p : ℕ) → p < P.count → AreEqual O P p p
+  before p h = equal_before pre ys (named_below_before pre ys g.well_named.below_ends) p h
+
+  there : AreEqual S O i P.count
+  there = g.equal i P.count e
+
+  low_base : P.count < O.count
+  low_base = let x = b.inside in let y = b.filled in omega (arith, x, y)
+
+  fresh : (p : ℕ) → ¬ (AreEqual S P i p)
+  fresh p same =
+      let less = (equal_within s pre i p same).1 in
+      g.apart p P.count less low_base
+      (equal_over O P O p p P.count (before p less)
+      (equal_over P S O p i P.count (equal_back S P i p same) there))
+
+  definition_is :
+      (place : ℕ) (d : Definition) → slice_get ds place ≡ Some d → place < length ds →
+      d ≡ O.definition (P.count + place)
+  definition_is place d at_d low =
+      same_Some d (O.definition (P.count + place)) (sym at_d ∙ b.definition place low)
+
+  low_place : (k place : ℕ) → IsMember S i place k → place < length ds
+  low_place k place x =
+      let l = (groups_of S O i P.count there).first_places k place x in (b.only place l.0 l.1).0
+
+  at_once : (x y : ℕ) → StandsFor S i ds x y → NameAtOnce S O i P.count x y
+  at_once x y n = let low = low_place n.k n.place n.member in record {
+    place = n.place;
+    position = n.position;
+    k = n.k;
+    l = P.count + n.place;
+    first_member = n.member;
+    second_member = b.member n.place low;
+    first_name = n.old_name;
+    second_name = subst (λ (d : Definition). NamesAt d n.position y)
+        (definition_is n.place n.definition n.written low) n.new_name;
+  }
+
+  written : IsWrittenAs S P i ds
+  written = let h = groups_of S O i P.count there in record {
+    places = low_place;
+    members = λ place low. h.second_places (P.count + place) place (b.member place low);
+    shapes = λ k place d x at_d. (
+        let low = low_place k place x in
+        subst (λ (u : Definition). AreShapedAlike (S.definition k) u)
+        (sym (definition_is place d at_d low))
+        (h.shapes k (P.count + place) place x (b.member place low)));
+    inner = λ x y place n mx. (
+        (b.only place y ((h.inside x y place (at_once x y n)).0 mx)).1);
+    outer = λ x y n outside. (
+        let a = at_once x y n in
+        let same = named_of S O i P.count there x y a outside in
+        let low = named_outside (pre ++ ys) P.count a.l y g.well_named.below_ends low_base
+        (a.place, a.second_member)
+        (names_what_stands (O.definition a.l) a.position y a.second_name)
+        (λ q. outside (q.0, (h.inside x y q.0 a).1 q.1)) in
+        equal_over S O P x y y same (before y low));
+  }
+
+  pub can_come : CanComeNext S roots P i ds
+  can_come = record {
+    needed = needed_of s roots (pre ++ ys) w g i P.count e;
+    fresh = fresh;
+    written = written;
+  }
+
+-- the rest of a listing is not less than that of a greedy one
+
+first_equal : (o p : Ordering) → ordering_then o p ≡ Less → ¬ (o ≡ Less) → (o ≡ Equal) × (p ≡ Less)
+first_equal Less p h k = absurd (k refl)
+first_equal Equal p h k = (refl, h)
+first_equal Greater p h k = absurd cc
+
+module _ (s n o : Section) (roots : List ℕ) (m w : NewIndices) (f : IsListing s roots n m)
+    (g : IsListing s roots o w) (greedy : IsGreedy s roots n) where
+  covers : Covers o s roots
+  covers i h = let p = new_of s roots o w g i h in (p.0, g.below i p.0 p.1, g.equal i p.0 p.1)
+
+  no_end : (pre : Section) (x : Group) (xs : Section) → n ≡ pre ++ x ∷ xs → ¬ (o ≡ pre ++ [])
+  no_end pre x xs is is_too =
+      let few = fewest s roots n m f o covers in
+      let f' : IsListing s roots (pre ++ x ∷ xs) m = subst (λ (u : Section). IsListing s roots u m) is f in
+      let b = begins pre x xs (plain_right pre (x ∷ xs) f'.plain) in
+      let more : (index_space pre).count < (index_space n).count =
+      subst (λ (u : Section). (index_space pre).count < (index_space u).count) (sym is)
+      (let y = b.inside in let z = b.filled in omega (arith, y, z)) in
+      let same : (index_space o).count ≡ (index_space pre).count =
+      ap (λ (u : Section). (index_space u).count) (is_too ∙ append-nil pre) in
+      omega (arith, few, more, same)
+
+  next_not_less :
+      (pre : Section) (x y : Group) (xs ys : Section) → n ≡ pre ++ x ∷ xs → o ≡ pre ++ y ∷ ys →
+      ¬ (group_cmp y x ≡ Less)
+  next_not_less pre x y xs ys is is_too less =
+      let g' : IsListing s roots (pre ++ y ∷ ys) w = subst (λ (u : Section). IsListing s roots u w) is_too g
+      in
+      let b = begins pre y ys (plain_right pre (y ∷ ys) g'.plain) in
+      let low : (index_space pre).count < (index_space (pre ++ y ∷ ys)).count =
+      (let u = b.inside in let v = b.filled in omega (arith, u, v)) in
+      let i = g'.onto (index_space pre).count low in
+      greedy pre x xs is i.0 (group_definitions y)
+      (can_come s roots pre (y ∷ ys) w g' i.0 i.1 (group_definitions y) b) less
+
+  rest_not_less :
+      (pre xs ys : Section) → n ≡ pre ++ xs → o ≡ pre ++ ys → ¬ (section_cmp ys xs ≡ Less)
+  rest_not_less pre [] [] is is_too less = absurd cc
+  rest_not_less pre (x ∷ xs) [] is is_too less = no_end pre x xs is is_too
+  rest_not_less pre [] (y ∷ ys) is is_too less = absurd cc
+  rest_not_less pre (x ∷ xs) (y ∷ ys) is is_too less =
+      let parts = first_equal (group_cmp y x) (section_cmp ys xs) less
+      (next_not_less pre x y xs ys is is_too) in
+      let same : y ≡ x = plain_once y x ys xs
+      (plain_right pre (y ∷ ys) (subst (λ (u : Section). HasPlainGroups u) is_too g.plain))
+      (plain_right pre (x ∷ xs) (subst (λ (u : Section). HasPlainGroups u) is f.plain)) parts.0 in
+      rest_not_less (pre ++ x ∷ []) xs ys
+      (is ∙ sym (append_assoc pre (x ∷ []) xs))
+      (is_too ∙ (ap (λ (u : Group). pre ++ u ∷ ys) same ∙ sym (append_assoc pre (x ∷ []) ys))) parts.1
+
+pub greedy_is_canonical :
+    (s : Section) (roots : List ℕ) (n : Section) (m : NewIndices) → IsListing s roots n m →
+    IsGreedy s roots n → IsCanonical s roots n m
+greedy_is_canonical s roots n m f greedy = record {
+  listing = f;
+  least = λ o w g. rest_not_less s n o roots m w f g greedy [] n o refl refl;
+}

@@ -1,0 +1,291 @@
+-- The queue has all groups that can come next, so its least is the least of them.
+use Rattle.std.proofs.Common.{◌≡◌, ℕ, Bool, true, false, ◌+◌, ◌<◌, List, [], ◌∷◌, length, map, get_or, slice_get, Some, inl, inr, ◌∙◌, refl, sym, ap, subst, Contains, arith}
+use Rattle.std.specs.declared.cmp.Ordering.TheVariants.{Less}
+use Rattle.std.specs.List.{flat_map}
+use Rattle.std.proofs.lemmas.List.Folds.{flat_map-map}
+use Rattle.std.proofs.lemmas.Option.{same_Some, slice_get_within, slice_get-get_or}
+use Rattle.walrus_ty.specs.Definition.{Definition, Names, names_of, rename}
+use Rattle.walrus_ty.specs.Groups.{Section}
+use Rattle.walrus_ty.specs.Records.{entry_definition}
+use Rattle.walrus_ty.specs.declared.records.EntryAt.{EntryAt}
+use Rattle.walrus_sections.specs.Section.{IndexSpace, index_space, no_place}
+use Rattle.walrus_canonical.specs.declared.classes.Class.{Class}
+use Rattle.walrus_canonical.specs.declared.waiting.Wait.{Wait}
+use Rattle.walrus_canonical.specs.EqualTypes.{IsMember, IsInGroup}
+use Rattle.walrus_canonical.specs.Greedy.{StandsFor, IsWrittenAs, CanComeNext, AreLeast}
+use Rattle.walrus_canonical.specs.Steps.Classes.{slot_of, IsOfClass}
+use Rattle.walrus_canonical.specs.Steps.Marks.{IsMarked}
+use Rattle.walrus_canonical.specs.Steps.Shown.{own_base, definitions_cmp}
+use Rattle.walrus_canonical.specs.Steps.Waits.{names_in, AreWaits}
+use Rattle.walrus_canonical.specs.Steps.Writing.{Task, IsBegun, IsReadyAs, IsQueue, IsReady, AreOpen, open_count, settled}
+use Rattle.walrus_canonical.proofs.Waits.ClassWaits.{NamesSlot, waits_for, wait_there}
+use Rattle.walrus_canonical.proofs.Reading.Containing.{contained_cases}
+use Rattle.walrus_canonical.proofs.Equality.Definitions.{named_too, position_of, names_what_stands}
+use Rattle.walrus_canonical.proofs.Equality.EqualTypes.{equal_mates, groups_of}
+use Rattle.walrus_canonical.proofs.Equality.Members.{mate_from}
+use Rattle.walrus_canonical.proofs.Needs.NeedsMarked.{named_by, name_in_all}
+use Rattle.walrus_canonical.proofs.Forms.NextGroups.{Around, around}
+use Rattle.walrus_canonical.proofs.Waits.OpenWaits.{open_zero, nothing_open, false_or_true}
+use Rattle.walrus_canonical.proofs.Output.ReadyGroups.{mark_of_need, mark_of_mate, mark_of_name, marked_low, equal_of_slots, done_if_there, can_come}
+use Rattle.walrus_canonical.proofs.Output.ReadyOrder.{order_kept, not_itself, not_both_less}
+use Rattle.walrus_canonical.proofs.Output.RenamedGroups.{written_of_mate, written_of_equal}
+use Rattle.walrus_canonical.proofs.Forms.Writing.{written_once}
+
+-- ---- what a class names and what its records name
+
+all_names :
+    (entries : List EntryAt) → flat_map names_of (map entry_definition entries) ≡ names_in entries
+all_names entries = flat_map-map names_of entry_definition entries
+
+module _ (task : Task) (c : ℕ) (class : Class) (at : slice_get task.classes c ≡ Some class) where
+  abbrev S : IndexSpace
+  S = index_space task.section
+
+  abbrev o : IsOfClass S task.marks S.count task.slots class.first class.entries
+  o = task.are.of_class c class at
+
+  abbrev own : List Definition
+  own = map entry_definition class.entries
+
+  -- where a name of the group stands in its records
+  record Stands (x : ℕ) : Type 0 where
+    pub y : ℕ
+    pub stands : StandsFor S o.head own x y
+
+  stands_there :
+      (k x : ℕ) → IsInGroup S o.head k → Names (S.definition k) x → Stands x
+  stands_there k x g names =
+      let low = o.records.places k g.0 g.1 in
+      let d = get_or own g.0 no_place.definition in
+      let at_d = slice_get-get_or own g.0 no_place.definition low in
+      let at_x = position_of (S.definition k) x names in
+      let y = named_too (S.definition k) d at_x.0 x (o.records.shapes k g.0 d g.1 at_d) at_x.1 in record {
+        y = y.0;
+        stands = record {
+          place = g.0;
+          position = at_x.0;
+          k = k;
+          definition = d;
+          member = g.1;
+          written = at_d;
+          old_name = at_x.1;
+          new_name = y.1;
+        };
+      }
+
+  -- what a class names outside of its group it waits for
+  pub names_slot :
+      (k x : ℕ) → IsInGroup S o.head k → Names (S.definition k) x → ¬ (IsInGroup S o.head x) →
+      NamesSlot task.classes c (slot_of task.slots x)
+  names_slot k x g names out =
+      let s = stands_there k x g names in
+      let is = o.records.others x s.y s.stands out in record {
+        class = class;
+        at = at;
+        names = subst (λ (u : ℕ). Contains (names_in class.entries) u) is
+            (subst (λ (ns : List ℕ). Contains ns s.y) (all_names class.entries)
+            (name_in_all own s.stands.place s.stands.definition s.y s.stands.written
+            (names_what_stands s.stands.definition s.stands.position s.y s.stands.new_name)));
+        low = o.fits k x g names out;
+      }
+
+  -- and what it waits for it names outside of its group
+  pub record OuterName (slot : ℕ) : Type 0 where
+    pub k : ℕ
+    pub x : ℕ
+    pub inside : IsInGroup S o.head k
+    pub names : Names (S.definition k) x
+    pub outside : ¬ (IsInGroup S o.head x)
+    pub is : slot ≡ slot_of task.slots x
+
+  pub outer_name : (slot : ℕ) → NamesSlot task.classes c slot → OuterName slot
+  outer_name slot n =
+      let same : n.class ≡ class = same_Some n.class class (sym n.at ∙ at) in
+      let names : Contains (names_in class.entries) slot =
+      subst (λ (k : Class). Contains (names_in k.entries) slot) same n.names in
+      let low : slot < own_base (length class.entries) =
+      subst (λ (k : Class). slot < own_base (length k.entries)) same n.low in
+      let r = named_by own slot (subst (λ (ns : List ℕ). Contains ns slot) (sym (all_names class.entries)) names)
+      in
+      let k = o.records.members r.t (slice_get_within own r.t r.d r.at) in
+      let at_y = position_of r.d slot r.names in
+      let x = named_too r.d (S.definition k.0) at_y.0 slot (sym (o.records.shapes k.0 r.t r.d k.1 r.at)) at_y.1
+      in
+      let f : StandsFor S o.head own x.0 slot = record {
+        place = r.t;
+        position = at_y.0;
+        k = k.0;
+        definition = r.d;
+        member = k.1;
+        written = r.at;
+        old_name = x.1;
+        new_name = at_y.1;
+      } in
+      let outside : IsInGroup S o.head x.0 → ⊥ = λ m. (
+      let is = o.records.own x.0 slot m.0 f m.1 in omega (arith, is, low)) in record {
+        k = k.0;
+        x = x.0;
+        inside = (r.t, k.1);
+        names = names_what_stands (S.definition k.0) at_y.0 x.0 x.1;
+        outside = outside;
+        is = o.records.others x.0 slot f outside;
+      }
+
+-- a class that waits for nothing names what is written
+pub outer_written :
+    (task : Task) (waits : List Wait) (done after : ℕ → Bool) (at : ℕ) (counts : List ℕ) →
+    AreWaits task.classes waits → AreOpen task waits done after at counts →
+    ((x : ℕ) → done x ≡ true → after x ≡ true) → (c : ℕ) (class : Class)
+    (is : slice_get task.classes c ≡ Some class) → slice_get counts c ≡ Some 0 → (k x : ℕ) →
+    IsInGroup (index_space task.section) (task.are.of_class c class is).head k →
+    Names ((index_space task.section).definition k) x →
+    ¬ (IsInGroup (index_space task.section) (task.are.of_class c class is).head x) →
+    after (slot_of task.slots x) ≡ true
+outer_written task waits done after at counts are opens more c class is none k x g names out =
+    nothing_open task waits done after at c counts opens (slice_get_within counts c 0 none) none more
+    (record { named = slot_of task.slots x; waiting = c })
+    (wait_there task.classes waits are c (slot_of task.slots x) (names_slot task c class is k x g names out))
+    refl
+
+-- ---- what can come next is of a class that is ready
+
+module _ (task : Task) (waits : List Wait) (are : AreWaits task.classes waits) (done : ℕ → Bool)
+    (before : Section) (new_index : List ℕ) (next : ℕ) (b : IsBegun task done before new_index next)
+    (counts : List ℕ) (opens : AreOpen task waits done done 0 counts) where
+  abbrev T : IndexSpace
+  T = index_space task.section
+
+  abbrev B : IndexSpace
+  B = index_space before
+
+  -- the class of what can come next
+  pub record ComesOf (others : List Definition) : Type 0 where
+    pub c : ℕ
+    pub ready : IsReady task done counts c
+    pub written :
+        (head : ℕ) → IsMarked task.marks head → IsMember T head 0 head →
+        slot_of task.slots head ≡ ready.0.first → IsWrittenAs T B head others
+
+  module _ (j : ℕ) (others : List Definition) (can : CanComeNext T task.roots B j others) where
+    marked : IsMarked task.marks j
+    marked = mark_of_need task j can.needed
+
+    abbrev a : Around T j
+    a = around task.section j (marked_low task j marked)
+
+    to_j : IsMember T a.head a.place j
+    to_j = subst (λ (u : ℕ). IsMember T a.head a.place u) (sym a.is) (a.begins.member a.place a.low)
+
+    own_head : IsMember T a.head 0 a.head
+    own_head = let z : a.head + 0 ≡ a.head = omega arith in
+        subst (λ (u : ℕ). IsMember T a.head 0 u) z (a.begins.member 0 a.begins.filled)
+
+    to_head : IsMember T j 0 a.head
+    to_head = mate_from T a.head a.place j 0 a.head to_j own_head
+
+    marked_head : IsMarked task.marks a.head
+    marked_head = mark_of_mate task j a.head marked (0, to_head)
+
+    written_head : IsWrittenAs T B a.head others
+    written_head = written_of_mate T B j others 0 a.head to_head can.written
+
+    of_head :
+        (head : ℕ) → IsMarked task.marks head → slot_of task.slots a.head ≡ slot_of task.slots head →
+        IsWrittenAs T B head others
+    of_head head m e = written_of_equal T B a.head head others
+        (equal_of_slots task a.head head marked_head m e) written_head
+
+    undone : done (slot_of task.slots a.head) ≡ false
+    undone = elim (false_or_true (done (slot_of task.slots a.head))) [
+      | inl h ↦ h
+      | inr h ↦ absurd (
+          let e = b.equal a.head marked_head h in
+          let p = slot_of new_index (slot_of task.slots a.head) in
+          let l = (groups_of T B a.head p e).first_places j a.place to_j in
+          can.fresh l.0 (equal_mates T B a.head p a.place j l.0 e to_j l.1))
+    ]
+
+    abbrev k : (c : ℕ) × (class : Class) × (slice_get task.classes c ≡ Some class)
+        × (class.first ≡ slot_of task.slots a.head)
+    k = task.are.class_of a.head marked_head own_head
+
+    waits_for_none : (w : Wait) → Contains waits w → w.waiting ≡ k.0 → done w.named ≡ true
+    waits_for_none w m same =
+        let o = task.are.of_class k.0 k.1 k.2 in
+        let n = subst (λ (u : ℕ). NamesSlot task.classes u w.named) same (waits_for task.classes waits are w m)
+        in
+        let x = outer_name task k.0 k.1 k.2 w.named n in
+        let v = of_head o.head o.marked (sym k.3 ∙ sym o.slot) in
+        let low = v.places x.k x.inside.0 x.inside.1 in
+        let d = get_or others x.inside.0 no_place.definition in
+        let at_d = slice_get-get_or others x.inside.0 no_place.definition low in
+        let at_x = position_of (T.definition x.k) x.x x.names in
+        let y = named_too (T.definition x.k) d at_x.0 x.x (v.shapes x.k x.inside.0 d x.inside.1 at_d) at_x.1 in
+        let f : StandsFor T o.head others x.x y.0 = record {
+          place = x.inside.0;
+          position = at_x.0;
+          k = x.k;
+          definition = d;
+          member = x.inside.1;
+          written = at_d;
+          old_name = at_x.1;
+          new_name = y.1;
+        } in
+        ap done x.is
+        ∙ done_if_there task done before new_index next b x.x y.0
+        (mark_of_name task o.head x.k x.x o.marked x.inside x.names) (v.outer x.x y.0 f x.outside)
+
+    none_open : slice_get counts k.0 ≡ Some 0
+    none_open =
+        let low = slice_get_within task.classes k.0 k.1 k.2 in
+        let long = opens.one_each in
+        let none = open_zero done waits k.0 waits_for_none in
+        let nil : open_count done [] k.0 ≡ 0 = refl in
+        opens.each k.0 (omega (arith, low, long)) ∙ ap (λ (n : ℕ). Some n) (omega (arith, none, nil))
+
+    pub comes_of : ComesOf others
+    comes_of = record {
+      c = k.0;
+      ready = (k.1, k.2, ap done k.3 ∙ undone, none_open);
+      written = λ head m own e. of_head head m (sym k.3 ∙ sym e);
+    }
+
+  -- ---- the least of the queue
+
+  module _ (now : List Class) (ds : List Definition) (c : ℕ) (class : Class)
+      (rest : List (List Definition × ℕ))
+      (queue : IsQueue task done new_index (IsReady task done counts) now ((ds, c) ∷ rest))
+      (q : IsReadyAs task done new_index class ds) (undone_class : done class.first ≡ false)
+      (above : (es : List Definition) (d : ℕ) → Contains rest (es, d) → definitions_cmp ds es ≡ Less) where
+    pub least : AreLeast T task.roots B (map (rename (settled next)) ds)
+    least j others can less =
+        let r = comes_of j others can in
+        let e = queue.there r.c r.ready in
+        let z = (queue.queued e.0 r.c e.1).1 in
+        let same : z.0 ≡ r.ready.0 = same_Some z.0 r.ready.0 (sym z.1 ∙ r.ready.1) in
+        let p = z.2 in
+        let undone_too : done z.0.first ≡ false = ap (λ (k : Class). done k.first) same ∙ r.ready.2 in
+        let w = (can_come task done before new_index next b z.0 e.0 p undone_too).written in
+        let v = r.written p.head p.marked p.member (p.slot ∙ ap (λ (k : Class). k.first) same) in
+        let is : others ≡ map (rename (settled next)) e.0 =
+        written_once T before b.beginning.apart p.head 0 p.member others (map (rename (settled next)) e.0) v w in
+        let lower : definitions_cmp e.0 ds ≡ Less =
+        sym (order_kept task done before new_index next b z.0 class e.0 ds p q undone_too undone_class)
+        ∙ (ap (λ (xs : List Definition). definitions_cmp xs (map (rename (settled next)) ds)) (sym is) ∙ less) in
+        elim (contained_cases rest (ds, c) (e.0, r.c) e.1) [
+          | inl first ↦ not_itself ds (
+              let here : ds ≡ e.0 = ap (λ (x : List Definition × ℕ). x.0) first in
+              ap (λ (xs : List Definition). definitions_cmp xs ds) here ∙ lower)
+          | inr later ↦ not_both_less ds e.0 (above e.0 r.c later) lower
+        ]
+
+  -- where the queue is empty nothing can come next
+  pub none_comes :
+      (now : List Class) → IsQueue task done new_index (IsReady task done counts) now [] →
+      (j : ℕ) (others : List Definition) → ¬ (CanComeNext T task.roots B j others)
+  none_comes now queue j others can =
+      let r = comes_of j others can in
+      contained_none (queue.there r.c r.ready).0 r.c (queue.there r.c r.ready).1
+    where
+      contained_none : (ds : List Definition) (c : ℕ) → Contains {X = List Definition × ℕ} [] (ds, c) → ⊥
+      contained_none ds c m = let low = m.1 in omega (arith, low)

@@ -1,0 +1,196 @@
+-- A reader passes over a group that is not needed.
+use Rattle.std.proofs.Common.{◌≡◌, ℕ, Bool, ◌+◌, ◌-◌, ◌<◌, ◌≤◌, List, ◌∷◌, ◌++◌, length, map, Some, inl, inr, ◌∙◌, refl, sym, ap, subst, length-append, arith}
+use Rattle.std.specs.Prelude.{min, ◌^◌}
+use Rattle.std.specs.List.{range_with_len}
+use Rattle.std.proofs.lemmas.List.FromFn.{length-range_with_len}
+use Rattle.std.proofs.lemmas.Bool.{cases_lt}
+use Rattle.std.proofs.lemmas.List.{get_or_append_left}
+use Rattle.walrus_ty.specs.declared.records.EntryAt.{EntryAt}
+use Rattle.walrus_ty.specs.Definition.{Definition}
+use Rattle.walrus_ty.specs.Groups.{Group, Section}
+use Rattle.walrus_ty.specs.Records.{entry_definition}
+use Rattle.walrus_sections.specs.FirstError.{definitions_of}
+use Rattle.walrus_sections.specs.Section.{index_space, IsWellNamed}
+use Rattle.walrus_canonical.specs.EqualTypes.{IsMember}
+use Rattle.walrus_canonical.specs.Listing.{by_group}
+use Rattle.walrus_canonical.specs.Steps.Classes.{reading, slot_of, own_number, IsOfClass, IsReadTo, StandsAt}
+use Rattle.walrus_canonical.specs.Steps.Marks.{IsMarked, MarkNeeds}
+use Rattle.walrus_canonical.proofs.Forms.Beginnings.{member_left, no_fewer}
+use Rattle.walrus_canonical.proofs.Reading.ClassKeys.{key_moved}
+use Rattle.walrus_canonical.proofs.Equality.Members.{mate_from, member_within, named_outside}
+use Rattle.walrus_canonical.proofs.Forms.NextGroups.{BeginsAt}
+use Rattle.walrus_canonical.proofs.Needs.TurnsBack.{filled_begins}
+
+pub stands_begins :
+    (section : Section) (start : ℕ) (g : Group) → StandsAt section start g →
+    0 < length (definitions_of g) → BeginsAt (index_space section) start (definitions_of g)
+stands_begins section start g a filled =
+    subst (λ (t : Section). BeginsAt (index_space t) start (definitions_of g)) (sym a.split)
+    (subst (λ (n : ℕ). BeginsAt (index_space (a.before ++ g ∷ a.behind)) n (definitions_of g)) (sym a.count)
+    (filled_begins a.before g a.behind filled))
+
+-- a group that begins before `start` is before it
+stands_whole :
+    (section : Section) (start : ℕ) (g : Group) → StandsAt section start g →
+    (i place k : ℕ) → i < start → IsMember (index_space section) i place k → k < start
+stands_whole section start g a i place k low m =
+    let c = a.count in
+    let m' = subst (λ (t : Section). IsMember (index_space t) i place k) a.split m in
+    let z = member_within a.before i place k
+    (member_left a.before (g ∷ a.behind) i place k (omega (arith, low, c)) m') in omega (arith, z, c)
+
+stands_low :
+    (section : Section) (start : ℕ) (g : Group) → StandsAt section start g →
+    start ≤ (index_space section).count
+stands_low section start g a =
+    let c = a.count in
+    let z = no_fewer a.before (g ∷ a.behind) in
+    let e = ap (λ (t : Section). (index_space t).count) a.split in omega (arith, c, z, e)
+
+pub read_skipped :
+    (section : Section) (well : IsWellNamed section) (marks : List Bool) (start end : ℕ) (g : Group) →
+    StandsAt section start g → (slots added : List ℕ) (slot_count : ℕ) (firsts : List ℕ)
+    (known : List (List EntryAt × ℕ)) →
+    IsReadTo (index_space section) marks start (reading slots slot_count firsts known) →
+    end ≡ start + length added →
+    ((i : ℕ) → start ≤ i → i < end → ¬ (IsMarked marks i)) →
+    IsReadTo (index_space section) marks end (reading (slots ++ added) slot_count firsts known)
+read_skipped section well marks start end g a slots added slot_count firsts known h is none = record {
+  one_each = (let x = length-append slots added in let z = h.one_each in omega (arith, x, z, is));
+  few = (let z = h.few in omega (arith, z, is));
+  told = λ i j hi hj mi mj. (
+      let low_i = low i hi mi in
+      let low_j = low j hj mj in
+      let t = h.told i j low_i low_j mi mj in (
+        λ e. t.0 (sym (old i low_i) ∙ (e ∙ old j low_j)),
+        λ e. old i low_i ∙ (t.1 e ∙ sym (old j low_j)),
+      ));
+  within = λ i hi m. (let o = old i (low i hi m) in let z = h.within i (low i hi m) m in omega (arith, o, z));
+  row = λ i place k hi m own mem. (
+      let low_i = low i hi m in
+      old k (stands_whole section start g a i place k low_i mem)
+      ∙ (h.row i place k low_i m own mem ∙ ap (λ (u : ℕ). u + place) (sym (old i low_i))));
+  class_of = λ i hi m own. (
+      let low_i = low i hi m in
+      let c = h.class_of i low_i m own in (c.0, c.1 ∙ ap (λ (u : ℕ). Some u) (sym (old i low_i))));
+  key_of = h.key_of;
+  fit = h.fit;
+  keyed = λ es c at. (let k = h.keyed es c at in (k.0, k.1, kept k.0 es k.2));
+  apart = h.apart;
+}
+  where
+    old : (x : ℕ) → x < start → slot_of (slots ++ added) x ≡ slot_of slots x
+    old x l = let z = h.one_each in get_or_append_left slots added 0 x (omega (arith, l, z))
+
+    low : (i : ℕ) → i < end → IsMarked marks i → i < start
+    low i hi m = elim (cases_lt i start) [
+      | inl less ↦ less
+      | inr over ↦ absurd (none i over hi m)
+    ]
+
+    kept : (f : ℕ) (es : List EntryAt) → IsOfClass (index_space section) marks start slots f es →
+        IsOfClass (index_space section) marks end (slots ++ added) f es
+    kept f es c = record {
+      head = c.head;
+      low = (let z = c.low in omega (arith, z, is));
+      marked = c.marked;
+      member = c.member;
+      slot = old c.head c.low ∙ c.slot;
+      records = key_moved (index_space section) (own_number (length es)) (slot_of slots)
+          (own_number (length es)) (slot_of (slots ++ added)) c.head (map entry_definition es) c.records
+          (λ p z. refl)
+          (λ j x gr names out. (
+          let top = stands_low section start g a in
+          let l = c.low in
+          let z = named_outside section c.head j x well.below_ends (omega (arith, l, top)) gr names out in
+          sym (old x (omega (arith, z, l)))));
+      fits = λ j x gr names out. (
+          let top = stands_low section start g a in
+          let l = c.low in
+          let z = named_outside section c.head j x well.below_ends (omega (arith, l, top)) gr names out in
+          let f = c.fits j x gr names out in
+          let o = old x (omega (arith, z, l)) in omega (arith, f, o));
+    }
+
+-- ---- whether the group is needed
+
+-- with one index of the group its first one is marked
+pub first_marked :
+    (section : Section) (roots : List ℕ) (marks : List Bool) → MarkNeeds section roots marks →
+    (start : ℕ) (ds : List Definition) → BeginsAt (index_space section) start ds → (i : ℕ) → start ≤ i →
+    i < start + length ds → IsMarked marks i → IsMarked marks start
+first_marked section roots marks needs start ds b i over low m =
+    let S = index_space section in
+    let t = i - start in
+    let ht : t < length ds = omega (arith, over, low) in
+    let e : start + t ≡ i = omega (arith, over) in
+    let z : start + 0 ≡ start = omega arith in
+    let mem = subst (λ (u : ℕ). IsMember S start t u) e (b.member t ht) in
+    let own = subst (λ (u : ℕ). IsMember S start 0 u) z (b.member 0 b.filled) in
+    (needs.needed start).1
+    (by_group i start ((needs.needed i).0 m) (0, mate_from S start t i 0 start mem own))
+
+-- so many are within the section
+pub stands_inside :
+    (section : Section) (start : ℕ) (g : Group) → StandsAt section start g →
+    start + length (definitions_of g) ≤ (index_space section).count
+stands_inside section start g a = elim (cases_lt 0 (length (definitions_of g))) [
+  | inl filled ↦ (stands_begins section start g a filled).inside
+  | inr empty ↦ (let z = stands_low section start g a in omega (arith, z, empty))
+]
+
+-- where the group ends, as the program counts
+group_ends :
+    (section : Section) (start from count end : ℕ) (g : Group) → IsWellNamed section →
+    StandsAt section start g → from ≡ start → count ≡ length (definitions_of g) →
+    end ≡ min (from + count) 18446744073709551615 → end ≡ start + length (definitions_of g)
+group_ends section start from count end g well a f n e =
+    let inside = stands_inside section start g a in
+    let few = well.few in omega (arith, inside, few, f, n, e)
+
+pub found_marked :
+    (section : Section) (roots : List ℕ) (marks : List Bool) (start from count end : ℕ) (g : Group) →
+    IsWellNamed section → MarkNeeds section roots marks → StandsAt section start g → from ≡ start →
+    count ≡ length (definitions_of g) → end ≡ min (from + count) 18446744073709551615 →
+    ((i : ℕ) × (from ≤ i) × (i < end) × IsMarked marks i) →
+    (0 < length (definitions_of g)) × IsMarked marks start
+found_marked section roots marks start from count end g well needs a f n e r =
+    let ends = group_ends section start from count end g well a f n e in
+    let over = r.1 in
+    let low = r.2 in
+    let filled : 0 < length (definitions_of g) = omega (arith, ends, f, over, low) in (
+      filled,
+      first_marked section roots marks needs start (definitions_of g)
+          (stands_begins section start g a filled) r.0 (omega (arith, f, over)) (omega (arith, ends, low)) r.3,
+    )
+
+pub skipped_ends :
+    (section : Section) (marks : List Bool) (start from count end : ℕ) (g : Group) →
+    IsWellNamed section → StandsAt section start g → from ≡ start →
+    count ≡ length (definitions_of g) → end ≡ min (from + count) 18446744073709551615 →
+    (slots slots' : List ℕ) (slot_count : ℕ) (firsts : List ℕ) (known : List (List EntryAt × ℕ)) →
+    start ≡ length slots →
+    IsReadTo (index_space section) marks (length slots) (reading slots slot_count firsts known) →
+    (0 + count < 2 ^ 32 → slots' ≡ slots ++ range_with_len 0 count) →
+    ((i : ℕ) → from ≤ i → i < end → ¬ (IsMarked marks i)) →
+    IsReadTo (index_space section) marks (length slots') (reading slots' slot_count firsts known)
+    × (length slots' ≡ length slots + length (definitions_of g))
+skipped_ends section marks start from count end g well a f n e slots slots' slot_count firsts known at h
+    pushed none =
+    let ends = group_ends section start from count end g well a f n e in
+    let inside = stands_inside section start g a in
+    let few = well.few in
+    let is : slots' ≡ slots ++ range_with_len 0 count = pushed (omega (arith, inside, few, n)) in
+    let added = length-range_with_len 0 count in
+    let both = length-append slots (range_with_len 0 count) in
+    let long : length slots' ≡ start + length (range_with_len 0 count) =
+    ap (λ (xs : List ℕ). length xs) is ∙ omega (arith, both, at) in
+    let stop : length slots' ≡ end = omega (arith, long, added, n, ends) in
+    let r = read_skipped section well marks start (length slots') g a slots (range_with_len 0 count)
+    slot_count firsts known
+    (subst (λ (u : ℕ). IsReadTo (index_space section) marks u (reading slots slot_count firsts known)) (sym at) h)
+    long (λ i over low. none i (omega (arith, f, over)) (omega (arith, stop, low))) in (
+      subst (λ (xs : List ℕ). IsReadTo (index_space section) marks (length slots')
+          (reading xs slot_count firsts known)) (sym is) r,
+      omega (arith, long, added, n, at),
+    )

@@ -1,0 +1,3 @@
+-- Which classes wait for which slots.
+pub mod ClassWaits
+pub mod OpenWaits

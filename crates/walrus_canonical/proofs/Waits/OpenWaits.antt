@@ -1,0 +1,242 @@
+-- Waits for slots that are not written.
+use Rattle.std.proofs.Common.{◌≡◌, ℕ, zero, suc, Bool, true, false, ◌+◌, ◌<◌, ◌≤◌, List, [], ◌∷◌, ◌++◌, length, take, drop, cond, nat_eq, slice_get, Some, ◌⊎◌, inl, inr, ◌∙◌, refl, sym, ap, subst, Contains, arith}
+use Rattle.std.proofs.lemmas.Bool.{cases_eq}
+use Rattle.std.proofs.lemmas.Bool.Decides.{nat_tests}
+use Rattle.std.proofs.lemmas.List.{take-append-drop}
+use Rattle.std.proofs.lemmas.List.Elements.{Contains-append_cases}
+use Rattle.std.proofs.lemmas.Option.{same_Some}
+use Rattle.walrus_canonical.specs.declared.waiting.Wait.{Wait}
+use Rattle.walrus_canonical.specs.Steps.Waits.{wait_count, AreCounts}
+use Rattle.walrus_canonical.specs.Steps.Writing.{Task, open_count, AreOpen}
+use Rattle.walrus_canonical.proofs.Reading.Containing.{contained_cases, contained_none, contained_first, contained_later}
+
+-- what one pair adds
+abbrev part : (ℕ → Bool) → Wait → ℕ → ℕ
+part done w c = cond (nat_eq w.waiting c) (cond (done w.named) 0 1) 0
+
+part_done : (done : ℕ → Bool) (w : Wait) (c : ℕ) → done w.named ≡ true → part done w c ≡ 0
+part_done done w c d = ap (λ (b : Bool). cond (nat_eq w.waiting c) (cond b 0 1) 0) d ∙ go (nat_eq w.waiting c)
+  where
+    go : (b : Bool) → ◌≡◌ {A = ℕ} (cond b (cond true 0 1) 0) 0
+    go true = refl
+    go false = refl
+
+part_other : (done : ℕ → Bool) (w : Wait) (c : ℕ) → ¬ (w.waiting ≡ c) → part done w c ≡ 0
+part_other done w c other =
+    let e : nat_eq w.waiting c ≡ false = grind (arith, nat_tests, other) in
+    ap (λ (b : Bool). cond b (cond (done w.named) 0 1) 0) e
+
+part_open : (done : ℕ → Bool) (w : Wait) (c : ℕ) → w.waiting ≡ c → done w.named ≡ false → part done w c ≡ 1
+part_open done w c same d =
+    let e : nat_eq w.waiting c ≡ true = grind (arith, nat_tests, same) in
+    ap (λ (b : Bool). cond b (cond (done w.named) 0 1) 0) e ∙ ap (λ (b : Bool). cond b 0 1) d
+
+part_agrees :
+    (done after : ℕ → Bool) (w : Wait) (c : ℕ) → done w.named ≡ after w.named → part done w c ≡ part after w c
+part_agrees done after w c e = ap (λ (b : Bool). cond (nat_eq w.waiting c) (cond b 0 1) 0) e
+
+pub false_or_true : (b : Bool) → (b ≡ false) ⊎ (b ≡ true)
+false_or_true true = inr refl
+false_or_true false = inl refl
+
+-- where none is open, each slot is written
+pub zero_open :
+    (done : ℕ → Bool) (ws : List Wait) (c : ℕ) → open_count done ws c ≡ 0 → (w : Wait) → Contains ws w →
+    w.waiting ≡ c → done w.named ≡ true
+zero_open done [] c none w m same = absurd (contained_none w m)
+zero_open done (v ∷ ws) c none w m same = elim (contained_cases ws v w m) [
+  | inl is ↦ elim (false_or_true (done w.named)) [
+    | inr d ↦ d
+    | inl opens ↦ absurd (
+        let one = part_open done w c same opens in
+        let here : part done v c ≡ part done w c = ap (λ (u : Wait). part done u c) is in
+        omega (arith, none, one, here))
+  ]
+  | inr later ↦ zero_open done ws c (omega (arith, none)) w later same
+]
+
+pub open_zero :
+    (done : ℕ → Bool) (ws : List Wait) (c : ℕ) →
+    ((w : Wait) → Contains ws w → w.waiting ≡ c → done w.named ≡ true) → open_count done ws c ≡ 0
+open_zero done [] c h = refl
+open_zero done (v ∷ ws) c h =
+    let rest = open_zero done ws c (λ w m same. h w (contained_later ws v w m) same) in
+    let here : part done v c ≡ 0 = elim (cases_eq v.waiting c) [
+      | inl same ↦ part_done done v c (h v (contained_first ws v) same)
+      | inr other ↦ part_other done v c other
+    ] in
+    omega (arith, rest, here)
+
+-- at first all are open
+pub all_open : (ws : List Wait) (c : ℕ) → wait_count ws c ≡ open_count (λ x. false) ws c
+all_open [] c = refl
+all_open (w ∷ ws) c = ap (λ (n : ℕ). cond (nat_eq w.waiting c) 1 0 + n) (all_open ws c)
+
+open_last :
+    (done : ℕ → Bool) (ws : List Wait) (w : Wait) (c : ℕ) →
+    open_count done (ws ++ w ∷ []) c ≡ open_count done ws c + part done w c
+open_last done [] w c = omega arith
+open_last done (v ∷ ws) w c = let z = open_last done ws w c in omega (arith, z)
+
+taken_more :
+    (ws : List Wait) (at : ℕ) (w : Wait) → slice_get ws at ≡ Some w →
+    take (at + 1) ws ≡ take at ws ++ w ∷ []
+taken_more ws at w is = let z : at + 1 ≡ suc at = omega arith in
+    ap (λ (n : ℕ). take n ws) z ∙ go ws at is
+  where
+    go : (ws : List Wait) (at : ℕ) → slice_get ws at ≡ Some w → take (suc at) ws ≡ take at ws ++ w ∷ []
+    go [] at is = absurd cc
+    go (v ∷ ws) zero is = ap (λ (u : Wait). u ∷ []) (same_Some v w is)
+    go (v ∷ ws) (suc at) is = ap (λ (us : List Wait). v ∷ us) (go ws at is)
+
+dropped_more :
+    (ws : List Wait) (at : ℕ) (w : Wait) → slice_get ws at ≡ Some w →
+    drop at ws ≡ w ∷ drop (at + 1) ws
+dropped_more ws at w is = let z : suc at ≡ at + 1 = omega arith in
+    go ws at is ∙ ap (λ (n : ℕ). w ∷ drop n ws) z
+  where
+    go : (ws : List Wait) (at : ℕ) → slice_get ws at ≡ Some w → drop at ws ≡ w ∷ drop (suc at) ws
+    go [] at is = absurd cc
+    go (v ∷ ws) zero is = ap (λ (u : Wait). u ∷ ws) (same_Some v w is)
+    go (v ∷ ws) (suc at) is = go ws at is
+
+module _ (task : Task) (waits : List Wait) (done after : ℕ → Bool) where
+  -- the counts at a place and at the next one
+  abbrev pub total : ℕ → ℕ → ℕ
+  total at c = open_count after (take at waits) c + open_count done (drop at waits) c
+
+  total_here :
+      (at c : ℕ) (w : Wait) → slice_get waits at ≡ Some w → total at c ≡
+      open_count after (take at waits) c + (part done w c + open_count done (drop (at + 1) waits) c)
+  total_here at c w is = ap (λ (ws : List Wait). open_count after (take at waits) c + open_count done ws c)
+      (dropped_more waits at w is)
+
+  total_next :
+      (at c : ℕ) (w : Wait) → slice_get waits at ≡ Some w → total (at + 1) c ≡
+      (open_count after (take at waits) c + part after w c) + open_count done (drop (at + 1) waits) c
+  total_next at c w is = ap (λ (n : ℕ). n + open_count done (drop (at + 1) waits) c)
+      (ap (λ (ws : List Wait). open_count after ws c) (taken_more waits at w is)
+      ∙ open_last after (take at waits) w c)
+
+  -- one that was open is no longer
+  pub count_was :
+      (at : ℕ) (w : Wait) (counts : List ℕ) → slice_get waits at ≡ Some w → done w.named ≡ false →
+      after w.named ≡ true → w.waiting < length counts → AreOpen task waits done after at counts →
+      slice_get counts w.waiting ≡ Some (suc (total (at + 1) w.waiting))
+  count_was at w counts is opens now low a =
+      let here = total_here at w.waiting w is in
+      let next = total_next at w.waiting w is in
+      let one = part_open done w w.waiting refl opens in
+      let none = part_done after w w.waiting now in
+      a.each w.waiting low ∙ ap (λ (n : ℕ). Some n) (omega (arith, here, next, one, none))
+
+  pub one_released :
+      (at : ℕ) (w : Wait) (counts newer : List ℕ) → slice_get waits at ≡ Some w → done w.named ≡ false →
+      after w.named ≡ true → AreOpen task waits done after at counts → length newer ≡ length counts →
+      slice_get newer w.waiting ≡ Some (total (at + 1) w.waiting) →
+      ((c : ℕ) → ¬ (c ≡ w.waiting) → slice_get newer c ≡ slice_get counts c) →
+      AreOpen task waits done after (at + 1) newer
+  one_released at w counts newer is opens now a long there others = record {
+    one_each = long ∙ a.one_each;
+    each = λ c low. elim (cases_eq c w.waiting) [
+      | inl same ↦ ap (slice_get newer) same ∙ (there ∙ ap (λ (u : ℕ). Some (total (at + 1) u)) (sym same))
+      | inr other ↦ (
+          let here = total_here at c w is in
+          let next = total_next at c w is in
+          let apart : w.waiting ≡ c → ⊥ = λ e. other (sym e) in
+          let x = part_other done w c apart in
+          let y = part_other after w c apart in
+          others c other ∙ (a.each c (omega (arith, low, long))
+          ∙ ap (λ (n : ℕ). Some n) (omega (arith, here, next, x, y))))
+    ];
+  }
+
+  -- one that both tests tell alike is passed over
+  one_passed :
+      (at : ℕ) (w : Wait) (counts : List ℕ) → slice_get waits at ≡ Some w →
+      done w.named ≡ after w.named → AreOpen task waits done after at counts →
+      AreOpen task waits done after (at + 1) counts
+  one_passed at w counts is alike a = record {
+    one_each = a.one_each;
+    each = λ c low. (
+        let here = total_here at c w is in
+        let next = total_next at c w is in
+        let same = part_agrees done after w c alike in
+        a.each c low ∙ ap (λ (n : ℕ). Some n) (omega (arith, here, next, same)));
+  }
+
+  item : (ws : List Wait) (k : ℕ) → k < length ws → (w : Wait) × (slice_get ws k ≡ Some w)
+  item [] k h = absurd (omega (arith, h))
+  item (w ∷ ws) zero h = (w, refl)
+  item (w ∷ ws) (suc k) h = item ws k (omega (arith, h))
+
+  pub many_passed :
+      (n at : ℕ) (counts : List ℕ) → at + n ≤ length waits →
+      ((k : ℕ) (w : Wait) → at ≤ k → k < at + n → slice_get waits k ≡ Some w →
+      done w.named ≡ after w.named) → AreOpen task waits done after at counts →
+      AreOpen task waits done after (at + n) counts
+  many_passed zero at counts fits alike a =
+      let z : at ≡ at + 0 = omega arith in
+      subst (λ (u : ℕ). AreOpen task waits done after u counts) z a
+  many_passed (suc n) at counts fits alike a =
+      let z : at + 1 + n ≡ at + suc n = omega arith in
+      let w = item waits at (omega (arith, fits)) in
+      subst (λ (u : ℕ). AreOpen task waits done after u counts) z
+      (many_passed n (at + 1) counts (omega (arith, fits))
+      (λ k v low high is. alike k v (omega (arith, low)) (omega (arith, high)) is)
+      (one_passed at w.0 counts w.1 (alike at w.0 (omega arith) (omega arith) w.1) a))
+
+  -- from none released to all
+  pub none_released :
+      (counts : List ℕ) → AreOpen task waits done done 0 counts → AreOpen task waits done after 0 counts
+  none_released counts a = record { one_each = a.one_each; each = λ c low. a.each c low }
+
+  pub all_released :
+      (at : ℕ) (counts : List ℕ) → at ≡ length waits → AreOpen task waits done after at counts →
+      AreOpen task waits after after 0 counts
+  all_released at counts all a = record {
+    one_each = a.one_each;
+    each = λ c low. (
+        let taken = ap (λ (ws : List Wait). open_count after ws c) (take_all waits at all) in
+        let dropped = ap (λ (ws : List Wait). open_count done ws c) (drop_all waits at all) in
+        let none : open_count done [] c ≡ 0 = refl in
+        a.each c low ∙ ap (λ (n : ℕ). Some n) (omega (arith, taken, dropped, none)));
+  }
+    where
+      take_all : (ws : List Wait) (n : ℕ) → n ≡ length ws → take n ws ≡ ws
+      take_all [] zero e = refl
+      take_all [] (suc n) e = refl
+      take_all (w ∷ ws) zero e = absurd (omega (arith, e))
+      take_all (w ∷ ws) (suc n) e = ap (λ (us : List Wait). w ∷ us) (take_all ws n (omega (arith, e)))
+
+      drop_all : (ws : List Wait) (n : ℕ) → n ≡ length ws → drop n ws ≡ []
+      drop_all [] zero e = refl
+      drop_all [] (suc n) e = refl
+      drop_all (w ∷ ws) zero e = absurd (omega (arith, e))
+      drop_all (w ∷ ws) (suc n) e = drop_all ws n (omega (arith, e))
+
+  -- a class whose count is 0 waits for nothing that is not written
+  pub nothing_open :
+      (at c : ℕ) (counts : List ℕ) → AreOpen task waits done after at counts → c < length counts →
+      slice_get counts c ≡ Some 0 → ((x : ℕ) → done x ≡ true → after x ≡ true) → (w : Wait) →
+      Contains waits w → w.waiting ≡ c → after w.named ≡ true
+  nothing_open at c counts a low is more w m same =
+      let none : total at c ≡ 0 = same_Some (total at c) 0 (sym (a.each c low) ∙ is) in
+      elim (Contains-append_cases (take at waits) (drop at waits) w
+      (subst (λ (ws : List Wait). Contains ws w) (sym (take-append-drop at waits)) m)) [
+        | inl x ↦ zero_open after (take at waits) c (omega (arith, none)) w x same
+        | inr x ↦ more w.named (zero_open done (drop at waits) c (omega (arith, none)) w x same)
+      ]
+
+-- at the beginning
+pub counts_begin :
+    (task : Task) (waits : List Wait) (n : ℕ) (counts : List ℕ) → n ≡ length task.classes →
+    AreCounts waits n counts → AreOpen task waits (λ x. false) (λ x. false) 0 counts
+counts_begin task waits n counts is a = record {
+  one_each = a.long ∙ is;
+  each = λ c low. (
+      let long = a.long in
+      let all = all_open waits c in
+      let none : open_count (λ x. false) [] c ≡ 0 = refl in
+      a.each c (omega (arith, low, long)) ∙ ap (λ (n : ℕ). Some n) (omega (arith, all, none)));
+}

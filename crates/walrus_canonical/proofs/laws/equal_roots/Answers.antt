@@ -1,0 +1,5 @@
+use Rattle.walrus_canonical.proofs.laws.equal_roots.Goals as goal
+use Rattle.walrus_canonical.proofs.Equality.Renamed as lemmas
+
+pub returns : goal.returns
+returns c = lemmas.among_by_roots
