@@ -7,7 +7,7 @@ import fallible
 import wording
 
 LAWS = re.compile(r'(^|/)(record_)?laws(/|\.rt$)')
-HEAD = '| Library | Required | Functions | In Rust |\n|---|---|---|---|\n'
+HEAD = '| Module | Required | Functions | In Rust |\n|---|---|---|---|\n'
 
 
 def is_law(path):
@@ -43,12 +43,12 @@ def fill(text, number, function, is_law, call):
 
 
 def table(required):
-    """The table of functions that require something: a row for each condition of a library."""
+    """The table of functions that require something: a row for each condition of a module."""
     rows = {}
-    for crate, function, found in required:
+    for module, function, found in required:
         for guard in found:
             is_below = function.path() in guards.DELEGATED
             how = guard.reason or ('panics, in the call that it makes' if is_below else 'panics')
-            rows.setdefault((crate, guard.words, how), []).append(f'`{function.path()}`')
+            rows.setdefault((module, guard.words, how), []).append(f'`{function.path()}`')
     return HEAD + ''.join(
-        f'| `{crate}` | {words} | {", ".join(names)} | {how} |\n' for (crate, words, how), names in rows.items())
+        f'| `{module}` | {words} | {", ".join(names)} | {how} |\n' for (module, words, how), names in rows.items())

@@ -1,4 +1,4 @@
-"""What calls require, and how the Rust crates see to it.
+"""What calls require, and how the Rust crate sees to it.
 
 A condition that Rust can test becomes a guard, which panics. Most guards come first in the function that requires the
 condition. INSERTIONS has the others, and what tests the promises that a visitor makes.

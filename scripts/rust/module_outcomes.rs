@@ -3,9 +3,10 @@
 //! is the exit status that `wasmnorm` has for it, and the new module, or `panic`. Behind the new module
 //! is the first type that becomes another one, if there is one. At the end is the first fault of the
 //! module, if it has one.
-use ruffdresser::{
-    DecodeError, Descriptions, HashKeys, NormaliseModuleError, NormaliseOptions, RenameError,
-    UnusedTypes, Widths, check_module, find_changed_type, normalise_module, section_around, sections,
+use ruffdresser::arena::HashKeys;
+use ruffdresser::wasm::{
+    DecodeError, Descriptions, NormaliseModuleError, NormaliseOptions, RenameError, UnusedTypes,
+    Widths, check_module, find_changed_type, normalise_module, section_around, sections,
 };
 use std::error::Error;
 use std::io::{self, BufWriter, Write};

@@ -6,6 +6,7 @@ has one of the old name that can't be refused: `push` is `try_push`.
 import re
 
 import contracts
+import derives
 
 CRATE = 'rattle_std'
 # What Rust's standard library has under the same name and with the same meaning stays as it is.
@@ -68,7 +69,7 @@ RULES = [
     (r'\bstd::process::\{Abort, (\w+)\}', rf'{CRATE}::process::{{Abort, \1}}'),
     (rf'\bstd::({OTHER_MODULES})\b', rf'{CRATE}::\1'),
     (r'\bstd::\{env, fs\}', f'{CRATE}::{{env, fs}}'),
-    (r'^use thiserror::Error;\n', f'use {CRATE}::Error;\n'),
+    (r'^use thiserror::Error;\n', ''),
     # Printing.
     (r'<W: (?:std::)?fmt::Write>\(', '('),
     (r', W: (?:std::)?fmt::Write>\(', '>('),
@@ -121,16 +122,6 @@ def add_debug(text):
     return ITEM.sub(derived, text)
 
 
-def rewrite_derives(text):
-    """A derived `Clone` is both Rust's and one that can be refused."""
-    def derived(found):
-        return re.sub(r'\bClone\b', f'Clone, {CRATE}::TryClone', found[0])
-
-    text = re.sub(r'#\[derive\([^)]*\)\]', derived, text)
-    with_derive = rf'\1#[derive({CRATE}::DeriveWhere)]\n\1#[derive_where('
-    return re.sub(r'^( *)#\[derive_where\((?!skip)', with_derive, text, flags=re.M)
-
-
 def rewrite_clones(text):
     """The trait `Clone` can be refused. A type that has it gets Rust's too, which is all that a set wants of its items."""
     parts = re.split(r'(#\[derive[^\n]*\n|//[^\n]*\n)', text)
@@ -166,5 +157,5 @@ def rewrite(text):
     text = contracts.TOKEN.sub(hide, text)
     for pattern, new in COMPILED:
         text = pattern.sub(new, text)
-    text = contracts.without_gaps(rewrite_clones(rewrite_derives(add_debug(text))))
-    return re.sub('"\x05(\\d+)\x06"', lambda found: strings[int(found[1])], text)
+    text = contracts.without_gaps(rewrite_clones(add_debug(text)))
+    return derives.write_out(re.sub('"\x05(\\d+)\x06"', lambda found: strings[int(found[1])], text))

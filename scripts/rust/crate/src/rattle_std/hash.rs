@@ -4,7 +4,7 @@ pub use std::hash::{BuildHasher, Hash, Hasher, RandomState as HostState};
 const MULTIPLIER: u64 = 0x9E37_79B9_7F4A_7C15;
 
 /// Mixes each number that it is fed into its state by a multiplication whose halves are joined.
-#[derive(Clone, Copy, Default, Debug, crate::TryClone)]
+#[derive(Clone, Copy, Default, Debug)]
 pub struct FoldHasher {
     state: u64,
 }

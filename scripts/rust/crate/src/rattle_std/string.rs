@@ -1,5 +1,5 @@
 //! Texts.
-use crate::alloc::AllocError;
+use crate::rattle_std::alloc::AllocError;
 use std::fmt::{self, Arguments, Write};
 
 /// A copy of the text.

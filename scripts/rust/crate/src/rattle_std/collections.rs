@@ -1,7 +1,7 @@
-//! Maps and sets. Those that hash have the hasher of [`hash`](crate::hash).
-use crate::alloc::AllocError;
-use crate::hash::FoldHasher;
-pub use crate::map::HashMap;
+//! Maps and sets. Those that hash have the hasher of [`hash`](crate::rattle_std::hash).
+use crate::rattle_std::alloc::AllocError;
+use crate::rattle_std::hash::FoldHasher;
+pub use crate::rattle_std::map::HashMap;
 use std::collections;
 pub use std::collections::BTreeMap;
 use std::hash::{BuildHasher, BuildHasherDefault, Hash};

@@ -1,11 +1,8 @@
-//! What the libraries of Ruffdresser need of the Rattle toolchain's standard library, over Rust's.
+//! What Ruffdresser needs of the Rattle toolchain's standard library, over Rust's.
 //!
 //! Containers are Rust's own. A call that takes memory has a fallible form here that returns an error where
 //! memory is refused, such as [`try_push`](vec::VecExt::try_push) for `push`. The allocator is
 //! Rust's, so that no call takes one.
-#![forbid(unsafe_code)]
-
-extern crate self as rattle_std;
 
 pub mod alloc;
 pub mod clone;
@@ -18,36 +15,38 @@ pub mod rt;
 pub mod string;
 pub mod vec;
 
+pub use crate::{try_format, try_vec};
 pub use clone::TryClone;
-pub use rattle_std_derive::{DeriveWhere, Error, TryClone};
 pub use rt::{boxed, env, fs, process, rc, test};
 
-/// The names that each module of the libraries has.
+/// The names that each module has.
 pub mod prelude {
-    pub use crate::clone::TryClone;
-    pub use crate::collections::{MapExt, SetExt};
-    pub use crate::rt::{AllocGlobal, HostRuntime};
-    pub use crate::string::{DisplayExt, StringExt};
-    pub use crate::vec::{IteratorExt, SliceExt, VecExt};
+    pub use super::clone::TryClone;
+    pub use super::collections::{MapExt, SetExt};
+    pub use super::rt::{AllocGlobal, HostRuntime};
+    pub use super::string::{DisplayExt, StringExt};
+    pub use super::vec::{IteratorExt, SliceExt, VecExt};
     pub use std::fmt::Write as _;
 }
 
 /// A list of these items, or of an item and its repetitions, or the error of a refused request for
 /// memory.
+#[doc(hidden)]
 #[macro_export]
 macro_rules! try_vec {
     ($item:expr; $count:expr) => {
-        $crate::vec::repeated($item, $count)
+        $crate::rattle_std::vec::repeated($item, $count)
     };
     ($($item:expr),* $(,)?) => {
-        $crate::vec::from_array([$($item),*])
+        $crate::rattle_std::vec::from_array([$($item),*])
     };
 }
 
 /// A text, as `format!` makes it, or the error of a refused request for memory.
+#[doc(hidden)]
 #[macro_export]
 macro_rules! try_format {
     ($($format:tt)*) => {
-        $crate::string::format(format_args!($($format)*))
+        $crate::rattle_std::string::format(format_args!($($format)*))
     };
 }

@@ -3,7 +3,7 @@ use std::collections::TryReserveError;
 use std::{error, fmt};
 
 /// Memory was refused.
-#[derive(Clone, Copy, PartialEq, Eq, PartialOrd, Ord, Hash, Debug, crate::TryClone)]
+#[derive(Clone, Copy, PartialEq, Eq, PartialOrd, Ord, Hash, Debug)]
 pub struct AllocError;
 
 impl fmt::Display for AllocError {
@@ -60,7 +60,7 @@ pub fn or_panic<T, E: fmt::Display>(result: Result<T, E>) -> T {
 }
 
 /// Rust's global allocator. No call takes it.
-#[derive(Clone, Copy, PartialEq, Eq, PartialOrd, Ord, Hash, Debug, Default, crate::TryClone)]
+#[derive(Clone, Copy, PartialEq, Eq, PartialOrd, Ord, Hash, Debug, Default)]
 pub struct Global;
 
 /// An allocator. There is one alone.

@@ -1,6 +1,6 @@
 //! Lists.
-use crate::alloc::{AllocError, AllocFailed};
-use crate::clone::TryClone;
+use crate::rattle_std::alloc::{AllocError, AllocFailed};
+use crate::rattle_std::clone::TryClone;
 
 /// A list without items, with memory for this number of them.
 pub fn with_capacity<T>(capacity: usize) -> Result<Vec<T>, AllocError> {

@@ -1,7 +1,6 @@
 //! What a call requires is tested: a call that breaks it panics, and says what is required. So does
 //! a call to which memory is refused, where its fallible form returns an error.
-use ruffdresser::alloc::AllocError;
-use ruffdresser::*;
+use ruffdresser::{arena::*, body::*, ir::*, passes::*, types::*, *};
 use std::convert::Infallible;
 use std::panic::{AssertUnwindSafe, catch_unwind};
 

@@ -1,6 +1,7 @@
 //! Copies that may be refused memory.
-use crate::alloc::{AllocError, or_panic};
-use crate::vec::VecExt;
+use crate::rattle_std::alloc::{AllocError, Global, or_panic};
+use crate::rattle_std::hash::FoldHasher;
+use crate::rattle_std::vec::VecExt;
 use std::marker::PhantomData;
 use std::rc::Rc;
 
@@ -45,6 +46,7 @@ macro_rules! copied {
 }
 
 copied! { () bool char u8 u16 u32 u64 u128 usize i8 i16 i32 i64 i128 isize f32 f64 }
+copied! { AllocError Global FoldHasher }
 
 impl<T: ?Sized> TryClone for &T {
     fn try_clone(&self) -> Result<Self, AllocError> {
@@ -97,6 +99,6 @@ impl<T: TryClone> TryClone for Vec<T> {
 
 impl TryClone for String {
     fn try_clone(&self) -> Result<Self, AllocError> {
-        crate::string::from_str(self)
+        crate::rattle_std::string::from_str(self)
     }
 }

@@ -1,4 +1,4 @@
-"""Writes the Cargo workspace: the stand-in for the toolchain's standard library, and a crate for each crate here."""
+"""Writes the Rust crate: one package, with a module for each group of libraries, programs and tests."""
 import functools
 import os
 import re
@@ -7,45 +7,20 @@ import shutil
 import contracts
 import documents
 import examples
-import facade
-import guards
-import rewriting
 import fallible
+import guards
+import modules
+import rewriting
 import wording
 
 HERE = os.path.dirname(os.path.abspath(__file__))
 ROOT = os.path.dirname(os.path.dirname(HERE))
+# What is written as it is: the root of the crate, the stand-in for the toolchain's standard library, and tests of guards.
+AS_IT_IS = f'{HERE}/crate'
 ROOTS = ['src/lib.rt', 'src/main.rt']
-STAND_INS = ['rattle_std', 'rattle_std_derive']
-MANIFEST = '''[package]
-name = "{name}"
-version = "0.1.0"
-edition = "2024"
-rust-version = "1.88"
-license = "MIT OR Apache-2.0"
-
-[dependencies]
-{dependencies}'''
-WORKSPACE = '''[workspace]
-members = [{members}]
-# All but what has only tests, or derives alone.
-default-members = [{default_members}]
-resolver = "3"
-
-[profile.release]
-lto = "fat"
-codegen-units = 1
-'''
 # What a type has in Rust alone, by the file that it is in.
 ADDITIONS = {('walrus_ty', 'src/listed.rt'): 'listed.rs'}
 LICENSES = ['LICENSE.md', 'LICENSE-MIT', 'LICENSE-APACHE']
-PAGE = '''# Ruffdresser for Rust
-
-Libraries for WebAssembly type sections and function bodies. The crate `ruffdresser` has the names of all of them.
-
-`scripts/rust_crate` of Ruffdresser wrote these crates, from sources that are proved in Rattle. Its page docs/RUST.md
-says what is proved and what is trusted. Changes made here are lost when it runs again.
-'''
 
 
 def read(path):
@@ -60,10 +35,8 @@ def write(path, text):
 
 
 def crates():
-    """The crates of crates.txt, each with the crates of this repository that it depends on."""
-    lines = re.findall(r'^(\w+)[^:#\n]*:(.*)$', read(f'{ROOT}/crates.txt'), re.M)
-    named = [name for name, _ in lines]
-    return {name: [it for it in below.split() if it in named] for name, below in lines}
+    """The crates of crates.txt but the one that has nothing of its own."""
+    return [it for it in re.findall(r'^(\w+)[^:#\n]*:', read(f'{ROOT}/crates.txt'), re.M) if it != modules.CRATE]
 
 
 @functools.cache
@@ -123,10 +96,10 @@ def rust_text(crate, path, calls, renaming):
         text = without_mark(text, number)
         is_guarded = not is_law and (is_public or function.is_of_trait)
         text = text.replace(contracts.body_mark(number), guards.statements(function) if is_guarded else '')
-    text = rewriting.with_prelude(text, path in ROOTS)
+    text = rewriting.with_prelude(text, path in ROOTS and not is_library(crate))
     text = re.sub(r'\n{3,}', '\n\n', guards.insert(path, text))
     text += '\n' + read(f'{HERE}/{ADDITIONS[crate, path]}') if (crate, path) in ADDITIONS else ''
-    return facade.with_std(text) if crate == facade.NAME and path in ROOTS else text
+    return modules.inside(crate, text) if is_library(crate) else names().outside(text)
 
 
 def without_mark(text, number):
@@ -134,52 +107,69 @@ def without_mark(text, number):
     return re.sub(rf'^ *{contracts.docs_mark(number)}\n', '', text, flags=re.M)
 
 
+def root(library):
+    return read(f'{ROOT}/crates/{library}/src/lib.rt')
+
+
 @functools.cache
-def exports(crate):
+def exports(library):
     """The names that the root of a library exports."""
-    found = re.findall(r'^pub use (?:\w+::)+(?:\{([^}]*)\}|(\w+));', read(f'{ROOT}/crates/{crate}/src/lib.rt'), re.M)
-    return {name for several, one in found for name in (re.findall(r'\w+', several) or [one])}
+    return set(modules.exports(root(library)))
+
+
+@functools.cache
+def names():
+    return modules.Names({it: root(it) for it in modules.HOME})
 
 
 def required():
-    """The guarded functions of all libraries: the crate, the function and its guards. Also how many are public."""
+    """The guarded functions of all libraries: the module, the function and its guards. Also how many are public."""
     found, count = [], 0
     for crate in (it for it in crates() if is_library(it)):
-        names = exports(crate)
         for path in (it for it in sources(crate) if not documents.is_law(it)):
             functions = rewritten(crate, path).functions
-            public = [it for it in functions if documents.is_exported(it, names, path)]
+            public = [it for it in functions if documents.is_exported(it, exports(crate), path)]
             count += len(public)
-            found += [(crate, it, guards.guards_of(it)) for it in public if guards.guards_of(it)]
+            found += [(modules.HOME[crate], it, guards.guards_of(it)) for it in public if guards.guards_of(it)]
     return found, count
 
 
-def write_manifest(out, crate, below):
-    lines = [f'{it} = {{ path = "../{it}" }}\n' for it in ['rattle_std', *below]]
-    write(f'{out}/{crate}/Cargo.toml', MANIFEST.format(name=crate, dependencies=''.join(lines)))
+def destination(crate, path):
+    """Where a file of a crate is written."""
+    inner = path.removeprefix('src/').removesuffix('.rt')
+    if is_program(crate):
+        return f'src/bin/{crate}/{inner}.rs'
+    if is_library(crate):
+        return f'src/{modules.HOME[crate]}/{crate}{"" if path in ROOTS else f"/{inner}"}.rs'
+    return f'tests/{crate}/{"main" if path in ROOTS else inner}.rs'
+
+
+def write_modules(out, renaming):
+    """Writes the module of each group of libraries. Its docs are those of libraries, which lose them."""
+    for module, (_, pages) in modules.MODULES.items():
+        docs = []
+        for path in (f'{out}/{destination(it, ROOTS[0])}' for it in pages):
+            head, rest = re.fullmatch(r'((?://![^\n]*\n)*)\n*(.*)', read(path), re.S).groups()
+            docs.append(head)
+            write(path, rest)
+        page = re.sub(rf'\[(`(\w+)`)\]\(crate::{module}::\w+::\2\)', r'[\1]', '//!\n'.join(docs))
+        write(f'{out}/src/{module}.rs', f'{page}\n{renaming.uses(names().text(module))}')
 
 
 def is_writable(out):
-    """Whether the folder is missing or empty, or a workspace that was written before."""
-    return not os.path.isdir(out) or not os.listdir(out) or os.path.isdir(f'{out}/{STAND_INS[0]}')
+    """Whether the folder is missing or empty, or was written before."""
+    return not os.path.isdir(out) or not os.listdir(out) or os.path.isdir(f'{out}/src/rattle_std')
 
 
-def write_workspace(out):
-    for crate in STAND_INS:
-        shutil.copytree(f'{HERE}/{crate}', f'{out}/{crate}', dirs_exist_ok=True)
-    all_crates = crates()
-    guards.check_paths({path for crate in all_crates for path in sources(crate)})
+def write_package(out):
+    shutil.copytree(AS_IT_IS, out, dirs_exist_ok=True)
+    guards.check_paths({path for crate in crates() for path in sources(crate)})
     calls = calls_with_fallible_forms()
     renaming = fallible.Renaming({call for of_file in calls.values() for call in of_file.values()})
-    for crate, below in all_crates.items():
+    for crate in crates():
         for path in sources(crate):
-            write(f'{out}/{crate}/{path[:-3]}.rs', rust_text(crate, path, calls.get((crate, path), {}), renaming))
-        write_manifest(out, crate, below)
-    write(f'{out}/{facade.NAME}/tests/guards.rs', read(f'{HERE}/guard_tests.rs'))
+            text = rust_text(crate, path, calls.get((crate, path), {}), renaming)
+            write(f'{out}/{destination(crate, path)}', text)
+    write_modules(out, renaming)
     for name in LICENSES:
         shutil.copy(f'{ROOT}/{name}', f'{out}/{name}')
-    write(f'{out}/README.md', PAGE)
-    members = [*STAND_INS, *all_crates]
-    default = [it for it in members if it != STAND_INS[1] and not it.endswith('_tests')]
-    lists = [', '.join(f'"{it}"' for it in names) for names in (members, default)]
-    write(f'{out}/Cargo.toml', WORKSPACE.format(members=lists[0], default_members=lists[1]))

@@ -137,7 +137,7 @@ pub mod test {
 
 /// Counted references.
 pub mod rc {
-    use crate::alloc::AllocError;
+    use crate::rattle_std::alloc::AllocError;
     use std::rc::Rc;
 
     /// A value with a count of references.
@@ -148,7 +148,7 @@ pub mod rc {
 
 /// Values in memory of their own.
 pub mod boxed {
-    use crate::alloc::AllocError;
+    use crate::rattle_std::alloc::AllocError;
 
     /// A value in memory of its own.
     pub fn new<T>(value: T) -> Result<Box<T>, AllocError> {

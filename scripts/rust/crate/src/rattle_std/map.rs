@@ -1,7 +1,7 @@
 //! A map whose entries lie in the order in which they came, beside a table of their places. So
 //! growing hashes no key again, and dropping goes through the memory in order.
-use crate::alloc::AllocError;
-use crate::hash::FoldHasher;
+use crate::rattle_std::alloc::AllocError;
+use crate::rattle_std::hash::FoldHasher;
 use std::fmt;
 use std::hash::{BuildHasher, BuildHasherDefault, Hash};
 
