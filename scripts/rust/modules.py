@@ -6,7 +6,8 @@ CRATE = 'ruffdresser'
 # By module: its libraries, and those of them whose docs its page has.
 MODULES = {
     'arena': (['walrus_id', 'walrus_arena'], ['walrus_arena']),
-    'types': (['walrus_ty', 'walrus_sections', 'walrus_normal_form', 'walrus_normal_form_check', 'walrus_types'],
+    'types': (['walrus_ty', 'walrus_sections', 'walrus_normal_form', 'walrus_normal_form_check', 'walrus_canonical',
+               'walrus_types'],
               ['walrus_types']),
     'ir': (['ir_operators', 'ir_instr', 'ir_const_expr', 'walrus_ir'], ['walrus_ir']),
     'body': (['walrus_functions', 'walrus_nesting', 'walrus_traversals', 'walrus_traversals_mut', 'walrus_body'],

@@ -73,12 +73,12 @@ later_sections [] = []
 later_sections (s ∷ others) = others
 
 one_content :
-    (last : ℕ) (before after front back : List Section) (c d : List ℕ) →
+    (last : ℕ) (before after prefix back : List Section) (c d : List ℕ) →
     AreInOrder last (ids (before ++ section 1 c ∷ after)) →
-    before ++ section 1 c ∷ after ≡ front ++ section 1 d ∷ back → c ≡ d
+    before ++ section 1 c ∷ after ≡ prefix ++ section 1 d ∷ back → c ≡ d
 one_content last [] after [] back c d h e = ap (λ (l : List Section). (first_section l).content) e
-one_content last [] after (s ∷ front) back c d h e =
-    absurd (not_after_types last after front back d (order_parts last (1 ∷ ids after) h).1
+one_content last [] after (s ∷ prefix) back c d h e =
+    absurd (not_after_types last after prefix back d (order_parts last (1 ∷ ids after) h).1
     (ap later_sections e))
 one_content last (s ∷ before) after [] back c d h e =
     let is : s.id ≡ 1 = ap (λ (l : List Section). (first_section l).id) e in
@@ -86,25 +86,25 @@ one_content last (s ∷ before) after [] back c d h e =
     subst (λ (k : ℕ). AreInOrder (place_after last k) (ids (before ++ section 1 c ∷ after))) is
     (order_parts last (s.id ∷ ids (before ++ section 1 c ∷ after)) h).1 in
     absurd (not_after_types last (before ++ section 1 c ∷ after) before after c others refl)
-one_content last (s ∷ before) after (t ∷ front) back c d h e =
-    one_content (place_after last s.id) before after front back c d
+one_content last (s ∷ before) after (t ∷ prefix) back c d h e =
+    one_content (place_after last s.id) before after prefix back c d
     (order_parts last (s.id ∷ ids (before ++ section 1 c ∷ after)) h).1 (ap later_sections e)
 
 range_is :
-    (bytes front content back : List ℕ) (start stop : ℕ) → bytes ≡ front ++ (content ++ back) →
-    start ≡ length front → stop ≡ start + length content → slice_range bytes start stop ≡ content
-range_is bytes front content back start stop parts starts stops =
+    (bytes prefix content back : List ℕ) (start stop : ℕ) → bytes ≡ prefix ++ (content ++ back) →
+    start ≡ length prefix → stop ≡ start + length content → slice_range bytes start stop ≡ content
+range_is bytes prefix content back start stop parts starts stops =
     let len : stop - start ≡ length content = omega (arith, stops) in
     ap (λ (l : List ℕ). take (stop - start) (drop start l)) parts
-    ∙ (ap (λ (k : ℕ). take (stop - start) (drop k (front ++ (content ++ back)))) starts
-    ∙ (ap (λ (l : List ℕ). take (stop - start) l) (drop-append_seam front (content ++ back))
+    ∙ (ap (λ (k : ℕ). take (stop - start) (drop k (prefix ++ (content ++ back)))) starts
+    ∙ (ap (λ (l : List ℕ). take (stop - start) l) (drop-append_seam prefix (content ++ back))
     ∙ (ap (λ (k : ℕ). take k (content ++ back)) len ∙ take-append_seam content back)))
 
 range_is_content :
     (bytes : List ℕ) (start stop : ℕ) (t : IsTypeSectionAt bytes start stop) →
     slice_range bytes start stop ≡ t.content
 range_is_content bytes start stop t =
-    range_is bytes (t.front ++ 1 ∷ t.size) t.content t.back start stop t.parts t.starts t.stops
+    range_is bytes (t.prefix ++ 1 ∷ t.size) t.content t.back start stop t.parts t.starts t.stops
 
 same_content :
     (bytes : List ℕ) (start stop from end : ℕ) (t : IsTypeSectionAt bytes start stop)
