@@ -1,5 +1,5 @@
 -- The beginnings of texts: what is read is what has the text, and what has a text is read.
-use Rattle.std.proofs.Common.{◌≡◌, ℕ, ◌^◌, nat_lt, nat_le, ◌||◌, true, false, List, [], ◌∷◌, ◌++◌, Option, Some, None, Ok, refl, sym, ap, subst, ◌∙◌, arith, lt-ltb, le-ltb, le-leb}
+use Rattle.std.proofs.Common.{◌≡◌, ℕ, ◌^◌, nat_lt, nat_le, nat_eq, cond, ◌||◌, true, false, List, [], ◌∷◌, ◌++◌, Option, Some, None, Ok, refl, sym, ap, subst, ◌∙◌, arith, lt-ltb, le-ltb, le-leb, ne_eqb}
 use Rattle.std.proofs.lemmas.Grind.{common_steps}
 use Rattle.wasm_binary.specs.Leb128.{IsInteger, last, more, IsU32, IsS33}
 use Rattle.wasm_binary.specs.Steps.Reading.{◌>>=◌, u32_at, s33_at}
@@ -9,8 +9,9 @@ use Rattle.wasm_module.specs.declared.kind.Space.{Space}
 use Rattle.wasm_module.specs.declared.kind.Space.TheVariants as space
 use Rattle.wasm_module.specs.declared.kind.Kind.{Kind}
 use Rattle.wasm_module.specs.declared.kind.Kind.TheVariants as kind
-use Rattle.wasm_module.specs.Immediates.{Token, unsigned, signed, plain, type_name, may_be_index, behind_byte, behind_number, Begins, index, signed_index, number, byte, offset, i32, i64, raw, byte_vec, import}
-use Rattle.wasm_module.specs.Steps.Heads.{Beginning, beginning, skip_at, signed_at, raw_at, byte_vec_at, byte_at, number_at, name_in, index_at, signed_index_at, index_or_byte_at, begin_at, behind}
+use Rattle.wasm_module.specs.declared.head.Head.{Head as HeadRead}
+use Rattle.wasm_module.specs.Immediates.{Token, unsigned, signed, plain, type_name, may_be_index, and_then, behind_byte, behind_number, Begins, index, signed_index, number, byte, offset, i32, i64, raw, byte_vec, import}
+use Rattle.wasm_module.specs.Steps.Heads.{Beginning, beginning, skip_at, signed_at, raw_at, byte_vec_at, byte_at, number_at, name_in, index_at, signed_index_at, index_or_byte_at, begin_at, behind, Chooses}
 use Rattle.wasm_module.proofs.Skipping.{IsSkipped, skip_complete, skip_sound, IsSignedText, signed_complete, signed_sound, IsRaw, raw_complete, raw_sound, IsByteVec, byte_vec_again, byte_vec_sound}
 
 -- a text of the beginning of this kind
@@ -146,7 +147,7 @@ begin_sound (kind.Bytes n) = plain_takes (kind.Bytes n) [] (IsRaw n) (raw_at n) 
     raw t n h.0 h.1)
 begin_sound kind.Zero = byte_takes kind.Zero
 begin_sound kind.CastFlags = byte_takes kind.CastFlags
-begin_sound kind.MemArg = number_takes kind.MemArg
+begin_sound (kind.MemArg most) = number_takes (kind.MemArg most)
 begin_sound kind.BlockType = either_takes kind.BlockType refl
 begin_sound kind.ValType = byte_takes kind.ValType
 begin_sound kind.HeapType = either_takes kind.HeapType refl
@@ -188,6 +189,25 @@ begin_sound kind.DataSegment = number_takes kind.DataSegment
 begin_sound kind.DataSegments = number_takes kind.DataSegments
 begin_sound kind.Tags = number_takes kind.Tags
 
+-- ---- what is chosen by an opcode
+
+-- by a byte that is not the first of these two
+pub chosen_by_other : (found : Option HeadRead) (x first : ℕ) (kinds others : Option (List Kind)) →
+    (x ≡ first → ⊥) → Chooses found others → Chooses found (cond (nat_eq x first) kinds others)
+chosen_by_other found x first kinds others apart h = rw (ne_eqb x first apart) h
+
+-- by a byte that is not the second
+pub chosen_by_third : (found : Option HeadRead) (x first second : ℕ)
+    (kinds between others : Option (List Kind))
+    → (x ≡ second → ⊥) → Chooses found (cond (nat_eq x first) kinds others) →
+    Chooses found (cond (nat_eq x first) kinds (cond (nat_eq x second) between others))
+chosen_by_third found x first second kinds between others apart h = rw (ne_eqb x second apart) h
+
+pub chosen_row : (found : Option HeadRead) (row kinds : Option (List Kind)) (others : List Kind) → row ≡ kinds →
+    Chooses found (and_then row others) → Chooses found (and_then kinds others)
+chosen_row found row kinds others e h =
+    subst (λ (o : Option (List Kind)). Chooses found (and_then o others)) e h
+
 -- ---- what has a text is read
 
 number_reads : (k : Kind) (text : List ℕ) (n : ℕ) (kinds : List Kind) (rest : List ℕ) → IsU32 text n →
@@ -220,7 +240,7 @@ number_again kind.S64 text n kinds rest h e = absurd cc
 number_again (kind.Bytes m) text n kinds rest h e = absurd cc
 number_again kind.Zero text n kinds rest h e = absurd cc
 number_again kind.CastFlags text n kinds rest h e = absurd cc
-number_again kind.MemArg text n kinds rest h e = number_reads kind.MemArg text n kinds rest h e
+number_again (kind.MemArg most) text n kinds rest h e = number_reads (kind.MemArg most) text n kinds rest h e
 number_again kind.BlockType text n kinds rest h e = absurd cc
 number_again kind.ValType text n kinds rest h e = absurd cc
 number_again kind.HeapType text n kinds rest h e = absurd cc
@@ -278,7 +298,7 @@ byte_again kind.S64 x kinds rest e = absurd cc
 byte_again (kind.Bytes n) x kinds rest e = absurd cc
 byte_again kind.Zero x kinds rest e = byte_reads kind.Zero x kinds rest e
 byte_again kind.CastFlags x kinds rest e = byte_reads kind.CastFlags x kinds rest e
-byte_again kind.MemArg x kinds rest e = absurd cc
+byte_again (kind.MemArg most) x kinds rest e = absurd cc
 byte_again kind.BlockType x kinds rest e = own_reads kind.BlockType x kinds rest (own_block x kinds e) e
 byte_again kind.ValType x kinds rest e = byte_reads kind.ValType x kinds rest e
 byte_again kind.HeapType x kinds rest e = own_reads kind.HeapType x kinds rest (own_heap x kinds e) e
@@ -342,7 +362,7 @@ signed_again_at kind.S64 text n rest may h = absurd cc
 signed_again_at (kind.Bytes m) text n rest may h = absurd cc
 signed_again_at kind.Zero text n rest may h = absurd cc
 signed_again_at kind.CastFlags text n rest may h = absurd cc
-signed_again_at kind.MemArg text n rest may h = absurd cc
+signed_again_at (kind.MemArg most) text n rest may h = absurd cc
 signed_again_at kind.BlockType text n rest may h =
     signed_is_first 0x40 (2 ^ 32) kind.BlockType text n rest refl h (s33_complete text n rest h)
 signed_again_at kind.ValType text n rest may h = absurd cc

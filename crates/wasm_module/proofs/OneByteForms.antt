@@ -1,5 +1,5 @@
 -- Instructions of short forms are passed over, and the table has the forms of the rows.
-use Rattle.std.proofs.Common.{◌≡◌, ℕ, zero, suc, ◌+◌, ◌^◌, ◌<◌, ◌≤◌, nat_lt, List, [], ◌∷◌, ◌++◌, length, length-drop, map, take, take_all, drop, ◌-◌, Option, Some, None, Ok, true, refl, sym, ap, subst, ◌∙◌, arith, ltb-true, ltb-false, slice_index_or}
+use Rattle.std.proofs.Common.{◌≡◌, ℕ, zero, suc, ◌+◌, ◌^◌, ◌<◌, ◌≤◌, Bool, nat_lt, cond, List, [], ◌∷◌, ◌++◌, length, length-drop, map, take, take_all, drop, ◌-◌, Option, Some, None, Ok, true, refl, sym, ap, subst, ◌∙◌, arith, ltb-true, ltb-false, slice_index_or}
 use Rattle.wasm_binary.specs.Leb128.{last}
 use Rattle.wasm_binary.proofs.Integers.{u32_complete}
 use Rattle.wasm_module.specs.declared.kind.Space.{Space}
@@ -57,13 +57,21 @@ i64_passed opcode b c rest first second =
     token_passed kind.S64 (b ∷ []) (plain (b ∷ [])) (c ∷ rest)
     (i64 (b ∷ []) (signed_byte (2 ^ 63) b (omega arith) first)) refl
 
-short_mem_arg_passed : IsPassed kind.MemArg form.MemArg
-short_mem_arg_passed opcode b c rest first second =
-    mem_arg_passed b (b ∷ c ∷ rest) (c ∷ rest) rest
+short_mem_arg_passed : (most : ℕ) → most < 0x80 → IsPassed (kind.MemArg most) (form.MemArg most)
+short_mem_arg_passed most short opcode b c rest first second =
+    mem_arg_passed most b (b ∷ c ∷ rest) (c ∷ rest) rest
     (u32_complete (b ∷ []) b (c ∷ rest)
-    (last (2 ^ 32) b (omega (arith, first)) (omega (arith, first)) (omega (arith, first))))
+    (last (2 ^ 32) b (omega (arith, first, short)) (omega (arith, first, short)) (omega (arith, first, short))))
     (omega (arith, first))
     (skip_complete (2 ^ 64) (c ∷ []) tt rest (c, last (2 ^ 64) c second second (omega (arith, second))))
+
+access_passed : (most : ℕ) → IsPassed (kind.MemArg most) (form_of_one (kind.MemArg most))
+access_passed most =
+    let form_if : Bool → OneByteForm = λ short. cond short (form.MemArg most) form.Other in
+    either (nat_lt most 0x80)
+    (λ h. subst (λ f. IsPassed (kind.MemArg most) f) (sym (ap form_if h))
+    (short_mem_arg_passed most (ltb-true most 0x80 h)))
+    (λ h. subst (λ f. IsPassed (kind.MemArg most) f) (sym (ap form_if h)) (other_passed (kind.MemArg most)))
 
 one_passed : (k : Kind) → IsPassed k (form_of_one k)
 one_passed (kind.Index space.Type) = other_passed (kind.Index space.Type)
@@ -84,7 +92,7 @@ one_passed kind.S64 = i64_passed
 one_passed (kind.Bytes n) = other_passed (kind.Bytes n)
 one_passed kind.Zero = other_passed kind.Zero
 one_passed kind.CastFlags = other_passed kind.CastFlags
-one_passed kind.MemArg = short_mem_arg_passed
+one_passed (kind.MemArg most) = access_passed most
 one_passed kind.BlockType = other_passed kind.BlockType
 one_passed kind.ValType = other_passed kind.ValType
 one_passed kind.HeapType = other_passed kind.HeapType

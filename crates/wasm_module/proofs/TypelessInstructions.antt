@@ -91,21 +91,22 @@ state_passed start bytes rest after next stack old s e p =
 
 -- ---- an alignment and an offset
 
-alignment_reads : (n : ℕ) (bytes rest : List ℕ) → u32_at bytes ≡ Ok (n, rest) → n ≤ 63 →
-    begin_at kind.MemArg bytes ≡ Ok (beginning None (kind.U64 ∷ []), rest)
+alignment_reads : (most n : ℕ) (bytes rest : List ℕ) → u32_at bytes ≡ Ok (n, rest) → n ≤ most →
+    begin_at (kind.MemArg most) bytes ≡ Ok (beginning None (kind.U64 ∷ []), rest)
 unfolding begin_at number_at
-alignment_reads n bytes rest e low = rw (e, le-leb n 63 low) refl
+alignment_reads most n bytes rest e low = rw (e, le-leb n most low) refl
 
 offset_reads : (bytes rest : List ℕ) → skip_at (2 ^ 64) bytes ≡ Ok (tt, rest) →
     begin_at kind.U64 bytes ≡ Ok (beginning None [], rest)
 unfolding begin_at
 offset_reads bytes rest e = rw e refl
 
-pub mem_arg_passed : (n : ℕ) (bytes between rest : List ℕ) → u32_at bytes ≡ Ok (n, between) → n ≤ 63 →
-    skip_at (2 ^ 64) between ≡ Ok (tt, rest) → PassesTokens (kind.MemArg ∷ []) [] bytes rest
-mem_arg_passed n bytes between rest e low h =
-    passed_joined (kind.MemArg ∷ []) (kind.U64 ∷ []) [] bytes between rest
-    (passed_beginning kind.MemArg (kind.U64 ∷ []) bytes between (alignment_reads n bytes between e low))
+pub mem_arg_passed : (most n : ℕ) (bytes between rest : List ℕ) → u32_at bytes ≡ Ok (n, between) →
+    n ≤ most → skip_at (2 ^ 64) between ≡ Ok (tt, rest) → PassesTokens (kind.MemArg most ∷ []) [] bytes rest
+mem_arg_passed most n bytes between rest e low h =
+    passed_joined (kind.MemArg most ∷ []) (kind.U64 ∷ []) [] bytes between rest
+    (passed_beginning (kind.MemArg most) (kind.U64 ∷ []) bytes between
+    (alignment_reads most n bytes between e low))
     (passed_beginning kind.U64 [] between rest (offset_reads between rest h))
 
 -- ---- instructions
@@ -192,6 +193,12 @@ expression_has opcode kinds e = rw (ne_eqb opcode 0x0B (no_end opcode kinds e), 
 pub block_has : HasInstructions kind.Block
 block_has opcode kinds e =
     rw (ne_eqb opcode 0x0B (no_end opcode kinds e), ne_eqb opcode 0x18 (no_delegate opcode kinds e), e) refl
+
+-- where what comes next has instructions
+pub instructions_of : (k here : Kind) (bytes rest : List ℕ) → k ≡ here → HasInstructions here →
+    PassesInstructions bytes rest → PassesTokens (k ∷ []) (k ∷ []) bytes rest
+instructions_of k here bytes rest is has p =
+    subst (λ (u : Kind). PassesTokens (u ∷ []) (u ∷ []) bytes rest) (sym is) (p here has)
 
 pub instructions_shorter : (bytes rest : List ℕ) → PassesInstructions bytes rest → length rest ≤ length bytes
 instructions_shorter bytes rest p =

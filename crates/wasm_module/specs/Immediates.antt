@@ -104,12 +104,13 @@ abbrev pub times : ℕ → Kind → List Kind
 times zero k = []
 times (suc n) k = k ∷ times n k
 
--- What is behind a `u32` that is no index. `None` says that the number can't be there.
+-- What is behind a `u32` that is no index. `None` says that the number can't be there. An alignment
+-- is at most the natural one of the access. With 64 more, an index of a memory follows its exponent.
 abbrev pub behind_number : Kind → ℕ → Option (List Kind)
 behind_number kind.U32 n = Some []
-behind_number kind.MemArg n =
-    cond (nat_le n 63) (Some (kind.U64 ∷ []))
-    (cond (nat_le n 127) (Some (memory_index ∷ kind.U64 ∷ [])) None)
+behind_number (kind.MemArg most) n =
+    cond (nat_le n most) (Some (kind.U64 ∷ []))
+    (cond (nat_le 64 n && nat_le n (64 + most)) (Some (memory_index ∷ kind.U64 ∷ [])) None)
 behind_number kind.Labels n = Some (times n label_index)
 behind_number kind.ValTypes n = Some (times n kind.ValType)
 behind_number kind.CatchClauses n = Some (times n kind.CatchClause)

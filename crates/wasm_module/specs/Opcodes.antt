@@ -1,7 +1,8 @@
--- What each instruction has after its opcode.
+-- What each instruction has after its opcode. The number in `MemArg` is the exponent of the natural
+-- alignment: 2 to this power is how many bytes the access reads or writes.
 -- WebAssembly core specification, "Binary Format", instructions, and "Index of Instructions". Rows of
 -- proposals beyond it say so.
-use Rattle.std.specs.Prelude.{ℕ, List, [], ◌∷◌, Option, Some, None, nat_le, ◌&&◌, cond}
+use Rattle.std.specs.Prelude.{ℕ, ◌+◌, List, [], ◌∷◌, Option, Some, None, nat_le, ◌&&◌, cond}
 use Rattle.wasm_module.specs.declared.kind.Space.TheVariants as space
 use Rattle.wasm_module.specs.declared.kind.Kind.{Kind}
 use Rattle.wasm_module.specs.declared.kind.Kind.TheVariants as kind
@@ -84,7 +85,24 @@ opcodes =
     ∷ row 0x20 0x22 (local_index ∷ [])  -- local.get, local.set, local.tee
     ∷ row 0x23 0x24 (global_index ∷ [])  -- global.get, global.set
     ∷ row 0x25 0x26 (table_index ∷ [])  -- table.get, table.set
-    ∷ row 0x28 0x3E (kind.MemArg ∷ [])  -- loads and stores
+    ∷ row 0x28 0x28 (kind.MemArg 2 ∷ [])  -- i32.load
+    ∷ row 0x29 0x29 (kind.MemArg 3 ∷ [])  -- i64.load
+    ∷ row 0x2A 0x2A (kind.MemArg 2 ∷ [])  -- f32.load
+    ∷ row 0x2B 0x2B (kind.MemArg 3 ∷ [])  -- f64.load
+    ∷ row 0x2C 0x2D (kind.MemArg 0 ∷ [])  -- i32.load8_s, i32.load8_u
+    ∷ row 0x2E 0x2F (kind.MemArg 1 ∷ [])  -- i32.load16_s, i32.load16_u
+    ∷ row 0x30 0x31 (kind.MemArg 0 ∷ [])  -- i64.load8_s, i64.load8_u
+    ∷ row 0x32 0x33 (kind.MemArg 1 ∷ [])  -- i64.load16_s, i64.load16_u
+    ∷ row 0x34 0x35 (kind.MemArg 2 ∷ [])  -- i64.load32_s, i64.load32_u
+    ∷ row 0x36 0x36 (kind.MemArg 2 ∷ [])  -- i32.store
+    ∷ row 0x37 0x37 (kind.MemArg 3 ∷ [])  -- i64.store
+    ∷ row 0x38 0x38 (kind.MemArg 2 ∷ [])  -- f32.store
+    ∷ row 0x39 0x39 (kind.MemArg 3 ∷ [])  -- f64.store
+    ∷ row 0x3A 0x3A (kind.MemArg 0 ∷ [])  -- i32.store8
+    ∷ row 0x3B 0x3B (kind.MemArg 1 ∷ [])  -- i32.store16
+    ∷ row 0x3C 0x3C (kind.MemArg 0 ∷ [])  -- i64.store8
+    ∷ row 0x3D 0x3D (kind.MemArg 1 ∷ [])  -- i64.store16
+    ∷ row 0x3E 0x3E (kind.MemArg 2 ∷ [])  -- i64.store32
     ∷ row 0x3F 0x40 (memory_index ∷ [])  -- memory.size, memory.grow
     ∷ row 0x41 0x41 (kind.S32 ∷ [])  -- i32.const
     ∷ row 0x42 0x42 (kind.S64 ∷ [])  -- i64.const
@@ -145,14 +163,28 @@ bulk_opcodes =
 -- The numbers between the rows are no instructions.
 abbrev pub vector_opcodes : List Row
 vector_opcodes =
-    row 0 11 (kind.MemArg ∷ [])  -- loads and stores
+    row 0 0 (kind.MemArg 4 ∷ [])  -- v128.load
+    ∷ row 1 6 (kind.MemArg 3 ∷ [])  -- v128.load8x8_s to v128.load32x2_u
+    ∷ row 7 7 (kind.MemArg 0 ∷ [])  -- v128.load8_splat
+    ∷ row 8 8 (kind.MemArg 1 ∷ [])  -- v128.load16_splat
+    ∷ row 9 9 (kind.MemArg 2 ∷ [])  -- v128.load32_splat
+    ∷ row 10 10 (kind.MemArg 3 ∷ [])  -- v128.load64_splat
+    ∷ row 11 11 (kind.MemArg 4 ∷ [])  -- v128.store
     ∷ row 12 12 (kind.Bytes 16 ∷ [])  -- v128.const
     ∷ row 13 13 (kind.Bytes 16 ∷ [])  -- i8x16.shuffle: sixteen lanes
     ∷ row 14 20 []
     ∷ row 21 34 (lane ∷ [])  -- lanes
     ∷ row 35 83 []
-    ∷ row 84 91 (kind.MemArg ∷ lane ∷ [])  -- lanes of memories
-    ∷ row 92 93 (kind.MemArg ∷ [])  -- v128.load32_zero, v128.load64_zero
+    ∷ row 84 84 (kind.MemArg 0 ∷ lane ∷ [])  -- v128.load8_lane
+    ∷ row 85 85 (kind.MemArg 1 ∷ lane ∷ [])  -- v128.load16_lane
+    ∷ row 86 86 (kind.MemArg 2 ∷ lane ∷ [])  -- v128.load32_lane
+    ∷ row 87 87 (kind.MemArg 3 ∷ lane ∷ [])  -- v128.load64_lane
+    ∷ row 88 88 (kind.MemArg 0 ∷ lane ∷ [])  -- v128.store8_lane
+    ∷ row 89 89 (kind.MemArg 1 ∷ lane ∷ [])  -- v128.store16_lane
+    ∷ row 90 90 (kind.MemArg 2 ∷ lane ∷ [])  -- v128.store32_lane
+    ∷ row 91 91 (kind.MemArg 3 ∷ lane ∷ [])  -- v128.store64_lane
+    ∷ row 92 92 (kind.MemArg 2 ∷ [])  -- v128.load32_zero
+    ∷ row 93 93 (kind.MemArg 3 ∷ [])  -- v128.load64_zero
     ∷ row 94 153 []
     ∷ row 155 161 []
     ∷ row 163 164 []
@@ -171,9 +203,33 @@ vector_opcodes =
 
 -- ---- 0xFE: atomics (threads, proposal)
 
+-- The seven accesses of one operation, from this opcode on: of i32, of i64, of 8 and 16 bits as i32,
+-- and of 8, 16 and 32 bits as i64.
+abbrev pub seven_accesses : ℕ → List Row → List Row
+seven_accesses first rows =
+    row first first (kind.MemArg 2 ∷ [])
+    ∷ row (first + 1) (first + 1) (kind.MemArg 3 ∷ [])
+    ∷ row (first + 2) (first + 2) (kind.MemArg 0 ∷ [])
+    ∷ row (first + 3) (first + 3) (kind.MemArg 1 ∷ [])
+    ∷ row (first + 4) (first + 4) (kind.MemArg 0 ∷ [])
+    ∷ row (first + 5) (first + 5) (kind.MemArg 1 ∷ [])
+    ∷ row (first + 6) (first + 6) (kind.MemArg 2 ∷ [])
+    ∷ rows
+
+-- from `add` on, these change the memory and return what was there
+abbrev pub changing_accesses : List Row
+changing_accesses =
+    seven_accesses 30  -- add
+    (seven_accesses 37  -- sub
+    (seven_accesses 44  -- and
+    (seven_accesses 51  -- or
+    (seven_accesses 58  -- xor
+    (seven_accesses 65  -- xchg
+    (seven_accesses 72 []))))))  -- cmpxchg
+
 abbrev pub atomic_opcodes : List Row
 atomic_opcodes =
-    row 0 2 (kind.MemArg ∷ [])  -- notify and wait
+    row 0 1 (kind.MemArg 2 ∷ [])  -- memory.atomic.notify, memory.atomic.wait32
+    ∷ row 2 2 (kind.MemArg 3 ∷ [])  -- memory.atomic.wait64
     ∷ row 3 3 (kind.Zero ∷ [])  -- atomic.fence
-    ∷ row 16 78 (kind.MemArg ∷ [])  -- loads, stores and others
-    ∷ []
+    ∷ seven_accesses 16 (seven_accesses 23 changing_accesses)  -- loads, stores and others

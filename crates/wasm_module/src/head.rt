@@ -60,7 +60,7 @@ pub fn read_head(kind: Kind, input: &mut &[u8]) -> Option<Head>
         Kind::Block => read_byte(Kind::Block, input),
         Kind::Expression => read_byte(Kind::Expression, input),
         Kind::U32 => read_number(Kind::U32, input),
-        Kind::MemArg => read_number(Kind::MemArg, input),
+        Kind::MemArg(most) => read_number(Kind::MemArg(most), input),
         Kind::Labels => read_number(Kind::Labels, input),
         Kind::ValTypes => read_number(Kind::ValTypes, input),
         Kind::CatchClauses => read_number(Kind::CatchClauses, input),
@@ -346,7 +346,7 @@ fn behind_number(kind: Kind, number: u32) -> Option<Head>
 {
     match kind {
         Kind::U32 => Some(PLAIN),
-        Kind::MemArg => behind_alignment(number),
+        Kind::MemArg(most) => behind_alignment(most, number),
         Kind::Labels => Some(Head::Times(number, Kind::Index(Space::Label))),
         Kind::ValTypes => Some(Head::Times(number, Kind::ValType)),
         Kind::CatchClauses => Some(Head::Times(number, Kind::CatchClause)),
@@ -371,14 +371,17 @@ fn behind_number(kind: Kind, number: u32) -> Option<Head>
     }
 }
 
-fn behind_alignment(number: u32) -> Option<Head>
-    ensures { Chooses result (behind_number kind.MemArg number) }
+/// What is behind the exponent of an alignment, which is at most the natural one. Where 64 is added
+/// to it, the index of a memory follows.
+fn behind_alignment(most: u8, number: u32) -> Option<Head>
+    ensures { Chooses result (behind_number (kind.MemArg most) number) }
 {
-    if number <= 63 {
+    let most = u32::from(most);
+    if number <= most {
         return Some(Head::Row(Immediates::One(Kind::U64)));
     }
     choose(
-        number <= 127,
+        number >= 64 && number <= 64 + most,
         Immediates::Two(Kind::Index(Space::Memory), Kind::U64),
     )
 }

@@ -37,8 +37,8 @@ pub enum Kind {
     Zero,
     /// Which of the two types of a cast are nullable: 0 to 3.
     CastFlags,
-    /// Alignment, memory and offset of a memory access.
-    MemArg,
+    /// Alignment, memory and offset of a memory access, whose natural alignment is 2 to this power.
+    MemArg(u8),
     BlockType,
     ValType,
     HeapType,

@@ -15,8 +15,8 @@ pub enum OneByteForm {
     Bare,
     /// One integer.
     Integer,
-    /// An alignment without an index of a memory, and an offset.
-    MemArg,
+    /// The exponent of an alignment, at most this, no index of a memory, and an offset.
+    MemArg(u8),
     /// Something else, or the opcode is one of no instruction.
     Other,
 }
@@ -56,7 +56,7 @@ fn one_byte_length(form: OneByteForm) -> usize
     match form {
         Bare => 1,
         Integer => 2,
-        MemArg => 3,
+        MemArg(_) => 3,
         Other => 0,
     }
 }
@@ -68,7 +68,7 @@ fn first_limit(form: OneByteForm) -> u16
     match form {
         Bare => 0x100,
         Integer => 0x80,
-        MemArg => 0x40,
+        MemArg(most) => u16::from(most) + 1,
         Other => 0,
     }
 }
@@ -80,7 +80,7 @@ fn second_limit(form: OneByteForm) -> u16
     match form {
         Bare => 0x100,
         Integer => 0x100,
-        MemArg => 0x80,
+        MemArg(_) => 0x80,
         Other => 0,
     }
 }
@@ -110,13 +110,24 @@ fn forms() -> &'static [OneByteForm]
     &FORMS
 }
 
+// Accesses to memory of this many bits.
+
+const ACCESS_8: OneByteForm = MemArg(0);
+
+const ACCESS_16: OneByteForm = MemArg(1);
+
+const ACCESS_32: OneByteForm = MemArg(2);
+
+const ACCESS_64: OneByteForm = MemArg(3);
+
 static FORMS: [OneByteForm; 256] = [
     Bare, Bare, Other, Other, Other, Bare, Other, Integer, Integer, Integer, Bare, Other, Integer,
     Integer, Other, Bare, Integer, Other, Integer, Other, Other, Other, Other, Other, Other, Bare,
     Bare, Bare, Other, Other, Other, Other, Integer, Integer, Integer, Integer, Integer, Integer,
-    Integer, Other, MemArg, MemArg, MemArg, MemArg, MemArg, MemArg, MemArg, MemArg, MemArg, MemArg,
-    MemArg, MemArg, MemArg, MemArg, MemArg, MemArg, MemArg, MemArg, MemArg, MemArg, MemArg, MemArg,
-    MemArg, Integer, Integer, Integer, Integer, Other, Other, Bare, Bare, Bare, Bare, Bare, Bare,
+    Integer, Other, ACCESS_32, ACCESS_64, ACCESS_32, ACCESS_64, ACCESS_8, ACCESS_8, ACCESS_16,
+    ACCESS_16, ACCESS_8, ACCESS_8, ACCESS_16, ACCESS_16, ACCESS_32, ACCESS_32, ACCESS_32,
+    ACCESS_64, ACCESS_32, ACCESS_64, ACCESS_8, ACCESS_16, ACCESS_8, ACCESS_16, ACCESS_32, Integer,
+    Integer, Integer, Integer, Other, Other, Bare, Bare, Bare, Bare, Bare, Bare, Bare, Bare, Bare,
     Bare, Bare, Bare, Bare, Bare, Bare, Bare, Bare, Bare, Bare, Bare, Bare, Bare, Bare, Bare, Bare,
     Bare, Bare, Bare, Bare, Bare, Bare, Bare, Bare, Bare, Bare, Bare, Bare, Bare, Bare, Bare, Bare,
     Bare, Bare, Bare, Bare, Bare, Bare, Bare, Bare, Bare, Bare, Bare, Bare, Bare, Bare, Bare, Bare,
@@ -124,10 +135,9 @@ static FORMS: [OneByteForm; 256] = [
     Bare, Bare, Bare, Bare, Bare, Bare, Bare, Bare, Bare, Bare, Bare, Bare, Bare, Bare, Bare, Bare,
     Bare, Bare, Bare, Bare, Bare, Bare, Bare, Bare, Bare, Bare, Bare, Bare, Bare, Bare, Bare, Bare,
     Bare, Bare, Bare, Bare, Bare, Bare, Bare, Bare, Bare, Bare, Bare, Bare, Bare, Bare, Bare, Bare,
-    Bare, Bare, Bare, Bare, Bare, Bare, Bare, Bare, Bare, Bare, Other, Other, Other, Other, Other,
-    Other, Other, Other, Other, Other, Other, Other, Bare, Integer, Bare, Bare, Integer, Integer,
+    Bare, Bare, Bare, Bare, Bare, Bare, Bare, Other, Other, Other, Other, Other, Other, Other,
+    Other, Other, Other, Other, Other, Bare, Integer, Bare, Bare, Integer, Integer, Other, Other,
     Other, Other, Other, Other, Other, Other, Other, Other, Other, Other, Other, Other, Other,
     Other, Other, Other, Other, Other, Other, Other, Other, Other, Other, Other, Other, Other,
     Other, Other, Other, Other, Other, Other, Other, Other, Other, Other, Other, Other, Other,
-    Other, Other,
 ];

@@ -121,7 +121,15 @@ const GLOBAL: Immediates = Immediates::One(Kind::Index(Space::Global));
 
 const TABLE: Immediates = Immediates::One(Kind::Index(Space::Table));
 
-const MEM_ARG: Immediates = Immediates::One(Kind::MemArg);
+// Accesses to memory of this many bits.
+
+const ACCESS_8: Immediates = Immediates::One(Kind::MemArg(0));
+
+const ACCESS_16: Immediates = Immediates::One(Kind::MemArg(1));
+
+const ACCESS_32: Immediates = Immediates::One(Kind::MemArg(2));
+
+const ACCESS_64: Immediates = Immediates::One(Kind::MemArg(3));
 
 const MEMORY: Immediates = Immediates::One(Kind::Index(Space::Memory));
 
@@ -147,9 +155,10 @@ static OPCODES: [Immediates; 256] = [
     Zero, Zero, BLOCK, BLOCK, BLOCK, Zero, BLOCK, TAG, TAG, LABEL, Zero, ABSENT, LABEL, LABEL,
     LABELS, Zero, FUNCTION, TYPE_TABLE, FUNCTION, TYPE_TABLE, TYPE, TYPE, ABSENT, ABSENT, ABSENT,
     Zero, Zero, Zero, VAL_TYPES, ABSENT, ABSENT, TRY_TABLE, LOCAL, LOCAL, LOCAL, GLOBAL, GLOBAL,
-    TABLE, TABLE, ABSENT, MEM_ARG, MEM_ARG, MEM_ARG, MEM_ARG, MEM_ARG, MEM_ARG, MEM_ARG, MEM_ARG,
-    MEM_ARG, MEM_ARG, MEM_ARG, MEM_ARG, MEM_ARG, MEM_ARG, MEM_ARG, MEM_ARG, MEM_ARG, MEM_ARG,
-    MEM_ARG, MEM_ARG, MEM_ARG, MEM_ARG, MEM_ARG, MEMORY, MEMORY, S32, S64, BYTES_4, BYTES_8, Zero,
+    TABLE, TABLE, ABSENT, ACCESS_32, ACCESS_64, ACCESS_32, ACCESS_64, ACCESS_8, ACCESS_8,
+    ACCESS_16, ACCESS_16, ACCESS_8, ACCESS_8, ACCESS_16, ACCESS_16, ACCESS_32, ACCESS_32,
+    ACCESS_32, ACCESS_64, ACCESS_32, ACCESS_64, ACCESS_8, ACCESS_16, ACCESS_8, ACCESS_16,
+    ACCESS_32, MEMORY, MEMORY, S32, S64, BYTES_4, BYTES_8, Zero, Zero, Zero, Zero, Zero, Zero,
     Zero, Zero, Zero, Zero, Zero, Zero, Zero, Zero, Zero, Zero, Zero, Zero, Zero, Zero, Zero, Zero,
     Zero, Zero, Zero, Zero, Zero, Zero, Zero, Zero, Zero, Zero, Zero, Zero, Zero, Zero, Zero, Zero,
     Zero, Zero, Zero, Zero, Zero, Zero, Zero, Zero, Zero, Zero, Zero, Zero, Zero, Zero, Zero, Zero,
@@ -157,13 +166,12 @@ static OPCODES: [Immediates; 256] = [
     Zero, Zero, Zero, Zero, Zero, Zero, Zero, Zero, Zero, Zero, Zero, Zero, Zero, Zero, Zero, Zero,
     Zero, Zero, Zero, Zero, Zero, Zero, Zero, Zero, Zero, Zero, Zero, Zero, Zero, Zero, Zero, Zero,
     Zero, Zero, Zero, Zero, Zero, Zero, Zero, Zero, Zero, Zero, Zero, Zero, Zero, Zero, Zero, Zero,
-    Zero, Zero, Zero, Zero, Zero, Zero, Zero, Zero, Zero, Zero, Zero, Zero, Zero, Zero, Zero,
-    ABSENT, ABSENT, ABSENT, ABSENT, ABSENT, ABSENT, ABSENT, ABSENT, ABSENT, ABSENT, ABSENT,
-    HEAP_TYPE, Zero, FUNCTION, Zero, Zero, LABEL, LABEL, ABSENT, ABSENT, ABSENT, ABSENT, ABSENT,
+    Zero, Zero, Zero, Zero, Zero, Zero, Zero, Zero, Zero, Zero, ABSENT, ABSENT, ABSENT, ABSENT,
+    ABSENT, ABSENT, ABSENT, ABSENT, ABSENT, ABSENT, ABSENT, HEAP_TYPE, Zero, FUNCTION, Zero, Zero,
+    LABEL, LABEL, ABSENT, ABSENT, ABSENT, ABSENT, ABSENT, ABSENT, ABSENT, ABSENT, ABSENT, ABSENT,
     ABSENT, ABSENT, ABSENT, ABSENT, ABSENT, ABSENT, ABSENT, ABSENT, ABSENT, ABSENT, ABSENT, ABSENT,
     ABSENT, ABSENT, ABSENT, ABSENT, ABSENT, ABSENT, ABSENT, ABSENT, ABSENT, ABSENT, ABSENT, ABSENT,
-    ABSENT, ABSENT, ABSENT, ABSENT, ABSENT, ABSENT, ABSENT, AGGREGATE, BULK, VECTOR, ATOMIC,
-    ABSENT,
+    ABSENT, ABSENT, AGGREGATE, BULK, VECTOR, ATOMIC, ABSENT,
 ];
 
 static AGGREGATE_OPCODES: [Immediates; 31] = [

@@ -43,19 +43,20 @@ fn behind_instruction<'a>(bytes: &'a [u8]) -> Option<&'a [u8]>
     };
     match instruction(*opcode) {
         Immediates::Zero => Some(behind),
-        Immediates::One(Kind::MemArg) => behind_mem_arg(behind),
+        Immediates::One(Kind::MemArg(most)) => behind_mem_arg(most, behind),
         Immediates::One(kind) => behind_immediate(kind, behind),
         _ => None,
     }
 }
 
-/// What is behind an alignment and an offset, if no index of a memory is between them.
-fn behind_mem_arg<'a>(bytes: &'a [u8]) -> Option<&'a [u8]>
-    ensures { IfSome result (λ rest. PassesTokens (kind.MemArg ∷ []) [] bytes.now rest.now) }
+/// What is behind an alignment and an offset, if no index of a memory is between them. The exponent
+/// of the alignment is at most the natural one.
+fn behind_mem_arg<'a>(most: u8, bytes: &'a [u8]) -> Option<&'a [u8]>
+    ensures { IfSome result (λ rest. PassesTokens (kind.MemArg most ∷ []) [] bytes.now rest.now) }
 {
     let mut rest = bytes;
     let alignment = read_u32(&mut rest)?;
-    if alignment > 63 {
+    if alignment > u32::from(most) {
         return None;
     }
     skip_u64(&mut rest)?;

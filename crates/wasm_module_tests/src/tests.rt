@@ -1,4 +1,5 @@
 //! The sections of modules that are put together by hand from the specification's grammar.
+mod alignments;
 mod code;
 mod content_places;
 mod contents;

@@ -143,14 +143,17 @@ def type_index(it):
     it.type_index()
 
 
-def memory_argument(it):
-    begin = it.at
-    flags = it.u(32)
-    if flags >= 128:
-        raise Malformed(begin)
-    if flags & 64:
-        index(it)
-    it.u(64)
+def access(width):
+    """What is behind an access of this many bytes: an alignment of at most as many, perhaps a memory, and an offset."""
+    def take(it):
+        begin = it.at
+        flags = it.u(32)
+        if flags >= 128 or 2 ** (flags % 64) > width:
+            raise Malformed(begin)
+        if flags >= 64:
+            index(it)
+        it.u(64)
+    return take
 
 
 def catch_clause(it):
@@ -187,7 +190,10 @@ INSTRUCTIONS = by_opcode(
     ([0x1C], vec_of(value_type)),
     ([0x1F], block_type, vec_of(catch_clause)),
     (to(0x20, 0x26), index),
-    (to(0x28, 0x3E), memory_argument),
+    ([0x2C, 0x2D, 0x30, 0x31, 0x3A, 0x3C], access(1)),
+    ([0x2E, 0x2F, 0x32, 0x33, 0x3B, 0x3D], access(2)),
+    ([0x28, 0x2A, 0x34, 0x35, 0x36, 0x38, 0x3E], access(4)),
+    ([0x29, 0x2B, 0x37, 0x39], access(8)),
     (to(0x3F, 0x40), index),
     ([0x41], lambda it: it.s(32)),
     ([0x42], lambda it: it.s(64)),
@@ -199,6 +205,9 @@ INSTRUCTIONS = by_opcode(
 # Numbers in the range of vector instructions that are none.
 NO_VECTOR_INSTRUCTIONS = {
     154, 162, 165, 166, 175, 176, 178, 179, 180, 187, 194, 197, 198, 207, 208, 210, 211, 212, 226, 238}
+# The atomic instructions of i32, those of 1 byte, and so on: of each kind one for each operation.
+ATOMIC_4, ATOMIC_8, ATOMIC_1, ATOMIC_2, ATOMIC_1_OF_8, ATOMIC_2_OF_8, ATOMIC_4_OF_8 = (
+    range(first, 79, 7) for first in range(16, 23))
 # The same by the number behind one of these bytes.
 PREFIXED = {
     0xFB: by_opcode(
@@ -215,14 +224,24 @@ PREFIXED = {
         ([8, 10, 12, 14], index, index),
     ),
     0xFD: by_opcode(
-        ([*to(0, 11), 92, 93], memory_argument),
-        (to(84, 91), memory_argument, any_bytes(1)),
+        ([7], access(1)),
+        ([8], access(2)),
+        ([9, 92], access(4)),
+        ([*to(1, 6), 10, 93], access(8)),
+        ([0, 11], access(16)),
+        ([84, 88], access(1), any_bytes(1)),
+        ([85, 89], access(2), any_bytes(1)),
+        ([86, 90], access(4), any_bytes(1)),
+        ([87, 91], access(8), any_bytes(1)),
         ([12, 13], any_bytes(16)),
         (to(21, 34), any_bytes(1)),
         ([*to(14, 20), *to(35, 83), *(set(to(94, 275)) - NO_VECTOR_INSTRUCTIONS)],),
     ),
     0xFE: by_opcode(
-        ([0, 1, 2, *to(16, 78)], memory_argument),
+        ([*ATOMIC_1, *ATOMIC_1_OF_8], access(1)),
+        ([*ATOMIC_2, *ATOMIC_2_OF_8], access(2)),
+        ([0, 1, *ATOMIC_4, *ATOMIC_4_OF_8], access(4)),
+        ([2, *ATOMIC_8], access(8)),
         ([3], one_of(0)),
     ),
 }

@@ -1,5 +1,5 @@
 -- Forms of instructions that name no type and open no block, where each integer has one byte.
-use Rattle.std.specs.Prelude.{◌≡◌, ℕ, zero, suc, List, [], ◌∷◌, Option, Some, None}
+use Rattle.std.specs.Prelude.{◌≡◌, ℕ, zero, suc, List, [], ◌∷◌, Option, Some, None, nat_lt, cond}
 use Rattle.wasm_module.specs.declared.kind.Space.TheVariants as space
 use Rattle.wasm_module.specs.declared.kind.Kind.{Kind}
 use Rattle.wasm_module.specs.declared.kind.Kind.TheVariants as kind
@@ -13,7 +13,7 @@ form_of_one (kind.Index space.Type) = form.Other
 form_of_one (kind.Index _) = form.Integer
 form_of_one kind.S32 = form.Integer
 form_of_one kind.S64 = form.Integer
-form_of_one kind.MemArg = form.MemArg
+form_of_one (kind.MemArg most) = cond (nat_lt most 0x80) (form.MemArg most) form.Other
 form_of_one _ = form.Other
 
 -- the form with immediates of these kinds, or where there is no such instruction
@@ -27,21 +27,21 @@ one_byte_form (Some (k ∷ l ∷ kinds)) = form.Other
 abbrev pub one_byte_length : OneByteForm → ℕ
 one_byte_length form.Bare = 1
 one_byte_length form.Integer = 2
-one_byte_length form.MemArg = 3
+one_byte_length (form.MemArg most) = 3
 one_byte_length form.Other = 0
 
 -- what the first byte behind the opcode is below
 abbrev pub first_limit : OneByteForm → ℕ
 first_limit form.Bare = 0x100
 first_limit form.Integer = 0x80
-first_limit form.MemArg = 0x40
+first_limit (form.MemArg most) = suc most
 first_limit form.Other = 0
 
 -- what the second byte behind the opcode is below
 abbrev pub second_limit : OneByteForm → ℕ
 second_limit form.Bare = 0x100
 second_limit form.Integer = 0x100
-second_limit form.MemArg = 0x80
+second_limit (form.MemArg most) = 0x80
 second_limit form.Other = 0
 
 -- what the table has for this opcode

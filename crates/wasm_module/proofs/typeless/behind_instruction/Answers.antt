@@ -13,7 +13,7 @@ returns-in-Zero-clause-passed c =
 pub returns-in-One-MemArg-clause-passed : goal.returns-in-One-MemArg-clause-passed
 returns-in-One-MemArg-clause-passed c =
     some_weaker c.behind_mem_arg.result _ _
-    (λ rest p. passed_at_prefix c.args.bytes.now c.instruction.result kind.MemArg rest.now
+    (λ rest p. passed_at_prefix c.args.bytes.now c.instruction.result (kind.MemArg c.in-One-MemArg.most) rest.now
     c.in-len1-up.len_at_least (c.in-One-MemArg.is ∙ ap (λ k. immediates.One k) c.in-One-MemArg.field-0-is)
     c.instruction.ensures p)
     c.behind_mem_arg.ensures
@@ -21,7 +21,7 @@ returns-in-One-MemArg-clause-passed c =
 pub returns-in-One-MemArg-clause-shorter : goal.returns-in-One-MemArg-clause-shorter
 returns-in-One-MemArg-clause-shorter c =
     some_weaker c.behind_mem_arg.result _ _
-    (λ rest p. shorter_behind_first kind.MemArg c.args.bytes.now rest.now c.in-len1-up.len_at_least p)
+    (λ rest p. shorter_behind_first (kind.MemArg c.in-One-MemArg.most) c.args.bytes.now rest.now c.in-len1-up.len_at_least p)
     c.behind_mem_arg.ensures
 
 pub returns-in-One : goal.returns-in-One
