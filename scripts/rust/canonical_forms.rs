@@ -21,12 +21,20 @@ fn form(keys: HashKeys, line: &str) -> Result<String, Box<dyn Error>> {
     let groups = read_section(&mut text.replace(';', "\n").as_bytes())?;
     let roots: Option<Vec<u32>> = match roots {
         "all" => None,
-        _ => Some(roots.split_whitespace().map(str::parse).collect::<Result<_, _>>()?),
+        _ => Some(
+            roots
+                .split_whitespace()
+                .map(str::parse)
+                .collect::<Result<_, _>>()?,
+        ),
     };
     let (canonical, map) = canonicalise(keys, groups, roots.as_deref())?;
     let mut written = Vec::new();
     write_section(&mut written, &canonical)?;
     let text = String::from_utf8(written)?.trim_end().replace('\n', ";");
-    let map: Vec<String> = map.iter().map(|it| it.map_or("-".into(), |it| it.to_string())).collect();
+    let map: Vec<String> = map
+        .iter()
+        .map(|it| it.map_or("-".into(), |it| it.to_string()))
+        .collect();
     Ok(format!("{text}|{}", map.join(" ")))
 }

@@ -1,6 +1,7 @@
 -- Which codes proposals have for instructions, types and imports, by the section that they are in.
 -- Release 3.0 of the WebAssembly core specification has none of them.
--- Proposals to WebAssembly: stack switching, custom descriptors, shared-everything threads.
+-- Proposals to WebAssembly: stack switching, custom descriptors, shared-everything threads, compact
+-- import section, memory control, half precision, reference-typed strings.
 use Rattle.std.specs.Prelude.{◌≡◌, ℕ, zero, suc, ◌-◌, ◌≤◌, ◌⊎◌, List, length, take, drop, Option, Some, None, slice_get}
 use Rattle.std.specs.List.{All}
 use Rattle.error_context.specs.declared.proposal.Code.{Code}
@@ -18,10 +19,15 @@ use Rattle.error_context.specs.declared.proposal.ProposedPart.{ProposedPart}
 abbrev pub HasInstructions : ℕ → Type 0
 HasInstructions id = (id ≡ 4) ⊎ (id ≡ 6) ⊎ (id ≡ 9) ⊎ (id ≡ 10)
 
--- Types, and all sections with instructions. The import section is not among them: 0x65, 0x68 and
--- 0x75 are letters of names.
+-- Types, and all sections with instructions. The import section is not among them: 0x65, 0x67, 0x68
+-- and 0x75 are letters of names.
 abbrev pub HasTypes : ℕ → Type 0
 HasTypes id = (id ≡ 1) ⊎ HasInstructions id
+
+-- Imports and globals, which say whether a global can be changed, and in a proposal whether it is
+-- shared.
+abbrev pub HasGlobalTypes : ℕ → Type 0
+HasGlobalTypes id = (id ≡ 2) ⊎ (id ≡ 6)
 
 -- ---- the table
 
@@ -34,7 +40,7 @@ abbrev pub IsByte : ℕ → Code → Type 0
 IsByte wanted (code.Byte byte) = byte ≡ wanted
 IsByte wanted (code.Prefixed prefix number) = ⊥
 
--- one of these numbers behind a prefix
+-- a number behind a prefix, whose first byte is one of these
 abbrev pub IsNumberIn : ℕ → ℕ → ℕ → Code → Type 0
 IsNumberIn behind first last (code.Byte byte) = ⊥
 IsNumberIn behind first last (code.Prefixed prefix number) =
@@ -48,13 +54,29 @@ UsesProposal part.Instruction proposal.CustomDescriptors id code =
     HasInstructions id × IsNumberIn 0xFB 0x20 0x26 code
 UsesProposal part.Instruction proposal.SharedEverythingThreads id code =
     HasInstructions id × (IsNumberIn 0xFE 0x04 0x04 code ⊎ IsNumberIn 0xFE 0x4F 0x72 code)
+UsesProposal part.Instruction proposal.CompactImports id code = ⊥
+UsesProposal part.Instruction proposal.MemoryControl id code =
+    HasInstructions id × IsNumberIn 0xFC 0x12 0x12 code
+UsesProposal part.Instruction proposal.HalfPrecision id code =
+    HasInstructions id × IsNumberIn 0xFC 0x30 0x31 code
+UsesProposal part.Instruction proposal.ReferenceTypedStrings id code =
+    HasInstructions id × IsNumberIn 0xFB 0x80 0xB7 code
 UsesProposal part.TypeForm proposal.StackSwitching id code =
     (id ≡ 1) × IsByte 0x5D code ⊎ HasTypes id × (IsByte 0x68 code ⊎ IsByte 0x75 code)
 UsesProposal part.TypeForm proposal.CustomDescriptors id code = (id ≡ 1) × IsByteIn 0x4C 0x4D code
-UsesProposal part.TypeForm proposal.SharedEverythingThreads id code = HasTypes id × IsByte 0x65 code
+UsesProposal part.TypeForm proposal.SharedEverythingThreads id code =
+    HasTypes id × IsByte 0x65 code ⊎ HasGlobalTypes id × IsByteIn 0x02 0x03 code
+UsesProposal part.TypeForm proposal.CompactImports id code = ⊥
+UsesProposal part.TypeForm proposal.MemoryControl id code = ⊥
+UsesProposal part.TypeForm proposal.HalfPrecision id code = ⊥
+UsesProposal part.TypeForm proposal.ReferenceTypedStrings id code = HasTypes id × IsByte 0x67 code
 UsesProposal part.Import proposal.StackSwitching id code = ⊥
 UsesProposal part.Import proposal.CustomDescriptors id code = (id ≡ 2) × IsByte 0x20 code
 UsesProposal part.Import proposal.SharedEverythingThreads id code = ⊥
+UsesProposal part.Import proposal.CompactImports id code = (id ≡ 2) × IsByteIn 0x7E 0x7F code
+UsesProposal part.Import proposal.MemoryControl id code = ⊥
+UsesProposal part.Import proposal.HalfPrecision id code = ⊥
+UsesProposal part.Import proposal.ReferenceTypedStrings id code = ⊥
 
 -- no part begins with it
 abbrev pub IsUnused : ℕ → Code → Type 0

@@ -1,9 +1,8 @@
 //! Instructions, types and imports of proposals to WebAssembly, by their codes.
 //!
-//! The codes are those of the proposals on stack switching, on custom descriptors and on
-//! shared-everything threads.
+//! The codes are those of the proposals that [`Proposal`] lists.
 ghost use Rattle.std.specs.Prelude.{◌≡◌, ◌↔◌, false, slice_get, IsTrue, IfNone, IfSome};
-ghost use Rattle.error_context.specs.Proposals.{HasInstructions, HasTypes, UsesProposal, IsUnused, get_before, IsPrefix, HasContinuationBit, MayBeInsideInteger, IsCodeAt, IsProposedAt, HasNoneAt};
+ghost use Rattle.error_context.specs.Proposals.{HasInstructions, HasTypes, HasGlobalTypes, UsesProposal, IsUnused, get_before, IsPrefix, HasContinuationBit, MayBeInsideInteger, IsCodeAt, IsProposedAt, HasNoneAt};
 ghost use Rattle.error_context.specs.declared.proposal.Code.{Code};
 ghost use Rattle.error_context.specs.declared.proposal.Code.TheVariants as code;
 
@@ -19,6 +18,14 @@ pub enum Proposal {
     CustomDescriptors,
     /// Shared-everything threads.
     SharedEverythingThreads,
+    /// Compact imports: several of one module.
+    CompactImports,
+    /// Memory control: memory that is given back.
+    MemoryControl,
+    /// Half precision: floats of 16 bits.
+    HalfPrecision,
+    /// Reference-typed strings.
+    ReferenceTypedStrings,
 }
 
 /// A part of a module for which proposals have new codes.
@@ -37,11 +44,11 @@ pub enum Part {
 pub enum Code {
     /// A byte.
     Byte(u8),
-    /// A number in one byte behind a prefix.
+    /// A number behind a prefix.
     Prefixed {
         /// The prefix.
         prefix: u8,
-        /// The number.
+        /// The first byte of the number, which mostly has no other.
         number: u8,
     },
 }
@@ -63,6 +70,9 @@ const TYPE: u8 = 1;
 /// The id of the import section.
 const IMPORT: u8 = 2;
 
+/// The id of the global section.
+const GLOBAL: u8 = 6;
+
 /// How many bytes of an integer of 32 bits can have a continuation bit.
 const MOST_CONTINUED: usize = 4;
 
@@ -70,8 +80,8 @@ const MOST_CONTINUED: usize = 4;
 /// this id. The code is the byte at the place, or that byte and the prefix before it.
 ///
 /// Whether such a part may begin there is not looked at. But some codes are left out, because the
-/// byte can well be something else: all in data, types in imports, and each one behind four bytes
-/// that have a continuation bit.
+/// byte can well be something else: all in data, codes of types that are letters in imports, and each
+/// one behind four bytes that have a continuation bit.
 pub fn proposal_at(bytes: &[u8], id: u8, place: usize) -> Option<ProposedPart>
     // A proposal has such a code,
     ensures found { IfSome result (λ part. IsProposedAt part id bytes.now place) }
@@ -178,7 +188,13 @@ fn part_of_byte(id: u8, byte: u8) -> Option<(Part, Proposal)>
         0x68 | 0x75 if has_types(id) => Some((Part::TypeForm, Proposal::StackSwitching)),
         0x4C | 0x4D if id == TYPE => Some((Part::TypeForm, Proposal::CustomDescriptors)),
         0x65 if has_types(id) => Some((Part::TypeForm, Proposal::SharedEverythingThreads)),
+        0x67 if has_types(id) => Some((Part::TypeForm, Proposal::ReferenceTypedStrings)),
+        0x02 | 0x03 if has_global_types(id) => Some((
+            Part::TypeForm,
+            Proposal::SharedEverythingThreads,
+        )),
         0x20 if id == IMPORT => Some((Part::Import, Proposal::CustomDescriptors)),
+        0x7E | 0x7F if id == IMPORT => Some((Part::Import, Proposal::CompactImports)),
         _ => None,
     }
 }
@@ -192,6 +208,9 @@ fn part_of_number(id: u8, prefix: u8, number: u8) -> Option<(Part, Proposal)>
     }
     match (prefix, number) {
         (0xFB, 0x20..=0x26) => Some((Part::Instruction, Proposal::CustomDescriptors)),
+        (0xFB, 0x80..=0xB7) => Some((Part::Instruction, Proposal::ReferenceTypedStrings)),
+        (0xFC, 0x12) => Some((Part::Instruction, Proposal::MemoryControl)),
+        (0xFC, 0x30 | 0x31) => Some((Part::Instruction, Proposal::HalfPrecision)),
         (0xFE, 0x04 | 0x4F..=0x72) => Some((Part::Instruction, Proposal::SharedEverythingThreads)),
         _ => None,
     }
@@ -212,6 +231,14 @@ fn has_types(id: u8) -> bool
     ensures no { result ≡ false → ¬ HasTypes id }
 {
     id == TYPE || has_instructions(id)
+}
+
+/// Whether the section of this id says which globals there are, with their types.
+fn has_global_types(id: u8) -> bool
+    ensures yes { IsTrue result → HasGlobalTypes id }
+    ensures no { result ≡ false → ¬ HasGlobalTypes id }
+{
+    id == IMPORT || id == GLOBAL
 }
 
 impl fmt::Display for ProposedPart {
@@ -251,6 +278,10 @@ impl fmt::Display for Proposal {
             Proposal::StackSwitching => write!(f, "stack switching"),
             Proposal::CustomDescriptors => write!(f, "custom descriptors"),
             Proposal::SharedEverythingThreads => write!(f, "shared-everything threads"),
+            Proposal::CompactImports => write!(f, "compact import section"),
+            Proposal::MemoryControl => write!(f, "memory control"),
+            Proposal::HalfPrecision => write!(f, "half precision"),
+            Proposal::ReferenceTypedStrings => write!(f, "reference-typed strings"),
         }
     }
 }
