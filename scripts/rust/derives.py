@@ -12,7 +12,7 @@ ATTRIBUTE = re.compile(r'#\[(\w+)(?:\((.*)\))?\]')
 PART = re.compile(r'\s*(?P<attributes>(?:#\[[^\n]*\]\s*)*)(?:pub(?:\([^)]*\))?\s+)?(?P<rest>.*)', re.S)
 DERIVE = re.compile(r'#\[derive\((.*)\)\]\n')
 WHERE = re.compile(r' *#\[derive_where\((.*)\)\]\n')
-COPY = 'TryClone'
+# A field in a message, or in what is behind it: `{0}` or `.0`.
 FIELD_OF_MESSAGE = re.compile(r'(\{|(?<![\w)])\.)(\w+)')
 
 
@@ -69,13 +69,14 @@ class Item:
         of, to = (f'<{", ".join(it)}>' if it else '' for it in (given, names))
         return f'\nimpl{of} {trait} for {self.name}{to} {{{body}}}\n'
 
-    def made(self, variant, named, values=None):
-        """The pattern that binds the named fields of a variant, or what makes the variant of these values."""
+    def made(self, variant, values):
+        """A variant of these values of its fields. As a pattern it may leave out some."""
         path, names = f'Self::{variant.name}' if variant.name else 'Self', [it.name for it in variant.fields()]
-        if not names or names[0].isdigit():
-            fields = [(values or {}).get(it, variable(it) if it in named else '_') for it in names]
-            return f'{path}({", ".join(fields)})' if names else path
-        fields = [f'{it}: {values[it]}' if values else it for it in names if it in named]
+        if not names:
+            return path
+        if names[0].isdigit():
+            return f'{path}({", ".join(values.get(it, "_") for it in names)})'
+        fields = [it if values[it] == it else f'{it}: {values[it]}' for it in names if it in values]
         return f'{path} {{ {", ".join(fields + [".."] * (len(fields) < len(names)))} }}'
 
     def counted(self):
@@ -97,16 +98,18 @@ def variable(field):
     return f'field_{field}' if field.isdigit() else field
 
 
-def try_clone(item, bound):
+def try_clone(item, is_bound):
+    """A copy that may be refused memory. It may be that each type has to have one, too."""
     def arm(variant):
-        names = [it.name for it in variant.fields()]
-        copies = {it: f'{variable(it)}.try_clone()?' for it in names}
-        return f'{item.made(variant, names)} => Ok({item.made(variant, names, copies)})'
+        variables = {it.name: variable(it.name) for it in variant.fields()}
+        copies = {name: f'{it}.try_clone()?' for name, it in variables.items()}
+        return f'{item.made(variant, variables)} => Ok({item.made(variant, copies)})'
 
     is_copy = 'Copy' in item.derived + item.where
     body = '\n        Ok(*self)' if is_copy else item.match(arm)
     signature = 'try_clone(&self) -> Result<Self, rattle_std::alloc::AllocError>'
-    return item.impl('rattle_std::TryClone', method(signature, body), bound and ('Copy' if is_copy else COPY))
+    bound = ('Copy' if is_copy else 'TryClone') if is_bound else ''
+    return item.impl('rattle_std::TryClone', method(signature, body), bound)
 
 
 def error(item):
@@ -114,9 +117,9 @@ def error(item):
     def arm(variant):
         message = variant.attributes['error']
         message = '"{0}"' if message == 'transparent' else message
-        named = [name for _, name in FIELD_OF_MESSAGE.findall(message)]
-        bound = FIELD_OF_MESSAGE.sub(lambda it: it[1].strip('.') + variable(it[2]), message)
-        return f'{item.made(variant, named)} => write!(f, {bound})'
+        variables = {name: variable(name) for _, name in FIELD_OF_MESSAGE.findall(message)}
+        message = FIELD_OF_MESSAGE.sub(lambda it: it[1].strip('.') + variable(it[2]), message)
+        return f'{item.made(variant, variables)} => write!(f, {message})'
 
     signature = "fmt(&self, f: &mut std::fmt::Formatter<'_>) -> std::fmt::Result"
     return item.impl('std::fmt::Display', method(signature, item.match(arm))) + item.impl('std::error::Error', '')
@@ -149,8 +152,8 @@ def without_bounds(item, name):
 
 def written(item):
     """The traits of an item that Rust does not derive."""
-    parts = [try_clone(item, COPY)] if 'Clone' in item.derived else []
-    parts += [try_clone(item, '')] if 'Clone' in item.where else []
+    parts = [try_clone(item, is_bound=True)] if 'Clone' in item.derived else []
+    parts += [try_clone(item, is_bound=False)] if 'Clone' in item.where else []
     parts += [error(item)] if 'Error' in item.derived else []
     return ''.join(parts + [without_bounds(item, it) for it in item.where])
 

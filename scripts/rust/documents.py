@@ -7,6 +7,10 @@ import fallible
 import wording
 
 LAWS = re.compile(r'(^|/)(record_)?laws(/|\.rt$)')
+# What walrus calls something, where that is another name.
+ALIASES = {'DropInstr': 'Drop', 'LocalFunctions': 'ModuleFunctions', 'data_id': 'data', 'delete_unused_types': 'gc'}
+PUBLIC = re.compile(r'^( *)pub (?:(?:fn|struct|enum|trait) )?(?!try_)(\w+)', re.M)
+FOLDED = ['<details><summary>Contract</summary>']
 HEAD = '| Module | Required | Functions | In Rust |\n|---|---|---|---|\n'
 
 
@@ -27,7 +31,7 @@ def docs_of(function, is_law, call, then=''):
     note = fallible.note(function, call) if call else []
     parts = [
         ['# Panics', '', f'Panics if {", or if ".join(panics)}. {then}'.rstrip()] if panics else [],
-        ['# Contract', '', *note, '```text', *function.lines, '```'] if function.lines else [],
+        [*FOLDED, '', *note, '```text', *function.lines, '```', '', '</details>'] if function.lines else [],
     ]
     return [line for part in parts if part for line in ['', *part]][1:]
 
@@ -40,6 +44,15 @@ def fill(text, number, function, is_law, call):
     lines = ['', *lines] if lines and before else lines
     docs = before + ''.join(f'{found["indent"]}/// {it}'.rstrip() + '\n' for it in lines)
     return text[:found.start()] + docs + text[found.end():]
+
+
+def with_aliases(text):
+    """The text, where names that users may search by another spelling have that, too."""
+    def aliased(found):
+        alias = ALIASES.get(found[2], re.sub('(ormal|anonical)is', r'\1iz', found[2]))
+        return found[0] if alias == found[2] else f'{found[1]}#[doc(alias = "{alias}")]\n{found[0]}'
+
+    return PUBLIC.sub(aliased, text)
 
 
 def table(required):

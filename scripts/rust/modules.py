@@ -1,6 +1,7 @@
 """The modules of the Rust crate: which libraries each of them has, and where names are there."""
 import collections
 import re
+import textwrap
 
 CRATE = 'ruffdresser'
 # By module: its libraries, and those of them whose docs its page has.
@@ -51,11 +52,17 @@ class Names:
         homes = [it for it in [library, *self.own] if any(name in self.own[it] for name in known)]
         return HOME[homes[0]], name
 
+    def places(self, root):
+        """The module in which a user finds each name, given the text of the crate's root."""
+        found = {name: f'{CRATE}::{HOME[library]}' for library, names in self.own.items() for name in names}
+        return {**found, **{name: CRATE for name in exports(root)}}
+
     def text(self, module):
         """The items of a module: its libraries, and what it exports of them."""
         libraries, _ = MODULES[module]
         lines = [f'pub(crate) mod {it};' for it in libraries] + ['']
-        lines += [f'pub use {it}::{{{", ".join(self.own[it])}}};' for it in libraries if self.own[it]]
+        lines += [textwrap.fill(f'pub use {it}::{{{", ".join(self.own[it])}}};', 100, subsequent_indent='    ')
+                  for it in libraries if self.own[it]]
         lines += [f'#[doc(hidden)]\npub use {library}::{it} as {library}_{it};'
                   for library in libraries for it in self.laws[library]]
         return '\n'.join(lines) + '\n' + ELSEWHERE.get(module, '')
@@ -78,5 +85,7 @@ class Names:
 def inside(library, text):
     """A text of a library, as one of the crate."""
     text = re.sub(r'(?<![\w:$])crate::', f'crate::{HOME[library]}::{library}::', text)
+    text = text.replace('](crate)', f'](crate::{HOME[library]})')
     text = re.sub(f'{LIBRARY}::', lambda it: f'crate::{HOME[it[1]]}::{it[1]}::', text)
+    text = re.sub(f'`{LIBRARY}`', lambda it: f'`{HOME[it[1]]}`', text)
     return STD.sub('crate::rattle_std::', text)

@@ -20,6 +20,8 @@ AS_IT_IS = f'{HERE}/crate'
 ROOTS = ['src/lib.rt', 'src/main.rt']
 # What a type has in Rust alone, by the file that it is in.
 ADDITIONS = {('walrus_ty', 'src/listed.rt'): 'listed.rs'}
+# The file whose examples users don't see, though its functions are public.
+PRIVATE = 'src/sort_key.rt'
 LICENSES = ['LICENSE.md', 'LICENSE-MIT', 'LICENSE-APACHE']
 
 
@@ -84,7 +86,7 @@ def calls_with_fallible_forms():
 def rust_text(crate, path, calls, renaming):
     """A file of a crate in Rust, given the calls of the file that have fallible forms."""
     text, is_law = rewritten(crate, path).text, documents.is_law(path)
-    text = wording.rewrite(examples.rewrite(renaming.uses(renaming.calls(text))))
+    text = wording.rewrite(with_examples(crate, path, renaming.uses(renaming.calls(text))))
     for number, function in enumerate(rewritten(crate, path).functions):
         is_public = is_exported(crate, path, function)
         if number in calls:
@@ -99,7 +101,19 @@ def rust_text(crate, path, calls, renaming):
     text = rewriting.with_prelude(text, path in ROOTS and not is_library(crate))
     text = re.sub(r'\n{3,}', '\n\n', guards.insert(path, text))
     text += '\n' + read(f'{HERE}/{ADDITIONS[crate, path]}') if (crate, path) in ADDITIONS else ''
-    return modules.inside(crate, text) if is_library(crate) else names().outside(text)
+    return modules.inside(crate, documents.with_aliases(text)) if is_library(crate) else names().outside(text)
+
+
+@functools.cache
+def places():
+    return names().places(read(f'{AS_IT_IS}/src/lib.rs'))
+
+
+def with_examples(crate, path, text):
+    """A text with its examples in Rust. Those that users see are run."""
+    is_page = any(crate in pages for _, pages in modules.MODULES.values())
+    is_seen = is_library(crate) and (is_page if path in ROOTS else path != PRIVATE and not documents.is_law(path))
+    return examples.Examples(path, places(), is_seen).rewrite(text)
 
 
 def without_mark(text, number):

@@ -7,13 +7,8 @@ import re
 # A space, or a break between two lines of a comment.
 GAP = r'(?:\s+//[/!] ?|\s+)'
 ERRORS = re.compile(r'(?P<gap>^ *///\n)?^ */// # Errors\n *///\n *///(?P<text>.*\n(?: */// .*\n)*)', re.M)
-REFUSED = re.compile(r'(?:`AllocError` comes where memory was refused|Where memory is refused)\. ?')
-
-
-CONTRACTS = '''//!
-//! The section 'Contract' of a call has clauses that are proved of the text from which this library
-//! is made. Their definitions are in the folders `specs` of that text.
-'''
+REFUSED = re.compile(
+    r'(?:\[?`AllocError`\]? comes where memory was refused|(?:An error comes if|Where) memory is refused)\. ?')
 
 
 def spaced(words):
@@ -39,8 +34,15 @@ RULES = [(re.compile(pattern, re.M), text) for pattern, text in [
     # It is a call of a crate above, which the docs of walrus_unused can't link to.
     (r'\[(`used_types`)\]\(crate::used_types\)', r'\1'),
     (paragraph(r'- \[`laws`\]'), ''),
-    (paragraph('The module `laws` of each library'), ''),
-    (paragraph('Contracts find the definitions'), CONTRACTS),
+    (paragraph('Contracts find the definitions'), ''),
+    # What a call returns that returns no `Result` here.
+    (spaced('(?:, and always returns `Ok`|, and never returns an error|, with the same errors)'), ''),
+    # What pages say of other libraries.
+    (spaced('all public names of `walrus_functions`, `walrus_nesting`, `walrus_traversals` and `walrus_traversals_mut`'),
+     'functions, their builders, and walks'),
+    (paragraph(r'\[`delete_unused_types`\], \[`new_indices`\] and \[`normalise_used`\] are those of'), ''),
+    (spaced('calls of the crates below'), 'these calls'),
+    (spaced(r'\[this crate\]'), '[this module]'),
 ]]
 
 

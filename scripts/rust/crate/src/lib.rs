@@ -1,5 +1,5 @@
-//! The lowest layer of [walrus](https://docs.rs/walrus), and modules above it: types, instructions and function
-//! bodies of WebAssembly modules, and type sections in normal form.
+//! The lowest layer of [walrus](https://docs.rs/walrus), and modules above it: types, instructions
+//! and function bodies of WebAssembly modules, and type sections in normal form.
 //!
 //! - [`arena`]: arenas whose ids are never reused, and sets of values over them.
 //! - [`types`]: the table of a module's types, the records of a type section, and its normal form.
@@ -9,18 +9,18 @@
 //! - [`text`](mod@text): type sections as text.
 //! - [`wasm`]: type sections and whole modules in the binary format.
 //!
-//! Names are where walrus has them, at the root or in [`ir`], and mean the same. So most programs need few changes
-//! where they only build and walk bodies or keep types.
+//! Names are where walrus has them: at the root or in [`ir`].
 //!
-//! The crate is translated from sources in Rattle, whose contracts a checker has proved. The docs of a call have its
-//! contract behind the line 'Contract'. It is in Rattle's language, and its definitions are in the folders `specs` of the
-//! sources. A call checks what it requires, and panics if that does not hold.
+//! The crate is translated from sources in Rattle, whose contracts a checker has proved. A call
+//! checks what it requires, and panics if that does not hold. Behind the line 'Contract' of its
+//! docs are its clauses, in Rattle's words: the definitions are in the folders `specs` of the sources.
 //!
 //! # The type section that is needed
 //!
 //! ```
+//! use ruffdresser::passes::delete_unused_types;
+//! use ruffdresser::wasm::encode_types;
 //! use ruffdresser::{ModuleTypes, ValType};
-//! use ruffdresser::{passes::delete_unused_types, wasm::encode_types};
 //!
 //! let mut types = ModuleTypes::new();
 //! types.add(&[ValType::F64], &[]);
@@ -47,9 +47,11 @@ pub mod wasm;
 
 pub use body::{FunctionBuilder, InstrSeqBuilder, LocalFunction};
 pub use ir::{ConstExpr, ConstOp, InstrLocId, Local, LocalId, ModuleLocals};
-pub use rattle_std::{TryClone, alloc::AllocError};
+pub use rattle_std::TryClone;
+pub use rattle_std::alloc::AllocError;
 pub use types::{
-    AbstractHeapType, ArrayType, CompositeType, Data, DataId, Element, ElementId, FieldType, Function, FunctionId,
-    FunctionType, Global, GlobalId, HeapType, IdsToIndices, IndicesToIds, Memory, MemoryId, ModuleTypes, RecGroup,
-    RecGroupId, RefType, StorageType, StructType, Table, TableId, Tag, TagId, Type, TypeId, ValType,
+    AbstractHeapType, ArrayType, CompositeType, Data, DataId, Element, ElementId, FieldType,
+    Function, FunctionId, FunctionType, Global, GlobalId, HeapType, IdsToIndices, IndicesToIds,
+    Memory, MemoryId, ModuleTypes, RecGroup, RecGroupId, RefType, StorageType, StructType, Table,
+    TableId, Tag, TagId, Type, TypeId, ValType,
 };
