@@ -77,8 +77,10 @@ let wrapper = FunctionId::from_index(2);
 CONTENT = '[1, 0x60, 0, 0].as_slice();'
 LINES_OF_FILES = {
     'src/canonical_form.rt': '''
-let names_0 = match decode_types(&[1, 0x5F, 1, 0x63, 0, 0])?.remove(0) { GroupAt::Single(it) => it, _ => panic!() };
-let list_of_names_1 = match decode_types(&[1, 0x4E, 1, 0x5F, 1, 0x63, 1, 0])?.remove(0) { GroupAt::Rec(it) => it, _ => panic!() };
+let lone = decode_types(&[1, 0x5F, 1, 0x63, 0, 0])?.remove(0);
+let names_0 = match lone { GroupAt::Single(it) => it, _ => panic!() };
+let group = decode_types(&[1, 0x4E, 1, 0x5F, 1, 0x63, 1, 0])?.remove(0);
+let list_of_names_1 = match group { GroupAt::Rec(it) => it, _ => panic!() };
 ''',
     'src/customs.rt': f'let types = {CONTENT}',
     'src/decode/reader.rt': f'let bytes = {CONTENT}',

@@ -30,7 +30,7 @@ RULES = [(re.compile(pattern, re.M), text) for pattern, text in [
     (spaced('refused, or `build` returned an error.'), 'refused.'),
     (spaced('std\'s `FoldHasher`'), '`FoldHasher` of `rattle_std`'),
     (r'\(\[(`\w+`)\]\([\w:]*laws::\w+\)\)', r'(law \1)'),
-    (r'\[(`\w+`)\]\([\w:]*laws::\w+\)', r'\1'),
+    (r'\[(`\w+`)\]\([\w:]*laws(?:::\w+)?\)', r'\1'),
     # It is a call of a crate above, which the docs of walrus_unused can't link to.
     (r'\[(`used_types`)\]\(crate::used_types\)', r'\1'),
     (paragraph(r'- \[`laws`\]'), ''),
