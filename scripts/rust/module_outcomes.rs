@@ -1,12 +1,11 @@
 //! Prints what becomes of modules. Each line of the standard input is a module in hexadecimal, behind
 //! `keep ` if widths are kept, and behind `prune ` if unused types are deleted. Each line of the output
-//! is the exit status that `wasmnorm` has for it, and the new module, or `panic`. Behind the new module
-//! is the first type that becomes another one, if there is one. At the end is the first fault of the
-//! module, if it has one.
+//! is the exit status that `wasmnorm` has for it, and the new module, or `panic`. At the end is the
+//! first fault of the module, if it has one.
 use ruffdresser::arena::HashKeys;
 use ruffdresser::wasm::{
     DecodeError, Descriptions, NormaliseModuleError, NormaliseOptions, RenameError, UnusedTypes,
-    Widths, check_module, find_changed_type, normalise_module, section_around, sections,
+    Widths, canonical_module, check_module, section_around, sections,
 };
 use std::error::Error;
 use std::io::{self, BufWriter, Write};
@@ -47,19 +46,10 @@ fn bytes(text: &str) -> Result<Vec<u8>, Box<dyn Error>> {
 }
 
 fn outcome(module: &[u8], options: NormaliseOptions) -> String {
-    match catch_unwind(|| normalise_module(HashKeys::fixed(), module, options)) {
-        Ok(Ok(new)) => format!("0 {}{}", hexadecimal(&new), changed_type(module)),
+    match catch_unwind(|| canonical_module(HashKeys::fixed(), module, options)) {
+        Ok(Ok(new)) => format!("0 {}", hexadecimal(&new)),
         Ok(Err(error)) => status(error).to_string(),
         Err(_) => String::from("panic"),
-    }
-}
-
-fn changed_type(module: &[u8]) -> String {
-    match catch_unwind(|| find_changed_type(HashKeys::fixed(), module)) {
-        Ok(Ok(Some(index))) => format!(", type {index} changes"),
-        Ok(Ok(None)) => String::new(),
-        Ok(Err(error)) => format!(", {}", status(error)),
-        Err(_) => String::from(", panic"),
     }
 }
 

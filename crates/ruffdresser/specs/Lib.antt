@@ -135,7 +135,6 @@ pub use Rattle.walrus_unused.specs.NeededTypes
 pub use Rattle.walrus_unused.specs.AllIndices
 pub use Rattle.walrus_passes.specs.UsedTypes
 pub use Rattle.walrus_unused.specs.IndexMaps
-pub use Rattle.walrus_unused.specs.UsedSections
 pub use Rattle.walrus_passes.specs.SnippedFunctions
 pub use Rattle.walrus_passes.specs.UnreachableFunctions
 pub use Rattle.walrus_passes.specs.MappedInstrs
@@ -143,7 +142,6 @@ pub use Rattle.walrus_passes.specs.ChangedCalls
 pub use Rattle.walrus_passes.specs.Adapters
 pub use Rattle.walrus_passes.specs.Conversions
 pub use Rattle.walrus_passes.specs.ConvertingAdapters
-pub use Rattle.walrus_unused.specs.declared.error.NormaliseUsedError
 -- Binary.
 pub use Rattle.wasm_binary.specs.Leb128
 pub use Rattle.wasm_binary.specs.Grammar
@@ -172,9 +170,8 @@ pub use Rattle.wasm_module.specs.RenamedNames
 pub use Rattle.wasm_module.specs.Lengths
 pub use Rattle.wasm_module.specs.UnknownCustoms
 pub use Rattle.wasm_module.specs.Outdated
-pub use Rattle.wasm_normalise.specs.NormalModules
-pub use Rattle.wasm_normalise.specs.Moved as MovedModules
-pub use Rattle.wasm_normalise.specs.Relisted
+pub use Rattle.wasm_normalise.specs.CanonicalModules
+pub use Rattle.wasm_normalise.specs.Meanings
 pub use Rattle.wasm_binary.specs.declared.error.Expected
 pub use Rattle.wasm_binary.specs.declared.error.NotHeld
 pub use Rattle.wasm_binary.specs.declared.error.DecodeError

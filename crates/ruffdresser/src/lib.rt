@@ -6,9 +6,9 @@
 //! - Instructions: [`Instr`], [`InstrSeq`], [`ConstExpr`].
 //! - Builders: [`FunctionBuilder`], [`LocalFunction`].
 //! - Walks: [`dfs_in_order`], [`dfs_pre_order_mut`], [`check_nesting`].
-//! - Passes: [`delete_unused_types`], [`normalise_used`], [`snip`], [`snip_calls`], [`adapter`].
+//! - Passes: [`delete_unused_types`], [`snip`], [`snip_calls`], [`adapter`].
 //! - Binary: [`decode_types`], [`encode_types`], [`sections`], [`rename_module`],
-//!   [`normalise_module`].
+//!   [`canonical_module`].
 //! - Text: [`read_section`], [`write_section`].
 //!
 //! The module `laws` of each library has its theorems. It is here under a name of its own, such as
@@ -207,11 +207,9 @@ pub use walrus_passes::{
     adapter, adapter_between, laws as passes_laws, map_instrs, redirect_calls, replace_with, snip,
     snip_calls, unreachable_function, used_types,
 };
-pub use walrus_unused::{
-    NormaliseUsedError, delete_unused_types, laws as unused_laws, new_indices, normalise_used,
-};
+pub use walrus_unused::{delete_unused_types, laws as unused_laws, new_indices};
 
-// Binary: the sections of a module, its type section, and modules in normal form.
+// Binary: the sections of a module, its type section, and modules with their types in canonical form.
 pub use wasm_binary::{
     DecodeError, EncodeError, Expected, NotHeld, ReplaceError, SectionPlace, TypeSectionReader,
     custom_section_name, decode_types, encode_types, laws as binary_laws, module_types,
@@ -225,8 +223,7 @@ pub use wasm_module::{
 };
 pub use wasm_normalise::{
     Descriptions, Hazard, NormaliseModuleError, NormaliseOptions, StrictError, UnusedTypes,
-    find_changed_type, find_hazard, laws as normal_module_laws, normalise_module,
-    normalise_strictly,
+    canonical_module, find_hazard, laws as canonical_module_laws, strict_canonical_module,
 };
 
 // Text: type sections as text.

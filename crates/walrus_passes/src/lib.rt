@@ -12,12 +12,9 @@
 //! - [`map_instrs`] changes each instruction of a function by a closure.
 //! - [`new_indices`] maps the type indices of a section to its indices once it is written again.
 //!   The rest of the module still names the old ones.
-//! - [`normalise_used`] returns the normal form of a section without the types that no root uses,
-//!   and that map.
 //! - [`laws`] has the theorems, such as that no type which a function uses is deleted.
 //!
-//! [`delete_unused_types`], [`new_indices`] and [`normalise_used`] are those of `walrus_unused`,
-//! which knows no function.
+//! [`delete_unused_types`] and [`new_indices`] are those of `walrus_unused`, which knows no function.
 //!
 //! One of two types is used, and the written section has that one alone:
 //!
@@ -48,4 +45,4 @@ pub use converting_adapters::adapter_between;
 pub use instrs::map_instrs;
 pub use roots::used_types;
 pub use unreachable::unreachable_function;
-pub use walrus_unused::{NormaliseUsedError, delete_unused_types, new_indices, normalise_used};
+pub use walrus_unused::{delete_unused_types, new_indices};

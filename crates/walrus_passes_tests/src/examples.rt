@@ -6,15 +6,15 @@ use crate::assertions::{are, assert_equal, hold_just};
 use crate::bodies::{has, seven};
 use crate::conversions::with_handles;
 use crate::index_maps::TWICE;
+use crate::sections::section;
 use crate::unused_types::table;
-use crate::used_sections::{function, section, single, structure};
 use std::alloc::Global;
 use std::test::Fail;
 use walrus_functions::{BuildError, FunctionBuilder, LocalFunction, LocalFunctions};
 use walrus_ir::{ConstExpr, Id, Instr, InstrSeqType, LoadKind, MemArg, ModuleLocals, TableGet};
 use walrus_passes::{
-    adapter, adapter_between, delete_unused_types, map_instrs, new_indices, normalise_used,
-    redirect_calls, replace_with, snip, snip_calls, unreachable_function, used_types,
+    adapter, adapter_between, delete_unused_types, map_instrs, new_indices, redirect_calls,
+    replace_with, snip, snip_calls, unreachable_function, used_types,
 };
 use walrus_types::{
     HashKeys, Heap, ModuleTypes, RefType, Reference, TypeId, ValType, normalise, parse_types,
@@ -97,20 +97,6 @@ fn new_indices_are_those_of_the_normal_form(rt: HostRuntime) {
             .zip(&places)
             .all(|(index, place)| *index == Some(*place))
     );
-}
-
-#[test]
-fn the_used_types_of_a_section_are_written(rt: HostRuntime) {
-    let alloc = rt.alloc();
-    let structure = single(structure(alloc));
-    let function = single(function(alloc));
-    let groups = [structure, function];
-    let (output, map) = normalise_used(alloc, HashKeys::fixed(), &groups, &[1]).expect(
-        &rt,
-        "section and root",
-    );
-    assert_equal(&rt, output.len(), 1);
-    assert_equal(&rt, map.as_slice(), [None, Some(0)].as_slice());
 }
 
 #[test]

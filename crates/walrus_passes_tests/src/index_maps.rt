@@ -1,5 +1,5 @@
 //! The new indices of a section that is written again.
-use crate::used_sections::{Group, section};
+use crate::sections::{Group, section};
 use std::alloc::Global;
 use walrus_passes::{delete_unused_types, new_indices};
 use walrus_types::{HashKeys, IdsToIndices, ModuleTypes, ReadError, TypeId, parse_types};

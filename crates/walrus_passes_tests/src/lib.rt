@@ -21,6 +21,8 @@ mod index_maps;
 #[cfg(test)]
 mod refusals;
 #[cfg(test)]
+mod sections;
+#[cfg(test)]
 mod snipping;
 #[cfg(test)]
 mod speed;
@@ -28,7 +30,5 @@ mod speed;
 mod unreachable;
 #[cfg(test)]
 mod unused_types;
-#[cfg(test)]
-mod used_sections;
 #[cfg(test)]
 mod used_types;

@@ -7,14 +7,13 @@ use crate::conversions::{adapt_handles, handle_types, with_handles};
 use crate::index_maps::{are as are_indices, read};
 use crate::unreachable::unreachable;
 use crate::unused_types::{delete_all_but, table};
-use crate::used_sections::{MAP_OF_THE_REC, REC, WITH_REC, section};
 use crate::used_types::{locals, nested_function};
 use std::alloc::{AllocError, Global};
 use std::process::Abort;
 use walrus_functions::{BuildError, LocalFunction};
 use walrus_ir::{LocalId, ModuleLocals};
-use walrus_passes::{NormaliseUsedError, new_indices, normalise_used, used_types};
-use walrus_types::{HashKeys, Id, ModuleTypes, TypeId, ValType};
+use walrus_passes::{new_indices, used_types};
+use walrus_types::{Id, ModuleTypes, TypeId, ValType};
 
 // Which of the first seven ids are live.
 fn live(types: &ModuleTypes) -> [bool; 7] {
@@ -78,23 +77,6 @@ fn a_refused_map_of_indices_is_made_again(rt: HostRuntime) {
         .or_else(|_| new_indices(alloc, ids.as_slice(), &indices))
         .expect(&rt, "memory");
     assert!(rt; are_indices(new.as_slice(), &[Some(1), Some(0), Some(1)]));
-}
-
-#[test]
-fn a_refused_normal_form_of_the_used_types_is_made_again(rt: HostRuntime) {
-    let alloc = rt.alloc();
-    let groups = section(alloc, &WITH_REC).or_else(|_| section(alloc, &WITH_REC));
-    let groups = groups.expect(&rt, "memory");
-    let output = section(alloc, &REC).or_else(|_| section(alloc, &REC));
-    let (written, new) = match normalise_used(alloc, HashKeys::fixed(), groups.as_slice(), &[3]) {
-        Ok(used) => used,
-        Err(error) => {
-            assert!(rt; error == NormaliseUsedError::Memory);
-            normalise_used(alloc, HashKeys::fixed(), groups.as_slice(), &[3]).expect(&rt, "memory")
-        }
-    };
-    assert!(rt; written == output.expect(&rt, "memory"));
-    assert!(rt; are_indices(new.as_slice(), &MAP_OF_THE_REC));
 }
 
 #[test]

@@ -1,6 +1,6 @@
 //! Which types are deleted.
 use crate::assertions::{are, assert_equal};
-use crate::used_sections::{pair, single};
+use crate::sections::{pair, single};
 use std::alloc::{AllocError, Global};
 use std::process::Abort;
 use walrus_passes::delete_unused_types;

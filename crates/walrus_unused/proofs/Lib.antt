@@ -1,4 +1,2 @@
 pub mod UnusedTypes
 pub mod IndexMaps
-pub mod UsedSections
-pub mod UsedForms

@@ -1,5 +1,4 @@
 pub mod NeededTypes
 pub mod AllIndices
 pub mod IndexMaps
-pub mod UsedSections
 pub mod Steps

@@ -1,4 +1,3 @@
 -- What private functions promise one another on the way to a public clause. No public clause and no
 -- law cites these modules: who wants to know what the crate promises can pass them over.
 pub mod Marking
-pub mod UsedSections

@@ -1,11 +1,9 @@
 //! Types that nothing uses.
 //!
 //! - [`delete_unused_types`] deletes the types of a table that no root needs.
-//! - [`normalise_used`] returns the normal form of a section without the types that no root uses,
-//!   and the new index of each other type.
 //! - [`new_indices`] maps the type indices of a section to its indices once it is written again.
 //!   The rest of the module still names the old ones.
-//! - [`laws`] has theorems on that map, and on the normal form of used types.
+//! - [`laws`] has the theorem on that map.
 //!
 //! The roots are the types that the rest of a module names. `walrus_passes` lists the ones that a
 //! function brings.
@@ -23,13 +21,9 @@
 //! ```
 #![tactic(auto)]
 
-mod error;
 mod index_maps;
 pub mod laws;
 mod unused_types;
-mod used_section;
 
-pub use error::NormaliseUsedError;
 pub use index_maps::new_indices;
 pub use unused_types::delete_unused_types;
-pub use used_section::normalise_used;

@@ -60,7 +60,7 @@ tail_members x y n xs ys e up all h =
       | inr later ↦ later
     ]
 
-same_members : (xs ys : List ℕ) → Ascend xs → Ascend ys → ((n : ℕ) → Contains xs n → Contains ys n) →
+pub same_members : (xs ys : List ℕ) → Ascend xs → Ascend ys → ((n : ℕ) → Contains xs n → Contains ys n) →
     ((n : ℕ) → Contains ys n → Contains xs n) → xs ≡ ys
 same_members [] [] up its to from = refl
 same_members [] (y ∷ ys) up its to from = absurd (none_in y (from y (first_in y ys)))

@@ -48,6 +48,9 @@ pub mod NamingCustoms
 pub mod PiecesOfNames
 pub mod PiecesOfModules
 pub mod PiecesInTurn
+pub mod AlikeNames
+pub mod AlikePieces
+pub mod AlikeModules
 pub mod StrippedOnce
 pub mod StrippedRenamed
 pub mod StrippedBefore

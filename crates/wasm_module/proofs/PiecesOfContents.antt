@@ -15,7 +15,7 @@ use Rattle.wasm_module.specs.RenamedSections.{RenamesTexts, RenamesBody, Renames
 use Rattle.wasm_module.specs.RenamedSections.RenamesCode.{counted}
 use Rattle.wasm_module.specs.RenamedSections.RenamesContent.{texts, code, nameless}
 use Rattle.wasm_module.specs.Renaming.{NewIndices, least_width, IsTextOf}
-use Rattle.wasm_module.proofs.PiecesOfTexts.{Changing, Writes, Reads, ReadsFirst, IsWhole, IsItem, Part, Found, Finds, AreSame, whole_as, StaysAsItIs, stays_by, fits_still, fits_both, whole_still, TextsBy, found_texts}
+use Rattle.wasm_module.proofs.PiecesOfTexts.{Changing, Writes, Reads, ReadsFirst, IsRead, IsReadFirst, Before, ReadsBack, ReadsFirstBack, IsWhole, IsItem, read_of, read_first_of, Part, Found, Finds, AreSame, whole_as, StaysAsItIs, stays_by, fits_still, fits_both, whole_still, TextsBy, found_texts}
 use Rattle.wasm_module.proofs.SameTexts.{same_kinds, no_texts_of_code, same_sizes, taken}
 use Rattle.wasm_module.proofs.SizedContents.{number_read, same_number, same_content}
 
@@ -25,7 +25,7 @@ abbrev pub WithSize : Changing → Changing
 WithSize C t m w = ChangesSized w (C t m w)
 
 module _ (C : Changing) (size : List ℕ) (p : Piece) (h : IsU32 size (length (bytes_of p)))
-    (is : IsWhole C p) where
+    (is : IsRead C p) where
   sized_to : ReadsFirst (WithSize C) (sized size p)
   sized_to t m w _ _ _ r s (stays size' content h' f) e =
       let c = same_content ((size ++ bytes_of p) ++ r) (bytes_of p) r content s
@@ -70,8 +70,56 @@ module _ (C : Changing) (size : List ℕ) (p : Piece) (h : IsU32 size (length (b
   sized_from t m w _ (resizes _ new_size _ q some n k) =
       resized size (bytes_of p) new_size (bytes_of q) (names_in p) h (is.from t m w q k) some n
 
-  item_sized : IsItem (WithSize C) (sized size p)
-  item_sized = record { to = sized_to; from = sized_from }
+  read_sized : IsReadFirst (WithSize C) (sized size p)
+  read_sized = record { to = sized_to; from = sized_from }
+
+module _ (C : Changing) (size : List ℕ) (r : Piece) (h : IsU32 size (length (bytes_of r)))
+    (is : IsWhole C r) where
+  sized_back : ReadsFirstBack (WithSize C) (sized size r)
+  sized_back t m w _ _ _ x y (stays size' content h' f) e =
+      let c = same_content ((size ++ bytes_of r) ++ x) (bytes_of r) x content y
+      (taken size (bytes_of r) x _ h refl) (taken size' content y _ h' e) in
+      let n : size ≡ size' = same_sizes size (bytes_of r) x size' content y c.0 c.1 e in
+      let b = is.back t m w content content [] f c.0 in
+      let nameless : [] ≡ names_in b.piece = (b.is.to t m w content content [] f b.text_is).names_are in
+      let long : IsU32 size (length (bytes_of b.piece)) =
+      subst (λ (u : List ℕ). IsU32 size (length u)) (c.0 ∙ sym b.text_is) h in (
+        record {
+          piece = sized size b.piece;
+          turns = unresized size b.piece r (sym nameless) (b.text_is ∙ sym c.0) b.turns;
+          text_is = ap (λ (u : List ℕ). size ++ u) b.text_is ∙ ap (λ (u : List ℕ). u ++ content) n;
+          is = read_sized C size b.piece long b.is;
+        },
+        c.1,
+      )
+  sized_back t m w _ _ _ x y (resized size' content new_size new names h' f some n) e =
+      let c = same_content ((size ++ bytes_of r) ++ x) (bytes_of r) x new y
+      (taken size (bytes_of r) x _ h refl) (taken new_size new y _ n.is_text e) in
+      let one : size ≡ new_size = same_sizes size (bytes_of r) x new_size new y c.0 c.1 e in
+      let b = is.back t m w content new names f c.0 in
+      let named : names ≡ names_in b.piece = (b.is.to t m w content new names f b.text_is).names_are in
+      let long : IsTextOf 0x80 (least_width w (length size')) size (length (bytes_of r)) =
+      subst (λ (u : List ℕ). IsTextOf 0x80 (least_width w (length size')) u (length (bytes_of r))) (sym one)
+      (subst (λ (u : List ℕ). IsTextOf 0x80 (least_width w (length size')) new_size (length u)) (sym c.0) n)
+      in
+      let before : IsU32 size' (length (bytes_of b.piece)) =
+      subst (λ (u : List ℕ). IsU32 size' (length u)) (sym b.text_is) h' in (
+        record {
+          piece = sized size' b.piece;
+          turns = resizes size' size b.piece r (λ u. some (named ∙ u)) long b.turns;
+          text_is = ap (λ (u : List ℕ). size' ++ u) b.text_is;
+          is = read_sized C size' b.piece before b.is;
+        },
+        c.1,
+      )
+
+  item_sized : IsItem (WithSize C) (sized size r)
+  item_sized =
+      record {
+        to = sized_to C size r h (read_of C r is);
+        from = sized_from C size r h (read_of C r is);
+        back = sized_back;
+      }
 
 -- ---- several
 
@@ -85,7 +133,18 @@ module _ (C : Changing) where
   none_from : Writes (InTurn 0 C) (still [])
   none_from t m w _ (unchanged _) = no_change
 
-  module _ (count : ℕ) (p q : Piece) (is : IsItem C p) (are : IsItem (InTurn count C) q) where
+  none_back : ReadsFirstBack (InTurn 0 C) (still [])
+  none_back t m w _ _ _ x y no_change e = (
+    record {
+      piece = still [];
+      turns = unchanged [];
+      text_is = refl;
+      is = record { to = none_to; from = none_from };
+    },
+    e,
+  )
+
+  module _ (count : ℕ) (p q : Piece) (is : IsReadFirst C p) (are : IsReadFirst (InTurn count C) q) where
     next_to : ReadsFirst (InTurn (suc count) C) (joined p q)
     next_to t m w _ _ _ r s (next_change _ text others new news names more h hs) e =
         let a = is.to t m w text new names (bytes_of q ++ r) (others ++ s) h
@@ -98,8 +157,29 @@ module _ (C : Changing) where
         next_change count (bytes_of p) (bytes_of q) (bytes_of r) (bytes_of s) (names_in p) (names_in q)
         (is.from t m w r h) (are.from t m w s g)
 
+    read_next : IsReadFirst (InTurn (suc count) C) (joined p q)
+    read_next = record { to = next_to; from = next_from }
+
+  module _ (count : ℕ) (p q : Piece) (is : IsItem C p) (are : IsItem (InTurn count C) q) where
+    next_back : ReadsFirstBack (InTurn (suc count) C) (joined p q)
+    next_back t m w _ _ _ x y (next_change _ text others new news names more h hs) e =
+        let a = is.back t m w text new names (bytes_of q ++ x) (news ++ y) h
+        (sym (append_assoc (bytes_of p) (bytes_of q) x) ∙ e ∙ append_assoc new news y) in
+        let b = are.back t m w others news more x y hs a.1 in (
+          record {
+            piece = joined a.0.piece b.0.piece;
+            turns = joins a.0.piece b.0.piece p q a.0.turns b.0.turns;
+            text_is = ap (λ (u : List ℕ). u ++ bytes_of b.0.piece) a.0.text_is
+                ∙ ap (λ (u : List ℕ). text ++ u) b.0.text_is;
+            is = read_next count a.0.piece b.0.piece a.0.is b.0.is;
+          },
+          b.1,
+        )
+
     item_next : IsItem (InTurn (suc count) C) (joined p q)
-    item_next = record { to = next_to; from = next_from }
+    item_next =
+        let read = read_next count p q (read_first_of C p is) (read_first_of (InTurn count C) q are) in
+        record { to = read.to; from = read.from; back = next_back }
 
 -- ---- the code section
 
@@ -110,7 +190,7 @@ abbrev CodeBy : Changing
 CodeBy t m w = RenamesCode m w
 
 module _ (bodies : ℕ) (count : List ℕ) (p : Piece) (h : IsU32 count bodies)
-    (are : IsItem (InTurn bodies BodyBy) p) where
+    (are : IsReadFirst (InTurn bodies BodyBy) p) where
   code_to : Reads CodeBy (joined (still count) p)
   code_to t m w _ _ _ (counted bodies' count' text new names h' hs) e =
       let n = same_number (u32_at (count ++ bytes_of p)) bodies bodies' (bytes_of p) text
@@ -127,8 +207,33 @@ module _ (bodies : ℕ) (count : List ℕ) (p : Piece) (h : IsU32 count bodies)
   code_from t m w _ (joins _ _ _ q (unchanged _) k) =
       counted bodies count (bytes_of p) (bytes_of q) (names_in p) h (are.from t m w q k)
 
+  read_code : IsRead CodeBy (joined (still count) p)
+  read_code = record { to = code_to; from = code_from }
+
+module _ (bodies : ℕ) (count : List ℕ) (p : Piece) (h : IsU32 count bodies)
+    (are : IsItem (InTurn bodies BodyBy) p) where
+  code_back : ReadsBack CodeBy (joined (still count) p)
+  code_back t m w _ _ _ (counted bodies' count' text new names h' hs) e =
+      let n = same_number (u32_at (count ++ bytes_of p)) bodies bodies' (bytes_of p) new
+      (number_read (count ++ bytes_of p) count bodies (bytes_of p) h refl)
+      (number_read (count ++ bytes_of p) count' bodies' new h' e) in
+      let one : count ≡ count' = append_cancel_right count count' (bytes_of p)
+      (e ∙ ap (λ (u : List ℕ). count' ++ u) (sym n.1)) in
+      let b = are.back t m w text new names [] []
+      (subst (λ j. ChangeAll (RenamesBody m w) j text new names) (sym n.0) hs)
+      (ap (λ (u : List ℕ). u ++ []) n.1) in
+      record {
+        piece = joined (still count) b.0.piece;
+        turns = joins (still count) b.0.piece (still count) p (unchanged count) b.0.turns;
+        text_is = ap (λ (u : List ℕ). u ++ bytes_of b.0.piece) one
+            ∙ ap (λ (u : List ℕ). count' ++ u) b.0.text_is;
+        is = read_code bodies count b.0.piece h b.0.is;
+      }
+
   whole_code : IsWhole CodeBy (joined (still count) p)
-  whole_code = record { to = code_to; from = code_from }
+  whole_code =
+      let read = read_code bodies count p h (read_first_of (InTurn bodies BodyBy) p are) in
+      record { to = read.to; from = read.from; back = code_back }
 
 -- ---- contents
 
@@ -247,8 +352,8 @@ module _ (P : List ℕ → Type 0) (t : List ℕ) (m : NewIndices) (w : Widths) 
   found_all C R found _ _ _ _ no_change =
       record {
         part = part_still [];
-        is = record { to = none_to C; from = none_from C };
-        is_again = record { to = none_to C; from = none_from C };
+        is = record { to = none_to C; from = none_from C; back = none_back C };
+        is_again = record { to = none_to C; from = none_from C; back = none_back C };
       }
   found_all C R found _ _ _ _ (next_change count text others new news names more h hs) =
       let f = found text new names h in

@@ -9,6 +9,7 @@ use Rattle.wasm_module.specs.declared.renaming.Widths.{Widths}
 use Rattle.wasm_module.specs.Changes.{ChangesSized, ChangeAll}
 use Rattle.wasm_module.specs.Composition.{AreOwn}
 use Rattle.wasm_module.specs.CustomNames.{NamesInCustom, NamesInCustoms}
+use Rattle.wasm_module.specs.Alike.{HasPiece}
 use Rattle.wasm_module.specs.Pieces.{Piece, types, bytes_of, names_in, Turns, retypes}
 use Rattle.wasm_module.specs.RenamedModules.{RenamesAny, RenamesSection, RenamesModule}
 use Rattle.wasm_module.specs.RenamedModules.RenamesAny.{custom, other as other_content}
@@ -19,8 +20,8 @@ use Rattle.wasm_module.proofs.NamingCustoms.{ChangesNaming, sized_naming, Custom
 use Rattle.wasm_module.proofs.Pieces.{one_piece, turns_again}
 use Rattle.wasm_module.proofs.PiecesOfNames.{Opened, found_behind, Divides, CustomBy, found_custom}
 use Rattle.wasm_module.proofs.SizedContents.{same_content}
-use Rattle.wasm_module.proofs.SameTexts.{taken}
-use Rattle.wasm_module.proofs.PiecesOfTexts.{Changing, Writes, ReadsFirst, IsWhole, IsItem, Found, HoldsOfMaps}
+use Rattle.wasm_module.proofs.SameTexts.{same_sizes, taken}
+use Rattle.wasm_module.proofs.PiecesOfTexts.{Changing, Writes, ReadsFirst, IsReadFirst, ReadsFirstBack, IsWhole, IsItem, read_first_of, Found, HoldsOfMaps}
 use Rattle.wasm_module.proofs.PiecesOfContents.{WithSize, InTurn, ContentBy, found_as, found_sized, found_all, found_content}
 use Rattle.wasm_module.proofs.OwnEntries.{all_from}
 
@@ -66,8 +67,30 @@ module _ (size content : List ℕ) (h : IsU32 size (length content)) where
   types_from : Writes TypesBy (types size content)
   types_from t m w _ (retypes _ _ new_size n) = sized_types size content new_size h n
 
+  read_types : IsReadFirst TypesBy (types size content)
+  read_types = record { to = types_to; from = types_from }
+
+module _ (size content : List ℕ) (h : IsU32 size (length content)) where
+  types_back : ReadsFirstBack TypesBy (types size content)
+  types_back t m w _ _ _ x y (sized_types size' content' new_size h' n) e =
+      let c = same_content ((size ++ content) ++ x) content x t y (taken size content x _ h refl)
+      (taken new_size t y _ n.is_text e) in
+      let one : size ≡ new_size = same_sizes size content x new_size t y c.0 c.1 e in
+      let becomes : types new_size t ≡ types size content =
+      ap (λ (u : List ℕ). types u t) (sym one) ∙ ap (λ (u : List ℕ). types size u) (sym c.0) in (
+        record {
+          piece = types size' content';
+          turns = subst (λ (u : Piece). Turns t m w (types size' content') u) becomes
+              (retypes size' content' new_size n);
+          text_is = refl;
+          is = read_types size' content' h';
+        },
+        c.1,
+      )
+
   item_types : IsItem TypesBy (types size content)
-  item_types = record { to = types_to; from = types_from }
+  item_types =
+      record { to = types_to size content h; from = types_from size content h; back = types_back }
 
 abbrev SectionBy : Changing
 SectionBy t m w = RenamesSection t m w
@@ -80,7 +103,7 @@ open_types t m w _ _ _ (type_section size content new_size h n) =
       behind = size ++ content;
       new_behind = new_size ++ t;
       parts = refl;
-      new_parts = λ e. refl;
+      new_parts = refl;
       becomes = λ e. sized_types size content new_size h n;
     }
 open_types t m w _ _ _ (other_section id text new names fails h) =
@@ -89,7 +112,7 @@ open_types t m w _ _ _ (other_section id text new names fails h) =
       behind = text;
       new_behind = new;
       parts = refl;
-      new_parts = λ e. absurd (fails (sym e));
+      new_parts = refl;
       becomes = λ e. absurd (fails (sym e));
     }
 
@@ -106,7 +129,7 @@ open_section id fails t m w _ _ _ (type_section size content new_size h n) =
       behind = size ++ content;
       new_behind = new_size ++ t;
       parts = refl;
-      new_parts = λ e. absurd (fails e);
+      new_parts = refl;
       becomes = λ e. absurd (fails e);
     }
 open_section id fails t m w _ _ _ (other_section id' text new names fails' h) =
@@ -115,7 +138,7 @@ open_section id fails t m w _ _ _ (other_section id' text new names fails' h) =
       behind = text;
       new_behind = new;
       parts = refl;
-      new_parts = λ e. ap (λ k. k ∷ new) e;
+      new_parts = refl;
       becomes = λ e. subst (λ k. ChangesSized w (RenamesAny k m w) text new names) (sym e) h;
     }
 
@@ -165,17 +188,8 @@ as_many a b e =
     sym (length-map a (λ (s : Section). s.id)) ∙ ap (λ (u : List ℕ). length u) e
     ∙ length-map b (λ (s : Section). s.id)
 
--- the module has this piece behind its header
-pub record HasPiece (bytes : List ℕ) (p : Piece) : Type 0 where
-  pub to :
-      (t : List ℕ) (m : NewIndices) (w : Widths) (new : List ℕ) → RenamesModule t m w bytes new
-      → (q : Piece) × Turns t m w p q × (header ++ bytes_of q ≡ new)
-  pub from :
-      (t : List ℕ) (m : NewIndices) (w : Widths) (q : Piece) → Turns t m w p q
-      → RenamesModule t m w bytes (header ++ bytes_of q)
-
 has_piece : (bytes : List ℕ) (sections : List Section) (p : Piece) → IsModule bytes sections →
-    bytes ≡ header ++ bytes_of p → IsItem (InTurn (length sections) SectionBy) p → HasPiece bytes p
+    bytes ≡ header ++ bytes_of p → IsReadFirst (InTurn (length sections) SectionBy) p → HasPiece bytes p
 has_piece bytes sections p is_module parts is =
     record {
       to = λ t m w new r. (
@@ -199,6 +213,33 @@ has_piece bytes sections p is_module parts is =
       };
     }
 
+-- Where a module becomes another one with the piece r, it has a piece that becomes r.
+abbrev pub HasPieceBefore : List ℕ → Piece → Type 0
+HasPieceBefore new r =
+    (t : List ℕ) (m : NewIndices) (w : Widths) (bytes : List ℕ) → RenamesModule t m w bytes new
+    → (p : Piece) × HasPiece bytes p × Turns t m w p r
+
+piece_before : (new : List ℕ) (sections : List Section) (r : Piece) → IsModule new sections →
+    new ≡ header ++ bytes_of r → IsItem (InTurn (length sections) SectionBy) r → HasPieceBefore new r
+piece_before new sections r is_module parts is t m w bytes g =
+    let h = have_same_ids t m w bytes new g in
+    let old : h.sections ≡ g.sections = one_module bytes h.sections g.sections h.before g.is_module in
+    let same : h.new_sections ≡ sections = one_module new h.new_sections sections h.after is_module in
+    let many : length g.sections ≡ length sections =
+    sym (as_many h.new_sections g.sections (h.same ∙ ap ids old))
+    ∙ ap (λ (u : List Section). length u) same in
+    let texts-are : bytes_of r ≡ g.new_texts = append_cancel_left header (bytes_of r) g.new_texts
+    (sym parts ∙ g.new_parts) in
+    let b = is.back t m w g.texts g.new_texts g.names [] []
+    (subst (λ n. ChangeAll (RenamesSection t m w) n g.texts g.new_texts g.names) many g.renames)
+    (ap (λ (u : List ℕ). u ++ []) texts-are) in (
+      b.0.piece,
+      has_piece bytes g.sections b.0.piece g.is_module
+          (g.parts ∙ ap (λ (u : List ℕ). header ++ u) (sym b.0.text_is))
+          (subst (λ n. IsReadFirst (InTurn n SectionBy) b.0.piece) (sym many) b.0.is),
+      b.0.turns,
+    )
+
 -- the pieces of a module and of what it becomes
 pub record ModulePieces (P : List ℕ → Type 0) (t : List ℕ) (m : NewIndices) (w : Widths)
     (bytes new : List ℕ) : Type 0 where
@@ -206,6 +247,7 @@ pub record ModulePieces (P : List ℕ → Type 0) (t : List ℕ) (m : NewIndices
   pub becomes : Piece
   pub has : HasPiece bytes piece
   pub has_again : HasPiece new becomes
+  pub has_before : HasPieceBefore new becomes
   pub turns : Turns t m w piece becomes
   pub new_is : header ++ bytes_of becomes ≡ new
   pub holds : HoldsOfMaps P piece
@@ -222,14 +264,19 @@ module_pieces P divides t m w bytes new r among =
     (λ text next names k. found_section P divides t m w text next names k.becomes k.holds)
     (length r.sections) r.texts r.new_texts r.names (module_naming P t m w bytes new r among) in
     let p = f.part in
+    let again : IsItem (InTurn (length h.new_sections) SectionBy) p.becomes =
+    subst (λ n. IsItem (InTurn n SectionBy) p.becomes) many f.is_again in
+    let new-is : new ≡ header ++ bytes_of p.becomes =
+    r.new_parts ∙ ap (λ (u : List ℕ). header ++ u) (sym p.new_is) in
     record {
       piece = p.piece;
       becomes = p.becomes;
       has = has_piece bytes r.sections p.piece r.is_module
-          (r.parts ∙ ap (λ (u : List ℕ). header ++ u) (sym p.text_is)) f.is;
-      has_again = has_piece new h.new_sections p.becomes h.after
-          (r.new_parts ∙ ap (λ (u : List ℕ). header ++ u) (sym p.new_is))
-          (subst (λ n. IsItem (InTurn n SectionBy) p.becomes) many f.is_again);
+          (r.parts ∙ ap (λ (u : List ℕ). header ++ u) (sym p.text_is))
+          (read_first_of (InTurn (length r.sections) SectionBy) p.piece f.is);
+      has_again = has_piece new h.new_sections p.becomes h.after new-is
+          (read_first_of (InTurn (length h.new_sections) SectionBy) p.becomes again);
+      has_before = piece_before new h.new_sections p.becomes h.after new-is again;
       turns = p.turns;
       new_is = ap (λ (u : List ℕ). header ++ u) p.new_is ∙ sym r.new_parts;
       holds = p.holds;
@@ -251,7 +298,7 @@ module_over P holds t m w bytes new r =
           (λ s there is indices others next names changed. holds names);
     }
 
-any_pieces : (t : List ℕ) (m : NewIndices) (w : Widths) (bytes new : List ℕ) →
+pub any_pieces : (t : List ℕ) (m : NewIndices) (w : Widths) (bytes new : List ℕ) →
     RenamesModule t m w bytes new → ModulePieces Nothing t m w bytes new
 any_pieces t m w bytes new r =
     module_pieces Nothing (λ names more k. (tt, tt)) t m w bytes new r

@@ -10,7 +10,7 @@ use Rattle.wasm_module.specs.Changes.ChangeAll.{none as no_change, next as next_
 use Rattle.wasm_module.specs.NameSections.{TypeEntry, type_entry, IsEntry, entry, AreKept, IsName, IsNameMap, IsNewEntry, renumbered, RenamesMap, empty, entries, RenamesNames, type_names, field_names, RenamesSubsection, subsection, name_bytes, RenamesCustom, name_section}
 use Rattle.wasm_module.specs.NameSections.RenamesCustom.{other as other_name}
 use Rattle.wasm_module.specs.NameSections.RenamesNames.{others as other_names}
-use Rattle.wasm_module.specs.Pieces.{Piece, still, joined, mapped, bytes_of, names_in, AreWritten, unchanged, joins, unmapped, remaps}
+use Rattle.wasm_module.specs.Pieces.{Piece, still, joined, mapped, bytes_of, names_in, AreWritten, Turns, unchanged, joins, unmapped, remaps}
 use Rattle.wasm_module.specs.Pieces.AreWritten.{none as none_written, next as next_written}
 use Rattle.wasm_module.specs.Renaming.{NewIndices, least_width, IsTextOf}
 use Rattle.wasm_module.proofs.NameMaps.{name_free, name_map_free}
@@ -20,7 +20,7 @@ use Rattle.wasm_module.proofs.SizedContents.{same_content}
 use Rattle.wasm_module.proofs.TextItems.{IsPrefixFree}
 use Rattle.wasm_module.proofs.Entries.{Kept, first_in, later_in, no_entries_counted, entries_counted_once}
 use Rattle.wasm_module.proofs.SameTexts.{same_first, same_later, named}
-use Rattle.wasm_module.proofs.PiecesOfTexts.{Changing, Fits, Writes, Reads, ReadsFirst, IsWhole, IsItem, Found, StaysAsItIs, stays_by, fits_still, fits_both}
+use Rattle.wasm_module.proofs.PiecesOfTexts.{Changing, Fits, Writes, Reads, ReadsFirst, IsRead, IsReadFirst, Before, ReadsBack, ReadsFirstBack, IsWhole, IsItem, read_of, read_first_of, Found, StaysAsItIs, stays_by, fits_still, fits_both}
 use Rattle.wasm_module.proofs.PiecesOfContents.{WithSize, found_as, part_still, part_both, found_still, found_sized}
 use Rattle.wasm_module.proofs.OwnEntries.{indices_of, found_long, follows_in}
 use Rattle.wasm_module.proofs.EntriesInTurn.{least_in}
@@ -98,8 +98,49 @@ module _ (Follows : List ℕ → Type 0) where
       map_from t m w _ (remaps _ _ new_count news _ fs kept some is n a) =
           entries count texts new_count news es kept h are some is n (as_items w kept news fs a)
 
+      read_map : IsRead MapBy (mapped count texts es)
+      read_map = record { to = map_to; from = map_from }
+
+    module _ (count texts : List ℕ) (es : List TypeEntry) (h : IsU32 count (length es))
+        (are : AreItems (IsEntry Follows) texts es) where
+      map_back : ReadsBack MapBy (mapped count texts es)
+      map_back t m w _ _ _ (empty count' h') e =
+          let nothing : es ≡ [] = no_entries_counted count' count texts es h' h (sym e) in
+          record {
+            piece = mapped count texts es;
+            turns = unmapped count texts es nothing;
+            text_is = e;
+            is = read_map count texts es h are;
+          }
+      map_back t m w _ _ _ (entries count' texts' new_count news es' kept h' are' some is n written) e =
+          let a = as_written w news kept written in
+          let long : length kept ≡ length a.0 = sym (found_long a.0 kept (written_indices w kept news a.0 a.1))
+          in
+          let items : AreItems (IsEntry Follows) news a.0 = as_entries w kept news a.0 a.1
+          (λ k e there. follows_in Follows texts' es' are' e (least_in m es' e (is.are_least k e there).1)) in
+          let c = entries_counted_once Follows free count texts new_count news es a.0 h
+          (subst (λ k. IsU32 new_count k) long n.is_text) are items e in
+          let one : count ≡ new_count = append_cancel_right count new_count texts
+          (e ∙ ap (λ (u : List ℕ). new_count ++ u) (sym c.1)) in
+          let becomes : mapped new_count news a.0 ≡ mapped count texts es =
+          ap (λ (u : List ℕ). mapped u news a.0) (sym one)
+          ∙ (ap (λ (u : List ℕ). mapped count u a.0) (sym c.1)
+          ∙ ap (λ (u : List TypeEntry). mapped count texts u) (sym c.0)) in
+          record {
+            piece = mapped count' texts' es';
+            turns = subst (λ (u : Piece). Turns t m w (mapped count' texts' es') u) becomes
+                (remaps count' texts' new_count news es' a.0 kept some is n a.1);
+            text_is = refl;
+            is = read_map count' texts' es' h' are';
+          }
+
       whole_map : IsWhole MapBy (mapped count texts es)
-      whole_map = record { to = map_to; from = map_from }
+      whole_map =
+          record {
+            to = map_to count texts es h are;
+            from = map_from count texts es h are;
+            back = map_back;
+          }
 
     found_map : (P : List ℕ → Type 0) (t : List ℕ) (m : NewIndices) (w : Widths) (text new names : List ℕ) →
         MapBy t m w text new names → P names → Found (IsWhole MapBy) P t m w text new names
@@ -169,7 +210,7 @@ pub record Opened (C : Changing) (id : ℕ) (t : List ℕ) (m : NewIndices) (w :
   pub behind : List ℕ
   pub new_behind : List ℕ
   pub parts : text ≡ first ∷ behind
-  pub new_parts : id ≡ first → id ∷ new_behind ≡ new
+  pub new_parts : new ≡ first ∷ new_behind
   pub becomes : id ≡ first → C t m w behind new_behind names
 
 module _ (C D : Changing) (id : ℕ)
@@ -180,7 +221,7 @@ module _ (C D : Changing) (id : ℕ)
   abbrev behind_id : Piece → Piece
   behind_id p = joined (still (id ∷ [])) p
 
-  module _ (p : Piece) (is : IsItem C p) where
+  module _ (p : Piece) (is : IsReadFirst C p) where
     behind_to : ReadsFirst D (behind_id p)
     behind_to t m w text new names r s h e =
         let o = opens t m w text new names h in
@@ -192,14 +233,40 @@ module _ (C D : Changing) (id : ℕ)
         let f : Fits t m w (behind_id p) (id ∷ o.new_behind) names =
         fits_both t m w (still (id ∷ [])) p (id ∷ []) o.new_behind [] names
         (fits_still t m w (id ∷ []) (id ∷ []) refl) k.0 in
-        (subst (λ (u : List ℕ). Fits t m w (behind_id p) u names) (o.new_parts one) f, k.1)
+        let new_is : id ∷ o.new_behind ≡ new = ap (λ k. k ∷ o.new_behind) one ∙ sym o.new_parts in
+        (subst (λ (u : List ℕ). Fits t m w (behind_id p) u names) new_is f, k.1)
 
     behind_from : Writes D (behind_id p)
     behind_from t m w _ (joins _ _ _ q (unchanged _) k) =
         closes t m w (bytes_of p) (bytes_of q) (names_in p) (is.from t m w q k)
 
-    item_behind : IsItem D (behind_id p)
-    item_behind = record { to = behind_to; from = behind_from }
+    read_behind : IsReadFirst D (behind_id p)
+    read_behind = record { to = behind_to; from = behind_from }
+
+  module _ (r : Piece) (is : IsItem C r) where
+    behind_back : ReadsFirstBack D (behind_id r)
+    behind_back t m w text new names x y h e =
+        let o = opens t m w text new names h in
+        let bytes : id ∷ (bytes_of r ++ x) ≡ o.first ∷ (o.new_behind ++ y) =
+        e ∙ ap (λ (u : List ℕ). u ++ y) o.new_parts in
+        let one = same_first id o.first (bytes_of r ++ x) (o.new_behind ++ y) bytes in
+        let b = is.back t m w o.behind o.new_behind names x y (o.becomes one)
+        (same_later id o.first (bytes_of r ++ x) (o.new_behind ++ y) bytes) in (
+          record {
+            piece = behind_id b.0.piece;
+            turns =
+                joins (still (id ∷ [])) b.0.piece (still (id ∷ [])) r (unchanged (id ∷ [])) b.0.turns;
+            text_is =
+                ap (λ (u : List ℕ). id ∷ u) b.0.text_is ∙ (ap (λ k. k ∷ o.behind) one ∙ sym o.parts);
+            is = read_behind b.0.piece b.0.is;
+          },
+          b.1,
+        )
+
+    item_behind : IsItem D (behind_id r)
+    item_behind =
+        let read = read_behind r (read_first_of C r is) in
+        record { to = read.to; from = read.from; back = behind_back }
 
   pub found_behind : (P : List ℕ → Type 0) (t : List ℕ) (m : NewIndices) (w : Widths)
       (text new names : List ℕ) → Found (IsItem C) P t m w text new names →
@@ -224,7 +291,7 @@ open_subsection id t m w _ _ _ (subsection id' text new names h) =
       behind = text;
       new_behind = new;
       parts = refl;
-      new_parts = λ e. ap (λ k. k ∷ new) e;
+      new_parts = refl;
       becomes = λ e. subst (λ k. ChangesSized w (RenamesNames k m w) text new names) (sym e) h;
     }
 
@@ -249,11 +316,27 @@ none_to t m w _ _ _ _ (next_change count text others new news names more h hs) e
 none_from : Writes SeveralBy (still [])
 none_from t m w _ (unchanged _) = (0, no_change)
 
-several_none : IsWhole SeveralBy (still [])
-several_none =
+read_none : IsRead SeveralBy (still [])
+read_none =
     record { to = λ t m w text new names h e. none_to t m w h.0 text new names h.1 e; from = none_from }
 
-module _ (p q : Piece) (is : IsItem SubsectionBy p) (some : Begins (bytes_of p)) (are : IsWhole SeveralBy q)
+none_back : (t : List ℕ) (m : NewIndices) (w : Widths) (count : ℕ) (text new names : List ℕ) →
+    ChangeAll (RenamesSubsection m w) count text new names → [] ≡ new →
+    Before (IsRead SeveralBy) t m w (still []) text
+none_back t m w _ _ _ _ no_change e =
+    record { piece = still []; turns = unchanged []; text_is = refl; is = read_none }
+none_back t m w _ _ _ _ (next_change count text others new news names more h hs) e =
+    absurd ((begins t m w text new names h).1 news e)
+
+several_none : IsWhole SeveralBy (still [])
+several_none =
+    record {
+      to = read_none.to;
+      from = none_from;
+      back = λ t m w text new names h e. none_back t m w h.0 text new names h.1 e;
+    }
+
+module _ (p q : Piece) (is : IsReadFirst SubsectionBy p) (some : Begins (bytes_of p)) (are : IsRead SeveralBy q)
   where
     next_to : (t : List ℕ) (m : NewIndices) (w : Widths) (count : ℕ) (text new names : List ℕ) →
         ChangeAll (RenamesSubsection m w) count text new names → bytes_of p ++ bytes_of q ≡ text →
@@ -271,20 +354,47 @@ module _ (p q : Piece) (is : IsItem SubsectionBy p) (some : Begins (bytes_of p))
               (is.from t m w r h) k.1,
         )
 
+    read_next : IsRead SeveralBy (joined p q)
+    read_next =
+        record { to = λ t m w text new names h e. next_to t m w h.0 text new names h.1 e; from = next_from }
+
+module _ (p q : Piece) (is : IsItem SubsectionBy p) (some : Begins (bytes_of p)) (are : IsWhole SeveralBy q)
+  where
+    next_back : (t : List ℕ) (m : NewIndices) (w : Widths) (count : ℕ) (text new names : List ℕ) →
+        ChangeAll (RenamesSubsection m w) count text new names → bytes_of p ++ bytes_of q ≡ new →
+        Before (IsRead SeveralBy) t m w (joined p q) text
+    next_back t m w _ _ _ _ no_change e = absurd (some (bytes_of q) (sym e))
+    next_back t m w _ _ _ _ (next_change count text others new news names more h hs) e =
+        let a = is.back t m w text new names (bytes_of q) news h e in
+        let b = are.back t m w others news more (count, hs) a.1 in
+        record {
+          piece = joined a.0.piece b.piece;
+          turns = joins a.0.piece b.piece p q a.0.turns b.turns;
+          text_is =
+              ap (λ (u : List ℕ). u ++ bytes_of b.piece) a.0.text_is ∙ ap (λ (u : List ℕ). text ++ u) b.text_is;
+          is = read_next a.0.piece b.piece a.0.is
+              (subst Begins (sym a.0.text_is) (begins t m w text new names h).0) b.is;
+        }
+
     several_next : IsWhole SeveralBy (joined p q)
     several_next =
-        record { to = λ t m w text new names h e. next_to t m w h.0 text new names h.1 e; from = next_from }
+        let read = read_next p q (read_first_of SubsectionBy p is) some (read_of SeveralBy q are) in
+        record {
+          to = read.to;
+          from = read.from;
+          back = λ t m w text new names h e. next_back t m w h.0 text new names h.1 e;
+        }
 
 -- ---- custom sections
 
 abbrev pub CustomBy : Changing
 CustomBy t m w = RenamesCustom m w
 
-module _ (size : List ℕ) (p : Piece) (h : IsU32 size (length name_bytes)) (are : IsWhole SeveralBy p) where
-  abbrev section_names : Piece
-  section_names = joined (still size) (joined (still name_bytes) p)
+abbrev section_names : List ℕ → Piece → Piece
+section_names size p = joined (still size) (joined (still name_bytes) p)
 
-  section_to : Reads CustomBy section_names
+module _ (size : List ℕ) (p : Piece) (h : IsU32 size (length name_bytes)) (are : IsRead SeveralBy p) where
+  section_to : Reads CustomBy (section_names size p)
   section_to t m w _ _ _ (name_section count size' text new names h' hs) e =
       let c = same_content (size ++ (name_bytes ++ bytes_of p)) name_bytes (bytes_of p) name_bytes text
       (named size name_bytes (bytes_of p) _ h refl) (named size' name_bytes text _ h' e) in
@@ -299,12 +409,40 @@ module _ (size : List ℕ) (p : Piece) (h : IsU32 size (length name_bytes)) (are
       (named size name_bytes (bytes_of p) _ h refl) (named size' bytes follows _ h' e) in
       absurd (different (sym c.0))
 
-  section_from : Writes CustomBy section_names
+  section_from : Writes CustomBy (section_names size p)
   section_from t m w _ (joins _ _ _ _ (unchanged _) (joins _ _ _ q (unchanged _) k)) =
       let s = are.from t m w q k in name_section s.0 size (bytes_of p) (bytes_of q) (names_in p) h s.1
 
-  whole_section : IsWhole CustomBy section_names
-  whole_section = record { to = section_to; from = section_from }
+  read_section : IsRead CustomBy (section_names size p)
+  read_section = record { to = section_to; from = section_from }
+
+module _ (size : List ℕ) (p : Piece) (h : IsU32 size (length name_bytes)) (are : IsWhole SeveralBy p) where
+  section_back : ReadsBack CustomBy (section_names size p)
+  section_back t m w _ _ _ (name_section count size' text new names h' hs) e =
+      let c = same_content (size ++ (name_bytes ++ bytes_of p)) name_bytes (bytes_of p) name_bytes new
+      (named size name_bytes (bytes_of p) _ h refl) (named size' name_bytes new _ h' e) in
+      let one : size ≡ size' = append_cancel_right size size' (name_bytes ++ bytes_of p)
+      (e ∙ ap (λ (u : List ℕ). size' ++ (name_bytes ++ u)) (sym c.1)) in
+      let b = are.back t m w text new names (count, hs) c.1 in
+      record {
+        piece = section_names size b.piece;
+        turns =
+            joins (still size) (joined (still name_bytes) b.piece) (still size) (joined (still name_bytes) p)
+            (unchanged size)
+            (joins (still name_bytes) b.piece (still name_bytes) p (unchanged name_bytes) b.turns);
+        text_is = ap (λ (u : List ℕ). u ++ (name_bytes ++ bytes_of b.piece)) one
+            ∙ ap (λ (u : List ℕ). size' ++ (name_bytes ++ u)) b.text_is;
+        is = read_section size b.piece h b.is;
+      }
+  section_back t m w _ _ _ (other_name size' bytes follows h' different) e =
+      let c = same_content (size ++ (name_bytes ++ bytes_of p)) name_bytes (bytes_of p) bytes follows
+      (named size name_bytes (bytes_of p) _ h refl) (named size' bytes follows _ h' e) in
+      absurd (different (sym c.0))
+
+  whole_section : IsWhole CustomBy (section_names size p)
+  whole_section =
+      let read = read_section size p h (read_of SeveralBy p are) in
+      record { to = read.to; from = read.from; back = section_back }
 
 module _ (size bytes follows : List ℕ) (h : IsU32 size (length bytes)) (different : bytes ≡ name_bytes → ⊥)
   where
@@ -322,8 +460,21 @@ module _ (size bytes follows : List ℕ) (h : IsU32 size (length bytes)) (differ
     other_from : Writes CustomBy (still whole_text)
     other_from t m w _ (unchanged _) = other_name size bytes follows h different
 
+    other_back : ReadsBack CustomBy (still whole_text)
+    other_back t m w _ _ _ (name_section count size' text new names h' hs) e =
+        let c = same_content whole_text bytes follows name_bytes new (named size bytes follows _ h refl)
+        (named size' name_bytes new _ h' e) in
+        absurd (different c.0)
+    other_back t m w _ _ _ (other_name size' bytes' follows' h' different') e =
+        record {
+          piece = still whole_text;
+          turns = unchanged whole_text;
+          text_is = e;
+          is = record { to = other_to; from = other_from };
+        }
+
     whole_other : IsWhole CustomBy (still whole_text)
-    whole_other = record { to = other_to; from = other_from }
+    whole_other = record { to = other_to; from = other_from; back = other_back }
 
 -- ---- the pieces of what becomes something
 

@@ -53,13 +53,50 @@ ReadsFirst C p =
     (t : List ℕ) (m : NewIndices) (w : Widths) (text new names r s : List ℕ)
     → C t m w text new names → bytes_of p ++ r ≡ text ++ s → Fits t m w p new names × (r ≡ s)
 
+pub record IsRead (C : Changing) (p : Piece) : Type 0 where
+  pub to : Reads C p
+  pub from : Writes C p
+
+pub record IsReadFirst (C : Changing) (p : Piece) : Type 0 where
+  pub to : ReadsFirst C p
+  pub from : Writes C p
+
+-- a piece of this text, which becomes r
+pub record Before (Is : Piece → Type 0) (t : List ℕ) (m : NewIndices) (w : Widths) (r : Piece)
+    (text : List ℕ) : Type 0 where
+  pub piece : Piece
+  pub turns : Turns t m w piece r
+  pub text_is : bytes_of piece ≡ text
+  pub is : Is piece
+
+-- what becomes the piece's bytes has a piece that becomes it
+abbrev pub ReadsBack : Changing → Piece → Type 0
+ReadsBack C r =
+    (t : List ℕ) (m : NewIndices) (w : Widths) (text new names : List ℕ) → C t m w text new names
+    → bytes_of r ≡ new → Before (IsRead C) t m w r text
+
+-- the same in front of other bytes
+abbrev pub ReadsFirstBack : Changing → Piece → Type 0
+ReadsFirstBack C r =
+    (t : List ℕ) (m : NewIndices) (w : Widths) (text new names x y : List ℕ)
+    → C t m w text new names → bytes_of r ++ x ≡ new ++ y
+    → Before (IsReadFirst C) t m w r text × (x ≡ y)
+
 pub record IsWhole (C : Changing) (p : Piece) : Type 0 where
   pub to : Reads C p
   pub from : Writes C p
+  pub back : ReadsBack C p
 
 pub record IsItem (C : Changing) (p : Piece) : Type 0 where
   pub to : ReadsFirst C p
   pub from : Writes C p
+  pub back : ReadsFirstBack C p
+
+pub read_of : (C : Changing) (p : Piece) → IsWhole C p → IsRead C p
+read_of C p is = record { to = is.to; from = is.from }
+
+pub read_first_of : (C : Changing) (p : Piece) → IsItem C p → IsReadFirst C p
+read_first_of C p is = record { to = is.to; from = is.from }
 
 -- `P` holds of the types that each map names
 abbrev pub HoldsOfMaps : (List ℕ → Type 0) → Piece → Type 0
@@ -98,11 +135,27 @@ AreSame C D =
     → (C t m w text new names → D t m w text new names)
     × (D t m w text new names → C t m w text new names)
 
-pub whole_as : (C D : Changing) → AreSame C D → (p : Piece) → IsWhole C p → IsWhole D p
-whole_as C D same p is =
+read_as : (C D : Changing) → AreSame C D → (p : Piece) → IsRead C p → IsRead D p
+read_as C D same p is =
     record {
       to = λ t m w text new names h e. is.to t m w text new names ((same t m w text new names).1 h) e;
       from = λ t m w q h. (same t m w (bytes_of p) (bytes_of q) (names_in p)).0 (is.from t m w q h);
+    }
+
+pub whole_as : (C D : Changing) → AreSame C D → (p : Piece) → IsWhole C p → IsWhole D p
+whole_as C D same p is =
+    let read = read_as C D same p (read_of C p is) in
+    record {
+      to = read.to;
+      from = read.from;
+      back = λ t m w text new names h e. (
+          let b = is.back t m w text new names ((same t m w text new names).1 h) e in
+          record {
+            piece = b.piece;
+            turns = b.turns;
+            text_is = b.text_is;
+            is = read_as C D same b.piece b.is;
+          });
     }
 
 -- ---- texts that stay, and one behind another
@@ -139,8 +192,8 @@ stays_by C t m w text new names c h =
     subst (λ (u : List ℕ). C t m w text u names) h.0
     (subst (λ (u : List ℕ). C t m w text text u) (sym h.1) c)
 
-pub whole_still : (text : List ℕ) → IsWhole StaysAsItIs (still text)
-whole_still text =
+read_still : (text : List ℕ) → IsRead StaysAsItIs (still text)
+read_still text =
     record {
       to = λ t m w other new names h e. record {
         piece = still text;
@@ -149,6 +202,20 @@ whole_still text =
         names_are = h.1;
       };
       from = λ t m w q h. (still_bytes t m w text q h, refl);
+    }
+
+pub whole_still : (text : List ℕ) → IsWhole StaysAsItIs (still text)
+whole_still text =
+    let read = read_still text in
+    record {
+      to = read.to;
+      from = read.from;
+      back = λ t m w other new names h e. record {
+        piece = still text;
+        turns = unchanged text;
+        text_is = e ∙ sym h.0;
+        is = read_still text;
+      };
     }
 
 -- ---- tokens
@@ -217,6 +284,34 @@ same_index : (k : Kind) (text : List ℕ) (p q : Token) (more inner : List Kind)
 same_index k text p q more inner i named h g =
     token_is k text q inner i g (sym (same_type_name k text p q more inner h g) ∙ named)
     ∙ sym (token_is k text p more i h named)
+
+-- a text has one piece
+one_token : (k : Kind) (text : List ℕ) (p q : Token) (more inner : List Kind) → View q →
+    Begins k text p more → Begins k text q inner → piece_of p ≡ piece_of q
+one_token k text p _ more inner (u32_type before j) h g =
+    ap piece_of (same_index k text (unsigned space.Type before j) p inner more j refl g h)
+one_token k text p _ more inner (s33_type before j) h g =
+    ap piece_of (same_index k text (signed space.Type before j) p inner more j refl g h)
+one_token k text p _ more inner (other q unnamed maps) h g =
+    let none : type_name p ≡ None = same_type_name k text p q more inner h g ∙ unnamed in
+    unnamed_piece p none
+    ∙ (ap (λ (u : List ℕ). still u) (sym (token_text k text p more h) ∙ token_text k text q inner g)
+    ∙ sym (unnamed_piece q unnamed))
+
+one_text : (kinds : List Kind) (a : List ℕ) (ps : List Token) (b : List ℕ) (qs : List Token)
+    (r s : List ℕ) → AreTexts kinds a ps → AreTexts kinds b qs → a ++ r ≡ b ++ s → pieces ps ≡ pieces qs
+one_text _ _ _ _ _ r s (stop _) (stop _) e = refl
+one_text _ _ _ _ _ r s (step k more kinds _ text others p ps h runs)
+    (step _ inner _ _ text' others' q qs g runs') e =
+    let bytes : text ++ (others ++ r) ≡ text' ++ (others' ++ s) =
+    sym (append_assoc text others r) ∙ e ∙ append_assoc text' others' s in
+    let same = same_step k text text' p q more inner (others ++ r) (others' ++ s) h g bytes in
+    let begins : text ≡ text' = cancel text text' (others ++ r) (others' ++ s) bytes same.1 in
+    let one : piece_of p ≡ piece_of q = one_token k text p q more inner (view q) h
+    (subst (λ (u : List ℕ). Begins k u q inner) (sym begins) g) in
+    let rest : pieces ps ≡ pieces qs = one_text (more ++ kinds) others ps others' qs r s runs
+    (subst (λ (u : List Kind). AreTexts (u ++ kinds) others' qs) (sym same.0) runs') same.1 in
+    ap (λ u. joined u (pieces ps)) one ∙ ap (λ u. joined (piece_of q) u) rest
 
 unnamed_same : (new_indices : NewIndices) (least : ℕ → ℕ) (p : Token) (new : List ℕ) → View p →
     type_name p ≡ None →
@@ -401,8 +496,25 @@ module _ (kinds : List Kind) (text : List ℕ) (ps : List Token) (are : AreTexts
         renames = record { tokens = ps; are = here; renamed = tokens_from t m w ps q h };
       }
 
+  read_texts : IsRead (TextsBy kinds) (pieces ps)
+  read_texts = record { to = texts_to; from = texts_from }
+
+module _ (kinds : List Kind) (text : List ℕ) (ps : List Token) (are : AreTexts kinds text ps) where
+  texts_back : ReadsBack (TextsBy kinds) (pieces ps)
+  texts_back t m w before new names h e =
+      let r = texts_again t m w kinds before h.renames.tokens [] new h.renames.are h.renames.renamed in
+      let same : pieces r.tokens ≡ pieces ps = one_text kinds new r.tokens text ps [] [] r.runs are
+      (ap (λ (u : List ℕ). u ++ []) (sym e ∙ bytes_are kinds text ps are)) in
+      record {
+        piece = pieces h.renames.tokens;
+        turns = subst (λ (u : Piece). Turns t m w (pieces h.renames.tokens) u) same r.turns;
+        text_is = pieces_bytes kinds before h.renames.tokens [] h.renames.are;
+        is = read_texts kinds before h.renames.tokens h.renames.are;
+      }
+
   whole_texts : IsWhole (TextsBy kinds) (pieces ps)
-  whole_texts = record { to = texts_to; from = texts_from }
+  whole_texts =
+      record { to = texts_to kinds text ps are; from = texts_from kinds text ps are; back = texts_back }
 
 pub found_texts : (P : List ℕ → Type 0) (t : List ℕ) (m : NewIndices) (w : Widths) (kinds : List Kind) →
     Finds (IsWhole (TextsBy kinds)) P t m w (RenamesTexts m w kinds)

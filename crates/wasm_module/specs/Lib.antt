@@ -18,3 +18,4 @@ pub mod UnknownCustoms
 pub mod Composition
 pub mod RenamedNames
 pub mod Pieces
+pub mod Alike

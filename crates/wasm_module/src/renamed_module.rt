@@ -47,13 +47,13 @@ const TYPES: u8 = 1;
 /// [`RenameError::TooLong`] comes where a section, or a part of one that has a size, has 2^32 bytes
 /// or more in the result. [`RenameError::Memory`] comes where memory was refused.
 ///
-/// # A module with its used types in normal form
+/// # A module with its used types in canonical form
 ///
 /// ```
 /// let groups = module_types(alloc, bytes)?;
 /// let roots = named_types(alloc, bytes)?;
-/// let (normal, new_indices) = normalise_used(alloc, HashKeys::fixed(), &groups, &roots)?;
-/// let types = encode_types(alloc, normal.as_slice())?;
+/// let (canonical, new_indices) = canonicalise(alloc, HashKeys::fixed(), groups, Some(&roots))?;
+/// let types = encode_types(alloc, canonical.as_slice())?;
 /// let new = rename_module(alloc, bytes, &types, &new_indices, Widths::Shortest)?;
 /// ```
 pub fn rename_module(

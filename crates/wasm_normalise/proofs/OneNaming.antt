@@ -20,7 +20,7 @@ use Rattle.wasm_module.specs.Renaming.{NewIndices, new_index}
 use Rattle.wasm_module.proofs.RenamedNames.{module_follows}
 use Rattle.wasm_module.proofs.SizedContents.{number_read, same_number, same_content}
 use Rattle.wasm_module.proofs.StrippedOnce.{module_of}
-use Rattle.wasm_normalise.specs.NormalModules.{IsLeft, IsNormalised}
+use Rattle.wasm_normalise.specs.CanonicalModules.{IsLeft, IsCanonicalModule}
 use Rattle.wasm_normalise.specs.declared.options.Descriptions.{Descriptions}
 use Rattle.wasm_normalise.specs.declared.options.Descriptions.TheVariants as descriptions
 use Rattle.wasm_normalise.specs.declared.options.NormaliseOptions.{NormaliseOptions}
@@ -103,31 +103,27 @@ named_once bytes a b h k =
 
 -- ---- what is left without sections that describe other bytes
 
--- what sections name that are left
+-- what sections name that are left, the others name as well
 record Left (bytes new : List ℕ) : Type 0 where
   all : List Section
   left : List Section
   before : AreItems IsSection bytes all
   after : AreItems IsSection new left
-  name : (names : List ℕ) → AreContents all names → AreContents left names
-
-custom_names_none : (id : ℕ) (content names : List ℕ) → id ≡ 0 → IsContent id content names → names ≡ []
-custom_names_none id content names e h =
-    content_once 0 content names [] (subst (λ n. IsContent n content names) e h)
-    (nameless 0 content refl (λ same. absurd cc))
+  name : (names : List ℕ) → AreContents left names → AreContents all names
 
 left_out_names : (s : Section) (all left : List Section) (names : List ℕ) → s.id ≡ 0 →
-    ((others : List ℕ) → AreContents all others → AreContents left others) → AreContents (s ∷ all) names →
-    AreContents left names
-left_out_names s all left _ custom on (next_content _ _ names others h hs) =
-    subst (λ (u : List ℕ). AreContents left (u ++ others))
-    (sym (custom_names_none s.id s.content names custom h)) (on others hs)
+    ((others : List ℕ) → AreContents left others → AreContents all others) → AreContents left names →
+    AreContents (s ∷ all) names
+left_out_names s all left names custom on h =
+    next_content s all [] names
+    (subst (λ n. IsContent n s.content []) (sym custom) (nameless 0 s.content refl (λ same. absurd cc)))
+    (on names h)
 
 kept_names : (s : Section) (all left : List Section) (names : List ℕ) →
-    ((others : List ℕ) → AreContents all others → AreContents left others) → AreContents (s ∷ all) names →
-    AreContents (s ∷ left) names
+    ((others : List ℕ) → AreContents left others → AreContents all others) → AreContents (s ∷ left) names →
+    AreContents (s ∷ all) names
 kept_names s all left _ on (next_content _ _ names others h hs) =
-    next_content s left names others h (on others hs)
+    next_content s all names others h (on others hs)
 
 sections_left : (bytes new : List ℕ) → AreStripped bytes new → Left bytes new
 sections_left _ _ none_stripped =
@@ -151,40 +147,42 @@ sections_left _ _ (next_stripped _ _ rest news (kept text s h d) hs) =
       name = λ names k. kept_names s r.all r.left names r.name k;
     }
 
-left_names : (bytes left names others : List ℕ) → IsStripped bytes left → NamesOutside bytes names →
-    NamesOutside left others → names ≡ others
-left_names bytes left names others s h k =
+stripped_names : (bytes left names : List ℕ) → IsStripped bytes left → NamesOutside left names →
+    NamesOutside bytes names
+stripped_names bytes left names s k =
     let r = sections_left s.texts s.new_texts s.are in
     let all : IsModule bytes r.all = module_of bytes s.texts s.sections r.all s.is_module s.parts r.before in
     let rest : IsModule left r.left = module_of left s.new_texts k.sections r.left k.is_module s.new_parts
     r.after
     in
-    let there : AreContents r.all names = subst (λ (u : List Section). AreContents u names)
-    (one_module bytes h.sections r.all h.is_module all) h.are in
-    named_once left names others (record { sections = r.left; is_module = rest; are = r.name names there }) k
+    let there : AreContents r.left names = subst (λ (u : List Section). AreContents u names)
+    (one_module left k.sections r.left k.is_module rest) k.are in
+    record { sections = r.all; is_module = all; are = r.name names there }
 
-pub names_left : (d : Descriptions) (bytes left names others : List ℕ) → IsLeft d bytes left →
-    NamesOutside bytes names → NamesOutside left others → names ≡ others
-names_left descriptions.Kept bytes left names others is h k =
-    named_once bytes names others h (subst (λ (u : List ℕ). NamesOutside u others) is k)
-names_left descriptions.Stripped bytes left names others is h k = left_names bytes left names others is h k
+-- what is left of a module names what the module names
+pub names_before : (d : Descriptions) (bytes left names : List ℕ) → IsLeft d bytes left →
+    NamesOutside left names → NamesOutside bytes names
+names_before descriptions.Kept bytes left names is k = subst (λ (u : List ℕ). NamesOutside u names) is k
+names_before descriptions.Stripped bytes left names is k = stripped_names bytes left names is k
 
--- ---- the names of a module in normal form
+-- ---- the names of a module in canonical form
 
--- the result names the new ones of the roots
-pub record NewRoots (m : NewIndices) (roots : List ℕ) (new : List ℕ) : Type 0 where
-  pub new_roots : List ℕ
-  pub named : NamesOutside new new_roots
-  pub mapped : map (λ k. new_index m k) roots ≡ map (λ k. Some k) new_roots
+-- what the module names, and the new ones that the result names in turn
+pub record NamesInTurn (m : NewIndices) (bytes new : List ℕ) : Type 0 where
+  pub names : List ℕ
+  pub new_names : List ℕ
+  pub named : NamesOutside bytes names
+  pub new_named : NamesOutside new new_names
+  pub mapped : map (λ k. new_index m k) names ≡ map (λ k. Some k) new_names
 
-pub new_roots_of : (options : NormaliseOptions) (bytes new roots : List ℕ) →
-    (h : IsNormalised options bytes new)
-    → NamesOutside bytes roots → NewRoots h.new_indices roots new
-new_roots_of options bytes new roots h named =
+pub names_in_turn : (options : NormaliseOptions) (bytes new : List ℕ) →
+    (h : IsCanonicalModule options bytes new) → NamesInTurn h.new_indices bytes new
+names_in_turn options bytes new h =
     let f = module_follows h.new_indices options.widths h.types h.left new h.renamed in
-    let same = names_left options.descriptions bytes h.left roots f.names h.is_left named f.before in
     record {
-      new_roots = f.new_names;
-      named = f.after;
-      mapped = ap (λ (u : List ℕ). map (λ k. new_index h.new_indices k) u) same ∙ f.mapped;
+      names = f.names;
+      new_names = f.new_names;
+      named = names_before options.descriptions bytes h.left f.names h.is_left f.before;
+      new_named = f.after;
+      mapped = f.mapped;
     }

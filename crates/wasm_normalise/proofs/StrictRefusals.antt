@@ -1,7 +1,7 @@
--- What the errors of the steps of `normalise_strictly` say.
+-- What the errors of the steps of `strict_canonical_module` say.
 use Rattle.std.proofs.Common.{◌≡◌, ℕ, List, Result, Ok, Err, sym, subst}
 use Rattle.std.specs.Prelude.{IfErr, IsErrAnd}
-use Rattle.wasm_normalise.specs.NormalModules.{IsRefusedBy}
+use Rattle.wasm_normalise.specs.CanonicalModules.{IsRefusedBy}
 use Rattle.wasm_normalise.specs.StrictErrors.{IsStrictError}
 use Rattle.wasm_normalise.specs.declared.error.NormaliseModuleError.{NormaliseModuleError}
 use Rattle.wasm_normalise.specs.declared.options.NormaliseOptions.{NormaliseOptions}

@@ -1,7 +1,6 @@
-pub mod NormalModules
+pub mod CanonicalModules
+pub mod Meanings
+pub mod AlikeModules
 pub mod Steps
-pub mod Moved
-pub mod Relisted
-pub mod EqualTypes
 pub mod Hazards
 pub mod StrictErrors

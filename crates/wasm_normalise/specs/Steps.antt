@@ -1,6 +1,5 @@
 -- What private functions promise one another on the way to a public clause. No public clause cites
 -- this module: who wants to know what the crate promises can pass it over.
 pub mod Errors
-pub mod NormalModules
-pub mod NormalTypes
-pub mod SelfReferences
+pub mod CanonicalModules
+pub mod CanonicalTypes

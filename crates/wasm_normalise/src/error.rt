@@ -1,4 +1,4 @@
-//! Why a module was not normalised, with the place.
+//! Why no module with its types in canonical form was made, with the place.
 ghost use Rattle.std.specs.Prelude.{◌≡◌};
 ghost use Rattle.wasm_normalise.specs.Steps.Errors.{encode_failure, read_failure, types_failure};
 ghost use Rattle.wasm_normalise.specs.declared.error.NormaliseModuleError.TheVariants as failure;
@@ -7,10 +7,10 @@ use std::alloc::AllocError;
 use std::fmt;
 use std::fmt::{Display, Formatter};
 use thiserror::Error;
-use walrus_types::ReadError;
+use walrus_canonical::ReadError;
 use wasm_binary::{DecodeError, EncodeError};
 
-/// Why a module was not normalised.
+/// Why no module with its types in canonical form was made.
 #[derive(Clone, Copy, PartialEq, Eq, Debug, Error)]
 pub enum NormaliseModuleError {
     /// The bytes are no module, or its types could not be read. It is never

@@ -2,12 +2,12 @@
 //!
 //! WebAssembly core specification, "Binary Format", modules.
 ghost use Rattle.std.specs.Prelude.{IfErr, IfOk};
-ghost use Rattle.wasm_normalise.specs.NormalModules.{HasCount, HasTypesError, IsRefusedBy, IsStoppedByFault};
+ghost use Rattle.wasm_normalise.specs.CanonicalModules.{HasCount, HasTypesError, IsRefusedBy, IsStoppedByFault};
 ghost use Rattle.wasm_normalise.specs.declared.options.NormaliseOptions.{NormaliseOptions};
 
 use crate::{HashKeys, NormaliseModuleError};
 use std::alloc::Global;
-use walrus_types::normalise;
+use walrus_canonical::{CanonicalError, canonicalise};
 use wasm_binary::module_types;
 use wasm_module::{RenameError, check_module};
 
@@ -49,6 +49,10 @@ fn type_count(alloc: Global, keys: HashKeys, bytes: &[u8]) -> Result<u32, Normal
     ensures refused { IfErr result (HasTypesError bytes.now) }
 {
     let groups = module_types(alloc, bytes)?;
-    let (_, indices) = normalise(alloc, keys, groups.as_slice())?;
-    Ok(indices.len() as u32)
+    match canonicalise(alloc, keys, groups, None) {
+        Ok((_, new_indices)) => Ok(new_indices.len() as u32),
+        Err(CanonicalError::Section(error)) => Err(NormaliseModuleError::from(error)),
+        // All indices are roots, and so none is unknown. So only memory was refused.
+        Err(_) => Err(NormaliseModuleError::Memory),
+    }
 }

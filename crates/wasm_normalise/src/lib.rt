@@ -1,17 +1,16 @@
-//! WebAssembly modules whose type section is in normal form.
+//! WebAssembly modules whose type section is in canonical form.
 //!
-//! [`normalise_module`] replaces the type section of a module by its normal form, and writes every
-//! other index of a type again. It puts together calls of the crates below:
-//! [`module_types`](wasm_binary::module_types) reads the section,
-//! [`normalise`](walrus_types::normalise) returns its normal form and the new index of each type,
-//! [`encode_types`](wasm_binary::encode_types) writes the normal form, and
-//! [`rename_module`](wasm_module::rename_module) writes the module. Where [`NormaliseOptions`]
-//! want that, [`normalise_used`](walrus_unused::normalise_used) deletes the types that nothing
-//! uses, and [`strip_descriptions`](wasm_module::strip_descriptions) leaves out debug data and
-//! the like. Where these are kept, [`find_outdated`](wasm_module::find_outdated) looks for a
-//! custom section that no longer fits. [`find_hazard`] looks for what can be wrong in the result,
-//! and [`find_changed_type`] for a type that the normal form makes another one.
-//! [`normalise_strictly`] returns only a module in which nothing can be wrong.
+//! [`canonical_module`] replaces the type section of a module by its canonical form, and writes every
+//! other index of a type again, so that it means an equal type. It puts together calls of the crates
+//! below: [`module_types`](wasm_binary::module_types) reads the section,
+//! [`canonicalise`](walrus_canonical::canonicalise) returns its canonical form and the new index of
+//! each type, [`encode_types`](wasm_binary::encode_types) writes the canonical form, and
+//! [`rename_module`](wasm_module::rename_module) writes the module. Where [`NormaliseOptions`] want
+//! that, the types that nothing uses are deleted, and
+//! [`strip_descriptions`](wasm_module::strip_descriptions) leaves out debug data and the like. Where
+//! these are kept, [`find_outdated`](wasm_module::find_outdated) looks for a custom section that no
+//! longer fits. [`find_hazard`] looks for what can be wrong in the result, and
+//! [`strict_canonical_module`] returns only a module in which nothing can be wrong.
 //!
 //! # Which section no longer fits
 //!
@@ -29,24 +28,20 @@
 //! ```
 #![tactic(auto)]
 
-mod changed_types;
-mod entry_references;
+mod canonical_modules;
+mod canonical_types;
 mod error;
 mod faults;
 mod hazards;
 pub mod laws;
-mod normal_module;
-mod normal_types;
 mod options;
 mod refusal;
-mod self_references;
 mod strict;
 
-pub use changed_types::find_changed_type;
+pub use canonical_modules::canonical_module;
 pub use error::NormaliseModuleError;
 pub use hazards::{Hazard, find_hazard};
-pub use normal_module::normalise_module;
 pub use options::{Descriptions, NormaliseOptions, UnusedTypes};
-pub use strict::{StrictError, normalise_strictly};
-pub use walrus_types::HashKeys;
+pub use strict::{StrictError, strict_canonical_module};
+pub use walrus_canonical::HashKeys;
 pub use wasm_module::Widths;

@@ -1,4 +1,4 @@
-//! How a module is normalised.
+//! How a module gets the canonical form of its types.
 use wasm_module::Widths;
 
 /// What becomes of custom sections that describe other bytes of their module, such as debug data.
@@ -19,12 +19,12 @@ pub enum UnusedTypes {
     #[default]
     Kept,
     /// They are deleted. The roots are the types that a module names outside its type section, and
-    /// not in the custom section `name`. [`normalise_used`](walrus_unused::normalise_used) says
-    /// which types they use.
+    /// not in the custom section `name`. [`canonicalise`](walrus_canonical::canonicalise) says which
+    /// types they need.
     Deleted,
 }
 
-/// How a module is normalised. The default is the shortest indices, and everything else kept, as
+/// How a module gets the canonical form of its types. The default is the shortest indices, and everything else kept, as
 /// `wasmnorm` does without options.
 #[derive(Clone, Copy, PartialEq, Eq, Debug, Default)]
 pub struct NormaliseOptions {

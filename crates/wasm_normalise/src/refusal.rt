@@ -1,17 +1,16 @@
-//! Why a module was not normalised, before the place of a fault in it is looked for.
+//! Why no module was made, before the place of a fault in it is looked for.
 ghost use Rattle.std.specs.Prelude.{◌≡◌};
-ghost use Rattle.wasm_normalise.specs.Steps.Errors.{encode_refusal, read_refusal, rename_refusal, scan_refusal, types_refusal, used_refusal};
+ghost use Rattle.wasm_normalise.specs.Steps.Errors.{canonical_refusal, encode_refusal, rename_refusal, scan_refusal, types_refusal};
 ghost use Rattle.wasm_normalise.specs.declared.error.NormaliseModuleError.TheVariants as error;
 ghost use Rattle.wasm_normalise.specs.declared.refusal.Refusal.TheVariants as refusal;
 
 use crate::NormaliseModuleError;
 use std::alloc::AllocError;
-use walrus_types::ReadError;
-use walrus_unused::NormaliseUsedError;
+use walrus_canonical::CanonicalError;
 use wasm_binary::{DecodeError, EncodeError};
 use wasm_module::{RenameError, ScanError};
 
-/// Why a module was not normalised.
+/// Why no module was made.
 #[derive(Clone, Copy, PartialEq, Eq, Debug)]
 pub enum Refusal {
     /// A section other than the type section is malformed, or names a type that the type section
@@ -25,14 +24,6 @@ impl From<DecodeError> for Refusal {
     ghost from_gives = { λ e new. new ≡ types_refusal e };
 
     fn from(error: DecodeError) -> Refusal {
-        Refusal::Other(NormaliseModuleError::from(error))
-    }
-}
-
-impl From<ReadError> for Refusal {
-    ghost from_gives = { λ e new. new ≡ read_refusal e };
-
-    fn from(error: ReadError) -> Refusal {
         Refusal::Other(NormaliseModuleError::from(error))
     }
 }
@@ -53,14 +44,14 @@ impl From<AllocError> for Refusal {
     }
 }
 
-impl From<NormaliseUsedError> for Refusal {
-    ghost from_gives = { λ e new. new ≡ used_refusal e };
+impl From<CanonicalError> for Refusal {
+    ghost from_gives = { λ e new. new ≡ canonical_refusal e };
 
-    fn from(error: NormaliseUsedError) -> Refusal {
+    fn from(error: CanonicalError) -> Refusal {
         match error {
-            NormaliseUsedError::Section(error) => Refusal::from(error),
-            NormaliseUsedError::UnknownRoot { .. } => Refusal::Fault,
-            NormaliseUsedError::Memory => Refusal::Other(NormaliseModuleError::Memory),
+            CanonicalError::Section(error) => Refusal::Other(NormaliseModuleError::from(error)),
+            CanonicalError::UnknownRoot { .. } => Refusal::Fault,
+            CanonicalError::Memory => Refusal::Other(NormaliseModuleError::Memory),
         }
     }
 }

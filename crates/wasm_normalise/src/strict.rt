@@ -1,24 +1,26 @@
-//! A module with its types in normal form, if nothing can be wrong in it.
-ghost use Rattle.std.specs.Prelude.{◌≡◌, IfErr, IfOk, OnOk};
-ghost use Rattle.wasm_normalise.specs.Hazards.{HasNoHazard};
-ghost use Rattle.wasm_normalise.specs.NormalModules.{DescriptionsFit, IsNormalised};
+//! A module with its types in canonical form, if nothing can be wrong in it.
+ghost use Rattle.std.specs.Prelude.{◌≡◌, IfErr, IfNone, IfOk, IfSome, OnOk};
+ghost use Rattle.wasm_binary.specs.Modules.{IsNoModule};
+ghost use Rattle.wasm_normalise.specs.CanonicalModules.{DescriptionsFit, IsCanonicalModule};
+ghost use Rattle.wasm_normalise.specs.Hazards.{HasNoHazard, IsHazard};
+ghost use Rattle.wasm_normalise.specs.Meanings.{NameEqualTypes};
 ghost use Rattle.wasm_normalise.specs.StrictErrors.{IsStrictError};
 ghost use Rattle.wasm_normalise.specs.declared.options.Descriptions.TheVariants as descriptions;
 ghost use Rattle.wasm_normalise.specs.declared.strict.StrictError.TheVariants as failure;
 
 use crate::{
-    HashKeys, Hazard, NormaliseModuleError, NormaliseOptions, find_hazard, normalise_module,
+    HashKeys, Hazard, NormaliseModuleError, NormaliseOptions, canonical_module, find_hazard,
 };
 use std::alloc::Global;
 use thiserror::Error;
 
-/// Why [`normalise_strictly`] returned no module.
+/// Why [`strict_canonical_module`] returned no module.
 #[derive(Clone, Copy, PartialEq, Eq, Debug, Error)]
 pub enum StrictError {
-    /// The module was not normalised, or memory was refused to the search for a hazard.
+    /// No module was made.
     #[error("{0}")]
     Refused(NormaliseModuleError),
-    /// The module was normalised, but this can be wrong in the result.
+    /// A module was made, but this can be wrong in it.
     #[error("{0}")]
     Hazard(Hazard),
 }
@@ -31,14 +33,13 @@ impl From<NormaliseModuleError> for StrictError {
     }
 }
 
-/// Returns what [`normalise_module`] returns, if nothing can be wrong in it: each type stays equal
-/// to what it was, and each custom section is of a known kind. `wasmnorm --strict` does the same.
+/// Returns what [`canonical_module`] returns, if nothing can be wrong in it: each custom section is
+/// of a known kind. `wasmnorm --strict` does the same.
 ///
 /// # Errors
 ///
-/// - [`StrictError::Refused`] has the error of `normalise_module`. It has
-///   [`NormaliseModuleError::Memory`] also where `find_hazard` was refused memory.
-/// - [`StrictError::Hazard`] has what [`find_hazard`] finds. It comes only where `normalise_module`
+/// - [`StrictError::Refused`] has the error of `canonical_module`.
+/// - [`StrictError::Hazard`] has what [`find_hazard`] finds. It comes only where `canonical_module`
 ///   returns a module.
 ///
 /// # Without unused types
@@ -48,16 +49,18 @@ impl From<NormaliseModuleError> for StrictError {
 ///     unused: UnusedTypes::Deleted,
 ///     ..NormaliseOptions::default()
 /// };
-/// let new = normalise_strictly(alloc, keys, bytes, options)?;
+/// let new = strict_canonical_module(alloc, keys, bytes, options)?;
 /// ```
-pub fn normalise_strictly(
+#[tactic(auto, using(crate::proofs::ModulesWithTypes::result_is_of_module))]
+pub fn strict_canonical_module(
     alloc: Global,
     keys: HashKeys,
     bytes: &[u8],
     options: NormaliseOptions,
 ) -> Result<Vec<u8>, StrictError>
-    // The result is what `normalise_module` returns,
-    ensures normal { IfOk result (λ new. IsNormalised options bytes.now new.items) }
+    // The result is what `canonical_module` returns,
+    ensures canonical { IfOk result (λ new. IsCanonicalModule options bytes.now new.items) }
+    ensures same_types { IfOk result (λ new. NameEqualTypes bytes.now new.items) }
     ensures fits { options.descriptions ≡ descriptions.Kept →
         IfOk result (λ new. DescriptionsFit bytes.now new.items) }
     // and nothing can be wrong in it.
@@ -65,9 +68,19 @@ pub fn normalise_strictly(
     // Or there is none, as the error says.
     ensures refused { IfErr result (IsStrictError options bytes.now) }
 {
-    let new = normalise_module(alloc, keys, bytes, options)?;
-    match find_hazard(alloc, keys, bytes)? {
+    let new = canonical_module(alloc, keys, bytes, options)?;
+    match hazard_of(bytes) {
         Some(hazard) => Err(StrictError::Hazard(hazard)),
         None => Ok(new),
     }
+}
+
+/// What can be wrong in the module that is made of these bytes.
+fn hazard_of(bytes: &[u8]) -> Option<Hazard>
+    requires { ¬ IsNoModule bytes.now }
+    ensures found { IfSome result (IsHazard bytes.now) }
+    ensures none { IfNone result (HasNoHazard bytes.now) }
+{
+    // The bytes are a module, so there is no error.
+    find_hazard(bytes).unwrap_or(None)
 }

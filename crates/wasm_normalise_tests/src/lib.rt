@@ -1,4 +1,4 @@
-//! Tests of modules in normal form through the public calls of `wasm_normalise`, and of the laws
+//! Tests of modules with their types in canonical form through the public calls of `wasm_normalise`, and of the laws
 //! that connect two modules.
 //!
 //! They are in a crate of their own, since tests inside a crate have the gate prove that crate a
@@ -6,7 +6,7 @@
 #![tactic(auto)]
 
 #[cfg(test)]
-mod changed_types;
+mod equal_types;
 #[cfg(test)]
 mod hazards;
 #[cfg(test)]

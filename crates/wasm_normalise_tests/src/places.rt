@@ -4,7 +4,7 @@ use std::alloc::Global;
 use std::test::*;
 use wasm_normalise::{
     Descriptions, HashKeys, NormaliseModuleError, NormaliseOptions, UnusedTypes, Widths,
-    normalise_module,
+    canonical_module,
 };
 
 // (type (struct)) (type (func)), and a function of type 7
@@ -57,7 +57,7 @@ fn is_refused(
         descriptions,
         unused,
     };
-    normalise_module(alloc, HashKeys::fixed(), bytes, options).err() == Some(error)
+    canonical_module(alloc, HashKeys::fixed(), bytes, options).err() == Some(error)
 }
 
 #[test]

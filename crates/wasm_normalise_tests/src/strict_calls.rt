@@ -1,12 +1,11 @@
-//! Modules that are normalised only if nothing can be wrong in the result. The modules and the
+//! Modules that are written again only if nothing can be wrong in the result. The modules and the
 //! results are put together by hand from the specification's grammar.
-use crate::changed_types::JOINS;
-use crate::tests::NORMAL;
+use crate::tests::CANONICAL;
 use std::alloc::Global;
 use std::test::*;
 use wasm_normalise::{
     HashKeys, Hazard, NormaliseModuleError, NormaliseOptions, StrictError, UnusedTypes,
-    normalise_strictly,
+    strict_canonical_module,
 };
 
 // (type (struct)) (type (func)) (func (type 1))
@@ -14,7 +13,7 @@ const SAFE: [u8; 20] = [
     0, 0x61, 0x73, 0x6D, 1, 0, 0, 0, 1, 6, 2, 0x5F, 0, 0x60, 0, 0, 3, 2, 1, 1,
 ];
 
-// the same with its types in normal form, without the type that nothing uses
+// the same with its types in canonical form, without the type that nothing uses
 const PRUNED: [u8; 18] = [
     0, 0x61, 0x73, 0x6D, 1, 0, 0, 0, 1, 4, 1, 0x60, 0, 0, 3, 2, 1, 0,
 ];
@@ -27,7 +26,8 @@ const ILL_NAMED: [u8; 22] = [
     0, 0x61, 0x73, 0x6D, 1, 0, 0, 0, 1, 4, 1, 0x60, 0, 0, 3, 2, 1, 1, 0, 2, 1, b'x',
 ];
 
-// the types that are joined, the same custom section, and one that has to fit all bytes
+// two types, of which the second names the first, the same custom section, and one that has to fit
+// all bytes
 const SIGNED: [u8; 37] = [
     0, 0x61, 0x73, 0x6D, 1, 0, 0, 0, 1, 11, 2, 0x60, 1, 0x63, 0, 0, 0x60, 1, 0x63, 0, 0, 0, 2, 1,
     b'x', 0, 10, 9, b's', b'i', b'g', b'n', b'a', b't', b'u', b'r', b'e',
@@ -39,28 +39,26 @@ fn becomes(alloc: Global, bytes: &[u8], unused: UnusedTypes, expected: &[u8]) ->
         unused,
         ..NormaliseOptions::default()
     };
-    match normalise_strictly(alloc, HashKeys::fixed(), bytes, options) {
+    match strict_canonical_module(alloc, HashKeys::fixed(), bytes, options) {
         Ok(new) => new.as_slice() == expected,
         Err(_) => false,
     }
 }
 
-/// The error of bytes that are not normalised.
+/// The error of bytes of which no module is made.
 fn error_of(alloc: Global, bytes: &[u8]) -> Option<StrictError> {
-    normalise_strictly(alloc, HashKeys::fixed(), bytes, NormaliseOptions::default()).err()
+    strict_canonical_module(alloc, HashKeys::fixed(), bytes, NormaliseOptions::default()).err()
 }
 
 #[test]
-fn a_module_without_hazards_is_normalised(rt: HostRuntime) {
-    assert!(rt; becomes(rt.alloc(), &SAFE, UnusedTypes::Kept, &NORMAL));
+fn a_module_without_hazards_is_written_again(rt: HostRuntime) {
+    assert!(rt; becomes(rt.alloc(), &SAFE, UnusedTypes::Kept, &CANONICAL));
     assert!(rt; becomes(rt.alloc(), &SAFE, UnusedTypes::Deleted, &PRUNED));
 }
 
 #[test]
 fn a_hazard_is_an_error(rt: HostRuntime) {
-    let changed = StrictError::Hazard(Hazard::ChangedType { index: 1 });
     let unknown = StrictError::Hazard(Hazard::UnknownSection { offset: 8 });
-    assert!(rt; error_of(rt.alloc(), &JOINS) == Some(changed));
     assert!(rt; error_of(rt.alloc(), &UNKNOWN) == Some(unknown));
 }
 

@@ -8,7 +8,7 @@ use Rattle.wasm_normalise.specs.declared.error.NormaliseModuleError.{NormaliseMo
 use Rattle.wasm_normalise.specs.declared.error.NormaliseModuleError.TheVariants as error
 use Rattle.wasmnorm.specs.declared.failure.Failure.{Failure}
 use Rattle.wasmnorm.specs.declared.failure.Failure.TheVariants as failure
-use Rattle.wasmnorm.specs.Runs.{IsRefused, IsRejected, changed_type, unknown_section, refused_status}
+use Rattle.wasmnorm.specs.Runs.{IsRefused, IsRejected, refused_status}
 use Rattle.wasmnorm.specs.declared.options.RunOptions.{RunOptions}
 use Rattle.wasmnorm.specs.declared.options.Strictness.TheVariants.{Strict}
 use Rattle.wasmnorm.specs.Steps.Failures.{Explains, IsOfStreams, status_of}
@@ -34,9 +34,8 @@ status_range (failure.Output error) = omega arith
 hazard_rejected :
     (options : RunOptions) (bytes : List ℕ) (h : Hazard) → options.strictness ≡ Strict → IsHazard bytes h
     → IsRejected options.strictness bytes
-hazard_rejected options bytes (hazard.ChangedType index) strict changes = changed_type index strict changes
 hazard_rejected options bytes (hazard.UnknownSection offset) strict has =
-    unknown_section offset strict has.0 has.1
+    record { is_strict = strict; offset = offset; has = has }
 
 explains_refused :
     (options : RunOptions) (bytes : List ℕ) (f : Failure) → Explains options bytes f → status_of f ≡ 1

@@ -4,7 +4,7 @@ use Rattle.std.specs.Prelude.{IfSome}
 use Rattle.wasm_normalise.specs.Hazards.{IsHazard}
 use Rattle.wasm_normalise.specs.declared.hazards.Hazard.{Hazard}
 use Rattle.wasm_normalise.specs.declared.hazards.Hazard.TheVariants as hazard
-use Rattle.wasmnorm.specs.Runs.{Warns, WarnsAtMost, IsWarned, not_warned, of_changed_type, of_unknown_section}
+use Rattle.wasmnorm.specs.Runs.{Warns, WarnsAtMost, IsWarned, not_warned, of_unknown_section}
 use Rattle.wasmnorm.specs.Steps.Failures.{Explains}
 use Rattle.wasmnorm.specs.Steps.Warnings.{IsFirstWarning, WarnsOf}
 use Rattle.wasmnorm.specs.declared.failure.Failure.TheVariants as failure
@@ -20,15 +20,13 @@ warns_at_most (Some w) old new line = inr line
 hazard_warned :
     (bytes : List ℕ) (h : Hazard) (old new : Option (List ℕ))
     → IsHazard bytes h → Warns old new → IsWarned bytes old new
-hazard_warned bytes (hazard.ChangedType index) old new changes line =
-    of_changed_type index changes line
 hazard_warned bytes (hazard.UnknownSection offset) old new has line =
-    of_unknown_section offset has.0 has.1 line
+    of_unknown_section offset has line
 
 warning_warned :
     (bytes : List ℕ) (w : Option Warning) (old new : Option (List ℕ))
     → IsFirstWarning bytes w → WarnsOf w old new → IsWarned bytes old new
-warning_warned bytes None old new safe kept = not_warned safe.0 safe.1 kept
+warning_warned bytes None old new safe kept = not_warned safe kept
 warning_warned bytes (Some w) old new is line = hazard_warned bytes w.hazard old new is.0 line
 
 pub known_warned :

@@ -4,7 +4,7 @@
 use Rattle.std.specs.Prelude.{◌≡◌, ℕ, ◌<◌, Bool, true, false, List, ◌∷◌, ◌++◌, length, take}
 use Rattle.wasm_binary.specs.Modules.{Section, IsModule, IsNoModule}
 use Rattle.wasm_module.specs.RenamedModules.{CanNotBeRenamed}
-use Rattle.wasm_normalise.specs.NormalModules.{IsRefusedBy}
+use Rattle.wasm_normalise.specs.CanonicalModules.{IsRefusedBy}
 use Rattle.wasm_normalise.specs.declared.error.NormaliseModuleError.{NormaliseModuleError}
 use Rattle.wasm_normalise.specs.declared.error.NormaliseModuleError.TheVariants as error
 use Rattle.wasm_normalise.specs.declared.options.NormaliseOptions.{NormaliseOptions}

@@ -1,4 +1,4 @@
--- What a run does: `IsWritten` where its bytes are a module that is normalised, `IsRefused` and
+-- What a run does: `IsWritten` where its bytes are a module that is written again, `IsRefused` and
 -- `IsRejected` where not. `IsWarned` says when there is a warning. `IsGiven` says
 -- which options the arguments give.
 use Rattle.std.specs.Prelude.{◌≡◌, ℕ, ◌⊎◌, true, List, [], ◌∷◌, ◌++◌, Option, bytes_eq, codes}
@@ -10,22 +10,24 @@ use Rattle.std.specs.declared.string.String.{String}
 use Rattle.wasm_module.specs.UnknownCustoms.{HasNoUnknownCustom, HasUnknownCustomAt}
 use Rattle.wasm_normalise.specs.declared.options.Descriptions.TheVariants.{Kept}
 use Rattle.wasm_normalise.specs.declared.options.NormaliseOptions.{NormaliseOptions}
-use Rattle.wasm_normalise.specs.EqualTypes.{ChangesType, KeepsModuleTypes}
-use Rattle.wasm_normalise.specs.NormalModules.{IsNormalised, DescriptionsFit}
+use Rattle.wasm_normalise.specs.CanonicalModules.{IsCanonicalModule, DescriptionsFit}
+use Rattle.wasm_normalise.specs.Meanings.{NameEqualTypes}
 use Rattle.wasm_normalise.specs.declared.error.NormaliseModuleError.{NormaliseModuleError}
 use Rattle.wasm_normalise.specs.declared.error.NormaliseModuleError.TheVariants as error
 use Rattle.wasmnorm.specs.Judged.{ExplainsError}
 use Rattle.wasmnorm.specs.declared.options.Strictness.{Strictness}
 use Rattle.wasmnorm.specs.declared.options.Strictness.TheVariants.{Strict}
 
--- The bytes are a module, and a writer gained the same module with its type section in normal form.
--- Where sections that describe other bytes are kept, they still fit.
+-- The bytes are a module, and a writer gained the same module with its type section in canonical
+-- form. The types that it names are equal to those that the bytes name. Where sections that describe
+-- other bytes are kept, they still fit.
 pub record IsWritten (options : NormaliseOptions) (bytes : List ℕ) (old new : Option (List ℕ)) :
     Type 0 where
-  pub normal : List ℕ
-  pub is_normalised : IsNormalised options bytes normal
-  pub fit : options.descriptions ≡ Kept → DescriptionsFit bytes normal
-  pub written : Appends old new normal
+  pub made : List ℕ
+  pub is_canonical : IsCanonicalModule options bytes made
+  pub same_types : NameEqualTypes bytes made
+  pub fit : options.descriptions ≡ Kept → DescriptionsFit bytes made
+  pub written : Appends old new made
 
 -- ---- warnings
 
@@ -41,16 +43,12 @@ Warns old new = (text : List ℕ) × Appends old new (warning_line text)
 abbrev pub WarnsAtMost : Option (List ℕ) → Option (List ℕ) → Type 0
 WarnsAtMost old new = Keeps old new ⊎ Warns old new
 
--- A writer gained nothing, where the normal form of the bytes keeps each type, and no custom
--- section is of an unknown kind. Otherwise it gained a warning. A type comes before a section.
+-- A writer gained nothing, where no custom section of the bytes is of an unknown kind. Otherwise it
+-- gained a warning.
 pub data IsWarned (bytes : List ℕ) (old new : Option (List ℕ)) : Type 0 where
-  not_warned :
-      KeepsModuleTypes bytes → HasNoUnknownCustom bytes → Keeps old new → IsWarned bytes old new
-  of_changed_type :
-      (index : ℕ) → ChangesType bytes index → Warns old new → IsWarned bytes old new
+  not_warned : HasNoUnknownCustom bytes → Keeps old new → IsWarned bytes old new
   of_unknown_section :
-      (offset : ℕ) → KeepsModuleTypes bytes → HasUnknownCustomAt bytes offset → Warns old new
-      → IsWarned bytes old new
+      (offset : ℕ) → HasUnknownCustomAt bytes offset → Warns old new → IsWarned bytes old new
 
 -- ---- where no module is written
 
@@ -71,14 +69,11 @@ pub record IsRefused (options : NormaliseOptions) (status : ℕ) (bytes : List �
   pub has_status : refused_status error ≡ status
   pub explains : ExplainsError options bytes error
 
--- The bytes are a module that `Strict` rejects: its normal form changes a type, or else it has a
--- custom section of an unknown kind.
-pub data IsRejected (strictness : Strictness) (bytes : List ℕ) : Type 0 where
-  changed_type :
-      (index : ℕ) → strictness ≡ Strict → ChangesType bytes index → IsRejected strictness bytes
-  unknown_section :
-      (offset : ℕ) → strictness ≡ Strict → KeepsModuleTypes bytes
-      → HasUnknownCustomAt bytes offset → IsRejected strictness bytes
+-- the bytes are a module that `Strict` rejects, since it has a custom section of an unknown kind
+pub record IsRejected (strictness : Strictness) (bytes : List ℕ) : Type 0 where
+  pub is_strict : strictness ≡ Strict
+  pub offset : ℕ
+  pub has : HasUnknownCustomAt bytes offset
 
 -- ---- the arguments
 

@@ -1,6 +1,6 @@
 //! What ends a run without a module: its line on standard error and its exit status.
 ghost use Rattle.std.specs.Prelude.{◌≡◌, ◌≤◌, ◌⊎◌};
-ghost use Rattle.wasm_normalise.specs.NormalModules.{IsRefusedBy};
+ghost use Rattle.wasm_normalise.specs.CanonicalModules.{IsRefusedBy};
 ghost use Rattle.wasmnorm.specs.Runs.{refused_status};
 ghost use Rattle.wasmnorm.specs.Steps.Failures.{Explains, HasContext, IsOfStreams, status_of};
 
@@ -13,12 +13,12 @@ use std::alloc::{AllocError, Global};
 use std::fmt;
 use std::fmt::Formatter;
 use std::io::{self, ErrorKind, Write};
-use wasm_normalise::{HashKeys, NormaliseModuleError, NormaliseOptions, Widths, normalise_module};
+use wasm_normalise::{HashKeys, NormaliseModuleError, NormaliseOptions, Widths, canonical_module};
 
 /// What ends a run without a module.
 #[derive(Debug, Drop)]
 pub enum Failure {
-    /// The module was not normalised.
+    /// No module was made.
     Refused {
         /// Why.
         error: NormaliseModuleError,
@@ -97,7 +97,7 @@ impl From<AllocError> for Failure {
     }
 }
 
-/// The failure of a module that was not normalised with these options.
+/// The failure where no module was made with these options.
 pub fn refusal(
     alloc: Global,
     keys: HashKeys,
@@ -152,7 +152,7 @@ fn advice_for(
         widths: Widths::Kept,
         ..options
     };
-    match normalise_module(alloc, keys, bytes, with_widths) {
+    match canonical_module(alloc, keys, bytes, with_widths) {
         Ok(_) => Ok(Advice::KeepWidthsOrStrip),
         Err(NormaliseModuleError::Memory) => Err(AllocError),
         Err(_) => Ok(Advice::Strip),

@@ -1,12 +1,12 @@
 //! What is wrong first, where the types of bytes can't be used or the bytes are no module.
 ghost use Rattle.std.specs.Prelude.{◌≡◌, true, IfSome};
-ghost use Rattle.wasm_normalise.specs.NormalModules.{IsRefusedBy};
+ghost use Rattle.wasm_normalise.specs.CanonicalModules.{IsRefusedBy};
 ghost use Rattle.wasmnorm.specs.Judged.{ExplainsError, ExplainsModule, HasMalformedBeforeTypes, is_of_sections, is_of_types};
 
 use crate::prefix::{sections_before_break, sections_before_types};
 use std::alloc::Global;
 use wasm_module::{RenameError, check_module};
-use wasm_normalise::{HashKeys, NormaliseModuleError, NormaliseOptions, normalise_module};
+use wasm_normalise::{HashKeys, NormaliseModuleError, NormaliseOptions, canonical_module};
 
 /// How many types a module may have (WebAssembly JavaScript Interface, "Implementation-defined
 /// Limits").
@@ -42,7 +42,7 @@ fn error_of_sections(
     ensures refused { IfSome result (IsRefusedBy options prefix.now) }
     ensures of_sections { IfSome result (λ e. is_of_sections e ≡ true) }
 {
-    match normalise_module(alloc, keys, prefix, options) {
+    match canonical_module(alloc, keys, prefix, options) {
         Err(error) if is_of_sections(error) => Some(error),
         _ => None,
     }

@@ -1,11 +1,11 @@
-//! Reads a WebAssembly module and writes it with its type section in normal form.
+//! Reads a WebAssembly module and writes it with its type section in canonical form.
 #![tactic(auto)]
 
 ghost use Rattle.std.specs.Prelude.{◌≡◌, ◌<◌, ◌≤◌, ◌⊎◌, IfErr, IfOk, OnOk, IfSome, None};
 ghost use Rattle.std.specs.Io.KnownBytes.{Appends, Keeps};
 ghost use Rattle.wasm_module.specs.UnknownCustoms.{HasNoUnknownCustom};
-ghost use Rattle.wasm_normalise.specs.EqualTypes.{KeepsModuleTypes};
-ghost use Rattle.wasm_normalise.specs.NormalModules.{IsNormalised, DescriptionsFit};
+ghost use Rattle.wasm_normalise.specs.CanonicalModules.{IsCanonicalModule, DescriptionsFit};
+ghost use Rattle.wasm_normalise.specs.Meanings.{NameEqualTypes};
 ghost use Rattle.wasm_normalise.specs.declared.options.Descriptions.TheVariants as descriptions;
 ghost use Rattle.wasmnorm.specs.Runs.{IsWritten, IsWarned, WarnsAtMost, IsRefused, IsRejected};
 ghost use Rattle.wasmnorm.specs.Steps.Failures.{Explains, status_of};
@@ -33,24 +33,21 @@ use std::io::{self, Read, Write};
 use std::process::ExitCode;
 use texts::{HELP, KEEP_WIDTHS, OUTPUT, PRUNE, STRICT, STRIP, USAGE};
 use warning::{Warning, accepted_warning, warn_of};
-use wasm_normalise::{HashKeys, normalise_module};
+use wasm_normalise::{HashKeys, canonical_module};
 
 /// Reads a module from `reader`, and writes the same module to `out`, with its type section in
-/// normal form and every other index of a type written again.
+/// canonical form and every other index of a type written again.
 ///
-/// Equal types outside recursion groups are merged, and such types are sorted as far as references
-/// allow. Recursion groups keep their order and are never merged. Types that nothing uses stay,
-/// unless the options say that they are deleted. Custom sections other than `name` are copied as
+/// Equal types are merged, by WebAssembly's own equality, and of all lists of the same types the
+/// least is written. So each index that is written again means an equal type. Types that nothing
+/// uses stay, unless the options say that they are deleted. Custom sections other than `name` are copied as
 /// they are. Where one of them describes bytes that would change, such as debug data, the module is
 /// refused, unless the options say that such sections are left out.
 ///
-/// In two cases the new module can be wrong. A type of the input becomes another type, by
-/// WebAssembly's rule of type equality:
-/// [`find_changed_type`](wasm_normalise::find_changed_type) says when. Or a custom section is of
-/// an unknown kind, and so may refer to types or to places in the file. With `Strictness::Strict`
-/// such a module is rejected, even if no byte would change. With `Strictness::Lenient` a line on
-/// `err` warns of it, before the module is written. The line names the type or the place of the
-/// input.
+/// In one case the new module can be wrong: a custom section is of an unknown kind, and so may refer
+/// to types or to places in the file. With `Strictness::Strict` such a module is rejected, even if no
+/// byte would change. With `Strictness::Lenient` a line on `err` warns of it, before the module is
+/// written. The line names the place of the section in the input.
 ///
 /// It returns the exit status. One line on `err` explains each of 1 to 4. At 0 `err` gains nothing
 /// but a warning. At 4 a warning can be before the line.
@@ -83,8 +80,6 @@ pub fn run<R: Read, W: Write, E: Write>(
 ) -> u8
     ensures done { result ≡ 0 → IfSome (R.remaining reader.old)
         (λ bytes. IsWritten options.normalise bytes (W.contents out.old) (W.contents out.new)) }
-    ensures kept { result ≡ 0 → options.strictness ≡ Strict →
-        IfSome (R.remaining reader.old) KeepsModuleTypes }
     ensures known { result ≡ 0 → options.strictness ≡ Strict →
         IfSome (R.remaining reader.old) HasNoUnknownCustom }
     ensures warned { result ≡ 0 → IfSome (R.remaining reader.old)
@@ -115,8 +110,6 @@ fn normalise_input<R: Read, W: Write, E: Write>(
 ) -> Result<(), Failure>
     ensures done { OnOk result (IfSome (R.remaining reader.old)
         (λ bytes. IsWritten options.normalise bytes (W.contents out.old) (W.contents out.new))) }
-    ensures kept { OnOk result (options.strictness ≡ Strict →
-        IfSome (R.remaining reader.old) KeepsModuleTypes) }
     ensures known { OnOk result (options.strictness ≡ Strict →
         IfSome (R.remaining reader.old) HasNoUnknownCustom) }
     ensures warned { OnOk result (IfSome (R.remaining reader.old)
@@ -149,27 +142,28 @@ struct NewModule {
 }
 
 /// The module that is written, and the warning of it.
+#[tactic(auto, using(wasm_normalise::proofs::ModulesWithTypes::result_is_of_module))]
 fn new_module(
     alloc: Global,
     keys: HashKeys,
     options: RunOptions,
     bytes: &[u8],
 ) -> Result<NewModule, Failure>
-    ensures normal { IfOk result (λ new.
-        IsNormalised options.normalise bytes.now new.module.items) }
+    ensures canonical { IfOk result (λ new.
+        IsCanonicalModule options.normalise bytes.now new.module.items) }
+    ensures same_types { IfOk result (λ new. NameEqualTypes bytes.now new.module.items) }
     ensures fits { options.normalise.descriptions ≡ descriptions.Kept →
         IfOk result (λ new. DescriptionsFit bytes.now new.module.items) }
     ensures first { IfOk result (λ new. IsFirstWarning bytes.now new.warning) }
     ensures none { options.strictness ≡ Strict → IfOk result (λ new. new.warning ≡ None) }
-    ensures kept { OnOk result (options.strictness ≡ Strict → KeepsModuleTypes bytes.now) }
     ensures known { OnOk result (options.strictness ≡ Strict → HasNoUnknownCustom bytes.now) }
     ensures refused { IfErr result (Explains options bytes.now) }
 {
-    let module = match normalise_module(alloc, keys, bytes, options.normalise) {
+    let module = match canonical_module(alloc, keys, bytes, options.normalise) {
         Ok(module) => module,
         Err(error) => return Err(refusal(alloc, keys, bytes, options, error)),
     };
-    let warning = accepted_warning(alloc, keys, options, bytes)?;
+    let warning = accepted_warning(options, bytes)?;
     Ok(NewModule { module, warning })
 }
 

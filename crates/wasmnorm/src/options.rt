@@ -13,15 +13,14 @@ use wasm_normalise::{Descriptions, NormaliseOptions, UnusedTypes, Widths};
 /// What is done with a module.
 #[derive(Clone, Copy, PartialEq, Eq, Debug)]
 pub struct RunOptions {
-    /// How it is normalised.
+    /// How its types get their canonical form.
     pub normalise: NormaliseOptions,
     /// What is done if the new module can be wrong.
     pub strictness: Strictness,
 }
 
-/// What is done if the new module can be wrong: a type of the input becomes another type, or a custom
-/// section is of an unknown kind. The program does not know whether such a section refers to types
-/// or to places in the file.
+/// What is done if the new module can be wrong: a custom section is of an unknown kind. The program
+/// does not know whether such a section refers to types or to places in the file.
 #[derive(Clone, Copy, PartialEq, Eq, Debug)]
 pub enum Strictness {
     /// It is written, with a warning on standard error.

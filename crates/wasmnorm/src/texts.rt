@@ -21,12 +21,12 @@ usage: wasmnorm [--prune] [--strip] [--strict] [--keep-widths] [-o OUTPUT] [FILE
 
 pub const HELP: &str = "\
 usage: wasmnorm [--prune] [--strip] [--strict] [--keep-widths] [-o OUTPUT] [FILE]
-Writes the WebAssembly module in FILE to standard output, with its type section in normal form and
-every other index of a type written again. Without FILE, or if it is -, the module comes from
-standard input. Custom sections other than the one named name are copied as they are, and a module
-is refused if one of them, such as debug data, describes bytes that would change. There is a warning
-if the new module can be wrong: a type becomes another type, or a custom section is of an unknown
-kind, which may refer to types or to places in the file.
+Writes the WebAssembly module in FILE to standard output, with its type section in canonical form
+and every other index of a type written again. Each type stays equal to what it was. Without FILE,
+or if it is -, the module comes from standard input. Custom sections other than the one named name
+are copied as they are, and a module is refused if one of them, such as debug data, describes bytes
+that would change. There is a warning if a custom section is of an unknown kind: it may refer to
+types or to places in the file.
   --prune        deletes types that nothing uses outside the type section
   --strip        leaves out custom sections that describe other bytes, such as debug data
   --strict       rejects a module instead of warning of it

@@ -1,23 +1,23 @@
 //! What can be wrong in the new module: a line on standard error, or the end of a strict run.
-ghost use Rattle.std.specs.Prelude.{◌≡◌, ◌++◌, IfErr, IfOk, None, OnOk};
+ghost use Rattle.std.specs.Prelude.{◌≡◌, ◌++◌, IfErr, IfNone, IfOk, IfSome, None, OnOk};
 ghost use Rattle.std.specs.Io.KnownBytes.{Appends};
+ghost use Rattle.wasm_binary.specs.Modules.{IsNoModule};
 ghost use Rattle.wasm_module.specs.UnknownCustoms.{HasNoUnknownCustom};
-ghost use Rattle.wasm_normalise.specs.EqualTypes.{KeepsModuleTypes};
-ghost use Rattle.wasm_normalise.specs.Hazards.{IsHazard};
+ghost use Rattle.wasm_normalise.specs.Hazards.{HasNoHazard, IsHazard};
 ghost use Rattle.wasmnorm.specs.Runs.{Warns, warning_line};
 ghost use Rattle.wasmnorm.specs.Steps.Failures.{Explains, IsOfStreams};
 ghost use Rattle.wasmnorm.specs.Steps.Warnings.{IsFirstWarning, IsWarning, WarnsOf};
 ghost use Rattle.wasmnorm.specs.declared.options.Strictness.TheVariants.{Strict};
 
 use crate::custom_section::write_unknown_kind;
-use crate::failure::{Failure, refusal};
+use crate::failure::Failure;
 use crate::options::{RunOptions, Strictness};
 use error_context::{Context, context_of};
 use std::alloc::Global;
 use std::fmt;
 use std::fmt::Formatter;
 use std::io::{self, Write};
-use wasm_normalise::{HashKeys, Hazard, find_hazard};
+use wasm_normalise::{Hazard, find_hazard};
 
 /// What can be wrong in the new module, with what else is known of the input.
 #[derive(Clone, Copy, PartialEq, Eq, Debug)]
@@ -31,28 +31,21 @@ pub struct Warning {
 impl fmt::Display for Warning {
     fn fmt<W: fmt::Write>(&self, f: &mut Formatter<W>) -> fmt::Result {
         match self.hazard {
-            Hazard::ChangedType { .. } => write!(f, "{}", self.hazard),
             Hazard::UnknownSection { offset } => write_unknown_kind(f, offset, &self.context),
         }
     }
 }
 
-/// The warning that a module with a normal form needs, or `None`. It fails if the module is to be
-/// rejected instead.
+/// The warning that a module needs, or `None`. It fails if the module is to be rejected instead.
 #[tactic(auto, using(crate::proofs::Warnings::warning_rejected))]
-pub fn accepted_warning(
-    alloc: Global,
-    keys: HashKeys,
-    options: RunOptions,
-    bytes: &[u8],
-) -> Result<Option<Warning>, Failure>
+pub fn accepted_warning(options: RunOptions, bytes: &[u8]) -> Result<Option<Warning>, Failure>
+    requires { ¬ IsNoModule bytes.now }
     ensures first { IfOk result (IsFirstWarning bytes.now) }
     ensures none { options.strictness ≡ Strict → IfOk result (λ warning. warning ≡ None) }
-    ensures kept { OnOk result (options.strictness ≡ Strict → KeepsModuleTypes bytes.now) }
     ensures known { OnOk result (options.strictness ≡ Strict → HasNoUnknownCustom bytes.now) }
     ensures refused { IfErr result (Explains options bytes.now) }
 {
-    let warning = first_warning(alloc, keys, options, bytes)?;
+    let warning = first_warning(bytes);
     match options.strictness {
         Strictness::Lenient => Ok(warning),
         Strictness::Strict => match warning {
@@ -62,28 +55,30 @@ pub fn accepted_warning(
     }
 }
 
-#[tactic(auto, using(wasm_normalise::proofs::Errors::types_error))]
-fn first_warning(
-    alloc: Global,
-    keys: HashKeys,
-    options: RunOptions,
-    bytes: &[u8],
-) -> Result<Option<Warning>, Failure>
-    ensures first { IfOk result (IsFirstWarning bytes.now) }
-    ensures refused { IfErr result (Explains options bytes.now) }
+fn first_warning(bytes: &[u8]) -> Option<Warning>
+    requires { ¬ IsNoModule bytes.now }
+    ensures { IsFirstWarning bytes.now result }
 {
-    match find_hazard(alloc, keys, bytes) {
-        Ok(Some(hazard)) => Ok(Some(warning_of(hazard, bytes))),
-        Ok(None) => Ok(None),
-        Err(error) => Err(refusal(alloc, keys, bytes, options, error)),
+    match hazard_of(bytes) {
+        Some(hazard) => Some(warning_of(hazard, bytes)),
+        None => None,
     }
+}
+
+/// What can be wrong in the module that is made of these bytes.
+fn hazard_of(bytes: &[u8]) -> Option<Hazard>
+    requires { ¬ IsNoModule bytes.now }
+    ensures found { IfSome result (IsHazard bytes.now) }
+    ensures none { IfNone result (HasNoHazard bytes.now) }
+{
+    // The bytes are a module, so there is no error.
+    find_hazard(bytes).unwrap_or(None)
 }
 
 fn warning_of(hazard: Hazard, bytes: &[u8]) -> Warning
     ensures { IsHazard bytes.now hazard → IsWarning bytes.now result }
 {
     let context = match hazard {
-        Hazard::ChangedType { .. } => Context::Nothing,
         Hazard::UnknownSection { offset } => context_of(bytes, offset),
     };
     Warning { hazard, context }

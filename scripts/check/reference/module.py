@@ -8,7 +8,7 @@ name (`is_outdated`).
 import dataclasses
 import functools
 
-from reference import type_section
+from reference import canonical_form, type_section
 from reference.reader import Malformed, NoSuchType, Reader, signed, unsigned
 
 HEADER = b'\0asm\1\0\0\0'
@@ -455,10 +455,10 @@ def first_fault(module, types):
 
 
 @functools.cache
-def normalised(section, roots=None):
-    """The type section in normal form, and the new index of each type; where there are roots, of what these use."""
+def canonical(section, roots=None):
+    """The type section in canonical form, and the new index of each type; where there are roots, of what these use."""
     reader = Reader(section, 0, len(section))
-    text, images = type_section.normalised(reader.name(), roots)
+    text, images = canonical_form.canonical(reader.name(), roots)
     return unsigned(len(text)) + text, images
 
 
@@ -548,10 +548,10 @@ def outcome(module, keeps_widths=False, prunes=False):
     try:
         parts = list(sections_of(module))
         section = next((section for code, section in parts if code == TYPE), None)
-        types, images = (b'', ()) if section is None else normalised(section)
+        types, images = (b'', ()) if section is None else canonical(section)
         if prunes and section is not None:
             roots = {root for code, other in parts if code != TYPE for root in named(code, other, len(images))}
-            types, images = normalised(section, tuple(sorted(roots)))
+            types, images = canonical(section, tuple(sorted(roots)))
         sections = [
             Section(code, section, types) if code == TYPE else renamed(code, section, images, keeps_widths)
             for code, section in parts]

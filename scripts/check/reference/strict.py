@@ -1,11 +1,9 @@
 """What `wasmnorm --strict` must do with a module (`outcome`), and of which modules `wasmnorm` must warn (`complaint`).
 
-Slow and plain, like the modules beside it, which say what the new module is, and which types are equal.
+Slow and plain, like the modules beside it, which say what the new module is.
 """
-import functools
-
-from reference import module, type_equality, type_section
-from reference.module import CUSTOM, DONE, HEADER, REFUSED, TYPE
+from reference import module
+from reference.module import CUSTOM, DONE, HEADER, REFUSED
 from reference.reader import Reader
 
 KNOWN = (b'name', b'producers', b'target_features', b'dylink.0', b'dylink', b'build_id', b'authors', b'licenses',
@@ -16,20 +14,6 @@ DESCRIPTIONS = (b'external_debug_info', b'linking', b'signature', b'sourceMappin
 DESCRIPTION_PREFIXES = (b'.debug_', b'metadata.code.', b'reloc.')
 # How many bytes of the name of a section are shown.
 SHOWN = 64
-
-
-@functools.cache
-def first_changed_of(content):
-    """The first type of a type section that would become another type, or None."""
-    reader = Reader(content, 0, len(content))
-    groups = type_section.read_vec(reader, type_section.read_group)
-    return type_equality.first_changed(groups, *type_section.normal_form(groups))
-
-
-def first_changed(text):
-    """The same of a module."""
-    types = (module.content(section) for code, section in module.sections_of(text) if code == TYPE)
-    return next(map(first_changed_of, types), None)
 
 
 def is_known(name):
@@ -63,9 +47,6 @@ def shown(name):
 
 def complaint(text):
     """The line about a module that only `--strict` rejects, and of which there is a warning without it. Or None."""
-    index = first_changed(text)
-    if index is not None:
-        return f'type {index} becomes another type, one that refers to itself'
     found = unknown_section(text)
     if found is None:
         return None

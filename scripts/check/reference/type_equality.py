@@ -3,7 +3,7 @@ defined types.
 
 Two types are equal if they are at the same place of groups of the same length whose definitions are alike. An index into
 the same group stands for a place in it, and any other index for its type. A lone type is a group of one. So it equals the
-same type in an explicit group. Nothing here depends on a normal form.
+same type in an explicit group.
 """
 from reference.type_section import renamed
 
@@ -22,10 +22,3 @@ def ids_of(groups, known):
         number = known.setdefault(group, len(known))
         ids += [(number, place) for place in range(len(definitions))]
     return ids
-
-
-def first_changed(groups, new_groups, images):
-    """The first type that is not equal to the type with its new index, or None."""
-    known = {}
-    ids, new_ids = ids_of(groups, known), ids_of(new_groups, known)
-    return next((index for index, image in enumerate(images) if ids[index] != new_ids[image]), None)

@@ -1,7 +1,7 @@
-"""Type sections: reading, the normal form, and writing.
+"""Type sections: reading and writing.
 
 The grammar is that of the WebAssembly core specification 3.0, "Binary Format", types and type section, with exact heap
-types (proposal). The normal form is the one of crates/walrus_sections/specs/NormalForm.antt.
+types (proposal).
 
 A definition is a tuple, and tuples compare as definitions do. A value type is (0,) to (4,), which is its place in
 NUMBERS, or (REFERENCE, nullable, sort, number), where the sort is ABSTRACT, INDEX or EXACT.
@@ -125,79 +125,6 @@ def names_of(definition):
     return found
 
 
-# ---- the normal form
-
-def check_names(groups):
-    """Each name is below the end of its group."""
-    end = 0
-    for _, definitions in groups:
-        end += len(definitions)
-        for name in (name for definition in definitions for name in names_of(definition)):
-            if name >= end:
-                raise NoSuchType(name)
-
-
-def kept_of(groups):
-    """The groups that are kept, each behind the index of its first entry, and the kept index to which each one goes."""
-    kept, same, lone = [], [], {}
-    for is_rec, definitions in groups:
-        first = len(same)
-        if not is_rec:
-            # A type that names itself differs from all others.
-            merged = renamed(definitions[0], lambda index: first if index == first else same[index])
-            if merged in lone:
-                same.append(lone[merged])
-                continue
-            lone[merged] = first
-        kept.append((first, is_rec, definitions))
-        same += range(first, first + len(definitions))
-    return kept, same
-
-
-def in_order(kept):
-    """The kept groups in their new order: lone types that name no other type are sorted, between all others."""
-    done, free = [], []
-    for group in kept:
-        first, is_rec, definitions = group
-        if is_rec and not definitions:
-            continue
-        if not is_rec and set(names_of(definitions[0])) <= {first}:
-            free.append(group)
-        else:
-            done += sorted(free, key=lambda it: it[2]) + [group]
-            free = []
-    return done + sorted(free, key=lambda it: it[2])
-
-
-def used_of(kept, same, roots):
-    """The kept groups that some indices use, directly or through groups that are used."""
-    group_of = {first + place: group for group in kept for first, _, definitions in [group]
-                for place in range(len(definitions))}
-    used, left = set(), [same[root] for root in roots]
-    while left:
-        first, _, definitions = group_of[left.pop()]
-        if first not in used:
-            used.add(first)
-            left += [same[name] for definition in definitions for name in names_of(definition)]
-    return [group for group in kept if group[2] and group[0] in used]
-
-
-def normal_form(groups, roots=None):
-    """The groups of the normal form, and the new index of each index. If there are roots, what they do not use is
-    deleted, and has the new index None."""
-    check_names(groups)
-    kept, same = kept_of(groups)
-    if roots is not None:
-        kept = used_of(kept, same, roots)
-    ordered, new = in_order(kept), {}
-    for first, _, definitions in ordered:
-        for index in range(first, first + len(definitions)):
-            new[index] = len(new)
-    images = [new.get(index) for index in same]
-    rename = images.__getitem__
-    return [(is_rec, [renamed(it, rename) for it in definitions]) for _, is_rec, definitions in ordered], images
-
-
 # ---- writing
 
 def vec(texts):
@@ -239,11 +166,19 @@ def group_text(group):
     return bytes([REC_CODE]) + vec(texts) if is_rec else texts[0]
 
 
-def normalised(content, roots=None):
-    """The content of a type section in normal form, and the new index of each type, None if it is deleted. If there are
-    roots, only what these indices use stays."""
+def read_section(content):
+    """The groups of a type section with this content. Each name is below the end of its group."""
     reader = Reader(content, 0, len(content))
     groups = read_vec(reader, read_group)
     reader.finish()
-    normal, images = normal_form(groups, roots)
-    return vec([group_text(it) for it in normal]), tuple(images)
+    end = 0
+    for _, definitions in groups:
+        end += len(definitions)
+        for name in (name for definition in definitions for name in names_of(definition)):
+            if name >= end:
+                raise NoSuchType(name)
+    return groups
+
+
+def section_text(groups):
+    return vec([group_text(it) for it in groups])

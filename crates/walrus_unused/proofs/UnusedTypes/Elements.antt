@@ -1,7 +1,6 @@
 -- What is in a list, also with one more element at its front.
-use Rattle.std.proofs.Common.{◌≡◌, ℕ, zero, suc, ◌⊎◌, inl, inr, List, [], ◌∷◌, refl, sym, ap, ◌∙◌, arith, ◌<◌, Contains, All, Some, map, length, get_or}
+use Rattle.std.proofs.Common.{◌≡◌, ℕ, zero, suc, ◌⊎◌, inl, inr, List, [], ◌∷◌, refl, sym, ap, ◌∙◌, arith, Contains, All, Some}
 use Rattle.std.specs.List.{slice_get}
-use Rattle.std.proofs.lemmas.List.{get_or-map, get_or_default, length-map}
 use Rattle.std.proofs.lemmas.Option.{slice_get_within, slice_get-get_or, get_or_from_slice_get}
 
 module _ {A : Type 0} where
@@ -29,23 +28,3 @@ module _ {A : Type 0} where
 
   pub get_from_contains : (xs : List A) (x : A) → Contains xs x → (i : ℕ) × (slice_get xs i ≡ Some x)
   get_from_contains xs x c = (c.0, slice_get-get_or xs c.0 x c.1 ∙ ap (λ (y : A). Some y) c.2)
-
--- what a list becomes whose elements are sent through f
-
-module _ (f : ℕ → ℕ) (xs : List ℕ) where
-  pub contains_map : (x : ℕ) → Contains xs x → Contains (map f xs) (f x)
-  contains_map x c =
-      let below = c.1 in (
-        c.0,
-        omega (arith, below, length-map xs f),
-        get_or-map f xs c.0 x (f x) c.1 ∙ ap f c.2,
-      )
-
-  pub contains_before : (y : ℕ) → Contains (map f xs) y → (x : ℕ) × Contains xs x × (f x ≡ y)
-  contains_before y c =
-      let below = c.1 in
-      let within : c.0 < length xs = omega (arith, below, length-map xs f) in (
-        get_or xs c.0 0,
-        (c.0, within, get_or_default xs c.0 (get_or xs c.0 0) 0 within),
-        sym (get_or-map f xs c.0 0 y within) ∙ c.2,
-      )

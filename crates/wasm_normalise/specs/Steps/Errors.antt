@@ -10,8 +10,8 @@ use Rattle.walrus_sections.specs.declared.error.ReadError.{ReadError}
 use Rattle.walrus_sections.specs.declared.error.ReadError.TheVariants as read
 use Rattle.wasm_module.specs.declared.scan.ScanError.{ScanError}
 use Rattle.wasm_module.specs.declared.scan.ScanError.TheVariants as scan
-use Rattle.walrus_unused.specs.declared.error.NormaliseUsedError.{NormaliseUsedError}
-use Rattle.walrus_unused.specs.declared.error.NormaliseUsedError.TheVariants as used
+use Rattle.walrus_canonical.specs.declared.error.CanonicalError.{CanonicalError}
+use Rattle.walrus_canonical.specs.declared.error.CanonicalError.TheVariants as canonical
 use Rattle.wasm_normalise.specs.declared.error.NormaliseModuleError.{NormaliseModuleError}
 use Rattle.wasm_normalise.specs.declared.error.NormaliseModuleError.TheVariants as error
 use Rattle.wasm_normalise.specs.declared.refusal.Refusal.{Refusal}
@@ -36,16 +36,13 @@ encode_failure encode.Memory = error.Memory
 abbrev pub types_refusal : DecodeError → Refusal
 types_refusal e = refusal.Other (types_failure e)
 
-abbrev pub read_refusal : ReadError → Refusal
-read_refusal e = refusal.Other (read_failure e)
-
 abbrev pub encode_refusal : EncodeError → Refusal
 encode_refusal e = refusal.Other (encode_failure e)
 
-abbrev pub used_refusal : NormaliseUsedError → Refusal
-used_refusal (used.Section e) = read_refusal e
-used_refusal (used.UnknownRoot index) = refusal.Fault
-used_refusal used.Memory = refusal.Other error.Memory
+abbrev pub canonical_refusal : CanonicalError → Refusal
+canonical_refusal (canonical.Section e) = refusal.Other (read_failure e)
+canonical_refusal (canonical.UnknownRoot index) = refusal.Fault
+canonical_refusal canonical.Memory = refusal.Other error.Memory
 
 abbrev pub scan_refusal : ScanError → Refusal
 scan_refusal (scan.Malformed place) = refusal.Fault

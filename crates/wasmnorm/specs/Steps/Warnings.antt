@@ -11,7 +11,6 @@ use Rattle.wasmnorm.specs.Runs.{Warns}
 
 -- where a hazard names a section, this is known of it
 abbrev pub IsSectionContext : List ℕ → Hazard → Context → Type 0
-IsSectionContext bytes (hazard.ChangedType index) context = Unit {0}
 IsSectionContext bytes (hazard.UnknownSection offset) context = IsContext context bytes offset
 
 -- what a warning says of the bytes

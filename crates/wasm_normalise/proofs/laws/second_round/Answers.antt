@@ -1,8 +1,8 @@
-use Rattle.wasm_normalise.proofs.SecondNormal.{normalised_again, second_unchanged, again_after_deleting, unchanged_after_deleting}
+use Rattle.wasm_normalise.proofs.SecondRound.{made_again, second_unchanged, again_after_deleting, unchanged_after_deleting}
 use Rattle.wasm_normalise.proofs.laws.second_round.Goals as goal
 
 pub returns-clause-itself : goal.returns-clause-itself
-returns-clause-itself c = normalised_again
+returns-clause-itself c = made_again
 
 pub returns-clause-unchanged : goal.returns-clause-unchanged
 returns-clause-unchanged c = second_unchanged
