@@ -9,8 +9,7 @@ use Rattle.wasm_module.specs.Alike.{Pairing, swapped, Meet, IsFirst, NamesAreIn,
 use Rattle.wasm_module.specs.NameSections.{TypeEntry, type_entry, IsLeast, AreKept}
 use Rattle.wasm_module.specs.Pieces.{AreWritten, none, next}
 use Rattle.wasm_module.specs.Renaming.{NewIndices, new_index}
-use Rattle.wasm_module.proofs.Entries.{Kept, keys, first_or_later, first_in, later_in, none_in, has_entry, least_once, same_members}
-use Rattle.wasm_module.proofs.EntriesInTurn.{least_in}
+use Rattle.wasm_module.proofs.Entries.{Kept, least_in, keys, first_or_later, first_in, later_in, none_in, has_entry, least_once, same_members}
 use Rattle.wasm_module.proofs.KeptEntries.{some_is}
 use Rattle.wasm_module.proofs.NumberTexts.{text_once}
 use Rattle.wasm_module.proofs.OwnEntries.{all_from}

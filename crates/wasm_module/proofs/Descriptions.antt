@@ -171,29 +171,6 @@ strip_on bytes old left out new_out s text w e cut a =
           a.parts ∙ ap (λ (u : List ℕ). u ++ a.text) w.written ∙ append_assoc header w.new a.text;
     }
 
-pub module_stripped : (bytes : List ℕ) (all left : List PlacedSection) (out : List ℕ) →
-    HasSections bytes all →
-    StripsUpTo bytes left out → left ≡ [] → IsStripped bytes out
-module_stripped bytes all left out h w e =
-    let rest-is : w.rest ≡ [] = nothing_left (length header + length w.texts) w.rest left w.places e in
-    record {
-      sections = framing all;
-      is_module = h.is_module;
-      texts = w.texts;
-      new_texts = w.new;
-      parts =
-          w.parts ∙ ap (λ (u : List ℕ). header ++ (w.texts ++ u)) rest-is
-          ∙ ap (λ (u : List ℕ). header ++ u) (append-nil w.texts);
-      new_parts = w.written;
-      are = w.are;
-    }
-  where
-    nothing_left : (offset : ℕ) (rest : List ℕ) (sections : List PlacedSection) →
-        ArePlaced offset rest sections
-        → sections ≡ [] → rest ≡ []
-    nothing_left _ _ _ (nothing offset) h = refl
-    nothing_left _ _ _ (placed_next offset id size content others sections h hs) e = absurd cc
-
 pub section_left_out : (text out : List ℕ) (s : Section) → IsSection text s → IsDescription s →
     Appends (IsStrippedSection text) out out
 section_left_out text out s h is =

@@ -109,6 +109,12 @@ splits (x ∷ b) e a (y ∷ c) f d h =
       | inr (inr k) ↦ inr (inr (later_in x f b k.0, k.1))
     ]
 
+pub least_in : (indices : NewIndices) (es : List TypeEntry) (e : TypeEntry) → IsLeast indices es e →
+    Contains es e
+least_in indices es e l =
+    subst (λ (u : List TypeEntry). Contains u e) (sym l.parts)
+    (Contains-append_right l.before (e ∷ l.after) e (first_in e l.after))
+
 pub least_once : (new_indices : NewIndices) (all : List TypeEntry) (e f : TypeEntry) →
     IsLeast new_indices all e → IsLeast new_indices all f →
     new_index new_indices e.index ≡ new_index new_indices f.index → e ≡ f

@@ -33,7 +33,6 @@ pub mod StrippedModules
 pub mod SameTexts
 pub mod Entries
 pub mod OwnEntries
-pub mod EntriesInTurn
 pub mod Pieces
 pub mod PiecesOfTexts
 pub mod PiecesOfContents
@@ -47,7 +46,6 @@ pub mod UnknownSections
 pub mod NamingCustoms
 pub mod PiecesOfNames
 pub mod PiecesOfModules
-pub mod PiecesInTurn
 pub mod AlikeNames
 pub mod AlikePieces
 pub mod AlikeModules

@@ -25,25 +25,6 @@ pub if_none : {A : Type 0} {P Q : Type 0} → (P → Q) → (o : Option A) → I
 if_none f (Some x) h = tt
 if_none f None h = f h
 
-pub takes_fits : (IsText : List ℕ → Type 0) (bytes rest : List ℕ) → Takes IsText bytes rest →
-    length rest ≤ length bytes
-takes_fits IsText bytes rest t =
-    let long : length bytes ≡ length t.text + length rest = ap (λ (u : List ℕ). length u) t.parts
-    ∙ length-append t.text rest in
-    omega (arith, long)
-
-pub takes_prefix : (IsText : List ℕ → Type 0) (bytes rest text : List ℕ) → Takes IsText bytes rest →
-    text ≡ take (length bytes - length rest) bytes → IsText text × (bytes ≡ text ++ rest)
-takes_prefix IsText bytes rest text t e =
-    let long : length bytes ≡ length t.text + length rest = ap (λ (u : List ℕ). length u) t.parts
-    ∙ length-append t.text rest in
-    let count : length t.text ≡ length bytes - length rest = omega (arith, long) in
-    let text-is : text ≡ t.text = e ∙ ap (take (length bytes - length rest)) t.parts
-    ∙ take_at t.text rest (length bytes - length rest) count in (
-      subst (λ (u : List ℕ). IsText u) (sym text-is) t.is_text,
-      t.parts ∙ ap (λ (u : List ℕ). u ++ rest) (sym text-is),
-    )
-
 -- ---- names
 
 pub name_taken : (content bytes rest : List ℕ) → TakesSized content bytes rest → Takes IsName bytes rest

@@ -81,9 +81,6 @@ pub record Named (all left : List PlacedSection) (named : List ℕ) : Type 0 whe
   pub on : (names : List ℕ) → AreContents (framing all) names → (others : List ℕ)
       × AreContents (framing left) others
 
-pub named_begun : (all : List PlacedSection) → Named all all []
-named_begun all = record { back = λ others h. h; on = λ names h. (names, h) }
-
 first_content : (s : Section) (sections : List Section) (names : List ℕ) → AreContents (s ∷ sections) names →
     ((first : List ℕ) × IsContent s.id s.content first) × ((others : List ℕ) × AreContents sections others)
 first_content s sections _ (next _ _ first others h hs) = ((first, h), (others, hs))

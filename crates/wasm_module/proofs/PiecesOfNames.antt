@@ -18,12 +18,11 @@ use Rattle.wasm_module.proofs.NamingCustoms.{ChangesNaming, sized_naming}
 use Rattle.wasm_module.proofs.Pieces.{written_indices}
 use Rattle.wasm_module.proofs.SizedContents.{same_content}
 use Rattle.wasm_module.proofs.TextItems.{IsPrefixFree}
-use Rattle.wasm_module.proofs.Entries.{Kept, first_in, later_in, no_entries_counted, entries_counted_once}
+use Rattle.wasm_module.proofs.Entries.{Kept, least_in, first_in, later_in, no_entries_counted, entries_counted_once}
 use Rattle.wasm_module.proofs.SameTexts.{same_first, same_later, named}
 use Rattle.wasm_module.proofs.PiecesOfTexts.{Changing, Fits, Writes, Reads, ReadsFirst, IsRead, IsReadFirst, Before, ReadsBack, ReadsFirstBack, IsWhole, IsItem, read_of, read_first_of, Found, StaysAsItIs, stays_by, fits_still, fits_both}
 use Rattle.wasm_module.proofs.PiecesOfContents.{WithSize, found_as, part_still, part_both, found_still, found_sized}
 use Rattle.wasm_module.proofs.OwnEntries.{indices_of, found_long, follows_in}
-use Rattle.wasm_module.proofs.EntriesInTurn.{least_in}
 
 -- ---- entries
 

@@ -117,22 +117,6 @@ passes_type t start bytes rest after next stack new b s e new-is index-is signed
       fits = omega (arith, long, long-is, all);
     }
 
-pub passes_none : (start : List Kind) (bytes rest : List ℕ) (stack new : List Kind) →
-    State start bytes rest stack [] → stack ≡ [] → PassesNone start new bytes rest
-passes_none start bytes rest stack new s e =
-    let all : length bytes ≡ length s.text + length rest = ap (λ (u : List ℕ). length u) s.parts
-    ∙ length-append s.text rest in
-    record {
-      passed = s.tokens;
-      reads = record {
-        text = s.text;
-        parts = s.parts;
-        runs = subst (λ (u : List Kind). Runs start s.text s.tokens u) e s.runs;
-      };
-      none = sym s.names;
-      fits = omega (arith, all);
-    }
-
 -- ---- from one search to the next
 
 pub runs_join : (start : List Kind) (text : List ℕ) (tokens : List Token) (left : List Kind)

@@ -124,21 +124,3 @@ module _ (types : List ℕ) (m : NewIndices) (w : Widths) where
       let l = module_left new bytes left r.new_texts r.texts h.new_sections h.after r.new_parts r.parts
       (all_turned r.texts r.new_texts pairs) s in
       (l.0, l.1, stripped_renamed types m w bytes new left l.0 r s l.1)
-
--- ---- the types that custom sections name
-
-pub names_left : (P : List ℕ → Type 0) (bytes left : List ℕ) → IsStripped bytes left →
-    NamesInCustoms P bytes → NamesInCustoms P left
-names_left P bytes left r n =
-    let l = are_left r.texts r.new_texts r.are in
-    let is-module = module_of bytes r.texts n.sections l.all n.is_module r.parts l.before in
-    let same : n.sections ≡ l.all = one_module bytes n.sections l.all n.is_module is-module in
-    let h = stripped_has_none bytes left r in
-    record {
-      sections = l.others;
-      is_module =
-          module_of left r.new_texts (framing h.sections) l.others h.has.is_module r.new_parts l.after;
-      are =
-          l.others_are (λ (s : Section). s.id ≡ 0 → NamesInCustom P s.content)
-          (subst (λ (u : List Section). All (λ s. s.id ≡ 0 → NamesInCustom P s.content) u) same n.are);
-    }

@@ -132,15 +132,6 @@ empty_subsection : (new_indices : NewIndices) (widths : Widths) (text new names 
     RenamesSubsection new_indices widths text new names → 0 < length text
 empty_subsection new_indices widths _ _ _ (subsection id text new names c) = omega arith
 
-pub no_subsection : (bytes : List ℕ) → bytes ≡ [] → BeginsNone IsSomeSubsection bytes
-no_subsection bytes e rest t =
-    let s = t.is_text in
-    let some = empty_subsection s.new_indices s.widths t.text s.new s.names s.renames in
-    let long : length bytes ≡ length t.text + length rest = ap (λ (u : List ℕ). length u) t.parts
-    ∙ length-append t.text rest in
-    let none_long : length bytes ≡ 0 = ap (λ (u : List ℕ). length u) e in
-    omega (arith, some, long, none_long)
-
 pub unsized_subsection : (bytes : List ℕ) (id : ℕ) (behind : List ℕ) → bytes ≡ id ∷ behind →
     BeginsUnsized behind → BeginsNone IsSomeSubsection bytes
 unsized_subsection bytes id behind e h rest t =

@@ -5,8 +5,7 @@ ghost use Rattle.wasm_binary.specs.Modules.{Section, IsModule, HasNoTypeSection}
 ghost use Rattle.wasm_module.specs.declared.kind.Kind.{Kind};
 ghost use Rattle.wasm_module.specs.declared.renaming.Widths.{Widths};
 ghost use Rattle.wasm_module.specs.declared.renaming.Widths.TheVariants.{Kept, Shortest};
-ghost use Rattle.wasm_module.specs.Composition.{AreInTurn, AreOwn, AreWithin, DeleteNone, KeepOrder, KeepOrderAmong};
-ghost use Rattle.wasm_module.specs.CustomNames.{NamesInCustoms};
+ghost use Rattle.wasm_module.specs.Composition.{AreOwn};
 ghost use Rattle.wasm_module.specs.Customs.{IsStripped, HasNoDescription};
 ghost use Rattle.wasm_module.specs.RenamedModules.{RenamesModule, HaveSameIds};
 ghost use Rattle.wasm_module.specs.RenamedNames.{NamesFollow};
@@ -25,50 +24,6 @@ pub fn one_module()
     ensures { (types : List ℕ) (new_indices : NewIndices) (widths : Widths) (bytes a b : List ℕ) →
         RenamesModule types new_indices widths bytes a →
         RenamesModule types new_indices widths bytes b → a ≡ b }
-{}
-
-/// Two renamings in turn are one, by the indices to which both lead, where the second one writes
-/// the shortest texts. The widths of the first one play no role.
-pub fn renamings_compose()
-    ensures { (first second both : NewIndices) (widths : Widths) (kinds : List Kind)
-        (bytes mid new : List ℕ) → AreInTurn first second both →
-        Renames (type_maps first) (least_width widths) kinds bytes mid →
-        Renames (type_maps second) (least_width Shortest) kinds mid new →
-        Renames (type_maps both) (least_width Shortest) kinds bytes new }
-{}
-
-/// Two renamings of a module in turn are one, by the indices to which both lead, where the second
-/// one writes the shortest texts. The module gets the types of the second one.
-///
-/// Where several types become one in turn, the name section keeps the name of the first of them. So
-/// the first renaming must not turn their order around. Only the order of types that one custom
-/// section names matters. The first renaming must not delete a type either: a map that loses all
-/// its names keeps its count, which may be padded.
-///
-/// The converse holds too (`leads_on`): if the renaming by both and the first one exist, then the
-/// second one leads on from where the first one leads. It needs an item for each new index of the
-/// first one.
-pub fn module_renamings_compose()
-    ensures in_order { (types others : List ℕ) (first second both : NewIndices) (widths : Widths)
-        (bytes mid new : List ℕ) → AreInTurn first second both →
-        DeleteNone first → KeepOrder first second →
-        RenamesModule types first widths bytes mid →
-        RenamesModule others second Shortest mid new →
-        RenamesModule others both Shortest bytes new }
-    ensures among_names { (types others : List ℕ) (first second both : NewIndices)
-        (widths : Widths) (bytes mid new : List ℕ) → AreInTurn first second both →
-        DeleteNone first →
-        NamesInCustoms (λ names. KeepOrderAmong names first second) bytes →
-        RenamesModule types first widths bytes mid →
-        RenamesModule others second Shortest mid new →
-        RenamesModule others both Shortest bytes new }
-    ensures leads_on { (types others : List ℕ) (first second both : NewIndices)
-        (widths : Widths) (bytes mid new : List ℕ) → AreInTurn first second both →
-        DeleteNone first → AreWithin first second →
-        NamesInCustoms (λ names. KeepOrderAmong names first second) bytes →
-        RenamesModule types first widths bytes mid →
-        RenamesModule others both Shortest bytes new →
-        RenamesModule others second Shortest mid new }
 {}
 
 /// What was renamed stays where each new index is its own.

@@ -18,36 +18,6 @@ use Rattle.wasm_normalise.specs.declared.options.NormaliseOptions.{NormaliseOpti
 use Rattle.wasm_normalise.specs.declared.options.UnusedTypes.{UnusedTypes}
 use Rattle.wasm_normalise.specs.declared.options.UnusedTypes.TheVariants as kinds
 
-pub form_of_all :
-    (bytes : List ℕ) (groups canonical : List GroupAt) (new_indices : NewIndices)
-    → HasTypes bytes groups → IsWellNamed (section_of groups)
-    → IsCanonical (section_of groups) (all_indices (section_of groups)) (section_of canonical)
-    new_indices
-    → HasCanonicalForm kinds.Kept bytes canonical new_indices
-form_of_all bytes groups canonical new_indices read well_named form = record {
-  groups = groups;
-  read = read;
-  well_named = well_named;
-  roots = all_indices (section_of groups);
-  are_roots = refl;
-  is_canonical = form;
-}
-
-pub form_of_used :
-    (bytes : List ℕ) (groups canonical : List GroupAt) (roots lent : List ℕ)
-    (new_indices : NewIndices)
-    → HasTypes bytes groups → IsWellNamed (section_of groups) → NamesOutside bytes roots
-    → lent ≡ roots → IsCanonical (section_of groups) lent (section_of canonical) new_indices
-    → HasCanonicalForm kinds.Deleted bytes canonical new_indices
-form_of_used bytes groups canonical roots lent new_indices read well_named named same form = record {
-  groups = groups;
-  read = read;
-  well_named = well_named;
-  roots = lent;
-  are_roots = subst (λ (u : List ℕ). NamesOutside bytes u) (sym same) named;
-  is_canonical = form;
-}
-
 -- the same, for a list that was lent
 pub lent_form :
     (unused : UnusedTypes) (bytes : List ℕ) (canonical written : List GroupAt) (new_indices : NewIndices)

@@ -6,8 +6,6 @@ use wasm_module::laws;
 fn the_laws_of_renaming_hold() {
     laws::one_result();
     laws::one_module();
-    laws::renamings_compose();
-    laws::module_renamings_compose();
     laws::renamed_code_stays();
     laws::renamed_module_stays();
     laws::same_indices_keep_all_bytes();
