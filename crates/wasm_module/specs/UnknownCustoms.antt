@@ -1,7 +1,9 @@
--- Custom sections of an unknown kind (`IsUnknownCustom`), and modules without these.
+-- Custom sections of an unknown kind (`IsUnknownCustom`), and modules without these. `allowed` has the
+-- names of further sections that a caller knows.
 -- WebAssembly core specification, "Binary Format", "Custom Section". The names are conventions of
 -- tools, but for `name`.
-use Rattle.std.specs.Prelude.{◌≡◌, ℕ, List, [], ◌∷◌, ◌++◌, codes}
+use Rattle.std.specs.Prelude.{◌≡◌, ℕ, List, [], ◌∷◌, ◌++◌, map, codes}
+use Rattle.std.specs.Borrow.{Bor}
 use Rattle.std.specs.List.{All, Any}
 use Rattle.wasm_binary.specs.Modules.{Section}
 use Rattle.wasm_module.specs.Customs.{IsDescriptionName, HasName, HasSections}
@@ -36,31 +38,34 @@ known_names =
     ∷ []
 
 -- Sections of these names are of a known kind. `component_type` has the types of a component, which
--- are none of the module. The last ones describe other bytes of their module.
-pub data IsKnownName : List ℕ → Type 0 where
-  listed : (name : List ℕ) → Any (λ k. k ≡ name) known_names → IsKnownName name
-  component_type : (rest : List ℕ) → IsKnownName (codes "component-type" ++ rest)
-  description : (name : List ℕ) → IsDescriptionName name → IsKnownName name
+-- are none of the module. Those of `description` describe other bytes of their module.
+pub data IsKnownName (allowed : List (Bor (List ℕ))) : List ℕ → Type 0 where
+  listed : (name : List ℕ) → Any (λ k. k ≡ name) known_names → IsKnownName allowed name
+  component_type : (rest : List ℕ) → IsKnownName allowed (codes "component-type" ++ rest)
+  description : (name : List ℕ) → IsDescriptionName name → IsKnownName allowed name
+  is_allowed :
+      (name : List ℕ) → Any (λ k. k ≡ name) (map (λ k. k.now) allowed) → IsKnownName allowed name
 
 -- a custom section that has no known name; one without a whole name has none
-pub record IsUnknownCustom (s : Section) : Type 0 where
+pub record IsUnknownCustom (allowed : List (Bor (List ℕ))) (s : Section) : Type 0 where
   pub is_custom : s.id ≡ 0
-  pub unknown : (name : List ℕ) → HasName name s.content → IsKnownName name → ⊥
+  pub unknown : (name : List ℕ) → HasName name s.content → IsKnownName allowed name → ⊥
 
 -- ---- where the first of them is
 
 -- no custom section of the module is of an unknown kind
-pub record HasNoUnknownCustom (bytes : List ℕ) : Type 0 where
+pub record HasNoUnknownCustom (allowed : List (Bor (List ℕ))) (bytes : List ℕ) : Type 0 where
   pub sections : List PlacedSection
   pub has : HasSections bytes sections
-  pub none : All (λ s. IsUnknownCustom s.framed → ⊥) sections
+  pub none : All (λ s. IsUnknownCustom allowed s.framed → ⊥) sections
 
 -- the first custom section of an unknown kind begins at this place of the module
-pub record HasUnknownCustomAt (bytes : List ℕ) (offset : ℕ) : Type 0 where
+pub record HasUnknownCustomAt (allowed : List (Bor (List ℕ))) (bytes : List ℕ) (offset : ℕ) :
+    Type 0 where
   pub before : List PlacedSection
   pub first : PlacedSection
   pub behind : List PlacedSection
   pub has : HasSections bytes (before ++ first ∷ behind)
-  pub none_before : All (λ s. IsUnknownCustom s.framed → ⊥) before
-  pub is_unknown : IsUnknownCustom first.framed
+  pub none_before : All (λ s. IsUnknownCustom allowed s.framed → ⊥) before
+  pub is_unknown : IsUnknownCustom allowed first.framed
   pub place : first.offset ≡ offset

@@ -29,7 +29,9 @@ const CUSTOM: u8 = 0;
 /// - names that begin with `component-type`: such a section has types of a component, which are none
 ///   of the module;
 /// - the names of sections that describe other bytes of their module: [`strip_descriptions`] leaves
-///   these sections out, and [`find_outdated`] finds the first one that no longer fits.
+///   these sections out, and [`find_outdated`] finds the first one that no longer fits;
+/// - the names in `allowed`: the caller says that such a section refers to no type and to no place
+///   in the file.
 ///
 /// A custom section without a whole name is of an unknown kind.
 ///
@@ -41,7 +43,7 @@ const CUSTOM: u8 = 0;
 /// # Before a module is written again
 ///
 /// ```
-/// if find_unknown_custom(bytes)?.is_some() {
+/// if find_unknown_custom(bytes, &[b"my-tool"])?.is_some() {
 ///     return Err(Fail::new("a custom section of an unknown kind"));
 /// }
 /// ```
@@ -49,19 +51,23 @@ const CUSTOM: u8 = 0;
 /// [`rename_module`]: crate::rename_module
 /// [`strip_descriptions`]: crate::strip_descriptions
 /// [`find_outdated`]: crate::find_outdated
-pub fn find_unknown_custom(bytes: &[u8]) -> Result<Option<usize>, DecodeError>
+pub fn find_unknown_custom(
+    bytes: &[u8],
+    allowed: &[&[u8]],
+) -> Result<Option<usize>, DecodeError>
     // The bytes are a module, whose first such section begins there.
     ensures found { IfOk result (λ found. IfSome found (λ offset.
-        HasUnknownCustomAt bytes.now offset)) }
+        HasUnknownCustomAt allowed.now bytes.now offset)) }
     // Or they are a module without such sections.
-    ensures none { IfOk result (λ found. IfNone found (HasNoUnknownCustom bytes.now)) }
+    ensures none { IfOk result (λ found.
+        IfNone found (HasNoUnknownCustom allowed.now bytes.now)) }
     // Bytes that are refused are no module.
     ensures refused { IfErr result (λ e. IsNoModule bytes.now) }
 {
     let found = sections(bytes)?;
     let mut left = found;
     while let Some(section) = left.next() {
-        if is_unknown_custom(section.id, section.content) {
+        if is_unknown_custom(section.id, section.content, allowed) {
             return Ok(Some(section.offset));
         }
     }
@@ -69,26 +75,29 @@ pub fn find_unknown_custom(bytes: &[u8]) -> Result<Option<usize>, DecodeError>
 }
 
 /// Whether a section is a custom section of an unknown kind.
-fn is_unknown_custom(id: u8, content: &[u8]) -> bool
-    ensures yes { IsTrue result → IsUnknownCustom (section id content.now) }
-    ensures no { result ≡ false → ¬ IsUnknownCustom (section id content.now) }
+fn is_unknown_custom(id: u8, content: &[u8], allowed: &[&[u8]]) -> bool
+    ensures yes { IsTrue result → IsUnknownCustom allowed.now (section id content.now) }
+    ensures no { result ≡ false → ¬ IsUnknownCustom allowed.now (section id content.now) }
 {
     if id != CUSTOM {
         return false;
     }
     let mut rest = content;
     match take_sized(&mut rest) {
-        Some(name) => !is_known_name(name),
+        Some(name) => !is_known_name(name, allowed),
         None => true,
     }
 }
 
 /// Whether custom sections of a name are of a known kind.
-fn is_known_name(name: &[u8]) -> bool
-    ensures yes { IsTrue result → IsKnownName name.now }
-    ensures no { result ≡ false → ¬ IsKnownName name.now }
+fn is_known_name(name: &[u8], allowed: &[&[u8]]) -> bool
+    ensures yes { IsTrue result → IsKnownName allowed.now name.now }
+    ensures no { result ≡ false → ¬ IsKnownName allowed.now name.now }
 {
     if is_listed(name, known_names()) {
+        return true;
+    }
+    if is_listed(name, allowed) {
         return true;
     }
     if begins_with(name, b"component-type") {

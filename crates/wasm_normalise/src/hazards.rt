@@ -23,7 +23,8 @@ pub enum Hazard {
 /// of these bytes, or `None` where nothing can. Only a custom section of an unknown kind can be
 /// wrong: [`find_unknown_custom`] finds the first one. The types mean what they meant.
 ///
-/// What it returns does not depend on the [`NormaliseOptions`](crate::NormaliseOptions). Custom
+/// Sections whose names are in `allowed` are of a known kind too: the caller says that they refer to no
+/// type and to no place in the file. What it returns does not depend on the [`NormaliseOptions`](crate::NormaliseOptions). Custom
 /// sections that describe other bytes, such as debug data, are of a known kind: `canonical_module`
 /// refuses a module where one of them is kept and no longer fits.
 ///
@@ -35,19 +36,19 @@ pub enum Hazard {
 ///
 /// ```
 /// let module = canonical_module(alloc, keys, bytes, NormaliseOptions::default())?;
-/// if let Some(hazard) = find_hazard(bytes)? {
+/// if let Some(hazard) = find_hazard(bytes, &[])? {
 ///     println!(rt; "warning: {hazard}")?;
 /// }
 /// ```
-pub fn find_hazard(bytes: &[u8]) -> Result<Option<Hazard>, DecodeError>
+pub fn find_hazard(bytes: &[u8], allowed: &[&[u8]]) -> Result<Option<Hazard>, DecodeError>
     // Nothing can be wrong.
-    ensures none { IfOk result (λ found. IfNone found (HasNoHazard bytes.now)) }
+    ensures none { IfOk result (λ found. IfNone found (HasNoHazard allowed.now bytes.now)) }
     // Or this can be.
-    ensures found { IfOk result (λ found. IfSome found (IsHazard bytes.now)) }
+    ensures found { IfOk result (λ found. IfSome found (IsHazard allowed.now bytes.now)) }
     // Bytes that are refused are no module.
     ensures refused { IfErr result (λ e. IsNoModule bytes.now) }
 {
-    match find_unknown_custom(bytes)? {
+    match find_unknown_custom(bytes, allowed)? {
         Some(offset) => Ok(Some(Hazard::UnknownSection { offset })),
         None => Ok(None),
     }

@@ -34,7 +34,7 @@ impl From<NormaliseModuleError> for StrictError {
 }
 
 /// Returns what [`canonical_module`] returns, if nothing can be wrong in it: each custom section is
-/// of a known kind. `wasmnorm --strict` does the same.
+/// of a known kind, or has a name in `allowed`. `wasmnorm --strict` does the same.
 ///
 /// # Errors
 ///
@@ -49,7 +49,7 @@ impl From<NormaliseModuleError> for StrictError {
 ///     unused: UnusedTypes::Deleted,
 ///     ..NormaliseOptions::default()
 /// };
-/// let new = strict_canonical_module(alloc, keys, bytes, options)?;
+/// let new = strict_canonical_module(alloc, keys, bytes, options, &[])?;
 /// ```
 #[tactic(auto, using(crate::proofs::ModulesWithTypes::result_is_of_module))]
 pub fn strict_canonical_module(
@@ -57,6 +57,7 @@ pub fn strict_canonical_module(
     keys: HashKeys,
     bytes: &[u8],
     options: NormaliseOptions,
+    allowed: &[&[u8]],
 ) -> Result<Vec<u8>, StrictError>
     // The result is what `canonical_module` returns,
     ensures canonical { IfOk result (λ new. IsCanonicalModule options bytes.now new.items) }
@@ -64,23 +65,23 @@ pub fn strict_canonical_module(
     ensures fits { options.descriptions ≡ descriptions.Kept →
         IfOk result (λ new. DescriptionsFit bytes.now new.items) }
     // and nothing can be wrong in it.
-    ensures safe { OnOk result (HasNoHazard bytes.now) }
+    ensures safe { OnOk result (HasNoHazard allowed.now bytes.now) }
     // Or there is none, as the error says.
-    ensures refused { IfErr result (IsStrictError options bytes.now) }
+    ensures refused { IfErr result (IsStrictError options allowed.now bytes.now) }
 {
     let new = canonical_module(alloc, keys, bytes, options)?;
-    match hazard_of(bytes) {
+    match hazard_of(bytes, allowed) {
         Some(hazard) => Err(StrictError::Hazard(hazard)),
         None => Ok(new),
     }
 }
 
 /// What can be wrong in the module that is made of these bytes.
-fn hazard_of(bytes: &[u8]) -> Option<Hazard>
+fn hazard_of(bytes: &[u8], allowed: &[&[u8]]) -> Option<Hazard>
     requires { ¬ IsNoModule bytes.now }
-    ensures found { IfSome result (IsHazard bytes.now) }
-    ensures none { IfNone result (HasNoHazard bytes.now) }
+    ensures found { IfSome result (IsHazard allowed.now bytes.now) }
+    ensures none { IfNone result (HasNoHazard allowed.now bytes.now) }
 {
     // The bytes are a module, so there is no error.
-    find_hazard(bytes).unwrap_or(None)
+    find_hazard(bytes, allowed).unwrap_or(None)
 }

@@ -19,25 +19,32 @@ const UNKNOWN: [u8; 25] = [
 #[test]
 fn the_first_section_is_found(rt: HostRuntime) {
     let first = Hazard::UnknownSection { offset: 8 };
-    assert!(rt; find_hazard(&BOTH) == Ok(Some(first)));
+    assert!(rt; find_hazard(&BOTH, &[]) == Ok(Some(first)));
 }
 
 #[test]
 fn a_section_of_an_unknown_kind_is_found(rt: HostRuntime) {
     let unknown = Hazard::UnknownSection { offset: 21 };
-    assert!(rt; find_hazard(&UNKNOWN) == Ok(Some(unknown)));
+    assert!(rt; find_hazard(&UNKNOWN, &[]) == Ok(Some(unknown)));
+}
+
+#[test]
+fn a_section_of_an_allowed_name_is_none(rt: HostRuntime) {
+    let second = Hazard::UnknownSection { offset: 25 };
+    assert!(rt; find_hazard(&BOTH, &[b"x"]) == Ok(Some(second)));
+    assert!(rt; find_hazard(&BOTH, &[b"x", b"y"]) == Ok(None));
 }
 
 #[test]
 fn nothing_is_found_where_all_is_known(rt: HostRuntime) {
-    assert!(rt; find_hazard(&UNKNOWN[..21]) == Ok(None));
-    assert!(rt; find_hazard(&UNKNOWN[..8]) == Ok(None));
+    assert!(rt; find_hazard(&UNKNOWN[..21], &[]) == Ok(None));
+    assert!(rt; find_hazard(&UNKNOWN[..8], &[]) == Ok(None));
 }
 
 #[test]
 fn no_module_is_refused(rt: HostRuntime) {
-    assert!(rt; find_hazard(&UNKNOWN[..7]).is_err());
-    assert!(rt; find_hazard(&UNKNOWN[..24]).is_err());
+    assert!(rt; find_hazard(&UNKNOWN[..7], &[]).is_err());
+    assert!(rt; find_hazard(&UNKNOWN[..24], &[]).is_err());
 }
 
 #[test]

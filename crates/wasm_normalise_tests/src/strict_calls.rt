@@ -39,7 +39,7 @@ fn becomes(alloc: Global, bytes: &[u8], unused: UnusedTypes, expected: &[u8]) ->
         unused,
         ..NormaliseOptions::default()
     };
-    match strict_canonical_module(alloc, HashKeys::fixed(), bytes, options) {
+    match strict_canonical_module(alloc, HashKeys::fixed(), bytes, options, &[]) {
         Ok(new) => new.as_slice() == expected,
         Err(_) => false,
     }
@@ -47,7 +47,8 @@ fn becomes(alloc: Global, bytes: &[u8], unused: UnusedTypes, expected: &[u8]) ->
 
 /// The error of bytes of which no module is made.
 fn error_of(alloc: Global, bytes: &[u8]) -> Option<StrictError> {
-    strict_canonical_module(alloc, HashKeys::fixed(), bytes, NormaliseOptions::default()).err()
+    let options = NormaliseOptions::default();
+    strict_canonical_module(alloc, HashKeys::fixed(), bytes, options, &[]).err()
 }
 
 #[test]
@@ -60,6 +61,13 @@ fn a_module_without_hazards_is_written_again(rt: HostRuntime) {
 fn a_hazard_is_an_error(rt: HostRuntime) {
     let unknown = StrictError::Hazard(Hazard::UnknownSection { offset: 8 });
     assert!(rt; error_of(rt.alloc(), &UNKNOWN) == Some(unknown));
+}
+
+#[test]
+fn an_allowed_name_is_no_hazard(rt: HostRuntime) {
+    let options = NormaliseOptions::default();
+    let new = strict_canonical_module(rt.alloc(), HashKeys::fixed(), &UNKNOWN, options, &[b"x"]);
+    assert!(rt; new.expect(&rt, "a module").as_slice() == &UNKNOWN);
 }
 
 #[test]

@@ -32,14 +32,14 @@ status_range (failure.Input error) = omega arith
 status_range (failure.Output error) = omega arith
 
 hazard_rejected :
-    (options : RunOptions) (bytes : List ℕ) (h : Hazard) → options.strictness ≡ Strict → IsHazard bytes h
-    → IsRejected options.strictness bytes
+    (options : RunOptions) (bytes : List ℕ) (h : Hazard) → options.strictness ≡ Strict
+    → IsHazard options.allowed.now bytes h → IsRejected options bytes
 hazard_rejected options bytes (hazard.UnknownSection offset) strict has =
     record { is_strict = strict; offset = offset; has = has }
 
 explains_refused :
     (options : RunOptions) (bytes : List ℕ) (f : Failure) → Explains options bytes f → status_of f ≡ 1
-    → IsRefused options.normalise 1 bytes ⊎ IsRejected options.strictness bytes
+    → IsRefused options.normalise 1 bytes ⊎ IsRejected options bytes
 explains_refused options bytes (failure.Refused e context advice) why is =
     inl (record { error = e; has_status = is; explains = why.0 })
 explains_refused options bytes (failure.Rejected w) why is =
@@ -64,7 +64,7 @@ pub known_refused :
     (options : RunOptions) (known : Option (List ℕ)) (f : Failure) (result : ℕ)
     → IfSome known (λ bytes. Explains options bytes f)
     → (result ≡ status_of f) ⊎ (result ≡ 4) → result ≡ 1
-    → IfSome known (λ bytes. IsRefused options.normalise 1 bytes ⊎ IsRejected options.strictness bytes)
+    → IfSome known (λ bytes. IsRefused options.normalise 1 bytes ⊎ IsRejected options bytes)
 known_refused options None f result why status is = tt
 known_refused options (Some bytes) f result why (inl e) is = explains_refused options bytes f why (sym e ∙ is)
 known_refused options (Some bytes) f result why (inr e) is = absurd (omega (arith, sym e ∙ is))

@@ -1,6 +1,7 @@
 -- What follows from the first warning of bytes: a line, or why the module is rejected.
 use Rattle.std.proofs.Common.{◌≡◌, ℕ, List, Option, None, Some, inl, inr, subst}
 use Rattle.std.specs.Prelude.{IfSome}
+use Rattle.std.specs.Borrow.{Bor}
 use Rattle.wasm_normalise.specs.Hazards.{IsHazard}
 use Rattle.wasm_normalise.specs.declared.hazards.Hazard.{Hazard}
 use Rattle.wasm_normalise.specs.declared.hazards.Hazard.TheVariants as hazard
@@ -18,30 +19,32 @@ warns_at_most None old new kept = inl kept
 warns_at_most (Some w) old new line = inr line
 
 hazard_warned :
-    (bytes : List ℕ) (h : Hazard) (old new : Option (List ℕ))
-    → IsHazard bytes h → Warns old new → IsWarned bytes old new
-hazard_warned bytes (hazard.UnknownSection offset) old new has line =
+    (allowed : List (Bor (List ℕ))) (bytes : List ℕ) (h : Hazard) (old new : Option (List ℕ))
+    → IsHazard allowed bytes h → Warns old new → IsWarned allowed bytes old new
+hazard_warned allowed bytes (hazard.UnknownSection offset) old new has line =
     of_unknown_section offset has line
 
 warning_warned :
-    (bytes : List ℕ) (w : Option Warning) (old new : Option (List ℕ))
-    → IsFirstWarning bytes w → WarnsOf w old new → IsWarned bytes old new
-warning_warned bytes None old new safe kept = not_warned safe kept
-warning_warned bytes (Some w) old new is line = hazard_warned bytes w.hazard old new is.0 line
+    (allowed : List (Bor (List ℕ))) (bytes : List ℕ) (w : Option Warning) (old new : Option (List ℕ))
+    → IsFirstWarning allowed bytes w → WarnsOf w old new → IsWarned allowed bytes old new
+warning_warned allowed bytes None old new safe kept = not_warned safe kept
+warning_warned allowed bytes (Some w) old new is line =
+    hazard_warned allowed bytes w.hazard old new is.0 line
 
 pub known_warned :
-    (known : Option (List ℕ)) (read lent : List ℕ) (w : Option Warning) (old new : Option (List ℕ))
-    → IfSome known (λ bytes. read ≡ bytes) → lent ≡ read → IsFirstWarning lent w → WarnsOf w old new
-    → IfSome known (λ bytes. IsWarned bytes old new)
-known_warned None read lent w old new is same first warns = tt
-known_warned (Some bytes) read lent w old new is same first warns =
-    warning_warned bytes w old new
-    (subst (λ (b : List ℕ). IsFirstWarning b w) is
-    (subst (λ (b : List ℕ). IsFirstWarning b w) same first)) warns
+    (allowed : List (Bor (List ℕ))) (known : Option (List ℕ)) (read lent : List ℕ) (w : Option Warning)
+    (old new : Option (List ℕ))
+    → IfSome known (λ bytes. read ≡ bytes) → lent ≡ read → IsFirstWarning allowed lent w
+    → WarnsOf w old new → IfSome known (λ bytes. IsWarned allowed bytes old new)
+known_warned allowed None read lent w old new is same first warns = tt
+known_warned allowed (Some bytes) read lent w old new is same first warns =
+    warning_warned allowed bytes w old new
+    (subst (λ (b : List ℕ). IsFirstWarning allowed b w) is
+    (subst (λ (b : List ℕ). IsFirstWarning allowed b w) same first)) warns
 
 pub warning_rejected :
     (options : RunOptions) (bytes : List ℕ) (found : Option Warning) (w : Warning)
-    → IsFirstWarning bytes found → found ≡ Some w → options.strictness ≡ Strict
+    → IsFirstWarning options.allowed.now bytes found → found ≡ Some w → options.strictness ≡ Strict
     → Explains options bytes (failure.Rejected w)
 warning_rejected options bytes found w first is strict =
-    (strict, subst (λ o. IsFirstWarning bytes o) is first)
+    (strict, subst (λ o. IsFirstWarning options.allowed.now bytes o) is first)

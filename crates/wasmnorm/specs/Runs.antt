@@ -1,12 +1,14 @@
 -- What a run does: `IsWritten` where its bytes are a module that is written again, `IsRefused` and
 -- `IsRejected` where not. `IsWarned` says when there is a warning. `IsGiven` says
--- which options the arguments give.
-use Rattle.std.specs.Prelude.{◌≡◌, ℕ, ◌⊎◌, true, List, [], ◌∷◌, ◌++◌, Option, bytes_eq, codes}
-use Rattle.std.specs.List.{list_any}
+-- which options the arguments give, and `values_of` their values.
+use Rattle.std.specs.Prelude.{◌≡◌, ℕ, ◌⊎◌, true, List, [], ◌∷◌, ◌++◌, Option, if◌then◌else◌, bytes_eq, codes}
+use Rattle.std.specs.Borrow.{Bor}
+use Rattle.std.specs.List.{flat_map, list_any}
 use Rattle.std.specs.Io.KnownBytes.{Appends, Keeps}
 use Rattle.std.specs.String.{string_bytes}
 use Rattle.std.specs.declared.alloc.Global.{Global}
 use Rattle.std.specs.declared.string.String.{String}
+use Rattle.command_line.specs.declared.arguments.OptionValue.{OptionValue}
 use Rattle.wasm_module.specs.UnknownCustoms.{HasNoUnknownCustom, HasUnknownCustomAt}
 use Rattle.wasm_normalise.specs.declared.options.Descriptions.TheVariants.{Kept}
 use Rattle.wasm_normalise.specs.declared.options.NormaliseOptions.{NormaliseOptions}
@@ -15,7 +17,7 @@ use Rattle.wasm_normalise.specs.Meanings.{NameEqualTypes}
 use Rattle.wasm_normalise.specs.declared.error.NormaliseModuleError.{NormaliseModuleError}
 use Rattle.wasm_normalise.specs.declared.error.NormaliseModuleError.TheVariants as error
 use Rattle.wasmnorm.specs.Judged.{ExplainsError}
-use Rattle.wasmnorm.specs.declared.options.Strictness.{Strictness}
+use Rattle.wasmnorm.specs.declared.options.RunOptions.{RunOptions}
 use Rattle.wasmnorm.specs.declared.options.Strictness.TheVariants.{Strict}
 
 -- The bytes are a module, and a writer gained the same module with its type section in canonical
@@ -45,10 +47,12 @@ WarnsAtMost old new = Keeps old new ⊎ Warns old new
 
 -- A writer gained nothing, where no custom section of the bytes is of an unknown kind. Otherwise it
 -- gained a warning.
-pub data IsWarned (bytes : List ℕ) (old new : Option (List ℕ)) : Type 0 where
-  not_warned : HasNoUnknownCustom bytes → Keeps old new → IsWarned bytes old new
+pub data IsWarned (allowed : List (Bor (List ℕ))) (bytes : List ℕ) (old new : Option (List ℕ)) :
+    Type 0 where
+  not_warned : HasNoUnknownCustom allowed bytes → Keeps old new → IsWarned allowed bytes old new
   of_unknown_section :
-      (offset : ℕ) → HasUnknownCustomAt bytes offset → Warns old new → IsWarned bytes old new
+      (offset : ℕ) → HasUnknownCustomAt allowed bytes offset → Warns old new
+      → IsWarned allowed bytes old new
 
 -- ---- where no module is written
 
@@ -70,13 +74,19 @@ pub record IsRefused (options : NormaliseOptions) (status : ℕ) (bytes : List �
   pub explains : ExplainsError options bytes error
 
 -- the bytes are a module that `Strict` rejects, since it has a custom section of an unknown kind
-pub record IsRejected (strictness : Strictness) (bytes : List ℕ) : Type 0 where
-  pub is_strict : strictness ≡ Strict
+pub record IsRejected (options : RunOptions) (bytes : List ℕ) : Type 0 where
+  pub is_strict : options.strictness ≡ Strict
   pub offset : ℕ
-  pub has : HasUnknownCustomAt bytes offset
+  pub has : HasUnknownCustomAt options.allowed.now bytes offset
 
 -- ---- the arguments
 
 -- the option is among these
 abbrev pub IsGiven : List ℕ → List (String Global) → Type 0
 IsGiven option options = list_any (λ given. bytes_eq (string_bytes given) option) options ≡ true
+
+-- the values that an option has among these, in their order
+abbrev pub values_of : List ℕ → List OptionValue → List (List ℕ)
+values_of option values =
+    flat_map (λ given. if bytes_eq (string_bytes given.option) option
+    then string_bytes given.value ∷ [] else []) values

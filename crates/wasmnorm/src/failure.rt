@@ -102,7 +102,7 @@ pub fn refusal(
     alloc: Global,
     keys: HashKeys,
     bytes: &[u8],
-    options: RunOptions,
+    options: RunOptions<'_>,
     error: NormaliseModuleError,
 ) -> Failure
     ensures explains { IsRefusedBy options.normalise bytes.now error →

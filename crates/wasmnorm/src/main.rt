@@ -25,13 +25,13 @@ use command_line::{
     temporary_name, write_version,
 };
 use failure::{Failure, failed_input, refusal, report};
-use options::{RunOptions, run_options};
+use options::{RunOptions, allowed_names, run_options};
 use std::alloc::Global;
 use std::env;
 use std::hash::BuildHasher;
 use std::io::{self, Read, Write};
 use std::process::ExitCode;
-use texts::{HELP, KEEP_WIDTHS, OUTPUT, PRUNE, STRICT, STRIP, USAGE};
+use texts::{ALLOW, HELP, KEEP_WIDTHS, OUTPUT, PRUNE, STRICT, STRIP, USAGE};
 use warning::{Warning, accepted_warning, warn_of};
 use wasm_normalise::{HashKeys, canonical_module};
 
@@ -40,12 +40,12 @@ use wasm_normalise::{HashKeys, canonical_module};
 ///
 /// Equal types are merged, by WebAssembly's own equality, and of all lists of the same types the
 /// least is written. So each index that is written again means an equal type. Types that nothing
-/// uses stay, unless the options say that they are deleted. Custom sections other than `name` are copied as
-/// they are. Where one of them describes bytes that would change, such as debug data, the module is
+/// uses stay, unless the options say that they are deleted. Custom sections other than `name` are
+/// copied as they are. Where one of them describes bytes that would change, such as debug data, the module is
 /// refused, unless the options say that such sections are left out.
 ///
 /// In one case the new module can be wrong: a custom section is of an unknown kind, and so may refer
-/// to types or to places in the file. With `Strictness::Strict` such a module is rejected, even if no
+/// to types or to places in the file. Sections whose names the options allow are of a known kind. With `Strictness::Strict` such a module is rejected, even if no
 /// byte would change. With `Strictness::Lenient` a line on `err` warns of it, before the module is
 /// written. The line names the place of the section in the input.
 ///
@@ -73,7 +73,7 @@ use wasm_normalise::{HashKeys, canonical_module};
 pub fn run<R: Read, W: Write, E: Write>(
     alloc: Global,
     keys: HashKeys,
-    options: RunOptions,
+    options: RunOptions<'_>,
     reader: &mut R,
     out: &mut W,
     err: &mut E,
@@ -81,14 +81,14 @@ pub fn run<R: Read, W: Write, E: Write>(
     ensures done { result ≡ 0 → IfSome (R.remaining reader.old)
         (λ bytes. IsWritten options.normalise bytes (W.contents out.old) (W.contents out.new)) }
     ensures known { result ≡ 0 → options.strictness ≡ Strict →
-        IfSome (R.remaining reader.old) HasNoUnknownCustom }
+        IfSome (R.remaining reader.old) (HasNoUnknownCustom options.allowed.now) }
     ensures warned { result ≡ 0 → IfSome (R.remaining reader.old)
-        (λ bytes. IsWarned bytes (E.contents err.old) (E.contents err.new)) }
+        (λ bytes. IsWarned options.allowed.now bytes (E.contents err.old) (E.contents err.new)) }
     ensures bounded { result ≡ 0 → WarnsAtMost (E.contents err.old) (E.contents err.new) }
     ensures silent { result ≡ 0 → options.strictness ≡ Strict →
         Keeps (E.contents err.old) (E.contents err.new) }
     ensures refused { result ≡ 1 → IfSome (R.remaining reader.old)
-        (λ bytes. IsRefused options.normalise 1 bytes ⊎ IsRejected options.strictness bytes) }
+        (λ bytes. IsRefused options.normalise 1 bytes ⊎ IsRejected options bytes) }
     ensures ill_named { result ≡ 2 → IfSome (R.remaining reader.old)
         (IsRefused options.normalise 2) }
     ensures range { result ≤ 4 }
@@ -103,7 +103,7 @@ pub fn run<R: Read, W: Write, E: Write>(
 fn normalise_input<R: Read, W: Write, E: Write>(
     alloc: Global,
     keys: HashKeys,
-    options: RunOptions,
+    options: RunOptions<'_>,
     reader: &mut R,
     out: &mut W,
     err: &mut E,
@@ -111,9 +111,9 @@ fn normalise_input<R: Read, W: Write, E: Write>(
     ensures done { OnOk result (IfSome (R.remaining reader.old)
         (λ bytes. IsWritten options.normalise bytes (W.contents out.old) (W.contents out.new))) }
     ensures known { OnOk result (options.strictness ≡ Strict →
-        IfSome (R.remaining reader.old) HasNoUnknownCustom) }
+        IfSome (R.remaining reader.old) (HasNoUnknownCustom options.allowed.now)) }
     ensures warned { OnOk result (IfSome (R.remaining reader.old)
-        (λ bytes. IsWarned bytes (E.contents err.old) (E.contents err.new))) }
+        (λ bytes. IsWarned options.allowed.now bytes (E.contents err.old) (E.contents err.new))) }
     ensures bounded { OnOk result (WarnsAtMost (E.contents err.old) (E.contents err.new)) }
     ensures silent { OnOk result (options.strictness ≡ Strict →
         Keeps (E.contents err.old) (E.contents err.new)) }
@@ -146,7 +146,7 @@ struct NewModule {
 fn new_module(
     alloc: Global,
     keys: HashKeys,
-    options: RunOptions,
+    options: RunOptions<'_>,
     bytes: &[u8],
 ) -> Result<NewModule, Failure>
     ensures canonical { IfOk result (λ new.
@@ -154,9 +154,11 @@ fn new_module(
     ensures same_types { IfOk result (λ new. NameEqualTypes bytes.now new.module.items) }
     ensures fits { options.normalise.descriptions ≡ descriptions.Kept →
         IfOk result (λ new. DescriptionsFit bytes.now new.module.items) }
-    ensures first { IfOk result (λ new. IsFirstWarning bytes.now new.warning) }
+    ensures first { IfOk result (λ new.
+        IsFirstWarning options.allowed.now bytes.now new.warning) }
     ensures none { options.strictness ≡ Strict → IfOk result (λ new. new.warning ≡ None) }
-    ensures known { OnOk result (options.strictness ≡ Strict → HasNoUnknownCustom bytes.now) }
+    ensures known { OnOk result (options.strictness ≡ Strict →
+        HasNoUnknownCustom options.allowed.now bytes.now) }
     ensures refused { IfErr result (Explains options bytes.now) }
 {
     let module = match canonical_module(alloc, keys, bytes, options.normalise) {
@@ -190,7 +192,7 @@ fn start<E: Write>(rt: &HostRuntime, err: &mut E) -> Result<u8, Failure> {
         rt.alloc(),
         env::args(rt),
         &[KEEP_WIDTHS, PRUNE, STRIP, STRICT],
-        &[OUTPUT],
+        &[OUTPUT, ALLOW],
     )? {
         Request::Help => printed(rt.stdout().write_all(HELP.as_bytes())),
         Request::Version => printed(write_version("wasmnorm", &mut rt.stdout())),
@@ -199,8 +201,9 @@ fn start<E: Write>(rt: &HostRuntime, err: &mut E) -> Result<u8, Failure> {
             options,
             values,
         } => {
-            let options = run_options(options.as_slice());
-            let (Some(input), Some(output)) = (only_name(&names), only_value(&values)) else {
+            let allowed = allowed_names(rt.alloc(), &values)?;
+            let options = run_options(options.as_slice(), allowed.as_slice());
+            let (Some(input), Some(output)) = (only_name(&names), output_name(&values)) else {
                 return Ok(report_usage(USAGE, err));
             };
             normalise_file(rt, Files { input, output }, options, err)
@@ -219,13 +222,18 @@ fn only_name(names: &[String]) -> Option<&str> {
     }
 }
 
-/// The only value of an option, or `-` if there is none.
-fn only_value(values: &[OptionValue]) -> Option<&str> {
-    match values {
-        [] => Some("-"),
-        [OptionValue { value, .. }] => Some(value.as_str()),
-        _ => None,
+/// The value of the only option `-o`, or `-` if there is none.
+fn output_name(values: &[OptionValue]) -> Option<&str> {
+    let mut name = None;
+    for given in values {
+        if given.option.as_str() == OUTPUT {
+            if name.is_some() {
+                return None;
+            }
+            name = Some(given.value.as_str());
+        }
     }
+    name.or(Some("-"))
 }
 
 /// The names of the file that is read and of the one that is written. `-` is for a standard stream.
@@ -238,7 +246,7 @@ struct Files<'a> {
 fn normalise_file<E: Write>(
     rt: &HostRuntime,
     files: Files<'_>,
-    options: RunOptions,
+    options: RunOptions<'_>,
     err: &mut E,
 ) -> Result<u8, Failure> {
     let mut input = match open(rt, files.input, err) {

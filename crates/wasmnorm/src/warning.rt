@@ -1,5 +1,6 @@
 //! What can be wrong in the new module: a line on standard error, or the end of a strict run.
-ghost use Rattle.std.specs.Prelude.{◌≡◌, ◌++◌, IfErr, IfNone, IfOk, IfSome, None, OnOk};
+ghost use Rattle.std.specs.Prelude.{◌≡◌, ◌++◌, ℕ, IfErr, IfNone, IfOk, IfSome, List, None, OnOk};
+ghost use Rattle.std.specs.Borrow.{Bor};
 ghost use Rattle.std.specs.Io.KnownBytes.{Appends};
 ghost use Rattle.wasm_binary.specs.Modules.{IsNoModule};
 ghost use Rattle.wasm_module.specs.UnknownCustoms.{HasNoUnknownCustom};
@@ -38,14 +39,15 @@ impl fmt::Display for Warning {
 
 /// The warning that a module needs, or `None`. It fails if the module is to be rejected instead.
 #[tactic(auto, using(crate::proofs::Warnings::warning_rejected))]
-pub fn accepted_warning(options: RunOptions, bytes: &[u8]) -> Result<Option<Warning>, Failure>
+pub fn accepted_warning(options: RunOptions<'_>, bytes: &[u8]) -> Result<Option<Warning>, Failure>
     requires { ¬ IsNoModule bytes.now }
-    ensures first { IfOk result (IsFirstWarning bytes.now) }
+    ensures first { IfOk result (IsFirstWarning options.allowed.now bytes.now) }
     ensures none { options.strictness ≡ Strict → IfOk result (λ warning. warning ≡ None) }
-    ensures known { OnOk result (options.strictness ≡ Strict → HasNoUnknownCustom bytes.now) }
+    ensures known { OnOk result (options.strictness ≡ Strict →
+        HasNoUnknownCustom options.allowed.now bytes.now) }
     ensures refused { IfErr result (Explains options bytes.now) }
 {
-    let warning = first_warning(bytes);
+    let warning = first_warning(bytes, options.allowed);
     match options.strictness {
         Strictness::Lenient => Ok(warning),
         Strictness::Strict => match warning {
@@ -55,28 +57,29 @@ pub fn accepted_warning(options: RunOptions, bytes: &[u8]) -> Result<Option<Warn
     }
 }
 
-fn first_warning(bytes: &[u8]) -> Option<Warning>
+fn first_warning(bytes: &[u8], allowed: &[&[u8]]) -> Option<Warning>
     requires { ¬ IsNoModule bytes.now }
-    ensures { IsFirstWarning bytes.now result }
+    ensures { IsFirstWarning allowed.now bytes.now result }
 {
-    match hazard_of(bytes) {
+    match hazard_of(bytes, allowed) {
         Some(hazard) => Some(warning_of(hazard, bytes)),
         None => None,
     }
 }
 
 /// What can be wrong in the module that is made of these bytes.
-fn hazard_of(bytes: &[u8]) -> Option<Hazard>
+fn hazard_of(bytes: &[u8], allowed: &[&[u8]]) -> Option<Hazard>
     requires { ¬ IsNoModule bytes.now }
-    ensures found { IfSome result (IsHazard bytes.now) }
-    ensures none { IfNone result (HasNoHazard bytes.now) }
+    ensures found { IfSome result (IsHazard allowed.now bytes.now) }
+    ensures none { IfNone result (HasNoHazard allowed.now bytes.now) }
 {
     // The bytes are a module, so there is no error.
-    find_hazard(bytes).unwrap_or(None)
+    find_hazard(bytes, allowed).unwrap_or(None)
 }
 
 fn warning_of(hazard: Hazard, bytes: &[u8]) -> Warning
-    ensures { IsHazard bytes.now hazard → IsWarning bytes.now result }
+    ensures { (allowed : List (Bor (List ℕ))) → IsHazard allowed bytes.now hazard →
+        IsWarning allowed bytes.now result }
 {
     let context = match hazard {
         Hazard::UnknownSection { offset } => context_of(bytes, offset),

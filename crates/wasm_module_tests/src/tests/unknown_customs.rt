@@ -10,7 +10,7 @@ use wasm_module::find_unknown_custom;
 /// Whether the section is of a known kind.
 fn is_known(alloc: Global, section: &[u8]) -> bool {
     match module_of(alloc, section) {
-        Ok(bytes) => find_unknown_custom(bytes.as_slice()) == Ok(None),
+        Ok(bytes) => find_unknown_custom(bytes.as_slice(), &[]) == Ok(None),
         Err(_) => false,
     }
 }
@@ -18,7 +18,7 @@ fn is_known(alloc: Global, section: &[u8]) -> bool {
 /// Whether the section is found.
 fn is_found(alloc: Global, section: &[u8]) -> bool {
     match module_of(alloc, section) {
-        Ok(bytes) => find_unknown_custom(bytes.as_slice()) == Ok(Some(8)),
+        Ok(bytes) => find_unknown_custom(bytes.as_slice(), &[]) == Ok(Some(8)),
         Err(_) => false,
     }
 }
@@ -101,7 +101,7 @@ fn a_section_of_another_id_is_known(rt: HostRuntime) {
 
 #[test]
 fn a_module_without_sections_has_none(rt: HostRuntime) {
-    assert!(rt; find_unknown_custom(&HEADER) == Ok(None));
+    assert!(rt; find_unknown_custom(&HEADER, &[]) == Ok(None));
 }
 
 #[test]
@@ -111,8 +111,20 @@ fn the_first_unknown_one_of_several_is_found(rt: HostRuntime) {
         0, 0x61, 0x73, 0x6D, 1, 0, 0, 0, 0, 5, 4, 0x6E, 0x61, 0x6D, 0x65, 1, 4, 1, 0x60, 0, 0, 0,
         8, 7, 0x6C, 0x69, 0x6E, 0x6B, 0x69, 0x6E, 0x67, 0, 2, 1, 0x78, 3, 2, 1, 0, 0, 2, 1, 0x79,
     ];
-    assert!(rt; find_unknown_custom(&bytes) == Ok(Some(31)));
-    assert!(rt; find_unknown_custom(&bytes[..31]) == Ok(None));
+    assert!(rt; find_unknown_custom(&bytes, &[]) == Ok(Some(31)));
+    assert!(rt; find_unknown_custom(&bytes[..31], &[]) == Ok(None));
+}
+
+#[test]
+fn sections_of_allowed_names_are_known(rt: HostRuntime) {
+    // `x` and `y`
+    let bytes = [
+        0, 0x61, 0x73, 0x6D, 1, 0, 0, 0, 0, 2, 1, b'x', 0, 2, 1, b'y',
+    ];
+    assert!(rt; find_unknown_custom(&bytes, &[b"y"]) == Ok(Some(8)));
+    assert!(rt; find_unknown_custom(&bytes, &[b"z", b"x"]) == Ok(Some(12)));
+    assert!(rt; find_unknown_custom(&bytes, &[b"y", b"x"]) == Ok(None));
+    assert!(rt; find_unknown_custom(&bytes, &[b"xy", b""]) == Ok(Some(8)));
 }
 
 #[test]
@@ -121,8 +133,8 @@ fn what_is_no_module_is_refused(rt: HostRuntime) {
     let bytes = [0, 0x61, 0x73, 0x6D, 1, 0, 0, 0, 0, 2, 1, 0x78, 3, 2, 1];
     let (offset, expected) = (15, Expected::Content);
     let error = Some(DecodeError::Malformed { offset, expected });
-    assert_equal(&rt, find_unknown_custom(&bytes).err(), error);
+    assert_equal(&rt, find_unknown_custom(&bytes, &[]).err(), error);
     let (offset, expected) = (0, Expected::Magic);
     let error = Some(DecodeError::Malformed { offset, expected });
-    assert_equal(&rt, find_unknown_custom(&[]).err(), error);
+    assert_equal(&rt, find_unknown_custom(&[], &[]).err(), error);
 }

@@ -25,7 +25,7 @@ returns-in_err-warn_of-clause-failed g c =
 
 pub returns-in-Ok-write_and_flush-clause-warned : goal.returns-in-Ok-write_and_flush-clause-warned
 returns-in-Ok-write_and_flush-clause-warned g c =
-    known_warned (g.R.Read.remaining c.args.reader.now) c.in-Ok.bytes.items c.as_slice.result.now
+    known_warned c.args.options.allowed.now (g.R.Read.remaining c.args.reader.now) c.in-Ok.bytes.items c.as_slice.result.now
     c.in_ok-module.field-0.warning (g.E.Write.contents c.args.err.now) (g.E.Write.contents c.warn_of.new.err)
     c.in-Ok.ensures c.as_slice.ensures.value c.in_ok-module.ensures.first
     c.in_ok-warn_of.ensures.warned

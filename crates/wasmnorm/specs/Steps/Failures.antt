@@ -28,7 +28,7 @@ HasContext bytes error.Memory context = Unit {0}
 abbrev pub Explains : RunOptions → List ℕ → Failure → Type 0
 Explains options bytes (failure.Refused e context advice) =
     ExplainsError options.normalise bytes e × HasContext bytes e context
-Explains options bytes (failure.Rejected w) = (options.strictness ≡ Strict) × IsWarning bytes w
+Explains options bytes (failure.Rejected w) = (options.strictness ≡ Strict) × IsWarning options.allowed.now bytes w
 Explains options bytes failure.Memory = Unit {0}
 Explains options bytes failure.Keys = Unit {0}
 Explains options bytes (failure.Input error) = Unit {0}

@@ -1,5 +1,6 @@
 -- Which warning a module needs, and what a writer gains for it.
 use Rattle.std.specs.Prelude.{ℕ, List, Option, None, Some}
+use Rattle.std.specs.Borrow.{Bor}
 use Rattle.std.specs.Io.KnownBytes.{Keeps}
 use Rattle.error_context.specs.Contexts.{IsContext}
 use Rattle.error_context.specs.declared.context.Context.{Context}
@@ -14,13 +15,13 @@ abbrev pub IsSectionContext : List ℕ → Hazard → Context → Type 0
 IsSectionContext bytes (hazard.UnknownSection offset) context = IsContext context bytes offset
 
 -- what a warning says of the bytes
-abbrev pub IsWarning : List ℕ → Warning → Type 0
-IsWarning bytes w = IsHazard bytes w.hazard × IsSectionContext bytes w.hazard w.context
+abbrev pub IsWarning : List (Bor (List ℕ)) → List ℕ → Warning → Type 0
+IsWarning allowed bytes w = IsHazard allowed bytes w.hazard × IsSectionContext bytes w.hazard w.context
 
 -- the first warning of the bytes, or none
-abbrev pub IsFirstWarning : List ℕ → Option Warning → Type 0
-IsFirstWarning bytes None = HasNoHazard bytes
-IsFirstWarning bytes (Some w) = IsWarning bytes w
+abbrev pub IsFirstWarning : List (Bor (List ℕ)) → List ℕ → Option Warning → Type 0
+IsFirstWarning allowed bytes None = HasNoHazard allowed bytes
+IsFirstWarning allowed bytes (Some w) = IsWarning allowed bytes w
 
 -- a writer gained the line of a warning, or nothing where there is none
 abbrev pub WarnsOf : Option Warning → Option (List ℕ) → Option (List ℕ) → Type 0

@@ -9,7 +9,7 @@ loop-section-preserved c =
     let s = c.in-Some.section in (
       tt,
       tt,
-      one_passed IsNoUnknown c.in_ok-found.found c.loop-section.left c.next.new.self
+      one_passed (IsNoUnknown c.args.allowed.now) c.in_ok-found.found c.loop-section.left c.next.new.self
           (placed s.offset s.content_offset s.id s.content.now) c.loop-section.invariant.2
           c.in-Some.ensures.steps (c.if-is_unknown_custom.ensures.no refl),
     )
