@@ -51,10 +51,7 @@ const CUSTOM: u8 = 0;
 /// [`rename_module`]: crate::rename_module
 /// [`strip_descriptions`]: crate::strip_descriptions
 /// [`find_outdated`]: crate::find_outdated
-pub fn find_unknown_custom(
-    bytes: &[u8],
-    allowed: &[&[u8]],
-) -> Result<Option<usize>, DecodeError>
+pub fn find_unknown_custom(bytes: &[u8], allowed: &[&[u8]]) -> Result<Option<usize>, DecodeError>
     // The bytes are a module, whose first such section begins there.
     ensures found { IfOk result (λ found. IfSome found (λ offset.
         HasUnknownCustomAt allowed.now bytes.now offset)) }

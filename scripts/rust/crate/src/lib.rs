@@ -1,5 +1,5 @@
 //! The lowest layer of [walrus](https://docs.rs/walrus), and modules above it: types, instructions
-//! and function bodies of WebAssembly modules, and type sections in normal form.
+//! and function bodies of WebAssembly modules, and type sections in normal and in canonical form.
 //!
 //! - [`arena`]: arenas whose ids are never reused, and sets of values over them.
 //! - [`types`]: the table of a module's types, the records of a type section, and its normal form.
