@@ -40,7 +40,7 @@ RULES = [(re.compile(pattern, re.M), text) for pattern, text in [
     # What pages say of other libraries.
     (spaced('all public names of `walrus_functions`, `walrus_nesting`, `walrus_traversals` and `walrus_traversals_mut`'),
      'functions, their builders, and walks'),
-    (paragraph(r'\[`delete_unused_types`\], \[`new_indices`\] and \[`normalise_used`\] are those of'), ''),
+    (paragraph(r'\[`delete_unused_types`\] and \[`new_indices`\] are those of'), ''),
     (spaced('calls of the crates below'), 'these calls'),
     (spaced(r'\[this crate\]'), '[this module]'),
 ]]

@@ -18,20 +18,22 @@ use wasm_module::{find_outdated, rename_module, strip_descriptions};
 
 /// Returns the module with its type section in canonical form, and with every other index of a type
 /// written again. Each index outside custom sections means an equal type, by WebAssembly's own
-/// equality (WebAssembly core specification, "Types", recursive types). All else stays byte for byte
-/// ("Binary Format", "Modules").
+/// equality (WebAssembly core specification, "Types", recursive types). All else stays byte for
+/// byte ("Binary Format", "Modules").
 ///
-/// The canonical form is that of [`canonicalise`]: equal types are merged, also in recursion groups,
-/// and of all lists of the same types it is the least. So two modules that differ in nothing but
-/// their list of types have the same result. Its text is the shortest one. An index elsewhere is
-/// written as [`NormaliseOptions::widths`] says: in the shortest form, or in as many bytes as were
-/// there. The size of a function body, a section or a subsection is written again where an index is
-/// in it. A module without type section that names no type stays as it is.
+/// The canonical form is that of [`canonicalise`](walrus_canonical::canonicalise): equal types are
+/// merged, also in recursion groups, and of all lists of the same types it is the least. So two
+/// modules that differ in nothing but their list of types have the same result. Its text is the
+/// shortest one. An index elsewhere is written as [`NormaliseOptions::widths`] says: in the
+/// shortest form, or in as many bytes as were there. The size of a function body, a section or a
+/// subsection is written again where an index is in it. A module without type section that names no
+/// type stays as it is.
 ///
 /// With [`UnusedTypes::Deleted`](crate::UnusedTypes::Deleted) only the types are there that another
 /// section names, and with each type its recursion group and all that it names, also as supertype.
 /// The names in the custom section `name` use no type. Where all types are deleted the type section
-/// stays, empty. [`canonicalise`] does the same with a type section alone.
+/// stays, empty. [`canonicalise`](walrus_canonical::canonicalise) does the same with a type section
+/// alone.
 ///
 /// The names of types and of their fields in the custom section `name` follow the types, and go
 /// with deleted ones. Of types that are merged, the one with the least old index that has names
@@ -53,7 +55,7 @@ use wasm_module::{find_outdated, rename_module, strip_descriptions};
 /// - [`NormaliseModuleError::Types`] comes where the bytes are no module, or the type section is
 ///   malformed or has a type that no record holds. The error inside says at which byte.
 /// - [`NormaliseModuleError::BadIndex`] and [`NormaliseModuleError::TooMany`] come where
-///   [`canonicalise`] refuses the type section.
+///   [`canonicalise`](walrus_canonical::canonicalise) refuses the type section.
 /// - [`NormaliseModuleError::Malformed`] comes where another section that can name types is
 ///   malformed. The error says at which byte.
 /// - [`NormaliseModuleError::UnknownType`] comes where another section names a type that the type
