@@ -26,11 +26,10 @@ const ILL_NAMED: [u8; 22] = [
     0, 0x61, 0x73, 0x6D, 1, 0, 0, 0, 1, 4, 1, 0x60, 0, 0, 3, 2, 1, 1, 0, 2, 1, b'x',
 ];
 
-// two types, of which the second names the first, the same custom section, and one that has to fit
-// all bytes
-const SIGNED: [u8; 37] = [
-    0, 0x61, 0x73, 0x6D, 1, 0, 0, 0, 1, 11, 2, 0x60, 1, 0x63, 0, 0, 0x60, 1, 0x63, 0, 0, 0, 2, 1,
-    b'x', 0, 10, 9, b's', b'i', b'g', b'n', b'a', b't', b'u', b'r', b'e',
+// (type (struct)) (type (func)), the same custom section, and one that has to fit all bytes
+const SIGNED: [u8; 32] = [
+    0, 0x61, 0x73, 0x6D, 1, 0, 0, 0, 1, 6, 2, 0x5F, 0, 0x60, 0, 0, 0, 2, 1, b'x', 0, 10, 9, b's',
+    b'i', b'g', b'n', b'a', b't', b'u', b'r', b'e',
 ];
 
 /// Whether the bytes become these.
@@ -77,7 +76,7 @@ fn what_is_refused_comes_before_a_hazard(rt: HostRuntime) {
         count: 1,
         offset: 17,
     };
-    let outdated = NormaliseModuleError::Outdated { offset: 25 };
+    let outdated = NormaliseModuleError::Outdated { offset: 20 };
     assert!(rt; error_of(rt.alloc(), &ILL_NAMED) == Some(StrictError::Refused(unknown)));
     assert!(rt; error_of(rt.alloc(), &SIGNED) == Some(StrictError::Refused(outdated)));
 }

@@ -1,5 +1,5 @@
-//! Modules with their types in canonical form. They are put together by hand from the specification's grammar, and so
-//! are the results.
+//! Modules with their types in canonical form. They are put together by hand from the
+//! specification's grammar, and so are the results.
 use std::alloc::Global;
 use std::test::*;
 use wasm_normalise::{
@@ -67,5 +67,6 @@ fn the_laws_hold() {
     laws::one_shortest_text();
     laws::result_has_the_canonical_form();
     laws::types_keep_their_meaning();
+    laws::one_result_where_alike();
     laws::second_round();
 }
