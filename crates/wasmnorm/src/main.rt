@@ -41,13 +41,14 @@ use wasm_normalise::{HashKeys, canonical_module};
 /// Equal types are merged, by WebAssembly's own equality, and of all lists of the same types the
 /// least is written. So each index that is written again means an equal type. Types that nothing
 /// uses stay, unless the options say that they are deleted. Custom sections other than `name` are
-/// copied as they are. Where one of them describes bytes that would change, such as debug data, the module is
-/// refused, unless the options say that such sections are left out.
+/// copied as they are. Where one of them describes bytes that would change, such as debug data, the
+/// module is refused, unless the options say that such sections are left out.
 ///
 /// In one case the new module can be wrong: a custom section is of an unknown kind, and so may refer
-/// to types or to places in the file. Sections whose names the options allow are of a known kind. With `Strictness::Strict` such a module is rejected, even if no
-/// byte would change. With `Strictness::Lenient` a line on `err` warns of it, before the module is
-/// written. The line names the place of the section in the input.
+/// to types or to places in the file. Sections whose names the options allow are of a known kind.
+/// With `Strictness::Strict` such a module is rejected, even if no byte would change. With
+/// `Strictness::Lenient` a line on `err` warns of it, before the module is written. The line names
+/// the place of the section in the input.
 ///
 /// It returns the exit status. One line on `err` explains each of 1 to 4. At 0 `err` gains nothing
 /// but a warning. At 4 a warning can be before the line.
