@@ -5,13 +5,13 @@ use Rattle.wasm_module.specs.RenamedModules.{RenamesModule}
 use Rattle.wasm_module.specs.Renaming.{NewIndices}
 use Rattle.wasm_module.specs.declared.renaming.Widths.TheVariants as widths
 use Rattle.wasm_module.proofs.AlikePieces.{alike_before}
-use Rattle.wasm_module.proofs.PiecesOfModules.{any_pieces}
+use Rattle.wasm_module.proofs.PiecesOfModules.{module_pieces}
 
 pub modules_alike : (R : Pairing) (m w : NewIndices) → LeadTogether R m w → (t u bytes other new : List ℕ) →
     RenamesModule t m widths.Shortest bytes new → RenamesModule u w widths.Shortest other new →
     AreAlike R bytes other
 modules_alike R m w h t u bytes other new f g =
-    let p = any_pieces t m widths.Shortest bytes new f in
+    let p = module_pieces t m widths.Shortest bytes new f in
     let q = p.has_before u w widths.Shortest other g in
     record {
       piece = p.piece;

@@ -1,13 +1,13 @@
 -- Pieces that are alike become one piece by new indices that lead together, and pieces that become one
 -- are alike.
-use Rattle.std.proofs.Common.{◌≡◌, ℕ, List, [], ◌++◌, length, Some, refl, sym, ap, subst, ◌∙◌}
+use Rattle.std.proofs.Common.{◌≡◌, ℕ, List, [], ◌++◌, length, refl, sym, ap, subst, ◌∙◌}
 use Rattle.std.proofs.lemmas.List.{length-map}
 use Rattle.wasm_binary.specs.Modules.{header}
 use Rattle.wasm_module.specs.declared.renaming.Widths.TheVariants as widths
 use Rattle.wasm_module.specs.declared.renaming.Widths.{Widths}
 use Rattle.wasm_module.specs.Alike.{Pairing, swapped, BelongNowhere, SizesAlike, both_stay, neither_stays, first_stays, second_stays, Alike, same_bytes, indices, sizes, both, empty_maps, maps, second_empties, first_empties, type_sections, AreAlike, LeadTogether}
 use Rattle.wasm_module.specs.NameSections.{TypeEntry, AreKept}
-use Rattle.wasm_module.specs.Pieces.{Piece, still, index, sized, joined, mapped, types, bytes_of, names_in, AreWritten, Turns, unchanged, renumbers, unresized, resizes, joins, unmapped, remaps, retypes}
+use Rattle.wasm_module.specs.Pieces.{Piece, index, sized, joined, mapped, types, bytes_of, AreWritten, Turns, unchanged, renumbers, unresized, resizes, joins, unmapped, remaps, retypes}
 use Rattle.wasm_module.specs.Pieces.AreWritten.{none as none_written, next as next_written}
 use Rattle.wasm_module.specs.RenamedModules.{RenamesModule}
 use Rattle.wasm_module.specs.Renaming.{NewIndices, new_index, IsTextOf}

@@ -197,18 +197,6 @@ written_on R count bytes rest after unwritten out mid new last w c some mid-is l
       named = λ h e. c.changes.is_naming (back_empty w.names names e);
     }
 
-pub written_stays : (R : Change) (count : ℕ) (bytes rest unwritten out : List ℕ) →
-    Written R count bytes rest unwritten out → out ≡ [] → KeepsPrefix (ChangeAll R count) bytes rest
-written_stays R count bytes rest unwritten out w e =
-    let b = w.bare e in
-    record {
-      text = w.kept;
-      parts = w.parts ∙ ap (λ (u : List ℕ). u ++ unwritten) b.0 ∙ w.later;
-      stays =
-          change_is R count count (w.text ++ w.kept) w.kept (out ++ w.kept) w.kept w.names [] refl
-          (ap (λ (u : List ℕ). u ++ w.kept) b.0) (ap (λ (u : List ℕ). u ++ w.kept) e) b.1 w.becomes;
-    }
-
 pub written_changes : (R : Change) (count : ℕ) (bytes rest unwritten out last : List ℕ) →
     Written R count bytes rest unwritten out → (out ≡ [] → ⊥)
     → last ≡ out ++ take (length unwritten - length rest) unwritten →

@@ -5,17 +5,13 @@ use Rattle.wasm_module.specs.declared.kind.Kind.{Kind}
 use Rattle.wasm_module.specs.declared.renaming.Widths.{Widths}
 use Rattle.wasm_module.specs.declared.renaming.Widths.TheVariants.{Kept}
 use Rattle.wasm_module.specs.Composition.{AreOwn}
-use Rattle.wasm_module.specs.Immediates.{Token, Begins, index as index_begins, signed_index, Runs, stop, step, type_names}
-use Rattle.wasm_module.specs.Pieces.{Piece, bytes_of, names_in, Turns, unchanged, renumbers, unresized, resizes, joins, unmapped, remaps, retypes}
+use Rattle.wasm_module.specs.Immediates.{Token, Begins, index as index_begins, signed_index, Runs, stop, step, type_name, names_of, type_names}
+use Rattle.wasm_module.specs.Pieces.{Piece, bytes_of, names_in, Turns, unchanged, renumbers, joins}
 use Rattle.wasm_module.specs.Renaming.{NewIndices, new_index, type_maps, least_width, Renames, AreRenamed}
-use Rattle.wasm_module.proofs.Pieces.{one_piece, turns_again}
-use Rattle.wasm_module.proofs.PiecesOfTexts.{HoldsOfMaps, TextsBy, piece_of, pieces, unnamed_piece, pieces_bytes, pieces_names, pieces_hold, still_bytes, texts_again, found_texts}
+use Rattle.wasm_module.proofs.Pieces.{one_piece, none_named, turns_again}
+use Rattle.wasm_module.proofs.PiecesOfTexts.{TextsBy, piece_of, pieces, unnamed_piece, piece_names, pieces_bytes, pieces_names, still_bytes, texts_again, found_texts}
 use Rattle.wasm_module.proofs.NumberTexts.{text_once, own_width}
 use Rattle.wasm_module.proofs.Tokens.{View, u32_type, s33_type, other, view, token_text}
-
--- code has no maps
-abbrev Never : List ℕ → Type 0
-Never names = ⊥
 
 -- what names the types of a renamed text
 pub texts_renamed : (m : NewIndices) (w : Widths) (kinds : List Kind) (bytes new : List ℕ) →
@@ -30,7 +26,7 @@ pub code_once : (m : NewIndices) (w : Widths) (kinds : List Kind) (bytes a b : L
 code_once m w kinds bytes a b h g =
     let x = texts_renamed m w kinds bytes a h in
     let y = texts_renamed m w kinds bytes b g in
-    let f = found_texts Never [] m w kinds bytes a x.0 x.1 in
+    let f = found_texts [] m w kinds bytes a x.0 x.1 in
     let k = f.is.to [] m w bytes b y.0 y.1 f.part.text_is in
     sym f.part.new_is
     ∙ ap bytes_of (one_piece [] m w f.part.piece f.part.becomes k.piece f.part.turns k.turns) ∙ k.new_is
@@ -40,7 +36,7 @@ pub code_stays : (first again : NewIndices) → AreOwn first again → (w : Widt
     Renames (type_maps again) (least_width w) kinds new new
 code_stays first again own w kinds bytes new h =
     let x = texts_renamed first w kinds bytes new h in
-    let f = found_texts Never [] first w kinds bytes new x.0 x.1 in
+    let f = found_texts [] first w kinds bytes new x.0 x.1 in
     let p = f.part in
     let k = f.is_again.from [] again w p.becomes
     (turns_again first again own [] w p.piece p.becomes p.turns) in
@@ -48,20 +44,26 @@ code_stays first again own w kinds bytes new h =
 
 -- ---- the types that are named
 
-names_mapped : (m : NewIndices) (w : Widths) (p q : Piece) → Turns [] m w p q → HoldsOfMaps Never p →
-    map (λ k. new_index m k) (names_in p) ≡ map (λ k. Some k) (names_in q)
-names_mapped m w _ _ (unchanged text) never = refl
-names_mapped m w _ _ (renumbers end k n text new to is) never = ap (λ o. o ∷ []) to
-names_mapped m w _ _ (unresized size p q nameless same h) never = names_mapped m w p q h never
-names_mapped m w _ _ (resizes size new p q some is h) never = names_mapped m w p q h never
-names_mapped m w _ _ (joins p q r s h g) never =
-    map-append (λ k. new_index m k) (names_in p) (names_in q)
-    ∙ ap (λ (u : List (Option ℕ)). u ++ map (λ k. new_index m k) (names_in q)) (names_mapped m w p r h never.0)
-    ∙ ap (λ (u : List (Option ℕ)). map (λ k. Some k) (names_in r) ++ u) (names_mapped m w q s g never.1)
-    ∙ sym (map-append (λ k. Some k) (names_in r) (names_in s))
-names_mapped m w _ _ (unmapped count texts es nothing) never = absurd never
-names_mapped m w _ _ (remaps count texts new news es fs kept some is n a) never = absurd never
-names_mapped m w _ _ (retypes size content new is) never = refl
+module _ (m : NewIndices) (w : Widths) where
+  token_mapped : (p : Token) (q : Piece) → View p → Turns [] m w (piece_of p) q →
+      map (λ k. new_index m k) (names_of (type_name p)) ≡ map (λ k. Some k) (names_in q)
+  token_mapped _ _ (u32_type text k) (renumbers _ _ n _ new to is) = ap (λ o. o ∷ []) to
+  token_mapped _ _ (s33_type text k) (renumbers _ _ n _ new to is) = ap (λ o. o ∷ []) to
+  token_mapped _ q (other p unnamed maps) h =
+      let nameless : names_of (type_name p) ≡ [] = ap names_of unnamed in
+      ap (λ (u : List ℕ). map (λ k. new_index m k) u) nameless
+      ∙ ap (λ (u : List ℕ). map (λ k. Some k) u)
+      (sym (none_named [] m w (piece_of p) q h (piece_names p (other p unnamed maps) ∙ nameless)))
+
+  tokens_mapped : (ps : List Token) (q : Piece) → Turns [] m w (pieces ps) q →
+      map (λ k. new_index m k) (type_names ps) ≡ map (λ k. Some k) (names_in q)
+  tokens_mapped [] _ (unchanged _) = refl
+  tokens_mapped (p ∷ ps) _ (joins _ _ r s h g) =
+      map-append (λ k. new_index m k) (names_of (type_name p)) (type_names ps)
+      ∙ ap (λ (u : List (Option ℕ)). u ++ map (λ k. new_index m k) (type_names ps))
+      (token_mapped p r (view p) h)
+      ∙ ap (λ (u : List (Option ℕ)). map (λ k. Some k) (names_in r) ++ u) (tokens_mapped ps s g)
+      ∙ sym (map-append (λ k. Some k) (names_in r) (names_in s))
 
 pub names_follow : (m : NewIndices) (w : Widths) (kinds : List Kind) (bytes new : List ℕ) →
     Renames (type_maps m) (least_width w) kinds bytes new → AreRenamed m kinds bytes new
@@ -72,8 +74,7 @@ names_follow m w kinds bytes new h =
       new_names = type_names r.tokens;
       before = record { tokens = h.tokens; are = h.are; named = refl };
       after = record { tokens = r.tokens; are = r.runs; named = refl };
-      mapped = ap (λ (u : List ℕ). map (λ k. new_index m k) u) (sym (pieces_names h.tokens))
-          ∙ names_mapped m w (pieces h.tokens) (pieces r.tokens) r.turns (pieces_hold Never h.tokens)
+      mapped = tokens_mapped m w h.tokens (pieces r.tokens) r.turns
           ∙ ap (λ (u : List ℕ). map (λ k. Some k) u) (pieces_names r.tokens);
     }
 

@@ -5,12 +5,11 @@ use Rattle.std.specs.List.{All}
 use Rattle.std.specs.Prelude.{nat_eq, codes, slice_range}
 use Rattle.std.proofs.lemmas.Slice.Eq.{starts_is}
 use Rattle.std.proofs.lemmas.Bool.Decides.{Decides-eqb}
-use Rattle.std.proofs.lemmas.List.Elements.{All-nil, All-push}
+use Rattle.std.proofs.lemmas.List.Elements.{All-push}
 use Rattle.wasm_binary.specs.Modules.{Section, section, IsSection, header}
 use Rattle.wasm_binary.proofs.Modules.Faulting.{module_parts}
-use Rattle.wasm_module.specs.Customs.{IsDescriptionName, external_debug_info, linking, signature, source_mapping_url, debug, code_metadata, relocations, HasName, IsDescription, IsStrippedSection, left_out, kept, AreStripped, none, next, IsStripped, HasSections, HasNoDescription, HasDescriptionAt}
+use Rattle.wasm_module.specs.Customs.{IsDescriptionName, external_debug_info, linking, signature, source_mapping_url, debug, code_metadata, relocations, HasName, IsDescription, IsStrippedSection, left_out, kept, AreStripped, none, next, HasSections}
 use Rattle.wasm_module.specs.Sections.{PlacedSection, framing, ArePlaced}
-use Rattle.wasm_module.specs.Sections.ArePlaced.{none as nothing, next as placed_next}
 use Rattle.wasm_module.specs.Steps.Customs.{BeginsWith}
 use Rattle.wasm_module.specs.Steps.NameSections.{TakesSized, BeginsUnsized}
 use Rattle.wasm_module.specs.Steps.Renaming.{Appends}
@@ -57,17 +56,6 @@ relocation_name name b = named name (codes "reloc." ++ b.0) b.1 (relocations b.0
 
 -- ---- sections
 
-pub is_description : (id : ℕ) (content name rest : List ℕ) → id ≡ 0 → TakesSized name content rest →
-    IsDescriptionName name → IsDescription (section id content)
-is_description id content name rest custom t is =
-    record {
-      is_custom = custom;
-      name = name;
-      has_name =
-          record { size = t.size; follows = rest; is_size = t.is_size; parts = t.parts };
-      is_description = is;
-    }
-
 pub name_taken : (name content : List ℕ) (h : HasName name content) → TakesSized name content h.follows
 name_taken name content h = record { size = h.size; is_size = h.is_size; parts = h.parts }
 
@@ -80,9 +68,6 @@ other_name id content name rest t fails d =
 
 pub nameless : (id : ℕ) (content : List ℕ) → BeginsUnsized content → IsDescription (section id content) → ⊥
 nameless id content unsized d = unsized d.name d.has_name.follows (name_taken d.name content d.has_name)
-
-pub not_custom : (id : ℕ) (content : List ℕ) → (id ≡ 0 → ⊥) → IsDescription (section id content) → ⊥
-not_custom id content other d = other d.is_custom
 
 -- ---- modules without such sections
 
@@ -189,14 +174,6 @@ pub record PassesNone (all left : List PlacedSection) : Type 0 where
   pub parts : all ≡ before ++ left
   pub none_before : All (λ s. IsDescription s.framed → ⊥) before
 
-pub none_passed : (all : List PlacedSection) → PassesNone all all
-none_passed all =
-    record {
-      before = [];
-      parts = refl;
-      none_before = All-nil (λ (s : PlacedSection). IsDescription s.framed → ⊥);
-    }
-
 pub one_passed : (all old left : List PlacedSection) (s : PlacedSection) → PassesNone all old →
     old ≡ s ∷ left → (IsDescription s.framed → ⊥) → PassesNone all left
 one_passed all old left s p e fails =
@@ -208,26 +185,3 @@ one_passed all old left s p e fails =
       none_before =
           All-push (λ (k : PlacedSection). IsDescription k.framed → ⊥) p.before s p.none_before fails;
     }
-
-pub found_at : (bytes : List ℕ) (all old left : List PlacedSection) (s : PlacedSection) →
-    HasSections bytes all →
-    PassesNone all old → old ≡ s ∷ left → IsDescription s.framed → HasDescriptionAt bytes s.offset
-found_at bytes all old left s h p e is =
-    record {
-      before = p.before;
-      first = s;
-      behind = left;
-      has =
-          subst (HasSections bytes) (p.parts ∙ ap (λ (u : List PlacedSection). p.before ++ u) e) h;
-      none_before = p.none_before;
-      is_description = is;
-      place = refl;
-    }
-
-pub none_found : (bytes : List ℕ) (all left : List PlacedSection) → HasSections bytes all →
-    PassesNone all left →
-    left ≡ [] → HasNoDescription bytes
-none_found bytes all left h p e =
-    let same : all ≡ p.before = p.parts ∙ ap (λ (u : List PlacedSection). p.before ++ u) e
-    ∙ append-nil p.before in
-    record { sections = p.before; has = subst (HasSections bytes) same h; none = p.none_before }

@@ -43,7 +43,6 @@ pub mod ModuleLengths
 pub mod DescriptionNames
 pub mod OutdatedSections
 pub mod UnknownSections
-pub mod NamingCustoms
 pub mod PiecesOfNames
 pub mod PiecesOfModules
 pub mod AlikeNames

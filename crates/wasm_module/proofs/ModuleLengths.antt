@@ -19,9 +19,6 @@ pub record Passed (P : PlacedSection → Type 0) (all left : List PlacedSection)
   pub parts : all ≡ before ++ left
   pub are : All P before
 
-pub none_passed : (P : PlacedSection → Type 0) (all : List PlacedSection) → Passed P all all
-none_passed P all = record { before = []; parts = refl; are = All-nil P }
-
 next_parts : (all old left before : List PlacedSection) (s : PlacedSection) → all ≡ before ++ old →
     old ≡ s ∷ left → all ≡ (before ++ s ∷ []) ++ left
 next_parts all old left before s e is =

@@ -1,21 +1,17 @@
 -- Which sections no longer fit, from what was found of both modules.
-use Rattle.std.proofs.Common.{◌≡◌, ℕ, ◌<◌, true, List, [], ◌∷◌, ◌++◌, length, get_or, refl, sym, subst, ◌∙◌, rules}
+use Rattle.std.proofs.Common.{◌≡◌, ℕ, ◌<◌, true, List, [], length, get_or, subst, ◌∙◌, rules}
 use denote.Enum.Bare.{sameb, same_true}
-use Rattle.std.proofs.lemmas.List.Elements.{All-contains, All-push}
+use Rattle.std.proofs.lemmas.List.Elements.{All-contains}
 use Rattle.wasm_module.specs.declared.description_kinds.DescriptionKind.{DescriptionKind}
 use Rattle.wasm_module.specs.contracts.description_kinds.DescriptionKind.{the_type as kind_type}
 use Rattle.wasm_module.specs.Customs.{HasSections}
-use Rattle.wasm_module.specs.Outdated.{IsDescriptionOf, HaveSame, Stays, Fits, IsOutdated, AllFit, HasOutdatedAt}
+use Rattle.wasm_module.specs.Outdated.{IsDescriptionOf, HaveSame, Stays, Fits, AllFit}
 use Rattle.wasm_module.specs.Sections.{PlacedSection}
 use Rattle.wasm_module.specs.Steps.Outdated.{AllStay}
 use Rattle.wasm_module.proofs.DescriptionNames.{one_kind}
-use Rattle.wasm_module.proofs.ModuleLengths.{Passed, passed_parts, all_passed}
+use Rattle.wasm_module.proofs.ModuleLengths.{Passed, all_passed}
 
 -- ---- what both modules have
-
-pub have_same : {A : Type 0} (Has : List ℕ → A → Type 0) (bytes new : List ℕ) (a b : A) → Has bytes a →
-    Has new b → a ≡ b → HaveSame Has bytes new
-have_same Has bytes new a b h g e = record { same = b; before = subst (Has bytes) e h; after = g }
 
 pub have_others : {A : Type 0} (Has : List ℕ → A → Type 0) →
     ((bytes : List ℕ) (x y : A) → Has bytes x → Has bytes y → x ≡ y) → (bytes new : List ℕ) (a b : A) →
@@ -34,10 +30,6 @@ pub fits_of_none : (bytes new : List ℕ) (s : PlacedSection) →
     ((k : DescriptionKind) → IsDescriptionOf k s.framed → ⊥) → Fits bytes new s
 fits_of_none bytes new s none = λ k d. absurd (none k d)
 
-pub is_outdated : (bytes new : List ℕ) (s : PlacedSection) (k : DescriptionKind) →
-    IsDescriptionOf k s.framed → (Stays k bytes new → ⊥) → IsOutdated bytes new s
-is_outdated bytes new s k d changes = record { kind = k; describes = d; changes = changes }
-
 -- `==` of kinds is sameness
 pub known_stays : (bytes new : List ℕ) (kinds : List DescriptionKind) (k : DescriptionKind) (i : ℕ) →
     AllStay bytes new kinds → i < length kinds
@@ -46,26 +38,7 @@ known_stays bytes new kinds k i all less same =
     All-contains (λ j. Stays j bytes new) kinds k all
     (i, less, same_true kind_type (search rules) (get_or kinds i k) k (same k))
 
-pub stay_on : (bytes new : List ℕ) (kinds more : List DescriptionKind) (k : DescriptionKind) →
-    AllStay bytes new kinds → Stays k bytes new → more ≡ kinds ++ k ∷ [] → AllStay bytes new more
-stay_on bytes new kinds more k all h e =
-    subst (AllStay bytes new) (sym e) (All-push (λ j. Stays j bytes new) kinds k all h)
-
 -- ---- all sections
-
-pub outdated_at : (bytes new : List ℕ) (all old left : List PlacedSection) (s : PlacedSection) →
-    HasSections bytes all → Passed (Fits bytes new) all old → old ≡ s ∷ left → IsOutdated bytes new s →
-    HasOutdatedAt bytes new s.offset
-outdated_at bytes new all old left s h p e is =
-    record {
-      before = p.before;
-      first = s;
-      behind = left;
-      has = passed_parts (Fits bytes new) bytes all old left s h p e;
-      fit = p.are;
-      is_outdated = is;
-      place = refl;
-    }
 
 pub all_fit : (bytes new : List ℕ) (all left : List PlacedSection) → HasSections bytes all →
     Passed (Fits bytes new) all left → left ≡ [] → AllFit bytes new

@@ -6,7 +6,7 @@ use Rattle.wasm_binary.specs.Steps.Reading.{u32_at}
 use Rattle.wasm_module.specs.declared.kind.Kind.{Kind}
 use Rattle.wasm_module.specs.declared.renaming.Widths.{Widths}
 use Rattle.wasm_module.specs.Bodies.{body}
-use Rattle.wasm_module.specs.Changes.{Change, ChangesSized, stays, resized, ChangeAll}
+use Rattle.wasm_module.specs.Changes.{ChangesSized, stays, resized, ChangeAll}
 use Rattle.wasm_module.specs.Changes.ChangeAll.{none as no_change, next as next_change}
 use Rattle.wasm_module.specs.Contents.{section_kinds}
 use Rattle.wasm_module.specs.NamedTypes.{code_id}
@@ -15,7 +15,7 @@ use Rattle.wasm_module.specs.RenamedSections.{RenamesTexts, RenamesBody, Renames
 use Rattle.wasm_module.specs.RenamedSections.RenamesCode.{counted}
 use Rattle.wasm_module.specs.RenamedSections.RenamesContent.{texts, code, nameless}
 use Rattle.wasm_module.specs.Renaming.{NewIndices, least_width, IsTextOf}
-use Rattle.wasm_module.proofs.PiecesOfTexts.{Changing, Writes, Reads, ReadsFirst, IsRead, IsReadFirst, Before, ReadsBack, ReadsFirstBack, IsWhole, IsItem, read_of, read_first_of, Part, Found, Finds, AreSame, whole_as, StaysAsItIs, stays_by, fits_still, fits_both, whole_still, TextsBy, found_texts}
+use Rattle.wasm_module.proofs.PiecesOfTexts.{Changing, Writes, Reads, ReadsFirst, IsRead, IsReadFirst, ReadsBack, ReadsFirstBack, IsWhole, IsItem, read_of, read_first_of, Part, Found, Finds, AreSame, whole_as, StaysAsItIs, stays_by, fits_still, fits_both, whole_still, TextsBy, found_texts}
 use Rattle.wasm_module.proofs.SameTexts.{same_kinds, no_texts_of_code, same_sizes, taken}
 use Rattle.wasm_module.proofs.SizedContents.{number_read, same_number, same_content}
 
@@ -266,9 +266,9 @@ module _ (id : ℕ) (t : List ℕ) (m : NewIndices) (w : Widths) where
 size_of : (size p content : List ℕ) → p ≡ content → IsU32 size (length content) → IsU32 size (length p)
 size_of size p content e h = subst (λ (u : List ℕ). IsU32 size (length u)) (sym e) h
 
-module _ (P : List ℕ → Type 0) (t : List ℕ) (m : NewIndices) (w : Widths) where
+module _ (t : List ℕ) (m : NewIndices) (w : Widths) where
   pub found_as : (C D : Changing) → AreSame C D → (text new names : List ℕ) →
-      Found (IsWhole C) P t m w text new names → Found (IsWhole D) P t m w text new names
+      Found (IsWhole C) t m w text new names → Found (IsWhole D) t m w text new names
   found_as C D same text new names f =
       record {
         part = f.part;
@@ -276,7 +276,7 @@ module _ (P : List ℕ → Type 0) (t : List ℕ) (m : NewIndices) (w : Widths) 
         is_again = whole_as C D same f.part.becomes f.is_again;
       }
 
-  abbrev pub part_still : (text : List ℕ) → Part P t m w text text []
+  abbrev pub part_still : (text : List ℕ) → Part t m w text text []
   part_still text =
       record {
         piece = still text;
@@ -285,11 +285,10 @@ module _ (P : List ℕ → Type 0) (t : List ℕ) (m : NewIndices) (w : Widths) 
         text_is = refl;
         new_is = refl;
         names_are = refl;
-        holds = tt;
       }
 
-  abbrev pub part_both : (text new names others news more : List ℕ) → Part P t m w text new names →
-      Part P t m w others news more → Part P t m w (text ++ others) (new ++ news) (names ++ more)
+  abbrev pub part_both : (text new names others news more : List ℕ) → Part t m w text new names →
+      Part t m w others news more → Part t m w (text ++ others) (new ++ news) (names ++ more)
   part_both text new names others news more f g =
       record {
         piece = joined f.piece g.piece;
@@ -301,16 +300,14 @@ module _ (P : List ℕ → Type 0) (t : List ℕ) (m : NewIndices) (w : Widths) 
             ap (λ (u : List ℕ). u ++ bytes_of g.becomes) f.new_is ∙ ap (λ (u : List ℕ). new ++ u) g.new_is;
         names_are = ap (λ (u : List ℕ). u ++ more) f.names_are
             ∙ ap (λ (u : List ℕ). names_in f.piece ++ u) g.names_are;
-        holds = (f.holds, g.holds);
       }
 
-  pub found_still : (text : List ℕ) → Found (IsWhole StaysAsItIs) P t m w text text []
+  pub found_still : (text : List ℕ) → Found (IsWhole StaysAsItIs) t m w text text []
   found_still text =
       record { part = part_still text; is = whole_still text; is_again = whole_still text }
 
-  pub found_sized : (C : Changing) (R : Change) → Finds (IsWhole C) P t m w R →
-      Finds (IsItem (WithSize C)) P t m w (ChangesSized w R)
-  found_sized C R found _ _ _ (stays size content h f) =
+  pub found_sized : (C : Changing) → Finds (IsWhole C) C t m w → Finds (IsItem (WithSize C)) (WithSize C) t m w
+  found_sized C found _ _ _ (stays size content h f) =
       let k = found content content [] f in
       let p = k.part in
       record {
@@ -321,13 +318,12 @@ module _ (P : List ℕ → Type 0) (t : List ℕ) (m : NewIndices) (w : Widths) 
           text_is = ap (λ (u : List ℕ). size ++ u) p.text_is;
           new_is = ap (λ (u : List ℕ). size ++ u) p.new_is;
           names_are = p.names_are;
-          holds = p.holds;
         };
         is = item_sized C size p.piece (size_of size (bytes_of p.piece) content p.text_is h) k.is;
         is_again = item_sized C size p.becomes (size_of size (bytes_of p.becomes) content p.new_is h)
             k.is_again;
       }
-  found_sized C R found _ _ _ (resized size content new_size new names h f some n) =
+  found_sized C found _ _ _ (resized size content new_size new names h f some n) =
       let k = found content new names f in
       let p = k.part in
       let long : IsTextOf 0x80 (least_width w (length size)) new_size (length (bytes_of p.becomes)) =
@@ -341,44 +337,42 @@ module _ (P : List ℕ → Type 0) (t : List ℕ) (m : NewIndices) (w : Widths) 
           text_is = ap (λ (u : List ℕ). size ++ u) p.text_is;
           new_is = ap (λ (u : List ℕ). new_size ++ u) p.new_is;
           names_are = p.names_are;
-          holds = p.holds;
         };
         is = item_sized C size p.piece (size_of size (bytes_of p.piece) content p.text_is h) k.is;
         is_again = item_sized C new_size p.becomes long.is_text k.is_again;
       }
 
-  pub found_all : (C : Changing) (R : Change) → Finds (IsItem C) P t m w R → (count : ℕ) →
-      Finds (IsItem (InTurn count C)) P t m w (ChangeAll R count)
-  found_all C R found _ _ _ _ no_change =
+  pub found_all : (C : Changing) → Finds (IsItem C) C t m w → (count : ℕ) →
+      Finds (IsItem (InTurn count C)) (InTurn count C) t m w
+  found_all C found _ _ _ _ no_change =
       record {
         part = part_still [];
         is = record { to = none_to C; from = none_from C; back = none_back C };
         is_again = record { to = none_to C; from = none_from C; back = none_back C };
       }
-  found_all C R found _ _ _ _ (next_change count text others new news names more h hs) =
+  found_all C found _ _ _ _ (next_change count text others new news names more h hs) =
       let f = found text new names h in
-      let g = found_all C R found count others news more hs in
+      let g = found_all C found count others news more hs in
       record {
         part = part_both text new names others news more f.part g.part;
         is = item_next C count f.part.piece g.part.piece f.is g.is;
         is_again = item_next C count f.part.becomes g.part.becomes f.is_again g.is_again;
       }
 
-  found_code : Finds (IsWhole CodeBy) P t m w (RenamesCode m w)
+  found_code : Finds (IsWhole CodeBy) CodeBy t m w
   found_code _ _ _ (counted bodies count text new names h hs) =
-      let f = found_all BodyBy (RenamesBody m w)
-      (found_sized (TextsBy body) (RenamesTexts m w body) (found_texts P t m w body)) bodies text new names hs in
+      let f = found_all BodyBy (found_sized (TextsBy body) (found_texts t m w body)) bodies text new names hs in
       record {
         part = part_both count count [] text new names (part_still count) f.part;
         is = whole_code bodies count f.part.piece h f.is;
         is_again = whole_code bodies count f.part.becomes h f.is_again;
       }
 
-  pub found_content : (id : ℕ) → Finds (IsWhole (ContentBy id)) P t m w (RenamesContent id m w)
+  pub found_content : (id : ℕ) → Finds (IsWhole (ContentBy id)) (ContentBy id) t m w
   found_content id text new names (texts kinds _ _ _ e h) =
       found_as (TextsBy kinds) (ContentBy id)
       (λ t m w a b ns. ((λ k. texts kinds a b ns e k), (λ k. of_texts id t m w kinds a b ns e k))) text new
-      names (found_texts P t m w kinds text new names h)
+      names (found_texts t m w kinds text new names h)
   found_content id text new names (code _ _ _ is h) =
       found_as CodeBy (ContentBy id)
       (λ t m w a b ns. ((λ k. code a b ns is k), (λ k. of_code id t m w a b ns is k))) text new names

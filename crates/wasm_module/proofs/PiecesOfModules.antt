@@ -8,7 +8,6 @@ use Rattle.wasm_binary.proofs.Modules.Uniqueness.{one_module}
 use Rattle.wasm_module.specs.declared.renaming.Widths.{Widths}
 use Rattle.wasm_module.specs.Changes.{ChangesSized, ChangeAll}
 use Rattle.wasm_module.specs.Composition.{AreOwn}
-use Rattle.wasm_module.specs.CustomNames.{NamesInCustom, NamesInCustoms}
 use Rattle.wasm_module.specs.Alike.{HasPiece}
 use Rattle.wasm_module.specs.Pieces.{Piece, types, bytes_of, names_in, Turns, retypes}
 use Rattle.wasm_module.specs.RenamedModules.{RenamesAny, RenamesSection, RenamesModule}
@@ -16,14 +15,12 @@ use Rattle.wasm_module.specs.RenamedModules.RenamesAny.{custom, other as other_c
 use Rattle.wasm_module.specs.RenamedModules.RenamesSection.{type_section, other as other_section}
 use Rattle.wasm_module.specs.Renaming.{NewIndices, IsTextOf}
 use Rattle.wasm_module.proofs.ModuleLaws.{have_same_ids}
-use Rattle.wasm_module.proofs.NamingCustoms.{ChangesNaming, sized_naming, CustomNaming, module_naming}
 use Rattle.wasm_module.proofs.Pieces.{one_piece, turns_again}
-use Rattle.wasm_module.proofs.PiecesOfNames.{Opened, found_behind, Divides, CustomBy, found_custom}
+use Rattle.wasm_module.proofs.PiecesOfNames.{Opened, found_behind, CustomBy, found_custom}
 use Rattle.wasm_module.proofs.SizedContents.{same_content}
 use Rattle.wasm_module.proofs.SameTexts.{same_sizes, taken}
-use Rattle.wasm_module.proofs.PiecesOfTexts.{Changing, Writes, ReadsFirst, IsReadFirst, ReadsFirstBack, IsWhole, IsItem, read_first_of, Found, HoldsOfMaps}
+use Rattle.wasm_module.proofs.PiecesOfTexts.{Changing, Writes, ReadsFirst, IsReadFirst, ReadsFirstBack, IsWhole, IsItem, read_first_of, Finds}
 use Rattle.wasm_module.proofs.PiecesOfContents.{WithSize, InTurn, ContentBy, found_as, found_sized, found_all, found_content}
-use Rattle.wasm_module.proofs.OwnEntries.{all_from}
 
 -- ---- contents of sections
 
@@ -142,22 +139,20 @@ open_section id fails t m w _ _ _ (other_section id' text new names fails' h) =
       becomes = λ e. subst (λ k. ChangesSized w (RenamesAny k m w) text new names) (sym e) h;
     }
 
-module _ (P : List ℕ → Type 0) (divides : Divides P) (t : List ℕ) (m : NewIndices) (w : Widths) where
-  found_any : (id : ℕ) (text new names : List ℕ) → AnyBy id t m w text new names → (id ≡ 0 → P names) →
-      Found (IsWhole (AnyBy id)) P t m w text new names
-  found_any id text new names (custom _ _ _ is h) holds =
-      found_as P t m w CustomBy (AnyBy id)
+module _ (t : List ℕ) (m : NewIndices) (w : Widths) where
+  found_any : (id : ℕ) → Finds (IsWhole (AnyBy id)) (AnyBy id) t m w
+  found_any id text new names (custom _ _ _ is h) =
+      found_as t m w CustomBy (AnyBy id)
       (λ t m w a b ns. ((λ k. custom a b ns is k), (λ k. of_custom id t m w a b ns is k))) text new names
-      (found_custom P divides t m w text new names h (holds is))
-  found_any id text new names (other_content _ _ _ fails h) holds =
-      found_as P t m w (ContentBy id) (AnyBy id)
+      (found_custom t m w text new names h)
+  found_any id text new names (other_content _ _ _ fails h) =
+      found_as t m w (ContentBy id) (AnyBy id)
       (λ t m w a b ns. ((λ k. other_content a b ns fails k), (λ k. of_other id t m w a b ns fails k))) text
-      new names (found_content P t m w id text new names h)
+      new names (found_content t m w id text new names h)
 
-  found_section : (text new names : List ℕ) → SectionBy t m w text new names →
-      ((rest : List ℕ) → text ≡ 0 ∷ rest → P names) → Found (IsItem SectionBy) P t m w text new names
-  found_section _ _ _ (type_section size content new_size h n) holds =
-      found_behind TypesBy SectionBy 1 open_types close_types P t m w (size ++ content) (new_size ++ t) []
+  found_section : Finds (IsItem SectionBy) SectionBy t m w
+  found_section _ _ _ (type_section size content new_size h n) =
+      found_behind TypesBy SectionBy 1 open_types close_types t m w (size ++ content) (new_size ++ t) []
       (record {
         part = record {
           piece = types size content;
@@ -166,19 +161,14 @@ module _ (P : List ℕ → Type 0) (divides : Divides P) (t : List ℕ) (m : New
           text_is = refl;
           new_is = refl;
           names_are = refl;
-          holds = tt;
         };
         is = item_types size content h;
         is_again = item_types new_size t n.is_text;
       })
-  found_section _ _ _ (other_section id text new names fails h) holds =
-      let Q : List ℕ → Type 0 = λ u. id ≡ 0 → P u in
+  found_section _ _ _ (other_section id text new names fails h) =
       found_behind (WithSize (AnyBy id)) SectionBy id (open_section id fails)
-      (λ t m w text new names k. other_section id text new names fails k) P t m w text new names
-      (found_sized P t m w (AnyBy id) (ChangesNaming Q (RenamesAny id m w))
-      (λ text new names k. found_any id text new names k.becomes k.holds) text new names
-      (sized_naming w Q (RenamesAny id m w) text new names h
-      (λ is. holds text (ap (λ k. k ∷ text) is))))
+      (λ t m w text new names k. other_section id text new names fails k) t m w text new names
+      (found_sized t m w (AnyBy id) (found_any id) text new names h)
 
 -- ---- modules
 
@@ -241,8 +231,7 @@ piece_before new sections r is_module parts is t m w bytes g =
     )
 
 -- the pieces of a module and of what it becomes
-pub record ModulePieces (P : List ℕ → Type 0) (t : List ℕ) (m : NewIndices) (w : Widths)
-    (bytes new : List ℕ) : Type 0 where
+pub record ModulePieces (t : List ℕ) (m : NewIndices) (w : Widths) (bytes new : List ℕ) : Type 0 where
   pub piece : Piece
   pub becomes : Piece
   pub has : HasPiece bytes piece
@@ -250,19 +239,16 @@ pub record ModulePieces (P : List ℕ → Type 0) (t : List ℕ) (m : NewIndices
   pub has_before : HasPieceBefore new becomes
   pub turns : Turns t m w piece becomes
   pub new_is : header ++ bytes_of becomes ≡ new
-  pub holds : HoldsOfMaps P piece
 
-pub module_pieces : (P : List ℕ → Type 0) → Divides P → (t : List ℕ) (m : NewIndices) (w : Widths)
-    (bytes new : List ℕ) → RenamesModule t m w bytes new → NamesInCustoms P bytes →
-    ModulePieces P t m w bytes new
-module_pieces P divides t m w bytes new r among =
+pub module_pieces : (t : List ℕ) (m : NewIndices) (w : Widths) (bytes new : List ℕ) →
+    RenamesModule t m w bytes new → ModulePieces t m w bytes new
+module_pieces t m w bytes new r =
     let h = have_same_ids t m w bytes new r in
     let old : h.sections ≡ r.sections = one_module bytes h.sections r.sections h.before r.is_module in
     let many : length r.sections ≡ length h.new_sections =
     sym (as_many h.new_sections r.sections (h.same ∙ ap ids old)) in
-    let f = found_all P t m w SectionBy (CustomNaming P t m w)
-    (λ text next names k. found_section P divides t m w text next names k.becomes k.holds)
-    (length r.sections) r.texts r.new_texts r.names (module_naming P t m w bytes new r among) in
+    let f = found_all t m w SectionBy (found_section t m w) (length r.sections) r.texts r.new_texts r.names
+    r.renames in
     let p = f.part in
     let again : IsItem (InTurn (length h.new_sections) SectionBy) p.becomes =
     subst (λ n. IsItem (InTurn n SectionBy) p.becomes) many f.is_again in
@@ -279,41 +265,20 @@ module_pieces P divides t m w bytes new r among =
       has_before = piece_before new h.new_sections p.becomes h.after new-is again;
       turns = p.turns;
       new_is = ap (λ (u : List ℕ). header ++ u) p.new_is ∙ sym r.new_parts;
-      holds = p.holds;
     }
 
 -- ---- laws
 
-abbrev pub Nothing : List ℕ → Type 0
-Nothing names = Unit {0}
-
--- what holds of all types holds of those that custom sections name
-pub module_over : (P : List ℕ → Type 0) → ((names : List ℕ) → P names) → (t : List ℕ) (m : NewIndices)
-    (w : Widths) (bytes new : List ℕ) → RenamesModule t m w bytes new → NamesInCustoms P bytes
-module_over P holds t m w bytes new r =
-    record {
-      sections = r.sections;
-      is_module = r.is_module;
-      are = all_from (λ (s : Section). s.id ≡ 0 → NamesInCustom P s.content) r.sections
-          (λ s there is indices others next names changed. holds names);
-    }
-
-pub any_pieces : (t : List ℕ) (m : NewIndices) (w : Widths) (bytes new : List ℕ) →
-    RenamesModule t m w bytes new → ModulePieces Nothing t m w bytes new
-any_pieces t m w bytes new r =
-    module_pieces Nothing (λ names more k. (tt, tt)) t m w bytes new r
-    (module_over Nothing (λ names. tt) t m w bytes new r)
-
 pub renamed_once : (t : List ℕ) (m : NewIndices) (w : Widths) (bytes a b : List ℕ) →
     RenamesModule t m w bytes a → RenamesModule t m w bytes b → a ≡ b
 renamed_once t m w bytes a b h g =
-    let f = any_pieces t m w bytes a h in
+    let f = module_pieces t m w bytes a h in
     let k = f.has.to t m w b g in
     sym f.new_is ∙ ap (λ u. header ++ bytes_of u) (one_piece t m w f.piece f.becomes k.0 f.turns k.1) ∙ k.2
 
 pub module_stays : (first again : NewIndices) → AreOwn first again → (w : Widths)
     (t bytes new : List ℕ) → RenamesModule t first w bytes new → RenamesModule t again w new new
 module_stays first again own w t bytes new r =
-    let f = any_pieces t first w bytes new r in
+    let f = module_pieces t first w bytes new r in
     subst (λ (u : List ℕ). RenamesModule t again w new u) f.new_is
     (f.has_again.from t again w f.becomes (turns_again first again own t w f.piece f.becomes f.turns))

@@ -14,13 +14,12 @@ use Rattle.wasm_module.specs.Pieces.{Piece, still, joined, mapped, bytes_of, nam
 use Rattle.wasm_module.specs.Pieces.AreWritten.{none as none_written, next as next_written}
 use Rattle.wasm_module.specs.Renaming.{NewIndices, least_width, IsTextOf}
 use Rattle.wasm_module.proofs.NameMaps.{name_free, name_map_free}
-use Rattle.wasm_module.proofs.NamingCustoms.{ChangesNaming, sized_naming}
 use Rattle.wasm_module.proofs.Pieces.{written_indices}
 use Rattle.wasm_module.proofs.SizedContents.{same_content}
 use Rattle.wasm_module.proofs.TextItems.{IsPrefixFree}
 use Rattle.wasm_module.proofs.Entries.{Kept, least_in, first_in, later_in, no_entries_counted, entries_counted_once}
 use Rattle.wasm_module.proofs.SameTexts.{same_first, same_later, named}
-use Rattle.wasm_module.proofs.PiecesOfTexts.{Changing, Fits, Writes, Reads, ReadsFirst, IsRead, IsReadFirst, Before, ReadsBack, ReadsFirstBack, IsWhole, IsItem, read_of, read_first_of, Found, StaysAsItIs, stays_by, fits_still, fits_both}
+use Rattle.wasm_module.proofs.PiecesOfTexts.{Changing, Fits, Writes, Reads, ReadsFirst, IsRead, IsReadFirst, Before, ReadsBack, ReadsFirstBack, IsWhole, IsItem, read_of, read_first_of, Found, Finds, StaysAsItIs, stays_by, fits_still, fits_both}
 use Rattle.wasm_module.proofs.PiecesOfContents.{WithSize, found_as, part_still, part_both, found_still, found_sized}
 use Rattle.wasm_module.proofs.OwnEntries.{indices_of, found_long, follows_in}
 
@@ -141,9 +140,8 @@ module _ (Follows : List ℕ → Type 0) where
             back = map_back;
           }
 
-    found_map : (P : List ℕ → Type 0) (t : List ℕ) (m : NewIndices) (w : Widths) (text new names : List ℕ) →
-        MapBy t m w text new names → P names → Found (IsWhole MapBy) P t m w text new names
-    found_map P t m w _ _ _ (empty count h) holds =
+    found_map : (t : List ℕ) (m : NewIndices) (w : Widths) → Finds (IsWhole MapBy) MapBy t m w
+    found_map t m w _ _ _ (empty count h) =
         record {
           part = record {
             piece = mapped count [] [];
@@ -152,12 +150,11 @@ module _ (Follows : List ℕ → Type 0) where
             text_is = append-nil count;
             new_is = append-nil count;
             names_are = refl;
-            holds = holds;
           };
           is = whole_map count [] [] h none;
           is_again = whole_map count [] [] h none;
         }
-    found_map P t m w _ _ _ (entries count texts new_count news es kept h are some is n written) holds =
+    found_map t m w _ _ _ (entries count texts new_count news es kept h are some is n written) =
         let a = as_written w news kept written in
         let long : length kept ≡ length a.0 = sym (found_long a.0 kept (written_indices w kept news a.0 a.1)) in
         record {
@@ -168,7 +165,6 @@ module _ (Follows : List ℕ → Type 0) where
             text_is = refl;
             new_is = refl;
             names_are = refl;
-            holds = holds;
           };
           is = whole_map count texts es h are;
           is_again = whole_map new_count news a.0 (subst (λ k. IsU32 new_count k) long n.is_text)
@@ -267,12 +263,12 @@ module _ (C D : Changing) (id : ℕ)
         let read = read_behind r (read_first_of C r is) in
         record { to = read.to; from = read.from; back = behind_back }
 
-  pub found_behind : (P : List ℕ → Type 0) (t : List ℕ) (m : NewIndices) (w : Widths)
-      (text new names : List ℕ) → Found (IsItem C) P t m w text new names →
-      Found (IsItem D) P t m w (id ∷ text) (id ∷ new) names
-  found_behind P t m w text new names f =
+  pub found_behind : (t : List ℕ) (m : NewIndices) (w : Widths)
+      (text new names : List ℕ) → Found (IsItem C) t m w text new names →
+      Found (IsItem D) t m w (id ∷ text) (id ∷ new) names
+  found_behind t m w text new names f =
       record {
-        part = part_both P t m w (id ∷ []) (id ∷ []) [] text new names (part_still P t m w (id ∷ [])) f.part;
+        part = part_both t m w (id ∷ []) (id ∷ []) [] text new names (part_still t m w (id ∷ [])) f.part;
         is = item_behind f.part.piece f.is;
         is_again = item_behind f.part.becomes f.is_again;
       }
@@ -477,67 +473,57 @@ module _ (size bytes follows : List ℕ) (h : IsU32 size (length bytes)) (differ
 
 -- ---- the pieces of what becomes something
 
--- what holds of these types holds of the first and of the others
-abbrev pub Divides : (List ℕ → Type 0) → Type 0
-Divides P = (names more : List ℕ) → P (names ++ more) → P names × P more
-
-module _ (P : List ℕ → Type 0) (divides : Divides P) (t : List ℕ) (m : NewIndices) (w : Widths) where
-  found_names : (id : ℕ) (text new names : List ℕ) → NamesBy id t m w text new names → P names →
-      Found (IsWhole (NamesBy id)) P t m w text new names
-  found_names id text new names (type_names _ _ _ is h) holds =
-      found_as P t m w (MapBy IsName) (NamesBy id)
+module _ (t : List ℕ) (m : NewIndices) (w : Widths) where
+  found_names : (id : ℕ) → Finds (IsWhole (NamesBy id)) (NamesBy id) t m w
+  found_names id text new names (type_names _ _ _ is h) =
+      found_as t m w (MapBy IsName) (NamesBy id)
       (λ t m w a b ns. ((λ k. type_names a b ns is k), (λ k. of_type_names id t m w a b ns is k))) text new
-      names (found_map IsName name_free P t m w text new names h holds)
-  found_names id text new names (field_names _ _ _ is h) holds =
-      found_as P t m w (MapBy IsNameMap) (NamesBy id)
+      names (found_map IsName name_free t m w text new names h)
+  found_names id text new names (field_names _ _ _ is h) =
+      found_as t m w (MapBy IsNameMap) (NamesBy id)
       (λ t m w a b ns. ((λ k. field_names a b ns is k), (λ k. of_field_names id t m w a b ns is k))) text
-      new names (found_map IsNameMap name_map_free P t m w text new names h holds)
-  found_names id text _ _ (other_names _ fails lacks) holds =
-      found_as P t m w StaysAsItIs (NamesBy id)
+      new names (found_map IsNameMap name_map_free t m w text new names h)
+  found_names id text _ _ (other_names _ fails lacks) =
+      found_as t m w StaysAsItIs (NamesBy id)
       (λ t m w a b ns. (
         (λ k. stays_by (NamesBy id) t m w a b ns (other_names a fails lacks) k),
         (λ k. of_others id t m w a b ns fails lacks k),
-      )) text text [] (found_still P t m w text)
+      )) text text [] (found_still t m w text)
 
-  found_subsection : (text new names : List ℕ) → SubsectionBy t m w text new names → P names →
-      Found (IsItem SubsectionBy) P t m w text new names
-  found_subsection _ _ _ (subsection id text new names h) holds =
+  found_subsection : Finds (IsItem SubsectionBy) SubsectionBy t m w
+  found_subsection _ _ _ (subsection id text new names h) =
       found_behind (WithSize (NamesBy id)) SubsectionBy id (open_subsection id)
-      (λ t m w text new names k. subsection id text new names k) P t m w text new names
-      (found_sized P t m w (NamesBy id) (ChangesNaming P (RenamesNames id m w))
-      (λ a b ns k. found_names id a b ns k.becomes k.holds) text new names (sized_naming w P (RenamesNames id m w) text new names h holds))
+      (λ t m w text new names k. subsection id text new names k) t m w text new names
+      (found_sized t m w (NamesBy id) (found_names id) text new names h)
 
   found_several : (count : ℕ) (text new names : List ℕ) →
-      ChangeAll (RenamesSubsection m w) count text new names → P names →
-      Found (IsWhole SeveralBy) P t m w text new names
-  found_several _ _ _ _ no_change holds =
-      record { part = part_still P t m w []; is = several_none; is_again = several_none }
-  found_several _ _ _ _ (next_change count text others new news names more h hs) holds =
-      let d = divides names more holds in
+      ChangeAll (RenamesSubsection m w) count text new names → Found (IsWhole SeveralBy) t m w text new names
+  found_several _ _ _ _ no_change =
+      record { part = part_still t m w []; is = several_none; is_again = several_none }
+  found_several _ _ _ _ (next_change count text others new news names more h hs) =
       let b = begins t m w text new names h in
-      let f = found_subsection text new names h d.0 in
-      let g = found_several count others news more hs d.1 in
+      let f = found_subsection text new names h in
+      let g = found_several count others news more hs in
       record {
-        part = part_both P t m w text new names others news more f.part g.part;
+        part = part_both t m w text new names others news more f.part g.part;
         is = several_next f.part.piece g.part.piece f.is (subst Begins (sym f.part.text_is) b.0) g.is;
         is_again = several_next f.part.becomes g.part.becomes f.is_again
             (subst Begins (sym f.part.new_is) b.1) g.is_again;
       }
 
-  pub found_custom : (text new names : List ℕ) → CustomBy t m w text new names → P names →
-      Found (IsWhole CustomBy) P t m w text new names
-  found_custom _ _ _ (name_section count size text new names h hs) holds =
-      let f = found_several count text new names hs holds in
+  pub found_custom : Finds (IsWhole CustomBy) CustomBy t m w
+  found_custom _ _ _ (name_section count size text new names h hs) =
+      let f = found_several count text new names hs in
       record {
-        part = part_both P t m w size size [] (name_bytes ++ text) (name_bytes ++ new) names
-            (part_still P t m w size)
-            (part_both P t m w name_bytes name_bytes [] text new names (part_still P t m w name_bytes) f.part);
+        part = part_both t m w size size [] (name_bytes ++ text) (name_bytes ++ new) names
+            (part_still t m w size)
+            (part_both t m w name_bytes name_bytes [] text new names (part_still t m w name_bytes) f.part);
         is = whole_section size f.part.piece h f.is;
         is_again = whole_section size f.part.becomes h f.is_again;
       }
-  found_custom _ _ _ (other_name size bytes follows h different) holds =
+  found_custom _ _ _ (other_name size bytes follows h different) =
       record {
-        part = part_still P t m w (size ++ (bytes ++ follows));
+        part = part_still t m w (size ++ (bytes ++ follows));
         is = whole_other size bytes follows h different;
         is_again = whole_other size bytes follows h different;
       }

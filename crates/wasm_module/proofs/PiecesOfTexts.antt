@@ -8,7 +8,7 @@ use Rattle.wasm_module.specs.declared.renaming.Widths.{Widths}
 use Rattle.wasm_module.specs.Bodies.{Names}
 use Rattle.wasm_module.specs.Changes.{Change}
 use Rattle.wasm_module.specs.Immediates.{Token, unsigned, signed, plain, type_name, Begins, index as index_begins, signed_index, Runs, stop, step, AreTexts, names_of, type_names}
-use Rattle.wasm_module.specs.Pieces.{Piece, still, index, sized, joined, mapped, types, bytes_of, names_in, Turns, unchanged, renumbers, joins}
+use Rattle.wasm_module.specs.Pieces.{Piece, still, index, joined, bytes_of, names_in, Turns, unchanged, renumbers, joins}
 use Rattle.wasm_module.specs.RenamedSections.{RenamesTexts}
 use Rattle.wasm_module.specs.Renaming.{NewIndices, new_index, type_maps, least_width, IsTextOf, text_of, Becomes, IsRenamed}
 use Rattle.wasm_module.specs.Renaming.Becomes.{stays as token_stays, u32, s33}
@@ -98,35 +98,24 @@ read_of C p is = record { to = is.to; from = is.from }
 pub read_first_of : (C : Changing) (p : Piece) → IsItem C p → IsReadFirst C p
 read_first_of C p is = record { to = is.to; from = is.from }
 
--- `P` holds of the types that each map names
-abbrev pub HoldsOfMaps : (List ℕ → Type 0) → Piece → Type 0
-HoldsOfMaps P (still text) = Unit {0}
-HoldsOfMaps P (index end text k) = Unit {0}
-HoldsOfMaps P (sized size p) = HoldsOfMaps P p
-HoldsOfMaps P (joined p q) = HoldsOfMaps P p × HoldsOfMaps P q
-HoldsOfMaps P (mapped count texts es) = P (names_in (mapped count texts es))
-HoldsOfMaps P (types size content) = Unit {0}
-
 -- the piece of a text and that of what it becomes
-pub record Part (P : List ℕ → Type 0) (t : List ℕ) (m : NewIndices) (w : Widths)
-    (text new names : List ℕ) : Type 0 where
+pub record Part (t : List ℕ) (m : NewIndices) (w : Widths) (text new names : List ℕ) : Type 0 where
   pub piece : Piece
   pub becomes : Piece
   pub turns : Turns t m w piece becomes
   pub text_is : bytes_of piece ≡ text
   pub new_is : bytes_of becomes ≡ new
   pub names_are : names ≡ names_in piece
-  pub holds : HoldsOfMaps P piece
 
-pub record Found (Is : Piece → Type 0) (P : List ℕ → Type 0) (t : List ℕ) (m : NewIndices)
-    (w : Widths) (text new names : List ℕ) : Type 0 where
-  pub part : Part P t m w text new names
+pub record Found (Is : Piece → Type 0) (t : List ℕ) (m : NewIndices) (w : Widths)
+    (text new names : List ℕ) : Type 0 where
+  pub part : Part t m w text new names
   pub is : Is part.piece
   pub is_again : Is part.becomes
 
-abbrev pub Finds : (Piece → Type 0) → (List ℕ → Type 0) → List ℕ → NewIndices → Widths → Change → Type 0
-Finds Is P t m w R =
-    (text new names : List ℕ) → R text new names → Found Is P t m w text new names
+abbrev pub Finds : (Piece → Type 0) → Changing → List ℕ → NewIndices → Widths → Type 0
+Finds Is C t m w =
+    (text new names : List ℕ) → C t m w text new names → Found Is t m w text new names
 
 -- changes that say the same
 abbrev pub AreSame : Changing → Changing → Type 0
@@ -241,17 +230,11 @@ piece_bytes _ (u32_type text k) = refl
 piece_bytes _ (s33_type text k) = refl
 piece_bytes _ (other p unnamed maps) = ap bytes_of (unnamed_piece p unnamed)
 
-piece_names : (p : Token) → View p → names_in (piece_of p) ≡ names_of (type_name p)
+pub piece_names : (p : Token) → View p → names_in (piece_of p) ≡ names_of (type_name p)
 piece_names _ (u32_type text k) = refl
 piece_names _ (s33_type text k) = refl
 piece_names _ (other p unnamed maps) =
     ap names_in (unnamed_piece p unnamed) ∙ sym (ap names_of unnamed)
-
-piece_holds : (P : List ℕ → Type 0) (p : Token) → View p → HoldsOfMaps P (piece_of p)
-piece_holds P _ (u32_type text k) = tt
-piece_holds P _ (s33_type text k) = tt
-piece_holds P _ (other p unnamed maps) =
-    subst (λ u. HoldsOfMaps P u) (sym (unnamed_piece p unnamed)) tt
 
 pub pieces_bytes : (kinds : List Kind) (text : List ℕ) (ps : List Token) (left : List Kind) →
     Runs kinds text ps left → bytes_of (pieces ps) ≡ text
@@ -266,10 +249,6 @@ pieces_names [] = refl
 pieces_names (p ∷ ps) =
     ap (λ (u : List ℕ). u ++ names_in (pieces ps)) (piece_names p (view p))
     ∙ ap (λ (u : List ℕ). names_of (type_name p) ++ u) (pieces_names ps)
-
-pub pieces_hold : (P : List ℕ → Type 0) (ps : List Token) → HoldsOfMaps P (pieces ps)
-pieces_hold P [] = tt
-pieces_hold P (p ∷ ps) = (piece_holds P p (view p), pieces_hold P ps)
 
 same_type_name : (k : Kind) (text : List ℕ) (p q : Token) (more inner : List Kind) →
     Begins k text p more → Begins k text q inner → type_name p ≡ type_name q
@@ -516,9 +495,9 @@ module _ (kinds : List Kind) (text : List ℕ) (ps : List Token) (are : AreTexts
   whole_texts =
       record { to = texts_to kinds text ps are; from = texts_from kinds text ps are; back = texts_back }
 
-pub found_texts : (P : List ℕ → Type 0) (t : List ℕ) (m : NewIndices) (w : Widths) (kinds : List Kind) →
-    Finds (IsWhole (TextsBy kinds)) P t m w (RenamesTexts m w kinds)
-found_texts P t m w kinds text new names h =
+pub found_texts : (t : List ℕ) (m : NewIndices) (w : Widths) (kinds : List Kind) →
+    Finds (IsWhole (TextsBy kinds)) (TextsBy kinds) t m w
+found_texts t m w kinds text new names h =
     let ps = h.renames.tokens in
     let are = h.renames.are in
     let r = texts_again t m w kinds text ps [] new are h.renames.renamed in
@@ -530,7 +509,6 @@ found_texts P t m w kinds text new names h =
         text_is = pieces_bytes kinds text ps [] are;
         new_is = pieces_bytes kinds new r.tokens [] r.runs;
         names_are = texts_names kinds text ps are text names h.naming refl;
-        holds = pieces_hold P ps;
       };
       is = whole_texts kinds text ps are;
       is_again = whole_texts kinds new r.tokens r.runs;

@@ -368,9 +368,6 @@ is_malformed (scan.Malformed at) place h = ap scan.Malformed (same_place at plac
     same_place a b e = cc
 is_malformed scan.Memory place h = absurd cc
 
-abbrev failed : {T : Type 0} → RenameError → Result T RenameError
-failed e = Err e
-
 pub same_failure : {T : Type 0} (r : Result T RenameError) (x y : RenameError) → r ≡ Err x → r ≡ Err y → x ≡ y
 same_failure (Ok v) x y e f = absurd cc
 same_failure (Err z) x y e f = cc

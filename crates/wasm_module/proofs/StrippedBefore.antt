@@ -1,22 +1,16 @@
 -- What is left of a module without sections that describe other bytes: it is there before indices
--- are written again exactly if it is there after that, and it has no other custom sections than the
--- module.
+-- are written again exactly if it is there after that.
 use Rattle.std.proofs.Common.{◌≡◌, ℕ, List, [], ◌++◌, length, refl, sym, subst, ◌∙◌}
-use Rattle.std.specs.List.{All}
 use Rattle.std.proofs.lemmas.List.{append_cancel_left}
 use Rattle.wasm_binary.specs.Modules.{Section, IsModule, header}
-use Rattle.wasm_binary.proofs.Modules.Uniqueness.{one_module}
 use Rattle.wasm_module.specs.declared.renaming.Widths.{Widths}
 use Rattle.wasm_module.specs.Changes.{ChangeAll}
 use Rattle.wasm_module.specs.Changes.ChangeAll.{none as no_change, next as next_change}
-use Rattle.wasm_module.specs.CustomNames.{NamesInCustom, NamesInCustoms}
 use Rattle.wasm_module.specs.Customs.{IsDescription, IsStrippedSection, left_out, kept, AreStripped, none, next, IsStripped}
 use Rattle.wasm_module.specs.RenamedModules.{RenamesSection, RenamesModule}
 use Rattle.wasm_module.specs.Renaming.{NewIndices}
-use Rattle.wasm_module.specs.Sections.{framing}
 use Rattle.wasm_module.proofs.ModuleLaws.{not_empty, have_same_ids}
-use Rattle.wasm_module.proofs.StrippedModules.{are_left, stripped_has_none}
-use Rattle.wasm_module.proofs.StrippedOnce.{same_section, module_of, SectionPair, section_pair}
+use Rattle.wasm_module.proofs.StrippedOnce.{same_section, SectionPair, section_pair}
 use Rattle.wasm_module.proofs.StrippedRenamed.{stripped_renamed}
 
 -- ---- two modules whose sections describe other bytes alike

@@ -5,7 +5,7 @@ use Rattle.wasm_module.specs.declared.renaming.Widths.{Widths}
 use Rattle.wasm_module.specs.Changes.{Change, Changes, ChangesSized, stays, resized, ChangeAll, none, next, IsMalformed, BecomesTooLong, InSized, in_content}
 use Rattle.wasm_module.specs.Renaming.{NewIndices, least_width, IsTextOf}
 use Rattle.wasm_module.specs.NameSections.{IsName, IsNameMap, RenamesMap, RenamesNames, RenamesSubsection, subsection}
-use Rattle.wasm_module.specs.NameSections.RenamesNames.{type_names, field_names, others as any_names}
+use Rattle.wasm_module.specs.NameSections.RenamesNames.{type_names, field_names}
 use Rattle.wasm_module.specs.Steps.Renaming.{Appends}
 use Rattle.wasm_module.specs.Steps.NameSections.{Takes, BeginsNone, TakesSized, BeginsUnsized, IsRenamedUpTo, IsSomeSubsection, BeginsSubsectionIn, begins}
 use Rattle.wasm_module.proofs.SizedContents.{same_content}
@@ -37,24 +37,6 @@ ok_some f (Ok o) h = if_some f o h
 ok_some f (Err e) h = tt
 
 -- ---- the content of one, by its id
-
-pub type_names_malformed : (id : ℕ) (content : List ℕ) → id ≡ 4 → IsMalformed (RenamesMap IsName) content →
-    IsMalformed (RenamesNames id) content
-type_names_malformed id content e h new_indices widths new names (type_names _ _ _ is r) =
-    h new_indices widths new names r
-type_names_malformed id content e h new_indices widths new names (field_names _ _ _ is r) =
-    omega (arith, e, is)
-type_names_malformed id content e h new_indices widths new names (any_names _ not_types not_fields) =
-    not_types e
-
-pub field_names_malformed : (id : ℕ) (content : List ℕ) → id ≡ 10 →
-    IsMalformed (RenamesMap IsNameMap) content → IsMalformed (RenamesNames id) content
-field_names_malformed id content e h new_indices widths new names (type_names _ _ _ is r) =
-    omega (arith, e, is)
-field_names_malformed id content e h new_indices widths new names (field_names _ _ _ is r) =
-    h new_indices widths new names r
-field_names_malformed id content e h new_indices widths new names (any_names _ not_types not_fields) =
-    not_fields e
 
 pub type_names_change : (id : ℕ) (new_indices : NewIndices) (widths : Widths) (content new : List ℕ) →
     id ≡ 4 →

@@ -14,7 +14,6 @@ use Rattle.wasm_module.specs.Contents.{section_kinds}
 use Rattle.wasm_module.specs.Immediates.{Token, unsigned, signed, type_name, stop, AreTexts, names_of, type_names}
 use Rattle.wasm_module.specs.Lengths.{length_of, type_lengths, HasTypeLengths, HasBodyLengths, sized, HasCodeLengths, counted, HasContentLengths, texts, code, nameless}
 use Rattle.wasm_module.specs.NamedTypes.{code_id}
-use Rattle.wasm_module.specs.Renaming.{text_of}
 use Rattle.wasm_module.specs.Steps.Heads.{kinds_or_none}
 use Rattle.wasm_module.specs.Steps.Lengths.{TakesBody, TakesBodies}
 use Rattle.wasm_module.specs.Steps.Renaming.{Appends}
@@ -24,10 +23,6 @@ use Rattle.wasm_module.proofs.Searching.{reads_join}
 use Rattle.wasm_module.proofs.SizedContents.{number_read, same_number, sized_taken}
 
 -- ---- tokens
-
-length_same : (p q : Token) (o : Option ℕ) → text_of p ≡ text_of q → length_of p o ≡ length_of q o
-length_same p q (Some k) e = ap (λ (u : List ℕ). length u ∷ []) e
-length_same p q None e = refl
 
 lengths_append : (a b : List Token) → type_lengths (a ++ b) ≡ type_lengths a ++ type_lengths b
 lengths_append a b = flat_map-append (λ p. length_of p (type_name p)) a b

@@ -296,15 +296,3 @@ entry_written widths least small kept left after out mid new n index width follo
     (is ∙ ap (λ (u : TypeEntry). (n, u) ∷ after) e-is)
     (subst (λ m. IsTextOf 0x80 m a.text n) small-is a.is_text)
     (o ∙ ap (λ (u : List ℕ). u ++ follows) a.parts ∙ append_assoc out a.text follows)
-
-pub written_ended : (widths : Widths) (least : ℕ) (kept left : List (ℕ × TypeEntry)) (out : List ℕ) →
-    IsWrittenUpTo widths least kept left out → left ≡ [] → IsNewMap widths least kept out
-written_ended widths least kept left out w e =
-    let all : kept ≡ w.done = w.all ∙ ap (λ (u : List (ℕ × TypeEntry)). w.done ++ u) e ∙ append-nil w.done in
-    record {
-      count = w.count;
-      texts = w.texts;
-      parts = w.parts;
-      is_count = w.is_count;
-      are = subst (λ (u : List (ℕ × TypeEntry)). AreItems (IsNewEntry widths) w.texts u) (sym all) w.are;
-    }

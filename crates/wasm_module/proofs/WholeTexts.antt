@@ -1,44 +1,16 @@
 -- Expressions and function bodies, from a scan.
-use Rattle.std.proofs.Common.{◌≡◌, ℕ, List, [], ◌∷◌, ◌++◌, length, nat_eq, true, false, refl, sym, ap, subst, ◌∙◌, arith, append-nil, eqb-true}
+use Rattle.std.proofs.Common.{◌≡◌, ℕ, List, [], ◌∷◌, length, nat_eq, true, false, refl, sym, ◌∙◌, arith, append-nil, eqb-true}
 use Rattle.wasm_module.specs.declared.kind.Kind.{Kind}
 use Rattle.wasm_module.specs.declared.scan.ScanError.{ScanError}
 use Rattle.wasm_module.specs.declared.scan.ScanError.TheVariants as scan
 use Rattle.wasm_module.specs.declared.kind.Kind.TheVariants as kind
 use Rattle.wasm_module.specs.Immediates.{Token, AreTexts, stop}
-use Rattle.wasm_module.specs.Bodies.{Names, body, IsBody, BeginsWithExpression, BeginsWithNone, IsNoBody}
+use Rattle.wasm_module.specs.Bodies.{Names, body, IsBody, IsNoBody}
 use Rattle.wasm_module.specs.Steps.Scans.{IsScanned, IsRefused}
 use Rattle.wasm_module.specs.Steps.Contents.{NamesNo}
 use Rattle.wasm_module.proofs.Scanning.{follows}
 
-pub begins : (bytes rest names : List ℕ) → IsScanned (kind.Expression ∷ []) bytes rest names →
-    BeginsWithExpression bytes rest names
-begins bytes rest names s =
-    record {
-      text = s.text;
-      parts = s.parts;
-      is_expression =
-          record { tokens = s.tokens; are = s.are; named = s.named };
-    }
-
-pub begins_none : (bytes : List ℕ) (e : ScanError) → IsRefused (kind.Expression ∷ []) bytes e →
-    BeginsWithNone bytes e
-begins_none bytes (scan.Malformed place) h = λ rest names b.
-    h b.text rest b.is_expression.tokens b.parts b.is_expression.are
-begins_none bytes scan.Memory h = tt
-
 -- ---- texts of all of the bytes
-
-pub is_names : (kinds : List Kind) (bytes rest names : List ℕ) → IsScanned kinds bytes rest names →
-    rest ≡ [] → Names kinds bytes names
-is_names kinds bytes rest names s e =
-    let whole : s.text ≡ bytes = sym (append-nil s.text) ∙ ap (λ (u : List ℕ). s.text ++ u) (sym e)
-    ∙ sym s.parts in
-    record {
-      tokens = s.tokens;
-      are = subst (λ (u : List ℕ). AreTexts kinds u s.tokens) whole s.are;
-      named =
-          s.named;
-    }
 
 pub names_no : (kinds : List Kind) (bytes : List ℕ) (e : ScanError) → IsRefused kinds bytes e →
     NamesNo kinds bytes e
@@ -65,9 +37,6 @@ empty [] e = refl
 empty (b ∷ rest) e = absurd (omega (arith, eqb-true (length (b ∷ rest)) 0 (sym e)))
 
 -- ---- function bodies
-
-pub is_body : (bytes rest names : List ℕ) → IsScanned body bytes rest names → rest ≡ [] → IsBody bytes names
-is_body = is_names body
 
 pub no_body : (bytes : List ℕ) (e : ScanError) → IsRefused body bytes e → IsNoBody bytes e
 no_body bytes (scan.Malformed place) h = names_no body bytes (scan.Malformed place) h

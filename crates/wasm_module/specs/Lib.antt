@@ -9,7 +9,6 @@ pub mod Steps
 pub mod Changes
 pub mod RenamedSections
 pub mod NameSections
-pub mod CustomNames
 pub mod RenamedModules
 pub mod Customs
 pub mod Lengths
