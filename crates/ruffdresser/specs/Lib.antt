@@ -164,7 +164,7 @@ pub use Rattle.wasm_module.specs.RenamedSections
 pub use Rattle.wasm_module.specs.NameSections
 pub use Rattle.wasm_module.specs.RenamedModules
 pub use Rattle.wasm_module.specs.Customs
-pub use Rattle.wasm_module.specs.Composition as IndicesInTurn
+pub use Rattle.wasm_module.specs.OwnIndices
 pub use Rattle.wasm_module.specs.RenamedNames
 pub use Rattle.wasm_module.specs.Lengths
 pub use Rattle.wasm_module.specs.UnknownCustoms

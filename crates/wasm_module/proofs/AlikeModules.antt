@@ -4,19 +4,19 @@ use Rattle.wasm_module.specs.Alike.{Pairing, AreAlike, LeadTogether}
 use Rattle.wasm_module.specs.RenamedModules.{RenamesModule}
 use Rattle.wasm_module.specs.Renaming.{NewIndices}
 use Rattle.wasm_module.specs.declared.renaming.Widths.TheVariants as widths
-use Rattle.wasm_module.proofs.AlikePieces.{alike_before}
-use Rattle.wasm_module.proofs.PiecesOfModules.{module_pieces}
+use Rattle.wasm_module.proofs.AlikeTrees.{alike_before}
+use Rattle.wasm_module.proofs.TreesOfModules.{module_trees}
 
 pub modules_alike : (R : Pairing) (m w : NewIndices) → LeadTogether R m w → (t u bytes other new : List ℕ) →
     RenamesModule t m widths.Shortest bytes new → RenamesModule u w widths.Shortest other new →
     AreAlike R bytes other
 modules_alike R m w h t u bytes other new f g =
-    let p = module_pieces t m widths.Shortest bytes new f in
+    let p = module_trees t m widths.Shortest bytes new f in
     let q = p.has_before u w widths.Shortest other g in
     record {
-      piece = p.piece;
-      other_piece = q.0;
+      tree = p.tree;
+      other_tree = q.0;
       has = p.has;
       other_has = q.1;
-      alike = alike_before R m w h t u p.piece q.0 p.becomes p.turns q.2;
+      alike = alike_before R m w h t u p.tree q.0 p.new_tree p.becomes q.2;
     }

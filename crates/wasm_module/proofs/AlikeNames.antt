@@ -7,7 +7,7 @@ use Rattle.std.proofs.lemmas.List.Kept.{AllPairs-from_increasing}
 use Rattle.wasm_module.specs.declared.renaming.Widths.TheVariants as widths
 use Rattle.wasm_module.specs.Alike.{Pairing, swapped, Meet, IsFirst, NamesAreIn, HaveSameNames, BelongNowhere, LeadTogether}
 use Rattle.wasm_module.specs.NameSections.{TypeEntry, type_entry, IsLeast, AreKept}
-use Rattle.wasm_module.specs.Pieces.{AreWritten, none, next}
+use Rattle.wasm_module.specs.SyntaxTrees.{AreWritten, none, next}
 use Rattle.wasm_module.specs.Renaming.{NewIndices, new_index}
 use Rattle.wasm_module.proofs.Entries.{Kept, least_in, keys, first_or_later, first_in, later_in, none_in, has_entry, least_once, same_members}
 use Rattle.wasm_module.proofs.KeptEntries.{some_is}

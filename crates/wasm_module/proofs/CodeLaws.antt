@@ -4,12 +4,13 @@ use Rattle.std.proofs.lemmas.List.{map-append}
 use Rattle.wasm_module.specs.declared.kind.Kind.{Kind}
 use Rattle.wasm_module.specs.declared.renaming.Widths.{Widths}
 use Rattle.wasm_module.specs.declared.renaming.Widths.TheVariants.{Kept}
-use Rattle.wasm_module.specs.Composition.{AreOwn}
+use Rattle.wasm_module.specs.OwnIndices.{AreOwn}
 use Rattle.wasm_module.specs.Immediates.{Token, Begins, index as index_begins, signed_index, Runs, stop, step, type_name, names_of, type_names}
-use Rattle.wasm_module.specs.Pieces.{Piece, bytes_of, names_in, Turns, unchanged, renumbers, joins}
+use Rattle.wasm_module.specs.SyntaxTrees.{SyntaxTree, bytes_of, names_in, TreeBecomes, unchanged, renumbers, joins}
 use Rattle.wasm_module.specs.Renaming.{NewIndices, new_index, type_maps, least_width, Renames, AreRenamed}
-use Rattle.wasm_module.proofs.Pieces.{one_piece, none_named, turns_again}
-use Rattle.wasm_module.proofs.PiecesOfTexts.{TextsBy, piece_of, pieces, unnamed_piece, piece_names, pieces_bytes, pieces_names, still_bytes, texts_again, found_texts}
+use Rattle.wasm_module.proofs.SyntaxTrees.{one_tree, none_named, becomes_again}
+use Rattle.wasm_module.proofs.TreesOfChanges.{still_bytes}
+use Rattle.wasm_module.proofs.TreesOfTexts.{TextsBy, token_tree, tokens_tree, unnamed_tree, token_names, tokens_bytes, tokens_names, texts_again, found_texts}
 use Rattle.wasm_module.proofs.NumberTexts.{text_once, own_width}
 use Rattle.wasm_module.proofs.Tokens.{View, u32_type, s33_type, other, view, token_text}
 
@@ -17,8 +18,10 @@ use Rattle.wasm_module.proofs.Tokens.{View, u32_type, s33_type, other, view, tok
 pub texts_renamed : (m : NewIndices) (w : Widths) (kinds : List Kind) (bytes new : List ℕ) →
     Renames (type_maps m) (least_width w) kinds bytes new →
     (names : List ℕ) × TextsBy kinds [] m w bytes new names
-texts_renamed m w kinds bytes new h =
-    (type_names h.tokens, record { naming = record { tokens = h.tokens; are = h.are; named = refl }; renames = h })
+texts_renamed m w kinds bytes new h = (
+  type_names h.tokens,
+  record { naming = record { tokens = h.tokens; are = h.are; named = refl }; renames = h },
+)
 
 pub code_once : (m : NewIndices) (w : Widths) (kinds : List Kind) (bytes a b : List ℕ) →
     Renames (type_maps m) (least_width w) kinds bytes a →
@@ -29,7 +32,7 @@ code_once m w kinds bytes a b h g =
     let f = found_texts [] m w kinds bytes a x.0 x.1 in
     let k = f.is.to [] m w bytes b y.0 y.1 f.part.text_is in
     sym f.part.new_is
-    ∙ ap bytes_of (one_piece [] m w f.part.piece f.part.becomes k.piece f.part.turns k.turns) ∙ k.new_is
+    ∙ ap bytes_of (one_tree [] m w f.part.tree f.part.new_tree k.tree f.part.becomes k.becomes) ∙ k.new_is
 
 pub code_stays : (first again : NewIndices) → AreOwn first again → (w : Widths) (kinds : List Kind)
     (bytes new : List ℕ) → Renames (type_maps first) (least_width w) kinds bytes new →
@@ -38,14 +41,14 @@ code_stays first again own w kinds bytes new h =
     let x = texts_renamed first w kinds bytes new h in
     let f = found_texts [] first w kinds bytes new x.0 x.1 in
     let p = f.part in
-    let k = f.is_again.from [] again w p.becomes
-    (turns_again first again own [] w p.piece p.becomes p.turns) in
+    let k = f.is_again.from [] again w p.new_tree
+    (becomes_again first again own [] w p.tree p.new_tree p.becomes) in
     subst (λ (u : List ℕ). Renames (type_maps again) (least_width w) kinds u u) p.new_is k.renames
 
 -- ---- the types that are named
 
 module _ (m : NewIndices) (w : Widths) where
-  token_mapped : (p : Token) (q : Piece) → View p → Turns [] m w (piece_of p) q →
+  token_mapped : (p : Token) (q : SyntaxTree) → View p → TreeBecomes [] m w (token_tree p) q →
       map (λ k. new_index m k) (names_of (type_name p)) ≡ map (λ k. Some k) (names_in q)
   token_mapped _ _ (u32_type text k) (renumbers _ _ n _ new to is) = ap (λ o. o ∷ []) to
   token_mapped _ _ (s33_type text k) (renumbers _ _ n _ new to is) = ap (λ o. o ∷ []) to
@@ -53,9 +56,9 @@ module _ (m : NewIndices) (w : Widths) where
       let nameless : names_of (type_name p) ≡ [] = ap names_of unnamed in
       ap (λ (u : List ℕ). map (λ k. new_index m k) u) nameless
       ∙ ap (λ (u : List ℕ). map (λ k. Some k) u)
-      (sym (none_named [] m w (piece_of p) q h (piece_names p (other p unnamed maps) ∙ nameless)))
+      (sym (none_named [] m w (token_tree p) q h (token_names p (other p unnamed maps) ∙ nameless)))
 
-  tokens_mapped : (ps : List Token) (q : Piece) → Turns [] m w (pieces ps) q →
+  tokens_mapped : (ps : List Token) (q : SyntaxTree) → TreeBecomes [] m w (tokens_tree ps) q →
       map (λ k. new_index m k) (type_names ps) ≡ map (λ k. Some k) (names_in q)
   tokens_mapped [] _ (unchanged _) = refl
   tokens_mapped (p ∷ ps) _ (joins _ _ r s h g) =
@@ -74,25 +77,26 @@ names_follow m w kinds bytes new h =
       new_names = type_names r.tokens;
       before = record { tokens = h.tokens; are = h.are; named = refl };
       after = record { tokens = r.tokens; are = r.runs; named = refl };
-      mapped = tokens_mapped m w h.tokens (pieces r.tokens) r.turns
-          ∙ ap (λ (u : List ℕ). map (λ k. Some k) u) (pieces_names r.tokens);
+      mapped = tokens_mapped m w h.tokens (tokens_tree r.tokens) r.becomes
+          ∙ ap (λ (u : List ℕ). map (λ k. Some k) u) (tokens_names r.tokens);
     }
 
 -- ---- the identity
 
 module _ (m : NewIndices) (own : (k n : ℕ) → new_index m k ≡ Some n → n ≡ k) where
-  token_keeps : (k : Kind) (text : List ℕ) (p : Token) (more : List Kind) (q : Piece) → View p →
-      Begins k text p more → Turns [] m Kept (piece_of p) q → bytes_of q ≡ text
+  token_keeps : (k : Kind) (text : List ℕ) (p : Token) (more : List Kind) (q : SyntaxTree) → View p →
+      Begins k text p more → TreeBecomes [] m Kept (token_tree p) q → bytes_of q ≡ text
   token_keeps _ _ _ _ _ (u32_type _ _) (index_begins s text k h) (renumbers _ _ n _ new to is) =
       text_once 0x80 (length text) new text n k is (own_width 0x80 text k h) (own k n to)
   token_keeps _ _ _ _ _ (s33_type _ _) (signed_index _ text k may h) (renumbers _ _ n _ new to is) =
       text_once 0x40 (length text) new text n k is (own_width 0x40 text k h) (own k n to)
   token_keeps k text p more q (other _ unnamed maps) h b =
       sym (token_text k text p more h
-      ∙ still_bytes [] m Kept _ q (subst (λ (u : Piece). Turns [] m Kept u q) (unnamed_piece p unnamed) b))
+      ∙ still_bytes [] m Kept _ q
+      (subst (λ (u : SyntaxTree). TreeBecomes [] m Kept u q) (unnamed_tree p unnamed) b))
 
-  tokens_keep : (kinds : List Kind) (text : List ℕ) (ps : List Token) (left : List Kind) (q : Piece) →
-      Runs kinds text ps left → Turns [] m Kept (pieces ps) q → bytes_of q ≡ text
+  tokens_keep : (kinds : List Kind) (text : List ℕ) (ps : List Token) (left : List Kind) (q : SyntaxTree) →
+      Runs kinds text ps left → TreeBecomes [] m Kept (tokens_tree ps) q → bytes_of q ≡ text
   tokens_keep _ _ _ _ _ (stop _) (unchanged _) = refl
   tokens_keep _ _ _ left _ (step k more kinds _ text others p ps h runs) (joins _ _ r s b bs) =
       ap (λ (u : List ℕ). u ++ bytes_of s) (token_keeps k text p more r (view p) h b)
@@ -102,5 +106,5 @@ module _ (m : NewIndices) (own : (k n : ℕ) → new_index m k ≡ Some n → n 
       Renames (type_maps m) (least_width Kept) kinds bytes new → new ≡ bytes
   identity_keeps kinds bytes new h =
       let r = texts_again [] m Kept kinds bytes h.tokens [] new h.are h.renamed in
-      sym (pieces_bytes kinds new r.tokens [] r.runs)
-      ∙ tokens_keep kinds bytes h.tokens [] (pieces r.tokens) h.are r.turns
+      sym (tokens_bytes kinds new r.tokens [] r.runs)
+      ∙ tokens_keep kinds bytes h.tokens [] (tokens_tree r.tokens) h.are r.becomes

@@ -3,7 +3,6 @@ use Rattle.std.proofs.Common.{◌≡◌, ℕ, List, [], ◌∷◌, length, nat_e
 use Rattle.wasm_module.specs.declared.kind.Kind.{Kind}
 use Rattle.wasm_module.specs.declared.scan.ScanError.{ScanError}
 use Rattle.wasm_module.specs.declared.scan.ScanError.TheVariants as scan
-use Rattle.wasm_module.specs.declared.kind.Kind.TheVariants as kind
 use Rattle.wasm_module.specs.Immediates.{Token, AreTexts, stop}
 use Rattle.wasm_module.specs.Bodies.{Names, body, IsBody, IsNoBody}
 use Rattle.wasm_module.specs.Steps.Scans.{IsScanned, IsRefused}

@@ -6,7 +6,7 @@ use Rattle.std.specs.List.{All, Contains}
 use Rattle.wasm_binary.specs.Modules.{header}
 use Rattle.wasm_module.specs.declared.renaming.Widths.{Widths}
 use Rattle.wasm_module.specs.NameSections.{TypeEntry}
-use Rattle.wasm_module.specs.Pieces.{Piece, still, index, sized, joined, mapped, types, bytes_of, names_in, Turns}
+use Rattle.wasm_module.specs.SyntaxTrees.{SyntaxTree, still, index, sized, joined, mapped, types, bytes_of, names_in, TreeBecomes}
 use Rattle.wasm_module.specs.RenamedModules.{RenamesModule}
 use Rattle.wasm_module.specs.Renaming.{NewIndices, new_index, IsTextOf}
 
@@ -47,11 +47,11 @@ pub record HaveSameNames (R : Pairing) (entries others : List TypeEntry) : Type 
 abbrev pub BelongNowhere : Pairing → List TypeEntry → Type 0
 BelongNowhere R entries = (e : TypeEntry) (j : ℕ) → Contains entries e → ¬ (R e.index j)
 
--- ---- pieces
+-- ---- trees
 
 -- The sizes of two contents: where neither names a type they stay, and are the same; where both do,
 -- they are written again. Where one does, the size of the other is the shortest one.
-pub data SizesAlike (p q : Piece) (size other : List ℕ) : Type 0 where
+pub data SizesAlike (p q : SyntaxTree) (size other : List ℕ) : Type 0 where
   both_stay : names_in p ≡ [] → names_in q ≡ [] → size ≡ other → SizesAlike p q size other
   neither_stays :
       (names_in p ≡ [] → ⊥) → (names_in q ≡ [] → ⊥) → SizesAlike p q size other
@@ -62,16 +62,16 @@ pub data SizesAlike (p q : Piece) (size other : List ℕ) : Type 0 where
       (names_in p ≡ [] → ⊥) → names_in q ≡ [] → IsTextOf 0x80 0 other (length (bytes_of q))
       → SizesAlike p q size other
 
--- The pieces differ at most in indices that belong together, in sizes around these, in maps with the
+-- The trees differ at most in indices that belong together, in sizes around these, in maps with the
 -- same names, and in what their type sections contain.
-pub data Alike (R : Pairing) : Piece → Piece → Type 0 where
+pub data Alike (R : Pairing) : SyntaxTree → SyntaxTree → Type 0 where
   same_bytes : (text : List ℕ) → Alike R (still text) (still text)
   indices :
       (end k l : ℕ) (text other : List ℕ) → R k l → Alike R (index end text k) (index end other l)
   sizes :
-      (size other : List ℕ) (p q : Piece) → SizesAlike p q size other → Alike R p q
+      (size other : List ℕ) (p q : SyntaxTree) → SizesAlike p q size other → Alike R p q
       → Alike R (sized size p) (sized other q)
-  both : (p q r s : Piece) → Alike R p r → Alike R q s → Alike R (joined p q) (joined r s)
+  both : (p q r s : SyntaxTree) → Alike R p r → Alike R q s → Alike R (joined p q) (joined r s)
   empty_maps :
       (count texts : List ℕ) → Alike R (mapped count texts []) (mapped count texts [])
   maps :
@@ -93,23 +93,23 @@ pub data Alike (R : Pairing) : Piece → Piece → Type 0 where
 
 -- ---- modules
 
--- The module has this piece behind its header: what becomes of the module by new indices is what
--- becomes of the piece.
-pub record HasPiece (bytes : List ℕ) (p : Piece) : Type 0 where
+-- The module has this tree behind its header: what becomes of the module by new indices is what
+-- becomes of the tree.
+pub record HasSyntaxTree (bytes : List ℕ) (p : SyntaxTree) : Type 0 where
   pub to :
       (t : List ℕ) (m : NewIndices) (w : Widths) (new : List ℕ) → RenamesModule t m w bytes new
-      → (q : Piece) × Turns t m w p q × (header ++ bytes_of q ≡ new)
+      → (q : SyntaxTree) × TreeBecomes t m w p q × (header ++ bytes_of q ≡ new)
   pub from :
-      (t : List ℕ) (m : NewIndices) (w : Widths) (q : Piece) → Turns t m w p q
+      (t : List ℕ) (m : NewIndices) (w : Widths) (q : SyntaxTree) → TreeBecomes t m w p q
       → RenamesModule t m w bytes (header ++ bytes_of q)
 
--- the modules have pieces that are alike
+-- the modules have trees that are alike
 pub record AreAlike (R : Pairing) (bytes other : List ℕ) : Type 0 where
-  pub piece : Piece
-  pub other_piece : Piece
-  pub has : HasPiece bytes piece
-  pub other_has : HasPiece other other_piece
-  pub alike : Alike R piece other_piece
+  pub tree : SyntaxTree
+  pub other_tree : SyntaxTree
+  pub has : HasSyntaxTree bytes tree
+  pub other_has : HasSyntaxTree other other_tree
+  pub alike : Alike R tree other_tree
 
 -- New indices by which both modules can become one: those of types that belong together are the
 -- same, and only those. A new index of the one is a new index of the other.

@@ -14,7 +14,7 @@ pub mod Customs
 pub mod Lengths
 pub mod Outdated
 pub mod UnknownCustoms
-pub mod Composition
+pub mod OwnIndices
 pub mod RenamedNames
-pub mod Pieces
+pub mod SyntaxTrees
 pub mod Alike

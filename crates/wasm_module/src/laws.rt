@@ -5,7 +5,7 @@ ghost use Rattle.wasm_binary.specs.Modules.{Section, IsModule, HasNoTypeSection}
 ghost use Rattle.wasm_module.specs.declared.kind.Kind.{Kind};
 ghost use Rattle.wasm_module.specs.declared.renaming.Widths.{Widths};
 ghost use Rattle.wasm_module.specs.declared.renaming.Widths.TheVariants.{Kept, Shortest};
-ghost use Rattle.wasm_module.specs.Composition.{AreOwn};
+ghost use Rattle.wasm_module.specs.OwnIndices.{AreOwn};
 ghost use Rattle.wasm_module.specs.Customs.{IsStripped, HasNoDescription};
 ghost use Rattle.wasm_module.specs.RenamedModules.{RenamesModule, HaveSameIds};
 ghost use Rattle.wasm_module.specs.RenamedNames.{NamesFollow};

@@ -13,7 +13,7 @@ use Rattle.wasm_module.specs.declared.renaming.Widths.TheVariants.{Shortest}
 use Rattle.wasm_module.specs.Renaming.{NewIndices}
 use Rattle.wasm_module.specs.RenamedModules.{RenamesModule}
 use Rattle.wasm_module.proofs.AlikeModules.{modules_alike}
-use Rattle.wasm_module.proofs.AlikePieces.{modules_become_one}
+use Rattle.wasm_module.proofs.AlikeTrees.{modules_become_one}
 use Rattle.wasm_normalise.specs.AlikeModules.{DifferInLists, BelongTogether}
 use Rattle.wasm_normalise.specs.CanonicalModules.{AreRoots, HasCanonicalForm, IsCanonicalModule}
 use Rattle.wasm_normalise.specs.declared.options.NormaliseOptions.{NormaliseOptions}

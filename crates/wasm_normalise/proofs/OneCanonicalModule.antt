@@ -13,7 +13,7 @@ use Rattle.walrus_canonical.specs.Listing.{IsCanonical, all_indices}
 use Rattle.walrus_canonical.proofs.Forms.Canonical.{one_section, one_indices}
 use Rattle.wasm_module.specs.Renaming.{NewIndices}
 use Rattle.wasm_module.specs.RenamedModules.{RenamesModule}
-use Rattle.wasm_module.proofs.PiecesOfModules.{renamed_once}
+use Rattle.wasm_module.proofs.TreesOfModules.{renamed_once}
 use Rattle.wasm_module.proofs.StrippedOnce.{stripped_once}
 use Rattle.wasm_module.specs.declared.renaming.Widths.{Widths}
 use Rattle.wasm_normalise.specs.CanonicalModules.{AreRoots, HasCanonicalForm, IsShortest, IsLeft, IsCanonicalModule}

@@ -13,11 +13,11 @@ use Rattle.walrus_canonical.specs.Renamed.{new_or_zero}
 use Rattle.walrus_canonical.proofs.Forms.Canonical as forms
 use Rattle.walrus_canonical.proofs.Forms.Indices.{built_at}
 use Rattle.wasm_module.specs.declared.renaming.Widths.{Widths}
-use Rattle.wasm_module.specs.Composition.{AreOwn}
+use Rattle.wasm_module.specs.OwnIndices.{AreOwn}
 use Rattle.wasm_module.specs.Renaming.{NewIndices, new_index}
 use Rattle.wasm_module.specs.RenamedModules.{RenamesModule}
 use Rattle.wasm_module.proofs.StrippedOnce.{renamed_is_stripped, no_types_before}
-use Rattle.wasm_module.proofs.PiecesOfModules.{module_stays}
+use Rattle.wasm_module.proofs.TreesOfModules.{module_stays}
 use Rattle.wasm_normalise.specs.CanonicalModules.{HasCanonicalForm, IsLeft, IsCanonicalModule}
 use Rattle.wasm_normalise.specs.declared.options.Descriptions.{Descriptions}
 use Rattle.wasm_normalise.specs.declared.options.Descriptions.TheVariants as descriptions

@@ -1,4 +1,4 @@
-use Rattle.wasm_module.proofs.PiecesOfModules.{module_stays}
+use Rattle.wasm_module.proofs.TreesOfModules.{module_stays}
 use Rattle.wasm_module.proofs.laws.renamed_module_stays.Goals as goal
 
 pub returns : goal.returns

@@ -1,4 +1,4 @@
--- New indices that are written again, as themselves.
+-- New indices by which what was written again stays.
 use Rattle.std.specs.Prelude.{◌≡◌, ℕ, Some}
 use Rattle.wasm_module.specs.Renaming.{NewIndices, new_index}
 

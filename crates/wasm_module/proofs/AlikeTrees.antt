@@ -1,4 +1,4 @@
--- Pieces that are alike become one piece by new indices that lead together, and pieces that become one
+-- Syntax trees that are alike become one by new indices that lead together, and those that become one
 -- are alike.
 use Rattle.std.proofs.Common.{◌≡◌, ℕ, List, [], ◌++◌, length, refl, sym, ap, subst, ◌∙◌}
 use Rattle.std.proofs.lemmas.List.{length-map}
@@ -7,8 +7,8 @@ use Rattle.wasm_module.specs.declared.renaming.Widths.TheVariants as widths
 use Rattle.wasm_module.specs.declared.renaming.Widths.{Widths}
 use Rattle.wasm_module.specs.Alike.{Pairing, swapped, BelongNowhere, SizesAlike, both_stay, neither_stays, first_stays, second_stays, Alike, same_bytes, indices, sizes, both, empty_maps, maps, second_empties, first_empties, type_sections, AreAlike, LeadTogether}
 use Rattle.wasm_module.specs.NameSections.{TypeEntry, AreKept}
-use Rattle.wasm_module.specs.Pieces.{Piece, index, sized, joined, mapped, types, bytes_of, AreWritten, Turns, unchanged, renumbers, unresized, resizes, joins, unmapped, remaps, retypes}
-use Rattle.wasm_module.specs.Pieces.AreWritten.{none as none_written, next as next_written}
+use Rattle.wasm_module.specs.SyntaxTrees.{SyntaxTree, index, sized, joined, mapped, types, bytes_of, AreWritten, TreeBecomes, unchanged, renumbers, unresized, resizes, joins, unmapped, remaps, retypes}
+use Rattle.wasm_module.specs.SyntaxTrees.AreWritten.{none as none_written, next as next_written}
 use Rattle.wasm_module.specs.RenamedModules.{RenamesModule}
 use Rattle.wasm_module.specs.Renaming.{NewIndices, new_index, IsTextOf}
 use Rattle.wasm_module.proofs.AlikeNames.{swap, shown, kept_together, written_together, none_kept, written_shown, same_names_of, nowhere_of}
@@ -52,11 +52,11 @@ module _ (R : Pairing) (m w : NewIndices) (h : LeadTogether R m w) (t : List ℕ
   Shortest = widths.Shortest
 
   -- contents with alike sizes become one where the contents do
-  sizes_become_one : (size other : List ℕ) (p q r s : Piece) → SizesAlike p q size other →
-      Turns t m Shortest (sized size p) r → Turns t w Shortest (sized other q) s →
-      ((x y : Piece) → Turns t m Shortest p x → Turns t w Shortest q y → x ≡ y) → r ≡ s
-  sizes_become_one _ _ p q _ _ alike (unresized size _ x nameless same f) (unresized other _ y nameless' same' g)
-      one =
+  sizes_become_one : (size other : List ℕ) (p q r s : SyntaxTree) → SizesAlike p q size other →
+      TreeBecomes t m Shortest (sized size p) r → TreeBecomes t w Shortest (sized other q) s →
+      ((x y : SyntaxTree) → TreeBecomes t m Shortest p x → TreeBecomes t w Shortest q y → x ≡ y) → r ≡ s
+  sizes_become_one _ _ p q _ _ alike (unresized size _ x nameless same f)
+      (unresized other _ y nameless' same' g) one =
       elim alike [
         | both_stay e e' is ↦
             ap (λ (u : List ℕ). sized u x) is ∙ ap (λ u. sized other u) (one x y f g)
@@ -84,7 +84,8 @@ module _ (R : Pairing) (m w : NewIndices) (h : LeadTogether R m w) (t : List ℕ
         | first_stays e some' k ↦ absurd (some e)
         | second_stays some' e k ↦
             let content : x ≡ y = one x y f g in
-            let text : new ≡ other = text_once 0x80 0 new other (length (bytes_of x)) (length (bytes_of q)) is k
+            let text : new ≡ other =
+            text_once 0x80 0 new other (length (bytes_of x)) (length (bytes_of q)) is k
             (ap (λ u. length (bytes_of u)) content ∙ ap (λ (u : List ℕ). length u) (sym same)) in
             ap (λ (u : List ℕ). sized u x) text ∙ ap (λ u. sized other u) content
       ]
@@ -95,8 +96,9 @@ module _ (R : Pairing) (m w : NewIndices) (h : LeadTogether R m w) (t : List ℕ
       (ap (λ u. length (bytes_of u)) content) in
       ap (λ (u : List ℕ). sized u x) text ∙ ap (λ u. sized new' u) content
 
-  -- alike pieces become one
-  pub become_one : (p q r s : Piece) → Alike R p q → Turns t m Shortest p r → Turns t w Shortest q s → r ≡ s
+  -- alike trees become one
+  pub become_one : (p q r s : SyntaxTree) → Alike R p q → TreeBecomes t m Shortest p r →
+      TreeBecomes t w Shortest q s → r ≡ s
   become_one _ _ _ _ (same_bytes text) (unchanged _) (unchanged _) = refl
   become_one _ _ _ _ (indices end k l text other belongs) (renumbers _ _ n _ new to is)
       (renumbers _ _ n' _ new' to' is') =
@@ -142,11 +144,11 @@ module _ (R : Pairing) (m w : NewIndices) (h : LeadTogether R m w) (t : List ℕ
   become_one _ _ _ _ (type_sections size content size' content') (retypes _ _ new is) (retypes _ _ new' is') =
       ap (λ (u : List ℕ). types u t) (text_once 0x80 0 new new' (length t) (length t) is is' refl)
 
--- ---- pieces that become one are alike, whatever their type sections get
+-- ---- trees that become one are alike, whatever their type sections get
 
 module _ (R : Pairing) (m w : NewIndices) (h : LeadTogether R m w) where
-  pub alike_before : (t u : List ℕ) (p q r : Piece) → Turns t m widths.Shortest p r →
-      Turns u w widths.Shortest q r → Alike R p q
+  pub alike_before : (t u : List ℕ) (p q r : SyntaxTree) → TreeBecomes t m widths.Shortest p r →
+      TreeBecomes u w widths.Shortest q r → Alike R p q
   alike_before t u _ _ _ (unchanged text) (unchanged _) = same_bytes text
   alike_before t u _ _ _ (renumbers end k n text new to is) (renumbers _ l _ other _ to' is') =
       indices end k l text other (h.belong k l n to to')
@@ -167,10 +169,11 @@ module _ (R : Pairing) (m w : NewIndices) (h : LeadTogether R m w) where
   alike_before t u _ _ _ (unmapped count texts es nothing) (unmapped _ _ _ nothing') =
       subst (λ (u : List TypeEntry). Alike R (mapped count texts u) (mapped count texts u)) (sym nothing)
       (empty_maps count texts)
-  alike_before t u _ _ _ (unmapped count texts es nothing) (remaps count' texts' _ _ fs _ b some is n written) =
+  alike_before t u _ _ _ (unmapped count texts es nothing)
+      (remaps count' texts' _ _ fs _ b some is n written) =
       let empty = none_written_of b texts es written nothing in
-      let shortest : IsTextOf 0x80 0 count 0 = subst (λ (u : Kept). IsTextOf 0x80 0 count (length u)) empty.0 n
-      in
+      let shortest : IsTextOf 0x80 0 count 0 =
+      subst (λ (u : Kept). IsTextOf 0x80 0 count (length u)) empty.0 n in
       subst (λ (u : List ℕ). Alike R (mapped count u es) (mapped count' texts' fs)) (sym empty.1)
       (subst (λ (u : List TypeEntry). Alike R (mapped count [] u) (mapped count' texts' fs)) (sym nothing)
       (second_empties count count' texts' fs shortest some
@@ -190,12 +193,12 @@ module _ (R : Pairing) (m w : NewIndices) (h : LeadTogether R m w) where
       type_sections size content size' content'
 
 -- modules that are alike become one
-pub modules_become_one : (R : Pairing) (m w : NewIndices) → LeadTogether R m w → (t bytes other a b : List ℕ) →
-    AreAlike R bytes other → RenamesModule t m widths.Shortest bytes a →
+pub modules_become_one : (R : Pairing) (m w : NewIndices) → LeadTogether R m w →
+    (t bytes other a b : List ℕ) → AreAlike R bytes other → RenamesModule t m widths.Shortest bytes a →
     RenamesModule t w widths.Shortest other b → a ≡ b
 modules_become_one R m w h t bytes other a b alike f g =
     let p = alike.has.to t m widths.Shortest a f in
     let q = alike.other_has.to t w widths.Shortest b g in
     sym p.2 ∙ ap (λ u. header ++ bytes_of u)
-    (become_one R m w h t alike.piece alike.other_piece p.0 q.0 alike.alike p.1 q.1)
+    (become_one R m w h t alike.tree alike.other_tree p.0 q.0 alike.alike p.1 q.1)
     ∙ q.2

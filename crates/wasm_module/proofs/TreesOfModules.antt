@@ -1,4 +1,4 @@
--- The pieces of modules: there is one result, and what was renamed stays where each new index is its
+-- The syntax trees of modules: there is one result, and what was renamed stays where each new index is its
 -- own.
 use Rattle.std.proofs.Common.{◌≡◌, ℕ, List, [], ◌∷◌, ◌++◌, length, refl, sym, ap, subst, ◌∙◌}
 use Rattle.std.proofs.lemmas.List.{append_cancel_left, length-map}
@@ -7,20 +7,20 @@ use Rattle.wasm_binary.specs.Modules.{Section, ids, IsModule, header}
 use Rattle.wasm_binary.proofs.Modules.Uniqueness.{one_module}
 use Rattle.wasm_module.specs.declared.renaming.Widths.{Widths}
 use Rattle.wasm_module.specs.Changes.{ChangesSized, ChangeAll}
-use Rattle.wasm_module.specs.Composition.{AreOwn}
-use Rattle.wasm_module.specs.Alike.{HasPiece}
-use Rattle.wasm_module.specs.Pieces.{Piece, types, bytes_of, names_in, Turns, retypes}
+use Rattle.wasm_module.specs.OwnIndices.{AreOwn}
+use Rattle.wasm_module.specs.Alike.{HasSyntaxTree}
+use Rattle.wasm_module.specs.SyntaxTrees.{SyntaxTree, types, bytes_of, names_in, TreeBecomes, retypes}
 use Rattle.wasm_module.specs.RenamedModules.{RenamesAny, RenamesSection, RenamesModule}
 use Rattle.wasm_module.specs.RenamedModules.RenamesAny.{custom, other as other_content}
 use Rattle.wasm_module.specs.RenamedModules.RenamesSection.{type_section, other as other_section}
 use Rattle.wasm_module.specs.Renaming.{NewIndices, IsTextOf}
 use Rattle.wasm_module.proofs.ModuleLaws.{have_same_ids}
-use Rattle.wasm_module.proofs.Pieces.{one_piece, turns_again}
-use Rattle.wasm_module.proofs.PiecesOfNames.{Opened, found_behind, CustomBy, found_custom}
+use Rattle.wasm_module.proofs.SyntaxTrees.{one_tree, becomes_again}
+use Rattle.wasm_module.proofs.TreesOfNames.{Opened, found_behind, CustomBy, found_custom}
 use Rattle.wasm_module.proofs.SizedContents.{same_content}
 use Rattle.wasm_module.proofs.SameTexts.{same_sizes, taken}
-use Rattle.wasm_module.proofs.PiecesOfTexts.{Changing, Writes, ReadsFirst, IsReadFirst, ReadsFirstBack, IsWhole, IsItem, read_first_of, Finds}
-use Rattle.wasm_module.proofs.PiecesOfContents.{WithSize, InTurn, ContentBy, found_as, found_sized, found_all, found_content}
+use Rattle.wasm_module.proofs.TreesOfChanges.{Changing, Writes, ReadsFirst, IsReadFirst, ReadsFirstBack, IsWhole, IsItem, read_first_of, Finds}
+use Rattle.wasm_module.proofs.TreesOfContents.{WithSize, InTurn, ContentBy, found_as, found_sized, found_all, found_content}
 
 -- ---- contents of sections
 
@@ -53,8 +53,8 @@ module _ (size content : List ℕ) (h : IsU32 size (length content)) where
       let c = same_content ((size ++ content) ++ r) content r content' s (taken size content r _ h refl)
       (taken size' content' s _ h' e) in (
         record {
-          piece = types new_size t;
-          turns = retypes size content new_size n;
+          tree = types new_size t;
+          becomes = retypes size content new_size n;
           new_is = refl;
           names_are = refl;
         },
@@ -73,11 +73,11 @@ module _ (size content : List ℕ) (h : IsU32 size (length content)) where
       let c = same_content ((size ++ content) ++ x) content x t y (taken size content x _ h refl)
       (taken new_size t y _ n.is_text e) in
       let one : size ≡ new_size = same_sizes size content x new_size t y c.0 c.1 e in
-      let becomes : types new_size t ≡ types size content =
+      let same_tree : types new_size t ≡ types size content =
       ap (λ (u : List ℕ). types u t) (sym one) ∙ ap (λ (u : List ℕ). types size u) (sym c.0) in (
         record {
-          piece = types size' content';
-          turns = subst (λ (u : Piece). Turns t m w (types size' content') u) becomes
+          tree = types size' content';
+          becomes = subst (λ (u : SyntaxTree). TreeBecomes t m w (types size' content') u) same_tree
               (retypes size' content' new_size n);
           text_is = refl;
           is = read_types size' content' h';
@@ -155,9 +155,9 @@ module _ (t : List ℕ) (m : NewIndices) (w : Widths) where
       found_behind TypesBy SectionBy 1 open_types close_types t m w (size ++ content) (new_size ++ t) []
       (record {
         part = record {
-          piece = types size content;
-          becomes = types new_size t;
-          turns = retypes size content new_size n;
+          tree = types size content;
+          new_tree = types new_size t;
+          becomes = retypes size content new_size n;
           text_is = refl;
           new_is = refl;
           names_are = refl;
@@ -178,9 +178,9 @@ as_many a b e =
     sym (length-map a (λ (s : Section). s.id)) ∙ ap (λ (u : List ℕ). length u) e
     ∙ length-map b (λ (s : Section). s.id)
 
-has_piece : (bytes : List ℕ) (sections : List Section) (p : Piece) → IsModule bytes sections →
-    bytes ≡ header ++ bytes_of p → IsReadFirst (InTurn (length sections) SectionBy) p → HasPiece bytes p
-has_piece bytes sections p is_module parts is =
+has_tree : (bytes : List ℕ) (sections : List Section) (p : SyntaxTree) → IsModule bytes sections →
+    bytes ≡ header ++ bytes_of p → IsReadFirst (InTurn (length sections) SectionBy) p → HasSyntaxTree bytes p
+has_tree bytes sections p is_module parts is =
     record {
       to = λ t m w new r. (
           let many : length r.sections ≡ length sections =
@@ -190,7 +190,7 @@ has_piece bytes sections p is_module parts is =
           let k = is.to t m w r.texts r.new_texts r.names [] []
           (subst (λ n. ChangeAll (RenamesSection t m w) n r.texts r.new_texts r.names) many r.renames)
           (ap (λ (u : List ℕ). u ++ []) texts-are) in
-          (k.0.piece, k.0.turns, ap (λ (u : List ℕ). header ++ u) k.0.new_is ∙ sym r.new_parts));
+          (k.0.tree, k.0.becomes, ap (λ (u : List ℕ). header ++ u) k.0.new_is ∙ sym r.new_parts));
       from = λ t m w q h. record {
         sections = sections;
         is_module = is_module;
@@ -203,15 +203,15 @@ has_piece bytes sections p is_module parts is =
       };
     }
 
--- Where a module becomes another one with the piece r, it has a piece that becomes r.
-abbrev pub HasPieceBefore : List ℕ → Piece → Type 0
-HasPieceBefore new r =
+-- Where a module becomes another one with the tree r, it has a tree that becomes r.
+abbrev pub HasSyntaxTreeBefore : List ℕ → SyntaxTree → Type 0
+HasSyntaxTreeBefore new r =
     (t : List ℕ) (m : NewIndices) (w : Widths) (bytes : List ℕ) → RenamesModule t m w bytes new
-    → (p : Piece) × HasPiece bytes p × Turns t m w p r
+    → (p : SyntaxTree) × HasSyntaxTree bytes p × TreeBecomes t m w p r
 
-piece_before : (new : List ℕ) (sections : List Section) (r : Piece) → IsModule new sections →
-    new ≡ header ++ bytes_of r → IsItem (InTurn (length sections) SectionBy) r → HasPieceBefore new r
-piece_before new sections r is_module parts is t m w bytes g =
+tree_before : (new : List ℕ) (sections : List Section) (r : SyntaxTree) → IsModule new sections →
+    new ≡ header ++ bytes_of r → IsItem (InTurn (length sections) SectionBy) r → HasSyntaxTreeBefore new r
+tree_before new sections r is_module parts is t m w bytes g =
     let h = have_same_ids t m w bytes new g in
     let old : h.sections ≡ g.sections = one_module bytes h.sections g.sections h.before g.is_module in
     let same : h.new_sections ≡ sections = one_module new h.new_sections sections h.after is_module in
@@ -223,26 +223,26 @@ piece_before new sections r is_module parts is t m w bytes g =
     let b = is.back t m w g.texts g.new_texts g.names [] []
     (subst (λ n. ChangeAll (RenamesSection t m w) n g.texts g.new_texts g.names) many g.renames)
     (ap (λ (u : List ℕ). u ++ []) texts-are) in (
-      b.0.piece,
-      has_piece bytes g.sections b.0.piece g.is_module
+      b.0.tree,
+      has_tree bytes g.sections b.0.tree g.is_module
           (g.parts ∙ ap (λ (u : List ℕ). header ++ u) (sym b.0.text_is))
-          (subst (λ n. IsReadFirst (InTurn n SectionBy) b.0.piece) (sym many) b.0.is),
-      b.0.turns,
+          (subst (λ n. IsReadFirst (InTurn n SectionBy) b.0.tree) (sym many) b.0.is),
+      b.0.becomes,
     )
 
--- the pieces of a module and of what it becomes
-pub record ModulePieces (t : List ℕ) (m : NewIndices) (w : Widths) (bytes new : List ℕ) : Type 0 where
-  pub piece : Piece
-  pub becomes : Piece
-  pub has : HasPiece bytes piece
-  pub has_again : HasPiece new becomes
-  pub has_before : HasPieceBefore new becomes
-  pub turns : Turns t m w piece becomes
-  pub new_is : header ++ bytes_of becomes ≡ new
+-- the trees of a module and of what it becomes
+pub record ModuleTrees (t : List ℕ) (m : NewIndices) (w : Widths) (bytes new : List ℕ) : Type 0 where
+  pub tree : SyntaxTree
+  pub new_tree : SyntaxTree
+  pub has : HasSyntaxTree bytes tree
+  pub has_again : HasSyntaxTree new new_tree
+  pub has_before : HasSyntaxTreeBefore new new_tree
+  pub becomes : TreeBecomes t m w tree new_tree
+  pub new_is : header ++ bytes_of new_tree ≡ new
 
-pub module_pieces : (t : List ℕ) (m : NewIndices) (w : Widths) (bytes new : List ℕ) →
-    RenamesModule t m w bytes new → ModulePieces t m w bytes new
-module_pieces t m w bytes new r =
+pub module_trees : (t : List ℕ) (m : NewIndices) (w : Widths) (bytes new : List ℕ) →
+    RenamesModule t m w bytes new → ModuleTrees t m w bytes new
+module_trees t m w bytes new r =
     let h = have_same_ids t m w bytes new r in
     let old : h.sections ≡ r.sections = one_module bytes h.sections r.sections h.before r.is_module in
     let many : length r.sections ≡ length h.new_sections =
@@ -250,20 +250,20 @@ module_pieces t m w bytes new r =
     let f = found_all t m w SectionBy (found_section t m w) (length r.sections) r.texts r.new_texts r.names
     r.renames in
     let p = f.part in
-    let again : IsItem (InTurn (length h.new_sections) SectionBy) p.becomes =
-    subst (λ n. IsItem (InTurn n SectionBy) p.becomes) many f.is_again in
-    let new-is : new ≡ header ++ bytes_of p.becomes =
+    let again : IsItem (InTurn (length h.new_sections) SectionBy) p.new_tree =
+    subst (λ n. IsItem (InTurn n SectionBy) p.new_tree) many f.is_again in
+    let new-is : new ≡ header ++ bytes_of p.new_tree =
     r.new_parts ∙ ap (λ (u : List ℕ). header ++ u) (sym p.new_is) in
     record {
-      piece = p.piece;
-      becomes = p.becomes;
-      has = has_piece bytes r.sections p.piece r.is_module
+      tree = p.tree;
+      new_tree = p.new_tree;
+      has = has_tree bytes r.sections p.tree r.is_module
           (r.parts ∙ ap (λ (u : List ℕ). header ++ u) (sym p.text_is))
-          (read_first_of (InTurn (length r.sections) SectionBy) p.piece f.is);
-      has_again = has_piece new h.new_sections p.becomes h.after new-is
-          (read_first_of (InTurn (length h.new_sections) SectionBy) p.becomes again);
-      has_before = piece_before new h.new_sections p.becomes h.after new-is again;
-      turns = p.turns;
+          (read_first_of (InTurn (length r.sections) SectionBy) p.tree f.is);
+      has_again = has_tree new h.new_sections p.new_tree h.after new-is
+          (read_first_of (InTurn (length h.new_sections) SectionBy) p.new_tree again);
+      has_before = tree_before new h.new_sections p.new_tree h.after new-is again;
+      becomes = p.becomes;
       new_is = ap (λ (u : List ℕ). header ++ u) p.new_is ∙ sym r.new_parts;
     }
 
@@ -272,13 +272,13 @@ module_pieces t m w bytes new r =
 pub renamed_once : (t : List ℕ) (m : NewIndices) (w : Widths) (bytes a b : List ℕ) →
     RenamesModule t m w bytes a → RenamesModule t m w bytes b → a ≡ b
 renamed_once t m w bytes a b h g =
-    let f = module_pieces t m w bytes a h in
+    let f = module_trees t m w bytes a h in
     let k = f.has.to t m w b g in
-    sym f.new_is ∙ ap (λ u. header ++ bytes_of u) (one_piece t m w f.piece f.becomes k.0 f.turns k.1) ∙ k.2
+    sym f.new_is ∙ ap (λ u. header ++ bytes_of u) (one_tree t m w f.tree f.new_tree k.0 f.becomes k.1) ∙ k.2
 
 pub module_stays : (first again : NewIndices) → AreOwn first again → (w : Widths)
     (t bytes new : List ℕ) → RenamesModule t first w bytes new → RenamesModule t again w new new
 module_stays first again own w t bytes new r =
-    let f = module_pieces t first w bytes new r in
+    let f = module_trees t first w bytes new r in
     subst (λ (u : List ℕ). RenamesModule t again w new u) f.new_is
-    (f.has_again.from t again w f.becomes (turns_again first again own t w f.piece f.becomes f.turns))
+    (f.has_again.from t again w f.new_tree (becomes_again first again own t w f.tree f.new_tree f.becomes))

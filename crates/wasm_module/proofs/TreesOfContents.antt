@@ -1,4 +1,4 @@
--- The pieces of contents with their sizes, of several texts in turn, and of contents of sections.
+-- The syntax trees of contents with their sizes, of several texts in turn, and of contents of sections.
 use Rattle.std.proofs.Common.{◌≡◌, ℕ, suc, List, [], ◌++◌, length, Some, None, refl, sym, ap, subst, ◌∙◌, append_assoc}
 use Rattle.std.proofs.lemmas.List.{append_cancel_right}
 use Rattle.wasm_binary.specs.Leb128.{IsU32}
@@ -10,12 +10,13 @@ use Rattle.wasm_module.specs.Changes.{ChangesSized, stays, resized, ChangeAll}
 use Rattle.wasm_module.specs.Changes.ChangeAll.{none as no_change, next as next_change}
 use Rattle.wasm_module.specs.Contents.{section_kinds}
 use Rattle.wasm_module.specs.NamedTypes.{code_id}
-use Rattle.wasm_module.specs.Pieces.{Piece, still, sized, joined, bytes_of, names_in, unchanged, unresized, resizes, joins}
+use Rattle.wasm_module.specs.SyntaxTrees.{SyntaxTree, still, sized, joined, bytes_of, names_in, unchanged, unresized, resizes, joins}
 use Rattle.wasm_module.specs.RenamedSections.{RenamesTexts, RenamesBody, RenamesCode, RenamesContent}
 use Rattle.wasm_module.specs.RenamedSections.RenamesCode.{counted}
 use Rattle.wasm_module.specs.RenamedSections.RenamesContent.{texts, code, nameless}
 use Rattle.wasm_module.specs.Renaming.{NewIndices, least_width, IsTextOf}
-use Rattle.wasm_module.proofs.PiecesOfTexts.{Changing, Writes, Reads, ReadsFirst, IsRead, IsReadFirst, ReadsBack, ReadsFirstBack, IsWhole, IsItem, read_of, read_first_of, Part, Found, Finds, AreSame, whole_as, StaysAsItIs, stays_by, fits_still, fits_both, whole_still, TextsBy, found_texts}
+use Rattle.wasm_module.proofs.TreesOfChanges.{Changing, Writes, Reads, ReadsFirst, IsRead, IsReadFirst, ReadsBack, ReadsFirstBack, IsWhole, IsItem, read_of, read_first_of, Part, Found, Finds, AreSame, whole_as, StaysAsItIs, stays_by, fits_still, fits_both, whole_still}
+use Rattle.wasm_module.proofs.TreesOfTexts.{TextsBy, found_texts}
 use Rattle.wasm_module.proofs.SameTexts.{same_kinds, no_texts_of_code, same_sizes, taken}
 use Rattle.wasm_module.proofs.SizedContents.{number_read, same_number, same_content}
 
@@ -24,7 +25,7 @@ use Rattle.wasm_module.proofs.SizedContents.{number_read, same_number, same_cont
 abbrev pub WithSize : Changing → Changing
 WithSize C t m w = ChangesSized w (C t m w)
 
-module _ (C : Changing) (size : List ℕ) (p : Piece) (h : IsU32 size (length (bytes_of p)))
+module _ (C : Changing) (size : List ℕ) (p : SyntaxTree) (h : IsU32 size (length (bytes_of p)))
     (is : IsRead C p) where
   sized_to : ReadsFirst (WithSize C) (sized size p)
   sized_to t m w _ _ _ r s (stays size' content h' f) e =
@@ -33,8 +34,8 @@ module _ (C : Changing) (size : List ℕ) (p : Piece) (h : IsU32 size (length (b
       let n : size ≡ size' = same_sizes size (bytes_of p) r size' content s c.0 c.1 e in
       let k = is.to t m w content content [] f c.0 in (
         record {
-          piece = sized size k.piece;
-          turns = unresized size p k.piece (sym k.names_are) (c.0 ∙ sym k.new_is) k.turns;
+          tree = sized size k.tree;
+          becomes = unresized size p k.tree (sym k.names_are) (c.0 ∙ sym k.new_is) k.becomes;
           new_is = ap (λ (u : List ℕ). size ++ u) k.new_is ∙ ap (λ (u : List ℕ). u ++ content) n;
           names_are = k.names_are;
         },
@@ -45,14 +46,14 @@ module _ (C : Changing) (size : List ℕ) (p : Piece) (h : IsU32 size (length (b
       (taken size (bytes_of p) r _ h refl) (taken size' content s _ h' e) in
       let one : size ≡ size' = same_sizes size (bytes_of p) r size' content s c.0 c.1 e in
       let k = is.to t m w content new names f c.0 in
-      let long : IsTextOf 0x80 (least_width w (length size)) new_size (length (bytes_of k.piece)) =
-      subst (λ (u : List ℕ). IsTextOf 0x80 (least_width w (length u)) new_size (length (bytes_of k.piece)))
+      let long : IsTextOf 0x80 (least_width w (length size)) new_size (length (bytes_of k.tree)) =
+      subst (λ (u : List ℕ). IsTextOf 0x80 (least_width w (length u)) new_size (length (bytes_of k.tree)))
       (sym one)
       (subst (λ (u : List ℕ). IsTextOf 0x80 (least_width w (length size')) new_size (length u))
       (sym k.new_is) n) in (
         record {
-          piece = sized new_size k.piece;
-          turns = resizes size new_size p k.piece (λ u. some (k.names_are ∙ u)) long k.turns;
+          tree = sized new_size k.tree;
+          becomes = resizes size new_size p k.tree (λ u. some (k.names_are ∙ u)) long k.becomes;
           new_is = ap (λ (u : List ℕ). new_size ++ u) k.new_is;
           names_are = k.names_are;
         },
@@ -73,7 +74,7 @@ module _ (C : Changing) (size : List ℕ) (p : Piece) (h : IsU32 size (length (b
   read_sized : IsReadFirst (WithSize C) (sized size p)
   read_sized = record { to = sized_to; from = sized_from }
 
-module _ (C : Changing) (size : List ℕ) (r : Piece) (h : IsU32 size (length (bytes_of r)))
+module _ (C : Changing) (size : List ℕ) (r : SyntaxTree) (h : IsU32 size (length (bytes_of r)))
     (is : IsWhole C r) where
   sized_back : ReadsFirstBack (WithSize C) (sized size r)
   sized_back t m w _ _ _ x y (stays size' content h' f) e =
@@ -81,14 +82,14 @@ module _ (C : Changing) (size : List ℕ) (r : Piece) (h : IsU32 size (length (b
       (taken size (bytes_of r) x _ h refl) (taken size' content y _ h' e) in
       let n : size ≡ size' = same_sizes size (bytes_of r) x size' content y c.0 c.1 e in
       let b = is.back t m w content content [] f c.0 in
-      let nameless : [] ≡ names_in b.piece = (b.is.to t m w content content [] f b.text_is).names_are in
-      let long : IsU32 size (length (bytes_of b.piece)) =
+      let nameless : [] ≡ names_in b.tree = (b.is.to t m w content content [] f b.text_is).names_are in
+      let long : IsU32 size (length (bytes_of b.tree)) =
       subst (λ (u : List ℕ). IsU32 size (length u)) (c.0 ∙ sym b.text_is) h in (
         record {
-          piece = sized size b.piece;
-          turns = unresized size b.piece r (sym nameless) (b.text_is ∙ sym c.0) b.turns;
+          tree = sized size b.tree;
+          becomes = unresized size b.tree r (sym nameless) (b.text_is ∙ sym c.0) b.becomes;
           text_is = ap (λ (u : List ℕ). size ++ u) b.text_is ∙ ap (λ (u : List ℕ). u ++ content) n;
-          is = read_sized C size b.piece long b.is;
+          is = read_sized C size b.tree long b.is;
         },
         c.1,
       )
@@ -97,18 +98,18 @@ module _ (C : Changing) (size : List ℕ) (r : Piece) (h : IsU32 size (length (b
       (taken size (bytes_of r) x _ h refl) (taken new_size new y _ n.is_text e) in
       let one : size ≡ new_size = same_sizes size (bytes_of r) x new_size new y c.0 c.1 e in
       let b = is.back t m w content new names f c.0 in
-      let named : names ≡ names_in b.piece = (b.is.to t m w content new names f b.text_is).names_are in
+      let named : names ≡ names_in b.tree = (b.is.to t m w content new names f b.text_is).names_are in
       let long : IsTextOf 0x80 (least_width w (length size')) size (length (bytes_of r)) =
       subst (λ (u : List ℕ). IsTextOf 0x80 (least_width w (length size')) u (length (bytes_of r))) (sym one)
       (subst (λ (u : List ℕ). IsTextOf 0x80 (least_width w (length size')) new_size (length u)) (sym c.0) n)
       in
-      let before : IsU32 size' (length (bytes_of b.piece)) =
+      let before : IsU32 size' (length (bytes_of b.tree)) =
       subst (λ (u : List ℕ). IsU32 size' (length u)) (sym b.text_is) h' in (
         record {
-          piece = sized size' b.piece;
-          turns = resizes size' size b.piece r (λ u. some (named ∙ u)) long b.turns;
+          tree = sized size' b.tree;
+          becomes = resizes size' size b.tree r (λ u. some (named ∙ u)) long b.becomes;
           text_is = ap (λ (u : List ℕ). size' ++ u) b.text_is;
-          is = read_sized C size' b.piece before b.is;
+          is = read_sized C size' b.tree before b.is;
         },
         c.1,
       )
@@ -136,15 +137,15 @@ module _ (C : Changing) where
   none_back : ReadsFirstBack (InTurn 0 C) (still [])
   none_back t m w _ _ _ x y no_change e = (
     record {
-      piece = still [];
-      turns = unchanged [];
+      tree = still [];
+      becomes = unchanged [];
       text_is = refl;
       is = record { to = none_to; from = none_from };
     },
     e,
   )
 
-  module _ (count : ℕ) (p q : Piece) (is : IsReadFirst C p) (are : IsReadFirst (InTurn count C) q) where
+  module _ (count : ℕ) (p q : SyntaxTree) (is : IsReadFirst C p) (are : IsReadFirst (InTurn count C) q) where
     next_to : ReadsFirst (InTurn (suc count) C) (joined p q)
     next_to t m w _ _ _ r s (next_change _ text others new news names more h hs) e =
         let a = is.to t m w text new names (bytes_of q ++ r) (others ++ s) h
@@ -160,18 +161,18 @@ module _ (C : Changing) where
     read_next : IsReadFirst (InTurn (suc count) C) (joined p q)
     read_next = record { to = next_to; from = next_from }
 
-  module _ (count : ℕ) (p q : Piece) (is : IsItem C p) (are : IsItem (InTurn count C) q) where
+  module _ (count : ℕ) (p q : SyntaxTree) (is : IsItem C p) (are : IsItem (InTurn count C) q) where
     next_back : ReadsFirstBack (InTurn (suc count) C) (joined p q)
     next_back t m w _ _ _ x y (next_change _ text others new news names more h hs) e =
         let a = is.back t m w text new names (bytes_of q ++ x) (news ++ y) h
         (sym (append_assoc (bytes_of p) (bytes_of q) x) ∙ e ∙ append_assoc new news y) in
         let b = are.back t m w others news more x y hs a.1 in (
           record {
-            piece = joined a.0.piece b.0.piece;
-            turns = joins a.0.piece b.0.piece p q a.0.turns b.0.turns;
-            text_is = ap (λ (u : List ℕ). u ++ bytes_of b.0.piece) a.0.text_is
+            tree = joined a.0.tree b.0.tree;
+            becomes = joins a.0.tree b.0.tree p q a.0.becomes b.0.becomes;
+            text_is = ap (λ (u : List ℕ). u ++ bytes_of b.0.tree) a.0.text_is
                 ∙ ap (λ (u : List ℕ). text ++ u) b.0.text_is;
-            is = read_next count a.0.piece b.0.piece a.0.is b.0.is;
+            is = read_next count a.0.tree b.0.tree a.0.is b.0.is;
           },
           b.1,
         )
@@ -189,7 +190,7 @@ BodyBy = WithSize (TextsBy body)
 abbrev CodeBy : Changing
 CodeBy t m w = RenamesCode m w
 
-module _ (bodies : ℕ) (count : List ℕ) (p : Piece) (h : IsU32 count bodies)
+module _ (bodies : ℕ) (count : List ℕ) (p : SyntaxTree) (h : IsU32 count bodies)
     (are : IsReadFirst (InTurn bodies BodyBy) p) where
   code_to : Reads CodeBy (joined (still count) p)
   code_to t m w _ _ _ (counted bodies' count' text new names h' hs) e =
@@ -210,7 +211,7 @@ module _ (bodies : ℕ) (count : List ℕ) (p : Piece) (h : IsU32 count bodies)
   read_code : IsRead CodeBy (joined (still count) p)
   read_code = record { to = code_to; from = code_from }
 
-module _ (bodies : ℕ) (count : List ℕ) (p : Piece) (h : IsU32 count bodies)
+module _ (bodies : ℕ) (count : List ℕ) (p : SyntaxTree) (h : IsU32 count bodies)
     (are : IsItem (InTurn bodies BodyBy) p) where
   code_back : ReadsBack CodeBy (joined (still count) p)
   code_back t m w _ _ _ (counted bodies' count' text new names h' hs) e =
@@ -223,11 +224,11 @@ module _ (bodies : ℕ) (count : List ℕ) (p : Piece) (h : IsU32 count bodies)
       (subst (λ j. ChangeAll (RenamesBody m w) j text new names) (sym n.0) hs)
       (ap (λ (u : List ℕ). u ++ []) n.1) in
       record {
-        piece = joined (still count) b.0.piece;
-        turns = joins (still count) b.0.piece (still count) p (unchanged count) b.0.turns;
-        text_is = ap (λ (u : List ℕ). u ++ bytes_of b.0.piece) one
+        tree = joined (still count) b.0.tree;
+        becomes = joins (still count) b.0.tree (still count) p (unchanged count) b.0.becomes;
+        text_is = ap (λ (u : List ℕ). u ++ bytes_of b.0.tree) one
             ∙ ap (λ (u : List ℕ). count' ++ u) b.0.text_is;
-        is = read_code bodies count b.0.piece h b.0.is;
+        is = read_code bodies count b.0.tree h b.0.is;
       }
 
   whole_code : IsWhole CodeBy (joined (still count) p)
@@ -261,7 +262,7 @@ module _ (id : ℕ) (t : List ℕ) (m : NewIndices) (w : Widths) where
   of_nameless text new names nothing fails (code _ _ _ is h) = absurd (fails is)
   of_nameless text _ _ nothing fails (nameless _ nothing' fails') = (refl, refl)
 
--- ---- the pieces of what becomes something
+-- ---- the trees of what becomes something
 
 size_of : (size p content : List ℕ) → p ≡ content → IsU32 size (length content) → IsU32 size (length p)
 size_of size p content e h = subst (λ (u : List ℕ). IsU32 size (length u)) (sym e) h
@@ -272,16 +273,16 @@ module _ (t : List ℕ) (m : NewIndices) (w : Widths) where
   found_as C D same text new names f =
       record {
         part = f.part;
-        is = whole_as C D same f.part.piece f.is;
-        is_again = whole_as C D same f.part.becomes f.is_again;
+        is = whole_as C D same f.part.tree f.is;
+        is_again = whole_as C D same f.part.new_tree f.is_again;
       }
 
   abbrev pub part_still : (text : List ℕ) → Part t m w text text []
   part_still text =
       record {
-        piece = still text;
-        becomes = still text;
-        turns = unchanged text;
+        tree = still text;
+        new_tree = still text;
+        becomes = unchanged text;
         text_is = refl;
         new_is = refl;
         names_are = refl;
@@ -291,55 +292,56 @@ module _ (t : List ℕ) (m : NewIndices) (w : Widths) where
       Part t m w others news more → Part t m w (text ++ others) (new ++ news) (names ++ more)
   part_both text new names others news more f g =
       record {
-        piece = joined f.piece g.piece;
-        becomes = joined f.becomes g.becomes;
-        turns = joins f.piece g.piece f.becomes g.becomes f.turns g.turns;
+        tree = joined f.tree g.tree;
+        new_tree = joined f.new_tree g.new_tree;
+        becomes = joins f.tree g.tree f.new_tree g.new_tree f.becomes g.becomes;
         text_is =
-            ap (λ (u : List ℕ). u ++ bytes_of g.piece) f.text_is ∙ ap (λ (u : List ℕ). text ++ u) g.text_is;
+            ap (λ (u : List ℕ). u ++ bytes_of g.tree) f.text_is ∙ ap (λ (u : List ℕ). text ++ u) g.text_is;
         new_is =
-            ap (λ (u : List ℕ). u ++ bytes_of g.becomes) f.new_is ∙ ap (λ (u : List ℕ). new ++ u) g.new_is;
+            ap (λ (u : List ℕ). u ++ bytes_of g.new_tree) f.new_is ∙ ap (λ (u : List ℕ). new ++ u) g.new_is;
         names_are = ap (λ (u : List ℕ). u ++ more) f.names_are
-            ∙ ap (λ (u : List ℕ). names_in f.piece ++ u) g.names_are;
+            ∙ ap (λ (u : List ℕ). names_in f.tree ++ u) g.names_are;
       }
 
   pub found_still : (text : List ℕ) → Found (IsWhole StaysAsItIs) t m w text text []
   found_still text =
       record { part = part_still text; is = whole_still text; is_again = whole_still text }
 
-  pub found_sized : (C : Changing) → Finds (IsWhole C) C t m w → Finds (IsItem (WithSize C)) (WithSize C) t m w
+  pub found_sized : (C : Changing) → Finds (IsWhole C) C t m w →
+      Finds (IsItem (WithSize C)) (WithSize C) t m w
   found_sized C found _ _ _ (stays size content h f) =
       let k = found content content [] f in
       let p = k.part in
       record {
         part = record {
-          piece = sized size p.piece;
-          becomes = sized size p.becomes;
-          turns = unresized size p.piece p.becomes (sym p.names_are) (p.text_is ∙ sym p.new_is) p.turns;
+          tree = sized size p.tree;
+          new_tree = sized size p.new_tree;
+          becomes = unresized size p.tree p.new_tree (sym p.names_are) (p.text_is ∙ sym p.new_is) p.becomes;
           text_is = ap (λ (u : List ℕ). size ++ u) p.text_is;
           new_is = ap (λ (u : List ℕ). size ++ u) p.new_is;
           names_are = p.names_are;
         };
-        is = item_sized C size p.piece (size_of size (bytes_of p.piece) content p.text_is h) k.is;
-        is_again = item_sized C size p.becomes (size_of size (bytes_of p.becomes) content p.new_is h)
+        is = item_sized C size p.tree (size_of size (bytes_of p.tree) content p.text_is h) k.is;
+        is_again = item_sized C size p.new_tree (size_of size (bytes_of p.new_tree) content p.new_is h)
             k.is_again;
       }
   found_sized C found _ _ _ (resized size content new_size new names h f some n) =
       let k = found content new names f in
       let p = k.part in
-      let long : IsTextOf 0x80 (least_width w (length size)) new_size (length (bytes_of p.becomes)) =
+      let long : IsTextOf 0x80 (least_width w (length size)) new_size (length (bytes_of p.new_tree)) =
       subst (λ (u : List ℕ). IsTextOf 0x80 (least_width w (length size)) new_size (length u)) (sym p.new_is)
       n in
       record {
         part = record {
-          piece = sized size p.piece;
-          becomes = sized new_size p.becomes;
-          turns = resizes size new_size p.piece p.becomes (λ u. some (p.names_are ∙ u)) long p.turns;
+          tree = sized size p.tree;
+          new_tree = sized new_size p.new_tree;
+          becomes = resizes size new_size p.tree p.new_tree (λ u. some (p.names_are ∙ u)) long p.becomes;
           text_is = ap (λ (u : List ℕ). size ++ u) p.text_is;
           new_is = ap (λ (u : List ℕ). new_size ++ u) p.new_is;
           names_are = p.names_are;
         };
-        is = item_sized C size p.piece (size_of size (bytes_of p.piece) content p.text_is h) k.is;
-        is_again = item_sized C new_size p.becomes long.is_text k.is_again;
+        is = item_sized C size p.tree (size_of size (bytes_of p.tree) content p.text_is h) k.is;
+        is_again = item_sized C new_size p.new_tree long.is_text k.is_again;
       }
 
   pub found_all : (C : Changing) → Finds (IsItem C) C t m w → (count : ℕ) →
@@ -355,17 +357,18 @@ module _ (t : List ℕ) (m : NewIndices) (w : Widths) where
       let g = found_all C found count others news more hs in
       record {
         part = part_both text new names others news more f.part g.part;
-        is = item_next C count f.part.piece g.part.piece f.is g.is;
-        is_again = item_next C count f.part.becomes g.part.becomes f.is_again g.is_again;
+        is = item_next C count f.part.tree g.part.tree f.is g.is;
+        is_again = item_next C count f.part.new_tree g.part.new_tree f.is_again g.is_again;
       }
 
   found_code : Finds (IsWhole CodeBy) CodeBy t m w
   found_code _ _ _ (counted bodies count text new names h hs) =
-      let f = found_all BodyBy (found_sized (TextsBy body) (found_texts t m w body)) bodies text new names hs in
+      let f = found_all BodyBy (found_sized (TextsBy body) (found_texts t m w body)) bodies text new names
+      hs in
       record {
         part = part_both count count [] text new names (part_still count) f.part;
-        is = whole_code bodies count f.part.piece h f.is;
-        is_again = whole_code bodies count f.part.becomes h f.is_again;
+        is = whole_code bodies count f.part.tree h f.is;
+        is_again = whole_code bodies count f.part.new_tree h f.is_again;
       }
 
   pub found_content : (id : ℕ) → Finds (IsWhole (ContentBy id)) (ContentBy id) t m w
