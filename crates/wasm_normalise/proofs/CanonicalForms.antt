@@ -1,14 +1,9 @@
 -- What was read, brought into canonical form and written is the canonical form of a module's types.
 use Rattle.std.proofs.Common.{◌≡◌, ◌≤◌, ◌∙◌, ℕ, List, length, refl, sym, subst}
 use Rattle.wasm_binary.specs.Grammar.{IsTypes}
-use Rattle.wasm_binary.specs.ModuleSections.{HasTypes}
-use Rattle.walrus_canonical.specs.Listing.{IsCanonical, all_indices}
-use Rattle.walrus_sections.specs.Section.{IsWellNamed}
-use Rattle.walrus_ty.specs.Records.{section_of}
 use Rattle.walrus_ty.specs.declared.records.GroupAt.{GroupAt}
 use Rattle.wasm_module.specs.Customs.{IsStripped}
 use Rattle.wasm_module.specs.Outdated.{HasOutdatedAt}
-use Rattle.wasm_module.specs.NamedTypes.{NamesOutside}
 use Rattle.wasm_module.specs.Renaming.{NewIndices}
 use Rattle.wasm_module.specs.RenamedModules.{RenamesModule}
 use Rattle.wasm_normalise.specs.CanonicalModules.{HasCanonicalForm, IsShortest, HasCanonicalTypes, IsLeft, IsCanonicalModule, BecomesOutdated}

@@ -1,8 +1,7 @@
 -- The new indices of two sections with one canonical form lead together: types that are needed and equal
 -- get the same ones.
-use Rattle.std.proofs.Common.{◌≡◌, ℕ, List, Some, sym, subst, ◌∙◌, ap}
-use Rattle.walrus_canonical.specs.EqualTypes.{AreEqual}
-use Rattle.walrus_canonical.specs.Listing.{IsListing, IsNeeded}
+use Rattle.std.proofs.Common.{◌≡◌, ℕ, List, Some, sym, ◌∙◌, ap}
+use Rattle.walrus_canonical.specs.Listing.{IsListing}
 use Rattle.walrus_canonical.proofs.Equality.EqualTypes.{equal_back, equal_over}
 use Rattle.walrus_canonical.proofs.Forms.Listings.{new_of, needed_of, listed_once}
 use Rattle.walrus_sections.specs.Section.{IndexSpace, index_space}

@@ -1,6 +1,5 @@
 -- Types keep their meaning.
-use Rattle.std.proofs.Common.{◌≡◌, ℕ, zero, suc, List, [], ◌∷◌, length, map, Some, refl, sym, ap, subst, ◌∙◌, slice_get}
-use Rattle.std.proofs.lemmas.List.{length-map}
+use Rattle.std.proofs.Common.{◌≡◌, ℕ, zero, suc, List, [], ◌∷◌, length, map, Some, refl, ap, subst, ◌∙◌, slice_get}
 use Rattle.walrus_ty.specs.Records.{section_of}
 use Rattle.wasm_module.specs.Renaming.{NewIndices, new_index}
 use Rattle.wasm_normalise.specs.CanonicalModules.{IsCanonicalModule}

@@ -1,7 +1,7 @@
 -- What the types of a module mean after its indices were written again.
 -- WebAssembly core specification, "Modules", indices: a type is named by its place in the type
 -- section. Which types are equal is said by walrus_canonical.
-use Rattle.std.specs.Prelude.{◌≡◌, ℕ, List, length, Option, Some, slice_get}
+use Rattle.std.specs.Prelude.{◌≡◌, ℕ, List, length, Some, slice_get}
 use Rattle.wasm_binary.specs.ModuleSections.{HasTypes}
 use Rattle.wasm_module.specs.NamedTypes.{NamesOutside}
 use Rattle.wasm_module.specs.Renaming.{NewIndices, new_index}

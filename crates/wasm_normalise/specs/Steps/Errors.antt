@@ -1,5 +1,4 @@
 -- The error that an error of a step becomes.
-use Rattle.std.specs.Prelude.{ℕ}
 use Rattle.wasm_binary.specs.declared.error.DecodeError.{DecodeError}
 use Rattle.wasm_binary.specs.declared.error.DecodeError.TheVariants as decode
 use Rattle.wasm_binary.specs.declared.error.EncodeError.{EncodeError}
