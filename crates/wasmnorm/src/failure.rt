@@ -102,11 +102,11 @@ pub fn refusal(
     alloc: Global,
     keys: HashKeys,
     bytes: &[u8],
-    options: RunOptions<'_>,
+    options: &RunOptions<'_>,
     error: NormaliseModuleError,
 ) -> Failure
-    ensures explains { IsRefusedBy options.normalise bytes.now error →
-        Explains options bytes.now result }
+    ensures explains { IsRefusedBy options.now.normalise bytes.now error →
+        Explains options.now bytes.now result }
 {
     let error = first_error(alloc, keys, options.normalise, bytes, error);
     let Ok(advice) = advice_for(alloc, keys, options.normalise, bytes, error) else {

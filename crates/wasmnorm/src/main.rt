@@ -74,24 +74,24 @@ use wasm_normalise::{HashKeys, canonical_module};
 pub fn run<R: Read, W: Write, E: Write>(
     alloc: Global,
     keys: HashKeys,
-    options: RunOptions<'_>,
+    options: &RunOptions<'_>,
     reader: &mut R,
     out: &mut W,
     err: &mut E,
 ) -> u8
     ensures done { result ≡ 0 → IfSome (R.remaining reader.old)
-        (λ bytes. IsWritten options.normalise bytes (W.contents out.old) (W.contents out.new)) }
-    ensures known { result ≡ 0 → options.strictness ≡ Strict →
-        IfSome (R.remaining reader.old) (HasNoUnknownCustom options.allowed.now) }
+        (λ bytes. IsWritten options.now.normalise bytes (W.contents out.old) (W.contents out.new)) }
+    ensures known { result ≡ 0 → options.now.strictness ≡ Strict →
+        IfSome (R.remaining reader.old) (HasNoUnknownCustom options.now.allowed.now) }
     ensures warned { result ≡ 0 → IfSome (R.remaining reader.old)
-        (λ bytes. IsWarned options.allowed.now bytes (E.contents err.old) (E.contents err.new)) }
+        (λ bytes. IsWarned options.now.allowed.now bytes (E.contents err.old) (E.contents err.new)) }
     ensures bounded { result ≡ 0 → WarnsAtMost (E.contents err.old) (E.contents err.new) }
-    ensures silent { result ≡ 0 → options.strictness ≡ Strict →
+    ensures silent { result ≡ 0 → options.now.strictness ≡ Strict →
         Keeps (E.contents err.old) (E.contents err.new) }
     ensures refused { result ≡ 1 → IfSome (R.remaining reader.old)
-        (λ bytes. IsRefused options.normalise 1 bytes ⊎ IsRejected options bytes) }
+        (λ bytes. IsRefused options.now.normalise 1 bytes ⊎ IsRejected options.now bytes) }
     ensures ill_named { result ≡ 2 → IfSome (R.remaining reader.old)
-        (IsRefused options.normalise 2) }
+        (IsRefused options.now.normalise 2) }
     ensures range { result ≤ 4 }
     ensures unwritten { 0 < result → result < 4 → Keeps (W.contents out.old) (W.contents out.new) }
 {
@@ -104,22 +104,22 @@ pub fn run<R: Read, W: Write, E: Write>(
 fn normalise_input<R: Read, W: Write, E: Write>(
     alloc: Global,
     keys: HashKeys,
-    options: RunOptions<'_>,
+    options: &RunOptions<'_>,
     reader: &mut R,
     out: &mut W,
     err: &mut E,
 ) -> Result<(), Failure>
     ensures done { OnOk result (IfSome (R.remaining reader.old)
-        (λ bytes. IsWritten options.normalise bytes (W.contents out.old) (W.contents out.new))) }
-    ensures known { OnOk result (options.strictness ≡ Strict →
-        IfSome (R.remaining reader.old) (HasNoUnknownCustom options.allowed.now)) }
+        (λ bytes. IsWritten options.now.normalise bytes (W.contents out.old) (W.contents out.new))) }
+    ensures known { OnOk result (options.now.strictness ≡ Strict →
+        IfSome (R.remaining reader.old) (HasNoUnknownCustom options.now.allowed.now)) }
     ensures warned { OnOk result (IfSome (R.remaining reader.old)
-        (λ bytes. IsWarned options.allowed.now bytes (E.contents err.old) (E.contents err.new))) }
+        (λ bytes. IsWarned options.now.allowed.now bytes (E.contents err.old) (E.contents err.new))) }
     ensures bounded { OnOk result (WarnsAtMost (E.contents err.old) (E.contents err.new)) }
-    ensures silent { OnOk result (options.strictness ≡ Strict →
+    ensures silent { OnOk result (options.now.strictness ≡ Strict →
         Keeps (E.contents err.old) (E.contents err.new)) }
     ensures failed { IfErr result (λ failure.
-        IfSome (R.remaining reader.old) (λ bytes. Explains options bytes failure)) }
+        IfSome (R.remaining reader.old) (λ bytes. Explains options.now bytes failure)) }
     ensures unwritten { IfErr result (λ failure. status_of failure < 4 →
         Keeps (W.contents out.old) (W.contents out.new)) }
 {
@@ -147,20 +147,20 @@ struct NewModule {
 fn new_module(
     alloc: Global,
     keys: HashKeys,
-    options: RunOptions<'_>,
+    options: &RunOptions<'_>,
     bytes: &[u8],
 ) -> Result<NewModule, Failure>
     ensures canonical { IfOk result (λ new.
-        IsCanonicalModule options.normalise bytes.now new.module.items) }
+        IsCanonicalModule options.now.normalise bytes.now new.module.items) }
     ensures same_types { IfOk result (λ new. NameEqualTypes bytes.now new.module.items) }
-    ensures fits { options.normalise.descriptions ≡ descriptions.Kept →
+    ensures fits { options.now.normalise.descriptions ≡ descriptions.Kept →
         IfOk result (λ new. DescriptionsFit bytes.now new.module.items) }
     ensures first { IfOk result (λ new.
-        IsFirstWarning options.allowed.now bytes.now new.warning) }
-    ensures none { options.strictness ≡ Strict → IfOk result (λ new. new.warning ≡ None) }
-    ensures known { OnOk result (options.strictness ≡ Strict →
-        HasNoUnknownCustom options.allowed.now bytes.now) }
-    ensures refused { IfErr result (Explains options bytes.now) }
+        IsFirstWarning options.now.allowed.now bytes.now new.warning) }
+    ensures none { options.now.strictness ≡ Strict → IfOk result (λ new. new.warning ≡ None) }
+    ensures known { OnOk result (options.now.strictness ≡ Strict →
+        HasNoUnknownCustom options.now.allowed.now bytes.now) }
+    ensures refused { IfErr result (Explains options.now bytes.now) }
 {
     let module = match canonical_module(alloc, keys, bytes, options.normalise) {
         Ok(module) => module,
@@ -207,7 +207,7 @@ fn start<E: Write>(rt: &HostRuntime, err: &mut E) -> Result<u8, Failure> {
             let (Some(input), Some(output)) = (only_name(&names), output_name(&values)) else {
                 return Ok(report_usage(USAGE, err));
             };
-            normalise_file(rt, Files { input, output }, options, err)
+            normalise_file(rt, Files { input, output }, &options, err)
         }
         Request::Usage => Ok(report_usage(USAGE, err)),
         Request::NotUtf8 => Ok(report_usage(NOT_UTF8, err)),
@@ -247,7 +247,7 @@ struct Files<'a> {
 fn normalise_file<E: Write>(
     rt: &HostRuntime,
     files: Files<'_>,
-    options: RunOptions<'_>,
+    options: &RunOptions<'_>,
     err: &mut E,
 ) -> Result<u8, Failure> {
     let mut input = match open(rt, files.input, err) {

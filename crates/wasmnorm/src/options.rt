@@ -42,7 +42,7 @@ pub fn run_options<'a>(options: &[String], allowed: &'a [&'a [u8]]) -> RunOption
         IsGiven (codes "--prune") options.now }
     ensures strict { result.strictness ≡ strictness.Strict ↔
         IsGiven (codes "--strict") options.now }
-    ensures allowed { result.allowed ≡ allowed }
+    ensures allowed { result.allowed.now ≡ allowed.now }
 {
     RunOptions {
         normalise: NormaliseOptions {

@@ -39,13 +39,13 @@ impl fmt::Display for Warning {
 
 /// The warning that a module needs, or `None`. It fails if the module is to be rejected instead.
 #[tactic(auto, using(crate::proofs::Warnings::warning_rejected))]
-pub fn accepted_warning(options: RunOptions<'_>, bytes: &[u8]) -> Result<Option<Warning>, Failure>
+pub fn accepted_warning(options: &RunOptions<'_>, bytes: &[u8]) -> Result<Option<Warning>, Failure>
     requires { ¬ IsNoModule bytes.now }
-    ensures first { IfOk result (IsFirstWarning options.allowed.now bytes.now) }
-    ensures none { options.strictness ≡ Strict → IfOk result (λ warning. warning ≡ None) }
-    ensures known { OnOk result (options.strictness ≡ Strict →
-        HasNoUnknownCustom options.allowed.now bytes.now) }
-    ensures refused { IfErr result (Explains options bytes.now) }
+    ensures first { IfOk result (IsFirstWarning options.now.allowed.now bytes.now) }
+    ensures none { options.now.strictness ≡ Strict → IfOk result (λ warning. warning ≡ None) }
+    ensures known { OnOk result (options.now.strictness ≡ Strict →
+        HasNoUnknownCustom options.now.allowed.now bytes.now) }
+    ensures refused { IfErr result (Explains options.now bytes.now) }
 {
     let warning = first_warning(bytes, options.allowed);
     match options.strictness {

@@ -4,5 +4,5 @@ use Rattle.wasmnorm.proofs.new_module.Goals as goal
 
 pub returns-in_err-warning-clause-refused : goal.returns-in_err-warning-clause-refused
 returns-in_err-warning-clause-refused c =
-    error_kept (Explains c.args.options c.args.bytes.now) c.from_residual.result c.in_err-warning.field-0.0
+    error_kept (Explains c.args.options.now c.args.bytes.now) c.from_residual.result c.in_err-warning.field-0.0
     c.from_residual.ensures.1 c.in_err-warning.ensures.refused
