@@ -7,6 +7,7 @@ pub mod RenamedGroups
 pub mod ReadyGroups
 pub mod ReadyOrder
 pub mod LeastReady
+pub mod OrderedQueues
 pub mod Queues
 pub mod WrittenSlots
 pub mod WrittenClasses

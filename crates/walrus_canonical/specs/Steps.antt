@@ -6,6 +6,7 @@ pub mod Renamings
 pub mod Shown
 pub mod Waits
 pub mod GroupKeys
+pub mod Queues
 pub mod WrittenIndices
 pub mod KnownClasses
 pub mod Classes

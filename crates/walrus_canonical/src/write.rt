@@ -1,6 +1,5 @@
 //! Writing the classes of a section that was read: of those that can be written, always the least.
 ghost use Rattle.std.specs.Prelude.{◌≡◌, ◌+◌, ◌<◌, ◌≤◌, ◌++◌, ◌∷◌, ◌↔◌, OnOk, ◌^◌, ◌⊎◌, ℕ, Bool, List, [], length, map, slice_get, slice_index_or, false, IfOk, IsTrue, Some, None, if◌then◌else◌};
-ghost use Rattle.std.specs.BTreeMap.{insert_entry};
 ghost use Rattle.walrus_ty.specs.Definition.{rename};
 ghost use Rattle.walrus_ty.specs.Groups.{Section};
 ghost use Rattle.walrus_ty.specs.Records.{entry_definition, group_of};
@@ -12,18 +11,18 @@ ghost use Rattle.walrus_canonical.specs.Listing.{AreIndices, IsCanonical};
 ghost use Rattle.walrus_canonical.specs.Steps.Classes.{AreClasses};
 ghost use Rattle.walrus_canonical.specs.Steps.Marks.{MarkNeeds};
 ghost use Rattle.walrus_canonical.specs.Steps.Renamings.{renamed};
-ghost use Rattle.walrus_canonical.specs.Steps.Shown.{definitions_cmp, own_base, shown_definitions};
+ghost use Rattle.walrus_canonical.specs.Steps.Shown.{own_base, shown_definitions};
 ghost use Rattle.walrus_canonical.specs.Steps.Waits.{AreCounts, AreWaits};
 ghost use Rattle.walrus_canonical.specs.Steps.Writing.{CanRelease, HasWritten, IsNext, IsOpening, IsReleasing, IsWriting, IsWrittenWhole, Release, Task, release_of, with_slots};
 ghost use Rattle.walrus_canonical.specs.Steps.WrittenIndices.{AreIndicesBySlot, GivesIndices};
 
 use crate::classes::{Class, ReadSection};
 use crate::entries::plain_group;
+use crate::queue::ReadyQueue;
 use crate::ready::ReadyGroup;
 use crate::renaming::{Renaming, number_after, own_base, rename_entries};
 use crate::waiting::{Wait, wait_counts, waits_before, waits_of};
 use std::alloc::{AllocError, Global};
-use std::collections::BTreeMap;
 use std::mem;
 use walrus_ty::{EntryAt, GroupAt, Listed};
 
@@ -77,7 +76,7 @@ struct Writer {
     // How many names of each class have no new index yet.
     counts: Vec<usize>,
     // The records of each class that is ready, and its place.
-    ready: BTreeMap<ReadyGroup, usize>,
+    ready: ReadyQueue,
     // The new index of each slot of a class that is written.
     new_index: Vec<u32>,
     // How many indices are written.
@@ -103,7 +102,7 @@ impl Writer {
         Ok(Writer {
             classes,
             counts,
-            ready: BTreeMap::new(alloc),
+            ready: ReadyQueue::new(alloc),
             new_index,
             next: 0,
             written,
@@ -138,10 +137,11 @@ impl Writer {
     // Makes this class ready.
     fn push_ready(&mut self, alloc: Global, place: usize) -> Result<(), AllocError>
         ensures ready { (c : Class) → slice_get self.old.classes.items place ≡ Some c →
-            OnOk result (self.new.ready.entries ≡ insert_entry definitions_cmp self.old.ready.entries
-            (shown_definitions (map (rename (renamed (own_base (length c.entries))
-            self.old.new_index.items (own_base (length c.entries)))) (map entry_definition c.entries)))
-            place) }
+            OnOk result (self.new.ready ≡ self.old.ready ++ (
+              shown_definitions (map (rename (renamed (own_base (length c.entries))
+                  self.old.new_index.items (own_base (length c.entries)))) (map entry_definition c.entries)),
+              place,
+            ) ∷ []) }
         ensures firsts { map (λ (c : Class). c.first) self.new.classes.items ≡
             map (λ (c : Class). c.first) self.old.classes.items }
         ensures others { (other : ℕ) → ¬ (other ≡ place) →
@@ -157,8 +157,7 @@ impl Writer {
             &mut entries,
             &Renaming::new(base, self.new_index.as_slice(), base),
         );
-        self.ready.insert(ReadyGroup::new(entries), place)?;
-        Ok(())
+        self.ready.push(ReadyGroup::new(entries), place)
     }
 
     // Writes all classes, of which the section has at most so many.
@@ -182,7 +181,7 @@ impl Writer {
             AreWaits task.classes waits.now → IsWriting task waits.now done before self.old →
             HasWritten task waits.now done before self.old self.new) }
     {
-        match self.ready.pop_first() {
+        match self.ready.pop_least(alloc)? {
             Some((group, place)) => {
                 let first = first_slot(self.classes.as_slice(), place);
                 let entries = group.into_entries();
@@ -209,7 +208,7 @@ impl Writer {
         ensures indices { length self.new.new_index.items ≡ length self.old.new_index.items }
         ensures classes { self.new.classes.items ≡ self.old.classes.items }
         ensures counts { self.new.counts.items ≡ self.old.counts.items }
-        ensures ready { self.new.ready.entries ≡ self.old.ready.entries }
+        ensures ready { self.new.ready ≡ self.old.ready }
     {
         let count = entries.len();
         give_indices(&mut self.new_index, first, count, self.next);

@@ -1,6 +1,9 @@
 -- Groups that are checked one by one.
 use Rattle.std.proofs.Common.{◌≡◌, ℕ, zero, suc, ◌+◌, ◌<◌, List, [], ◌∷◌, ◌++◌, length, take, drop, get_or, ap, sym, subst, ◌∙◌, arith}
-use Rattle.std.specs.Prelude.{Some, None}
+use Rattle.std.specs.Prelude.{Some, None, IfErr}
+use Rattle.std.specs.Result.{IsErrAnd}
+use Rattle.std.specs.declared.result.Result.{Result}
+use Rattle.std.specs.declared.result.Result.TheVariants.{Ok, Err}
 use Rattle.std.proofs.lemmas.List.{map-append, take_more, take-append-drop}
 use Rattle.walrus_ty.specs.declared.records.GroupAt.{GroupAt}
 use Rattle.walrus_ty.specs.Groups.{Section}
@@ -66,3 +69,10 @@ first_refused given at start g e within is so_far refused = record {
   well_named = so_far.well_named;
   is = subst (λ (n : ℕ). group_error n (definitions_of (group_of g)) ≡ Some e) so_far.count refused;
 }
+
+-- an error that comes as another's does keeps what holds of it
+pub if_err_from :
+    {T E : Type 0} {Q : E → Type 0} (P : E → Type 0) (r : Result T E) → IsErrAnd r Q →
+    ((y : E) → Q y → P y) → IfErr r P
+if_err_from P (Ok x) h f = absurd h
+if_err_from P (Err y) h f = f y h

@@ -2,7 +2,7 @@
 use Rattle.std.proofs.Common.{◌≡◌, ℕ, Bool, true, false, List, [], ◌∷◌, ◌+◌, ◌*◌, length, map, cond, refl, ap, sym, ◌∙◌, arith}
 use Rattle.std.specs.Prelude.{Option, Some, None}
 use Rattle.std.specs.declared.cmp.Ordering.{Ordering}
-use Rattle.std.specs.declared.cmp.Ordering.TheVariants.{Less, Greater}
+use Rattle.std.specs.declared.cmp.Ordering.TheVariants.{Less, Equal, Greater}
 use Rattle.std.specs.Ordering.{nat_cmp, ordering_then}
 use Rattle.std.specs.Option.{option_map}
 use Rattle.std.proofs.lemmas.Bool.Decides.{nat_tests}
@@ -14,14 +14,11 @@ use Rattle.walrus_ty.specs.declared.ty.value.Storage.{Storage}
 use Rattle.walrus_ty.specs.declared.ty.value.Storage.TheVariants as storage
 use Rattle.walrus_ty.specs.declared.ty.value.Field.{Field}
 use Rattle.walrus_ty.specs.declared.records.EntryAt.{EntryAt}
-use Rattle.walrus_ty.specs.Definition.{Composite, Function, Struct, Array, rename, rename_composite}
+use Rattle.walrus_ty.specs.Definition.{Composite, Function, Struct, Array, Definition, definition_cmp, rename, rename_composite}
 use Rattle.walrus_ty.specs.Records.{entry_definition}
 use Rattle.walrus_ty.specs.Value.{rename_heap, rename_val, rename_storage, rename_field, bool_index}
-use Rattle.walrus_normal_form.specs.SortKeys.{composite_sort_key, heap_place, val_place, storage_place, heap_places, first_reference, rank, is_open, field_rank, item_rank, marked_items, first_rank, after_first, ranks}
-use Rattle.walrus_normal_form.specs.Steps.KeyNumbers.{number_of}
-use Rattle.walrus_normal_form.proofs.Ordering.KeyNumbers.{numbers_are}
-use Rattle.walrus_normal_form.proofs.Ordering.SortKeys.{greater_by_key, less_by_key}
-use Rattle.walrus_canonical.specs.Steps.GroupKeys.{HasBytes, group_key}
+use Rattle.walrus_normal_form.specs.SortKeys.{SortKey, sort_key_cmp, composite_sort_key, heap_place, val_place, storage_place, heap_places, first_reference, rank, is_open, field_rank, item_rank, marked_items, first_rank, after_first, ranks}
+use Rattle.walrus_canonical.specs.Steps.GroupKeys.{group_key, no_key}
 use Rattle.walrus_canonical.specs.Steps.Shown.{definitions_cmp, own_base, shown, shown_definitions}
 
 -- names leave the ranks as they are
@@ -115,44 +112,64 @@ none_below n h = grind (arith, nat_tests)
 none_above : (n : ℕ) → ¬ (nat_cmp 0 n ≡ Greater)
 none_above n h = grind (arith, nat_tests)
 
+then_less : (o p : Ordering) → ¬ (o ≡ Less) → ¬ (p ≡ Less) → ¬ (ordering_then o p ≡ Less)
+then_less Less p h k e = h refl
+then_less Equal p h k e = k e
+then_less Greater p h k e = cc
+
+then_greater :
+    (o p : Ordering) → ¬ (o ≡ Greater) → ¬ (p ≡ Greater) → ¬ (ordering_then o p ≡ Greater)
+then_greater Less p h k e = cc
+then_greater Equal p h k e = k e
+then_greater Greater p h k e = h refl
+
+not_less : (v : SortKey) → ¬ (sort_key_cmp v no_key ≡ Less)
+not_less v = then_less _ _ (none_below v.0) (then_less _ _ (none_below v.1) (then_less _ _ (none_below v.2)
+    (then_less _ _ (none_below v.3) (then_less _ _ (none_below v.4) (none_below v.5)))))
+
+not_greater : (v : SortKey) → ¬ (sort_key_cmp no_key v ≡ Greater)
+not_greater v = then_greater _ _ (none_above v.0) (then_greater _ _ (none_above v.1)
+    (then_greater _ _ (none_above v.2) (then_greater _ _ (none_above v.3)
+    (then_greater _ _ (none_above v.4) (none_above v.5)))))
+
+-- what is known of definitions by their keys, where these compare as o
+abbrev ByKeys : SortKey → SortKey → Ordering → Ordering → Type 0
+ByKeys v w o p =
+    (d e : Definition) → v ≡ composite_sort_key d.composite → w ≡ composite_sort_key e.composite →
+    o ≡ p → definition_cmp d e ≡ p
+
 pub less_by_group_key :
-    (ds es : List EntryAt) (k l : ℕ) (o : Ordering) → k ≡ group_key ds → l ≡ group_key es →
-    HasBytes ds → HasBytes es → o ≡ nat_cmp k l → o ≡ Less →
+    (ds es : List EntryAt) (v w : SortKey) (o : Ordering) → v ≡ group_key ds → w ≡ group_key es →
+    o ≡ sort_key_cmp v w → ByKeys v w o Less → o ≡ Less →
     Less ≡ definitions_cmp (shown_definitions (map entry_definition ds))
     (shown_definitions (map entry_definition es))
-less_by_group_key [] [] k l o a b s t of is =
-    absurd (none_below k (ap (nat_cmp k) (sym b) ∙ sym of ∙ is))
-less_by_group_key [] (e ∷ es) k l o a b s t of is = refl
-less_by_group_key (d ∷ ds) [] k l o a b s t of is =
-    absurd (none_below k (ap (nat_cmp k) (sym b) ∙ sym of ∙ is))
-less_by_group_key (d ∷ ds) (e ∷ es) k l o a b s t of is =
+less_by_group_key [] [] v w o a b of by is =
+    absurd (not_less v (ap (sort_key_cmp v) (sym b) ∙ sym of ∙ is))
+less_by_group_key [] (e ∷ es) v w o a b of by is = refl
+less_by_group_key (d ∷ ds) [] v w o a b of by is =
+    absurd (not_less v (ap (sort_key_cmp v) (sym b) ∙ sym of ∙ is))
+less_by_group_key (d ∷ ds) (e ∷ es) v w o a b of by is =
     let x = entry_definition d in
     let y = entry_definition e in
     let f = shown (own_base (length (map entry_definition (d ∷ ds)))) in
     let g = shown (own_base (length (map entry_definition (e ∷ es)))) in
-    let v = composite_sort_key x.composite in
-    let w = composite_sort_key y.composite in
     ap (λ p. ordering_then p (definitions_cmp (map (rename f) (map entry_definition ds))
     (map (rename g) (map entry_definition es))))
-    (less_by_key v w (rename f x) (rename g y) o (sym (key_stays f x.composite)) (sym (key_stays g y.composite))
-    (of ∙ (ap (λ n. nat_cmp n l) a ∙ (ap (nat_cmp (number_of v)) b ∙ numbers_are v w s t))) is)
+    (sym (by (rename f x) (rename g y) (a ∙ sym (key_stays f x.composite)) (b ∙ sym (key_stays g y.composite)) is))
 
 pub greater_by_group_key :
-    (ds es : List EntryAt) (k l : ℕ) (o : Ordering) → k ≡ group_key ds → l ≡ group_key es →
-    HasBytes ds → HasBytes es → o ≡ nat_cmp k l → o ≡ Greater →
+    (ds es : List EntryAt) (v w : SortKey) (o : Ordering) → v ≡ group_key ds → w ≡ group_key es →
+    o ≡ sort_key_cmp v w → ByKeys v w o Greater → o ≡ Greater →
     Greater ≡ definitions_cmp (shown_definitions (map entry_definition ds))
     (shown_definitions (map entry_definition es))
-greater_by_group_key [] es k l o a b s t of is =
-    absurd (none_above l (ap (λ n. nat_cmp n l) (sym a) ∙ sym of ∙ is))
-greater_by_group_key (d ∷ ds) [] k l o a b s t of is = refl
-greater_by_group_key (d ∷ ds) (e ∷ es) k l o a b s t of is =
+greater_by_group_key [] es v w o a b of by is =
+    absurd (not_greater w (ap (λ u. sort_key_cmp u w) (sym a) ∙ sym of ∙ is))
+greater_by_group_key (d ∷ ds) [] v w o a b of by is = refl
+greater_by_group_key (d ∷ ds) (e ∷ es) v w o a b of by is =
     let x = entry_definition d in
     let y = entry_definition e in
     let f = shown (own_base (length (map entry_definition (d ∷ ds)))) in
     let g = shown (own_base (length (map entry_definition (e ∷ es)))) in
-    let v = composite_sort_key x.composite in
-    let w = composite_sort_key y.composite in
     ap (λ p. ordering_then p (definitions_cmp (map (rename f) (map entry_definition ds))
     (map (rename g) (map entry_definition es))))
-    (greater_by_key v w (rename f x) (rename g y) o (sym (key_stays f x.composite)) (sym (key_stays g y.composite))
-    (of ∙ (ap (λ n. nat_cmp n l) a ∙ (ap (nat_cmp (number_of v)) b ∙ numbers_are v w s t))) is)
+    (sym (by (rename f x) (rename g y) (a ∙ sym (key_stays f x.composite)) (b ∙ sym (key_stays g y.composite)) is))

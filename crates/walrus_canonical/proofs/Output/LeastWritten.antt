@@ -295,16 +295,16 @@ module _ (task : Task) (waits : List Wait) (are : AreWaits task.classes waits) (
       ]
 
   pub outcome :
-      (old mid new : Writer) → old.ready.entries ≡ (ds, place) ∷ rest → mid.new_index.items ≡ newer →
+      (old mid new : Writer) → ¬ (old.ready ≡ []) → mid.new_index.items ≡ newer →
       mid.next ≡ next' → map group_of mid.written.items ≡ more → mid.counts.items ≡ counts →
-      mid.classes.items ≡ now → mid.ready.entries ≡ rest →
+      mid.classes.items ≡ now → mid.ready ≡ rest →
       (CanRelease task (release_of waits done after) → ((x : ℕ) → first ≤ x → x < end → done x ≡ false) →
       IsReleasing task (release_of waits done after) more 0 mid → IsWriting task waits after more new) →
       HasWritten task waits done before old new
-  outcome old mid new popped e_indices e_next e_written e_counts e_classes e_ready released = inr (
+  outcome old mid new some e_indices e_next e_written e_counts e_classes e_ready released = inr (
     after,
     more,
-    λ none. (let z : (ds, place) ∷ rest ≡ [] = sym popped ∙ none in absurd cc),
+    some,
     grows,
     released can_release undone_range (record {
       begun = subst (λ (n : ℕ). IsBegun task after more mid.new_index.items n) (sym e_next)

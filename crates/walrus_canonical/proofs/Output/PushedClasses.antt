@@ -1,6 +1,5 @@
 -- A class becomes ready.
-use Rattle.std.proofs.Common.{◌≡◌, ℕ, Bool, true, false, ◌+◌, ◌<◌, ◌≤◌, List, [], length, map, slice_get, Some, ◌⊎◌, inl, inr, ◌∙◌, refl, sym, ap, subst, arith}
-use Rattle.std.specs.BTreeMap.{insert_entry}
+use Rattle.std.proofs.Common.{◌≡◌, ℕ, Bool, true, false, ◌+◌, ◌<◌, ◌≤◌, List, [], ◌∷◌, ◌++◌, length, map, slice_get, Some, ◌⊎◌, inl, inr, ◌∙◌, refl, sym, ap, subst, arith}
 use Rattle.std.proofs.lemmas.Bool.{cases_eq}
 use Rattle.std.proofs.lemmas.Option.{slice_get_within, slice_get-get_or}
 use Rattle.walrus_ty.specs.Definition.{Definition, rename}
@@ -10,13 +9,12 @@ use Rattle.walrus_canonical.specs.declared.classes.Class.{Class}
 use Rattle.walrus_canonical.specs.declared.waiting.Wait.{Wait}
 use Rattle.walrus_canonical.specs.Steps.Classes.{class_at_place}
 use Rattle.walrus_canonical.specs.Steps.Renamings.{renamed}
-use Rattle.walrus_canonical.specs.Steps.Shown.{definitions_cmp, own_base, shown_definitions}
+use Rattle.walrus_canonical.specs.Steps.Shown.{own_base, shown_definitions}
 use Rattle.walrus_canonical.specs.Steps.Waits.{AreWaits}
 use Rattle.walrus_canonical.specs.Steps.Writing.{Task, IsBegun, IsReadyAs, IsQueue, IsReady, AreOpen}
 use Rattle.walrus_canonical.proofs.Output.LeastReady.{outer_written}
 use Rattle.walrus_canonical.proofs.Output.Queues.{one_queued, told_anew}
 use Rattle.walrus_canonical.proofs.Output.ReadyGroups.{becomes_ready}
-use Rattle.walrus_canonical.proofs.Output.ReadyOrder.{same_class}
 
 -- the records of a class as the queue has them
 abbrev pub queue_key : List ℕ → Class → List Definition
@@ -27,14 +25,12 @@ queue_key new_index k =
 module _ (task : Task) (waits : List Wait) (done after : ℕ → Bool) (before : Section) (new_index : List ℕ)
     (next : ℕ) (b : IsBegun task after before new_index next) (at : ℕ) (counts : List ℕ)
     (are : AreWaits task.classes waits) (opens : AreOpen task waits done after at counts)
-    (more : (x : ℕ) → done x ≡ true → after x ≡ true) (ready : ℕ → Type 0)
-    (unwritten : (d : ℕ) (other : Class) → ready d → slice_get task.classes d ≡ Some other →
-    after other.first ≡ false) (now newer : List Class) (queue : List (List Definition × ℕ))
+    (more : (x : ℕ) → done x ≡ true → after x ≡ true) (ready : ℕ → Type 0) (now newer : List Class) (queue : List (List Definition × ℕ))
     (q : IsQueue task after new_index ready now queue) (c : ℕ) (class : Class)
     (is : slice_get task.classes c ≡ Some class) (none : slice_get counts c ≡ Some 0)
     (undone : after class.first ≡ false) (fresh : ¬ (ready c)) (longer : List (List Definition × ℕ))
     (put : (k : Class) → slice_get now c ≡ Some k →
-    longer ≡ insert_entry definitions_cmp queue (queue_key new_index k) c)
+    longer ≡ queue ++ (queue_key new_index k, c) ∷ [])
     (firsts : map (λ (k : Class). k.first) newer ≡ map (λ (k : Class). k.first) now)
     (others : (d : ℕ) → ¬ (d ≡ c) → slice_get newer d ≡ slice_get now d) where
   abbrev ds : List Definition
@@ -48,9 +44,7 @@ module _ (task : Task) (waits : List Wait) (done after : ℕ → Bool) (before :
   pushed = subst (λ (es : List (List Definition × ℕ)).
       IsQueue task after new_index (λ d. ready d ⊎ (d ≡ c)) newer es)
       (sym (put class (q.left c class is fresh undone)))
-      (one_queued task after new_index ready now newer queue q c class is fresh ds is_ready
-      (λ d other es r at_d p e. same_class task after before new_index next b class other ds es is_ready p
-      undone (unwritten d other r at_d) e) firsts others)
+      (one_queued task after new_index ready now newer queue q c class is fresh ds is_ready firsts others)
 
 -- ---- at the beginning, place after place
 
@@ -68,7 +62,7 @@ module _ (task : Task) (waits : List Wait) (are : AreWaits task.classes waits) (
         (newer : List Class) (longer : List (List Definition × ℕ)) → place < length task.classes →
         slice_get counts place ≡ Some 0 →
         ((k : Class) → slice_get now place ≡ Some k →
-        longer ≡ insert_entry definitions_cmp queue (queue_key new_index k) place) →
+        longer ≡ queue ++ (queue_key new_index k, place) ∷ []) →
         map (λ (k : Class). k.first) newer ≡ map (λ (k : Class). k.first) now →
         ((d : ℕ) → ¬ (d ≡ place) → slice_get newer d ≡ slice_get now d) →
         IsQueue task (λ x. false) new_index (Below (place + 1)) newer longer
@@ -78,7 +72,7 @@ module _ (task : Task) (waits : List Wait) (are : AreWaits task.classes waits) (
         (there, slice_get-get_or task.classes place (record { first = 0; entries = [] }) low) in
         told_anew task (λ x. false) new_index (λ d. Below place d ⊎ (d ≡ place)) (Below (place + 1)) newer longer
         (pushed task waits (λ x. false) (λ x. false) [] new_index next b 0 counts are opens (λ x d. d)
-        (Below place) (λ d other r at_d. refl) now newer queue q place k.0 k.1 none refl
+        (Below place) now newer queue q place k.0 k.1 none refl
         (λ r. (let l = r.1 in omega (arith, l))) longer put firsts others)
         (λ d r. elim r [
           | inl x ↦ (let l = x.1 in (x.0, omega (arith, l)))

@@ -1,88 +1,32 @@
 -- The queue of the groups that are ready: one more, and one less.
-use Rattle.std.proofs.Common.{◌≡◌, ℕ, zero, suc, Bool, true, false, ◌+◌, ◌<◌, List, [], ◌∷◌, length, map, slice_get, Some, ◌⊎◌, inl, inr, ◌∙◌, refl, sym, ap, subst, Contains, arith}
-use Rattle.std.specs.declared.cmp.Ordering.{Ordering}
-use Rattle.std.specs.declared.cmp.Ordering.TheVariants.{Less, Equal, Greater}
-use Rattle.std.specs.BTreeMap.{insert_entry}
-use Rattle.std.specs.Ordering.{match_ordering}
+use Rattle.std.proofs.Common.{◌≡◌, ℕ, zero, suc, Bool, true, false, ◌+◌, ◌<◌, List, [], ◌∷◌, ◌++◌, length, map, slice_get, Some, ◌⊎◌, inl, inr, ◌∙◌, refl, sym, ap, subst, Contains, arith}
+use Rattle.std.specs.declared.cmp.Ordering.TheVariants.{Less}
+use Rattle.std.proofs.lemmas.List.Elements.{Contains-append_left, Contains-append_right, Contains-append_cases}
 use Rattle.std.proofs.lemmas.Option.{same_Some}
 use Rattle.walrus_ty.specs.Definition.{Definition}
+use Rattle.walrus_ty.specs.Groups.{Section}
 use Rattle.walrus_canonical.specs.declared.classes.Class.{Class}
 use Rattle.walrus_canonical.specs.Steps.Classes.{slot_of}
+use Rattle.walrus_canonical.specs.Steps.Queues.{AreApart, HaveSame}
 use Rattle.walrus_canonical.specs.Steps.Shown.{definitions_cmp}
-use Rattle.walrus_canonical.specs.Steps.Writing.{Task, IsReadyAs, IsQueue, IsReady, with_slots}
+use Rattle.walrus_canonical.specs.Steps.Writing.{Task, IsBegun, IsReadyAs, IsQueue, IsReady, with_slots}
 use Rattle.walrus_canonical.proofs.Reading.Containing.{contained_first, contained_later, contained_cases, contained_none}
 use Rattle.walrus_canonical.proofs.Reading.NeededGroups.{class_at}
-use Rattle.walrus_canonical.proofs.Forms.Orders.{definitions_exact}
 use Rattle.walrus_canonical.proofs.Output.ReadyGroups.{ready_stays}
-use Rattle.walrus_canonical.proofs.Output.ReadyOrder.{filled, one_place, not_itself}
+use Rattle.walrus_canonical.proofs.Output.ReadyOrder.{filled, one_place, same_class, not_itself}
 use Rattle.walrus_canonical.proofs.Output.WrittenSlots.{still_done, was_undone, first_written, other_class}
-
--- ---- lists in order
 
 abbrev Entry : Type 0
 Entry = List Definition × ℕ
 
-abbrev inserted : List Entry → List Definition → ℕ → List Entry
-inserted es k v = insert_entry definitions_cmp es k v
-
-choose :
-    (o : Ordering) (a b c : List Entry) (P : List Entry → Type 0) → (o ≡ Less → P a) → (o ≡ Equal → P b) →
-    (o ≡ Greater → P c) → P (match_ordering o a b c)
-choose Less a b c P x y z = x refl
-choose Equal a b c P x y z = y refl
-choose Greater a b c P x y z = z refl
-
-same_key : (e : Entry) (k : List Definition) (v : ℕ) → definitions_cmp k e.0 ≡ Equal →
-    ◌≡◌ {A = Entry} (e.0, v) (k, v)
-same_key e k v h = ap (λ (ds : List Definition). (ds, v)) (sym (definitions_exact k e.0 h))
-
-pub inserted_itself : (es : List Entry) (k : List Definition) (v : ℕ) → Contains (inserted es k v) (k, v)
-inserted_itself [] k v = contained_first [] (k, v)
-inserted_itself (e ∷ es) k v =
-    choose (definitions_cmp k e.0) ((k, v) ∷ e ∷ es) ((e.0, v) ∷ es) (e ∷ inserted es k v)
-    (λ (xs : List Entry). Contains xs (k, v)) (λ h. contained_first (e ∷ es) (k, v))
-    (λ h. subst (λ (x : Entry). Contains ((e.0, v) ∷ es) x) (same_key e k v h) (contained_first es (e.0, v)))
-    (λ h. contained_later (inserted es k v) e (k, v) (inserted_itself es k v))
-
-pub inserted_other :
-    (es : List Entry) (k : List Definition) (v : ℕ) (x : Entry) → Contains es x →
-    ¬ (definitions_cmp k x.0 ≡ Equal) → Contains (inserted es k v) x
-inserted_other [] k v x m other = absurd (contained_none x m)
-inserted_other (e ∷ es) k v x m other =
-    choose (definitions_cmp k e.0) ((k, v) ∷ e ∷ es) ((e.0, v) ∷ es) (e ∷ inserted es k v)
-    (λ (xs : List Entry). Contains xs x) (λ h. contained_later (e ∷ es) (k, v) x m)
-    (λ h. elim (contained_cases es e x m) [
-      | inl is ↦ absurd (other (ap (λ (y : Entry). definitions_cmp k y.0) (sym is) ∙ h))
-      | inr later ↦ contained_later es (e.0, v) x later
-    ])
-    (λ h. elim (contained_cases es e x m) [
-      | inl is ↦ subst (λ (y : Entry). Contains (e ∷ inserted es k v) y) is
-          (contained_first (inserted es k v) e)
-      | inr later ↦ contained_later (inserted es k v) e x (inserted_other es k v x later other)
-    ])
-
-pub inserted_cases :
-    (es : List Entry) (k : List Definition) (v : ℕ) (x : Entry) → Contains (inserted es k v) x →
-    ((k, v) ≡ x) ⊎ Contains es x
-inserted_cases [] k v x m = elim (contained_cases [] (k, v) x m) [
-  | inl is ↦ inl is
-  | inr none ↦ absurd (contained_none x none)
+pub pushed_cases : (es : List Entry) (x y : Entry) → Contains (es ++ x ∷ []) y → (x ≡ y) ⊎ Contains es y
+pushed_cases es x y m = elim (Contains-append_cases es (x ∷ []) y m) [
+  | inl old ↦ inr old
+  | inr new ↦ elim (contained_cases [] x y new) [
+    | inl is ↦ inl is
+    | inr none ↦ absurd (contained_none y none)
+  ]
 ]
-inserted_cases (e ∷ es) k v x m =
-    choose (definitions_cmp k e.0) ((k, v) ∷ e ∷ es) ((e.0, v) ∷ es) (e ∷ inserted es k v)
-    (λ (xs : List Entry). Contains xs x → ((k, v) ≡ x) ⊎ Contains (e ∷ es) x)
-    (λ h c. contained_cases (e ∷ es) (k, v) x c)
-    (λ h c. elim (contained_cases es (e.0, v) x c) [
-      | inl is ↦ inl (sym (same_key e k v h) ∙ is)
-      | inr later ↦ inr (contained_later es e x later)
-    ])
-    (λ h c. elim (contained_cases (inserted es k v) e x c) [
-      | inl is ↦ inr (subst (λ (y : Entry). Contains (e ∷ es) y) is (contained_first es e))
-      | inr later ↦ elim (inserted_cases es k v x later) [
-        | inl is ↦ inl is
-        | inr old ↦ inr (contained_later es e x old)
-      ]
-    ]) m
 
 -- ---- the same queue by another test
 
@@ -98,26 +42,50 @@ told_anew task done new_index ready newer now queue q forth back = record {
   left = λ c class at none undone. q.left c class at (λ r. none (forth c r)) undone;
 }
 
+-- the same queue in another order
+pub queued_anew :
+    (task : Task) (done : ℕ → Bool) (new_index : List ℕ) (ready : ℕ → Type 0) (now : List Class)
+    (queue other : List Entry) → IsQueue task done new_index ready now queue → HaveSame queue other →
+    IsQueue task done new_index ready now other
+queued_anew task done new_index ready now queue other q same = record {
+  queued = λ ds c m. q.queued ds c ((same (ds, c)).1 m);
+  there = λ c r. (let z = q.there c r in (z.0, (same (z.0, c)).0 z.1));
+  once = λ ds es c m n. q.once ds es c ((same (ds, c)).1 m) ((same (es, c)).1 n);
+  firsts = q.firsts;
+  left = q.left;
+}
+
+-- a group is of one class
+pub queue_apart :
+    (task : Task) (done : ℕ → Bool) (before : Section) (new_index : List ℕ) (next : ℕ) →
+    IsBegun task done before new_index next → (counts : List ℕ) (now : List Class) (queue : List Entry) →
+    IsQueue task done new_index (IsReady task done counts) now queue → AreApart queue
+queue_apart task done before new_index next b counts now queue q ds c d m n =
+    let y = q.queued ds c m in
+    let z = q.queued ds d n in
+    one_place task c d y.1.0 z.1.0 y.1.1 z.1.1
+    (same_class task done before new_index next b y.1.0 z.1.0 ds ds y.1.2 z.1.2
+    (undone y.0.0 y.1.0 c y.0.1 y.1.1 y.0.2) (undone z.0.0 z.1.0 d z.0.1 z.1.1 z.0.2) refl)
+  where
+    undone :
+        (k l : Class) (e : ℕ) → slice_get task.classes e ≡ Some k → slice_get task.classes e ≡ Some l →
+        done k.first ≡ false → done l.first ≡ false
+    undone k l e p r u =
+        let same : k ≡ l = same_Some k l (sym p ∙ r) in ap (λ (x : Class). done x.first) (sym same) ∙ u
+
 -- ---- one more
 
 module _ (task : Task) (done : ℕ → Bool) (new_index : List ℕ) (ready : ℕ → Type 0) (now after : List Class)
     (queue : List Entry) (q : IsQueue task done new_index ready now queue) (c : ℕ) (class : Class)
     (at : slice_get task.classes c ≡ Some class) (fresh : ¬ (ready c)) (ds : List Definition)
     (is_ready : IsReadyAs task done new_index class ds)
-    -- no other class has these definitions
-    (alone : (d : ℕ) (other : Class) (es : List Definition) → ready d →
-    slice_get task.classes d ≡ Some other → IsReadyAs task done new_index other es → ds ≡ es →
-    class.first ≡ other.first)
     (firsts : map (λ (k : Class). k.first) after ≡ map (λ (k : Class). k.first) now)
     (others : (d : ℕ) → ¬ (d ≡ c) → slice_get after d ≡ slice_get now d) where
   abbrev with_this : ℕ → Type 0
   with_this d = ready d ⊎ (d ≡ c)
 
-  differs : (es : List Definition) (d : ℕ) → Contains queue (es, d) → ¬ (definitions_cmp ds es ≡ Equal)
-  differs es d m h =
-      let z = q.queued es d m in
-      let e = alone d z.1.0 es z.0 z.1.1 z.1.2 (definitions_exact ds es h) in
-      fresh (subst (λ (u : ℕ). ready u) (one_place task d c z.1.0 class z.1.1 at (sym e)) z.0)
+  abbrev longer : List Entry
+  longer = queue ++ (ds, c) ∷ []
 
   not_queued : (es : List Definition) → Contains queue (es, c) → ⊥
   not_queued es m = fresh (q.queued es c m).0
@@ -126,9 +94,9 @@ module _ (task : Task) (done : ℕ → Bool) (new_index : List ℕ) (ready : ℕ
   parts es d e = (ap (λ (x : Entry). x.0) e, ap (λ (x : Entry). x.1) e)
 
   queued_now :
-      (es : List Definition) (d : ℕ) → Contains (inserted queue ds c) (es, d) → with_this d
+      (es : List Definition) (d : ℕ) → Contains longer (es, d) → with_this d
       × ((other : Class) × (slice_get task.classes d ≡ Some other) × IsReadyAs task done new_index other es)
-  queued_now es d m = elim (inserted_cases queue ds c (es, d) m) [
+  queued_now es d m = elim (pushed_cases queue (ds, c) (es, d) m) [
     | inl is ↦ (let p = parts es d is in (
       inr (sym p.1),
       (
@@ -141,14 +109,14 @@ module _ (task : Task) (done : ℕ → Bool) (new_index : List ℕ) (ready : ℕ
   ]
 
   once_now :
-      (es fs : List Definition) (d : ℕ) → Contains (inserted queue ds c) (es, d) →
-      Contains (inserted queue ds c) (fs, d) → es ≡ fs
-  once_now es fs d m n = elim (inserted_cases queue ds c (es, d) m) [
-    | inl is ↦ (let p = parts es d is in elim (inserted_cases queue ds c (fs, d) n) [
+      (es fs : List Definition) (d : ℕ) → Contains longer (es, d) →
+      Contains longer (fs, d) → es ≡ fs
+  once_now es fs d m n = elim (pushed_cases queue (ds, c) (es, d) m) [
+    | inl is ↦ (let p = parts es d is in elim (pushed_cases queue (ds, c) (fs, d) n) [
       | inl is_too ↦ sym p.0 ∙ (parts fs d is_too).0
       | inr old ↦ absurd (not_queued fs (subst (λ (u : ℕ). Contains queue (fs, u)) (sym p.1) old))
     ])
-    | inr old ↦ elim (inserted_cases queue ds c (fs, d) n) [
+    | inr old ↦ elim (pushed_cases queue (ds, c) (fs, d) n) [
       | inl is ↦ absurd (not_queued es (subst (λ (u : ℕ). Contains queue (es, u)) (sym (parts fs d is).1) old))
       | inr old_too ↦ q.once es fs d old old_too
     ]
@@ -170,15 +138,16 @@ module _ (task : Task) (done : ℕ → Bool) (new_index : List ℕ) (ready : ℕ
       first_is (x ∷ cs) zero k e = ap (λ (y : Class). Some y.first) (same_Some x k e)
       first_is (x ∷ cs) (suc d) k e = first_is cs d k e
 
-  pub one_queued : IsQueue task done new_index with_this after (inserted queue ds c)
+  pub one_queued : IsQueue task done new_index with_this after longer
   one_queued = record {
     queued = queued_now;
     there = λ d r. elim r [
       | inl old ↦ (let z = q.there d old in
-          (z.0, inserted_other queue ds c (z.0, d) z.1 (differs z.0 d z.1)))
+          (z.0, Contains-append_left queue ((ds, c) ∷ []) (z.0, d) z.1))
       | inr is ↦ (
         ds,
-        subst (λ (u : ℕ). Contains (inserted queue ds c) (ds, u)) (sym is) (inserted_itself queue ds c),
+        subst (λ (u : ℕ). Contains longer (ds, u)) (sym is)
+            (Contains-append_right queue ((ds, c) ∷ []) (ds, c) (contained_first [] (ds, c))),
       )
     ];
     once = once_now;

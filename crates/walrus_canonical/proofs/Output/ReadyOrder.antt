@@ -1,5 +1,6 @@
 -- The order of groups that are ready is that in which they can be written.
-use Rattle.std.proofs.Common.{◌≡◌, ℕ, suc, ◌+◌, ◌<◌, List, [], ◌∷◌, ◌++◌, length, map, cond, nat_lt, nat_eq, Bool, true, false, slice_get, Some, ◌⊎◌, inl, inr, ◌∙◌, refl, sym, ap, subst, arith}
+use Rattle.std.proofs.Common.{◌≡◌, ℕ, suc, ◌+◌, ◌-◌, ◌<◌, ◌≤◌, List, [], ◌∷◌, ◌++◌, length, map, cond, nat_lt, nat_eq, Bool, true, false, slice_get, Some, ◌⊎◌, inl, inr, ◌∙◌, refl, sym, ap, subst, arith}
+use Rattle.std.specs.Cmp.Lexicographic.{slice_cmp}
 use Rattle.std.specs.declared.cmp.Ordering.{Ordering}
 use Rattle.std.specs.declared.cmp.Ordering.TheVariants.{Less, Equal, Greater}
 use Rattle.std.specs.Ordering.{nat_cmp, ordering_then, ordering_reverse}
@@ -7,6 +8,7 @@ use Rattle.std.proofs.lemmas.Bool.{cases_lt}
 use Rattle.std.proofs.lemmas.Bool.Decides.{nat_tests}
 use Rattle.std.proofs.lemmas.Cmp.{lists_total}
 use Rattle.std.proofs.lemmas.List.{length-map}
+use Rattle.walrus_ty.specs.declared.records.EntryAt.{EntryAt}
 use Rattle.walrus_ty.specs.Definition.{Definition, Names, rename, definition_cmp}
 use Rattle.walrus_ty.specs.Groups.{Section}
 use Rattle.walrus_ty.specs.Records.{entry_definition}
@@ -14,10 +16,11 @@ use Rattle.walrus_ty.proofs.Names.Definitions.{cmp_agree, cmp_same, rename_id, d
 use Rattle.walrus_sections.specs.Section.{IndexSpace, index_space}
 use Rattle.walrus_canonical.specs.declared.classes.Class.{Class}
 use Rattle.walrus_canonical.specs.Greedy.{plain_group, CanComeNext}
-use Rattle.walrus_canonical.specs.Steps.Shown.{definitions_cmp}
+use Rattle.walrus_canonical.specs.Steps.Shown.{definitions_cmp, entry_cmp, own_base, shown, shown_definitions}
 use Rattle.walrus_canonical.specs.Steps.Writing.{Task, IsBegun, IsReadyAs, ready_number, settled}
 use Rattle.walrus_canonical.proofs.Equality.EqualTypes.{equal_back, equal_over}
 use Rattle.walrus_canonical.proofs.Forms.Extension.{member_equal}
+use Rattle.walrus_canonical.proofs.Output.ComparedLists.{cmp_of_maps}
 use Rattle.walrus_canonical.proofs.Output.ReadyGroups.{rooted, slots_of_equal, ready_room, can_come, number_settled}
 
 -- ---- numbers that are ordered alike
@@ -90,6 +93,51 @@ lists_alike f (d ∷ ds) (e ∷ es) h =
     ap (λ (o : Ordering). ordering_then o (definitions_cmp (map (rename f) ds) (map (rename f) es))) first
     ∙ ap (ordering_then (definition_cmp d e)) rest
 
+-- where the own members of two groups begin at one number, they are behind all others anyway
+shown_alike : (base k l : ℕ) → base < 4294967296 → nat_cmp (shown base k) (shown base l) ≡ nat_cmp k l
+shown_alike base k l small = elim (cases_lt k base) [
+  | inl low ↦ elim (cases_lt l base) [
+    | inl too ↦ cmp_alike k l (shown base k) (shown base l)
+        (λ h. omega (arith, h, below k low, below l too)) (λ h. omega (arith, h, below k low, below l too))
+        (λ h. omega (arith, h, below k low, below l too))
+    | inr over ↦ cmp_alike k l (shown base k) (shown base l)
+        (λ h. omega (arith, low, small, below k low, behind l over))
+        (λ h. omega (arith, h, low, over)) (λ h. omega (arith, h, low, over))
+  ]
+  | inr over ↦ elim (cases_lt l base) [
+    | inl low ↦ cmp_alike k l (shown base k) (shown base l)
+        (λ h. omega (arith, h, low, over)) (λ h. omega (arith, h, low, over))
+        (λ h. omega (arith, low, small, below l low, behind k over))
+    | inr too ↦ cmp_alike k l (shown base k) (shown base l)
+        (λ h. omega (arith, h, over, too, behind k over, behind l too))
+        (λ h. omega (arith, h, over, too, behind k over, behind l too))
+        (λ h. omega (arith, h, over, too, behind k over, behind l too))
+  ]
+]
+  where
+    below : (n : ℕ) → n < base → shown base n ≡ n
+    below n low =
+        let t : nat_lt n base ≡ true = grind (arith, nat_tests, low) in
+        ap (λ (x : Bool). cond x n (n - base + 4294967296)) t
+
+    behind : (n : ℕ) → base ≤ n → shown base n ≡ n - base + 4294967296
+    behind n over =
+        let t : nat_lt n base ≡ false = grind (arith, nat_tests, over) in
+        ap (λ (x : Bool). cond x n (n - base + 4294967296)) t
+
+pub records_compared :
+    (ds es : List EntryAt) → length ds ≡ length es → slice_cmp entry_cmp ds es ≡
+    definitions_cmp (shown_definitions (map entry_definition ds)) (shown_definitions (map entry_definition es))
+records_compared ds es same =
+    let m = length (map entry_definition ds) in
+    let n = length (map entry_definition es) in
+    let one : n ≡ m = length-map es entry_definition ∙ (sym same ∙ sym (length-map ds entry_definition)) in
+    cmp_of_maps definition_cmp entry_definition entry_definition ds es
+    ∙ (sym (lists_alike (shown (own_base m)) (map entry_definition ds) (map entry_definition es)
+    (λ p q d e k l a b x y. shown_alike (own_base m) k l (omega arith)))
+    ∙ ap (λ (u : ℕ). definitions_cmp (shown_definitions (map entry_definition ds))
+    (map (rename (shown (own_base u))) (map entry_definition es))) (sym one))
+
 -- no list of definitions is less than itself, and of two at most one is less
 pub not_itself : (ds : List Definition) → definitions_cmp ds ds ≡ Less → ⊥
 not_itself ds h = go (definitions_cmp ds ds) ((lists_total definitions_total).antisymm ds ds) h
@@ -109,20 +157,9 @@ not_both_less ds es h k =
     go o Equal e h k = absurd cc
     go o Greater e h k = absurd cc
 
-pub itself_equal : (ds : List Definition) → definitions_cmp ds ds ≡ Equal
-itself_equal ds = go (definitions_cmp ds ds) ((lists_total definitions_total).antisymm ds ds)
-  where
-    go : (o : Ordering) → o ≡ ordering_reverse o → o ≡ Equal
-    go Less e = absurd cc
-    go Equal e = refl
-    go Greater e = absurd cc
-
 -- ---- classes are told by their first slots
 
 module _ (task : Task) where
-  abbrev S : IndexSpace
-  S = index_space task.section
-
   pub filled :
       (c : ℕ) (class : Class) → slice_get task.classes c ≡ Some class → 0 < length class.entries
   filled c class at =

@@ -1,14 +1,12 @@
 -- Classes are released that waited for what is written now.
-use Rattle.std.proofs.Common.{◌≡◌, ℕ, suc, Bool, false, ◌+◌, ◌-◌, ◌<◌, ◌≤◌, List, length, map, slice_get, Some, ◌⊎◌, inl, inr, ◌∙◌, sym, ap, subst, Contains, arith}
+use Rattle.std.proofs.Common.{◌≡◌, ℕ, suc, Bool, false, ◌+◌, ◌-◌, ◌<◌, ◌≤◌, List, [], ◌∷◌, ◌++◌, length, map, slice_get, Some, ◌⊎◌, inl, inr, ◌∙◌, sym, ap, subst, Contains, arith}
 use Rattle.std.specs.Prelude.{◌↔◌}
-use Rattle.std.specs.BTreeMap.{insert_entry}
 use Rattle.std.proofs.lemmas.Bool.{cases_lt, cases_eq}
 use Rattle.std.proofs.lemmas.Option.{same_Some, slice_get_within}
 use Rattle.walrus_ty.specs.Definition.{Definition}
 use Rattle.walrus_ty.specs.Groups.{Section}
 use Rattle.walrus_canonical.specs.declared.classes.Class.{Class}
 use Rattle.walrus_canonical.specs.declared.waiting.Wait.{Wait}
-use Rattle.walrus_canonical.specs.Steps.Shown.{definitions_cmp}
 use Rattle.walrus_canonical.specs.Steps.Writing.{Task, release_of, IsBegun, IsQueue, IsReady, AreOpen, CanRelease, IsNext, with_slots}
 use Rattle.walrus_canonical.proofs.Waits.ClassWaits.{NamesSlot, waits_for}
 use Rattle.walrus_canonical.proofs.Reading.Containing.{contained_from}
@@ -85,7 +83,7 @@ module _ (task : Task) (waits : List Wait) (done after : ℕ → Bool)
     pub ready_now :
         (newer : List Class) (longer : List (List Definition × ℕ)) → left ≡ 0 →
         ((k : Class) → slice_get now place ≡ Some k →
-        longer ≡ insert_entry definitions_cmp queue (queue_key new_index k) place) →
+        longer ≡ queue ++ (queue_key new_index k, place) ∷ []) →
         map (λ (k : Class). k.first) newer ≡ map (λ (k : Class). k.first) now →
         ((d : ℕ) → ¬ (d ≡ place) → slice_get newer d ≡ slice_get now d) →
         IsQueue task after new_index (IsReady task after lower) newer longer
@@ -94,11 +92,7 @@ module _ (task : Task) (waits : List Wait) (done after : ℕ → Bool)
         told_anew task after new_index (λ d. IsReady task after counts d ⊎ (d ≡ place))
         (IsReady task after lower) newer longer
         (pushed task waits done after before new_index next b (at + 1) lower can.are counts_now can.more
-        (IsReady task after counts)
-        (λ d other r at_d. (
-        let same : r.0 ≡ other = same_Some r.0 other (sym r.1 ∙ at_d) in
-        ap (λ (k : Class). after k.first) (sym same) ∙ r.2))
-        now newer queue q place class waiter.at none undone not_ready_before longer put firsts rest)
+        (IsReady task after counts) now newer queue q place class waiter.at none undone not_ready_before longer put firsts rest)
         (λ d r. elim r [
           | inl x ↦ forth d x
           | inr e ↦ (

@@ -1,6 +1,5 @@
 -- The states of a writer, from its fields.
-use Rattle.std.proofs.Common.{◌≡◌, ℕ, Bool, false, ◌+◌, ◌<◌, ◌≤◌, List, [], length, map, replicate, slice_get, Some, ◌∙◌, sym, ap, subst, OnOk}
-use Rattle.std.specs.BTreeMap.{insert_entry}
+use Rattle.std.proofs.Common.{◌≡◌, ℕ, Bool, false, ◌+◌, ◌<◌, ◌≤◌, List, [], ◌∷◌, ◌++◌, length, map, replicate, slice_get, Some, ◌∙◌, sym, ap, subst, OnOk}
 use Rattle.std.specs.declared.result.Result.{Result}
 use Rattle.std.specs.declared.result.Result.TheVariants.{Ok, Err}
 use Rattle.walrus_ty.specs.Definition.{Definition}
@@ -11,7 +10,6 @@ use Rattle.walrus_canonical.specs.declared.waiting.Wait.{Wait}
 use Rattle.walrus_canonical.specs.declared.write.Writer.{Writer}
 use Rattle.walrus_canonical.specs.Steps.Waits.{AreCounts, AreWaits}
 use Rattle.walrus_canonical.specs.Steps.Writing.{Task, release_of, IsBegun, IsQueue, IsReady, AreOpen, IsOpening, IsReleasing, IsWriting, CanRelease, IsNext}
-use Rattle.walrus_canonical.specs.Steps.Shown.{definitions_cmp}
 use Rattle.walrus_canonical.proofs.Output.FinishedSections.{nothing_begun}
 use Rattle.walrus_canonical.proofs.Waits.OpenWaits.{counts_begin}
 use Rattle.walrus_canonical.proofs.Output.PushedClasses.{queue_key, none_opened, all_opened}
@@ -20,7 +18,7 @@ use Rattle.walrus_canonical.proofs.Output.ReleasedClasses.{left, was, counts_now
 -- nothing is written or ready
 pub opens_with_nothing :
     (task : Task) (waits : List Wait) (w : Writer) (classes : List Class) (counts : List ℕ) →
-    task.classes ≡ classes → w.classes.items ≡ classes → w.counts.items ≡ counts → w.ready.entries ≡ [] →
+    task.classes ≡ classes → w.classes.items ≡ classes → w.counts.items ≡ counts → w.ready ≡ [] →
     w.new_index.items ≡ replicate task.slot_count 0 → w.next ≡ 0 → w.written.items ≡ [] →
     AreCounts waits (length classes) counts → IsOpening task waits 0 w
 opens_with_nothing task waits w classes counts same is_classes is_counts none zeros zero nothing a = record {
@@ -46,7 +44,7 @@ opens_the_writing task waits place w are all h = record {
   written = h.written;
   counts = h.counts;
   queue = all_opened task waits are place w.new_index.items w.next h.begun w.counts.items h.counts
-      w.classes.items w.ready.entries h.queue all;
+      w.classes.items w.ready h.queue all;
 }
 
 -- the same of another record with the same contents
@@ -56,20 +54,20 @@ pub opening_kept :
     new.counts.items ≡ old.counts.items → new.new_index.items ≡ old.new_index.items → new.next ≡ old.next →
     new.written.items ≡ old.written.items → IsOpening task waits place old →
     ((queue : IsQueue task (λ x. false) old.new_index.items
-    (λ c. IsReady task (λ x. false) old.counts.items c × (c < place)) old.classes.items old.ready.entries) →
+    (λ c. IsReady task (λ x. false) old.counts.items c × (c < place)) old.classes.items old.ready) →
     IsQueue task (λ x. false) old.new_index.items
     (λ c. IsReady task (λ x. false) old.counts.items c × (c < place + 1)) new.classes.items
-    new.ready.entries) → IsOpening task waits (place + 1) new
+    new.ready) → IsOpening task waits (place + 1) new
 opening_kept task waits place old new counts indices next written h queue = record {
   begun = subst (λ (n : ℕ). IsBegun task (λ x. false) [] new.new_index.items n) (sym next)
       (subst (λ (xs : List ℕ). IsBegun task (λ x. false) [] xs old.next) (sym indices) h.begun);
   written = ap (map group_of) written ∙ h.written;
   counts = subst (λ (ns : List ℕ). AreOpen task waits (λ x. false) (λ x. false) 0 ns) (sym counts) h.counts;
   queue = subst (λ (ns : List ℕ). IsQueue task (λ x. false) new.new_index.items
-      (λ c. IsReady task (λ x. false) ns c × (c < place + 1)) new.classes.items new.ready.entries) (sym counts)
+      (λ c. IsReady task (λ x. false) ns c × (c < place + 1)) new.classes.items new.ready) (sym counts)
       (subst (λ (xs : List ℕ). IsQueue task (λ x. false) xs
       (λ c. IsReady task (λ x. false) old.counts.items c × (c < place + 1)) new.classes.items
-      new.ready.entries) (sym indices) (queue h.queue));
+      new.ready) (sym indices) (queue h.queue));
 }
 
 pub releasing_kept :
@@ -78,7 +76,7 @@ pub releasing_kept :
     new.new_index.items ≡ old.new_index.items → new.next ≡ old.next →
     new.written.items ≡ old.written.items → IsReleasing task (release_of waits done after) before at old →
     AreOpen task waits done after (at + 1) lower →
-    IsQueue task after old.new_index.items (IsReady task after lower) new.classes.items new.ready.entries →
+    IsQueue task after old.new_index.items (IsReady task after lower) new.classes.items new.ready →
     IsReleasing task (release_of waits done after) before (at + 1) new
 releasing_kept task waits done after before at old new lower counts indices next written h opens queue = record {
   begun = subst (λ (n : ℕ). IsBegun task after before new.new_index.items n) (sym next)
@@ -86,9 +84,9 @@ releasing_kept task waits done after before at old new lower counts indices next
   written = ap (map group_of) written ∙ h.written;
   counts = subst (λ (ns : List ℕ). AreOpen task waits done after (at + 1) ns) (sym counts) opens;
   queue = subst (λ (ns : List ℕ). IsQueue task after new.new_index.items (IsReady task after ns)
-      new.classes.items new.ready.entries) (sym counts)
+      new.classes.items new.ready) (sym counts)
       (subst (λ (xs : List ℕ). IsQueue task after xs (IsReady task after lower) new.classes.items
-      new.ready.entries) (sym indices) queue);
+      new.ready) (sym indices) queue);
 }
 
 -- ---- what a call ensures of each class where it succeeds
@@ -121,30 +119,29 @@ module _ (task : Task) (waits : List Wait) (done after : ℕ → Bool) (before :
   Now = IsReleasing task (release_of waits done after) before (at + 1) new
 
   lowered : IsQueue task after old.new_index.items (IsReady task after lower) new.classes.items
-      new.ready.entries → Now
+      new.ready → Now
   lowered = releasing_kept task waits done after before at old new lower counts indices next written h
       (counts_now task waits done after can at place n old.counts.items lower h.counts long there others)
 
   pub released_ready :
       ((m : ℕ) → slice_get old.counts.items place ≡ Some (m + 1) → m ≡ 0) →
       ((k : Class) → slice_get old.classes.items place ≡ Some k →
-      new.ready.entries ≡ insert_entry definitions_cmp old.ready.entries (queue_key old.new_index.items k)
-      place) →
+      new.ready ≡ old.ready ++ (queue_key old.new_index.items k, place) ∷ []) →
       map (λ (k : Class). k.first) new.classes.items ≡ map (λ (k : Class). k.first) old.classes.items →
       ((d : ℕ) → ¬ (d ≡ place) → slice_get new.classes.items d ≡ slice_get old.classes.items d) → Now
   released_ready zero put firsts rest = lowered
       (ready_now task waits done after can at place n old.counts.items lower h.counts long there others before
-      old.new_index.items old.next h.begun old.classes.items old.ready.entries h.queue new.classes.items
-      new.ready.entries (zero count was_count) put firsts rest)
+      old.new_index.items old.next h.begun old.classes.items old.ready h.queue new.classes.items
+      new.ready (zero count was_count) put firsts rest)
 
   pub released_waits :
       ((m : ℕ) → slice_get old.counts.items place ≡ Some (m + 1) → ¬ (m ≡ 0)) →
-      new.classes.items ≡ old.classes.items → new.ready.entries ≡ old.ready.entries → Now
+      new.classes.items ≡ old.classes.items → new.ready ≡ old.ready → Now
   released_waits some classes ready = lowered
       (subst (λ (cs : List Class). IsQueue task after old.new_index.items (IsReady task after lower) cs
-      new.ready.entries) (sym classes)
+      new.ready) (sym classes)
       (subst (λ (es : List (List Definition × ℕ)). IsQueue task after old.new_index.items
       (IsReady task after lower) old.classes.items es) (sym ready)
       (waits_on task waits done after can at place n old.counts.items lower h.counts long there others before
-      old.new_index.items old.next h.begun old.classes.items old.ready.entries h.queue
+      old.new_index.items old.next h.begun old.classes.items old.ready h.queue
       (some count was_count))))

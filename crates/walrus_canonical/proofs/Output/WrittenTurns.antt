@@ -16,7 +16,7 @@ pub record HasTurned (task : Task) (waits : List Wait) (turn : ℕ) (w : Writer)
   pub done : ℕ → Bool
   pub before : Section
   pub writing : IsWriting task waits done before w
-  pub many : (turn ≤ (index_space before).count) ⊎ (w.ready.entries ≡ [])
+  pub many : (turn ≤ (index_space before).count) ⊎ (w.ready ≡ [])
 
 pub first_turn :
     (task : Task) (waits : List Wait) (done : ℕ → Bool) (w : Writer) → IsWriting task waits done [] w →
@@ -48,10 +48,10 @@ pub last_turn :
     IsWrittenWhole task (map group_of w.written.items) w.new_index.items
 last_turn task waits turn w are all h =
     let r = h.writing in
-    let none : w.ready.entries ≡ [] = elim h.many [
+    let none : w.ready ≡ [] = elim h.many [
       | inr x ↦ x
       | inl full ↦ none_ready task waits h.done h.before w.new_index.items w.next r.begun w.counts.items
-          w.classes.items w.ready.entries r.queue (omega (arith, all, full))
+          w.classes.items w.ready r.queue (omega (arith, all, full))
     ] in
     subst (λ (s : Section). IsWrittenWhole task s w.new_index.items) (sym r.written)
     (all_written task waits are h.done h.before w.new_index.items w.next r.begun w.counts.items r.counts

@@ -35,3 +35,7 @@ shown_entry_cmp base other d e =
 -- the order of definitions, groups as words in a dictionary
 abbrev pub definitions_cmp : List Definition → List Definition → Ordering
 definitions_cmp ds es = slice_cmp definition_cmp ds es
+
+-- the order of records as they are
+abbrev pub entry_cmp : EntryAt → EntryAt → Ordering
+entry_cmp d e = definition_cmp (entry_definition d) (entry_definition e)

@@ -137,7 +137,7 @@ pub record IsReleasing (task : Task) (r : Release) (before : Section) (at : ℕ)
   pub counts : AreOpen task r.waits r.done r.after at w.counts.items
   pub queue :
       IsQueue task r.after w.new_index.items (IsReady task r.after w.counts.items) w.classes.items
-      w.ready.entries
+      w.ready
 
 -- no class that waits in a pair that is released is written
 pub record CanRelease (task : Task) (r : Release) : Type 0 where
@@ -162,7 +162,7 @@ pub record IsOpening (task : Task) (waits : List Wait) (place : ℕ) (w : Writer
   pub counts : AreOpen task waits (λ x. false) (λ x. false) 0 w.counts.items
   pub queue :
       IsQueue task (λ x. false) w.new_index.items
-      (λ c. IsReady task (λ x. false) w.counts.items c × (c < place)) w.classes.items w.ready.entries
+      (λ c. IsReady task (λ x. false) w.counts.items c × (c < place)) w.classes.items w.ready
 
 -- the writer has written these groups
 abbrev pub IsWriting : Task → List Wait → (ℕ → Bool) → Section → Writer → Type 0
@@ -171,8 +171,8 @@ IsWriting task waits done before w = IsReleasing task (release_of waits done don
 -- the writer had nothing to write, or has written one more group
 abbrev pub HasWritten : Task → List Wait → (ℕ → Bool) → Section → Writer → Writer → Type 0
 HasWritten task waits done before old new =
-    ((old.ready.entries ≡ []) × (new.ready.entries ≡ []) × IsWriting task waits done before new)
-    ⊎ ((after : ℕ → Bool) × (more : Section) × (¬ (old.ready.entries ≡ []))
+    ((old.ready ≡ []) × (new.ready ≡ []) × IsWriting task waits done before new)
+    ⊎ ((after : ℕ → Bool) × (more : Section) × (¬ (old.ready ≡ []))
     × ((index_space before).count < (index_space more).count) × IsWriting task waits after more new)
 
 -- what is written is the canonical form: where each needed index has what its slot has

@@ -1,9 +1,8 @@
-use Rattle.std.proofs.Common.{◌∙◌}
-use Rattle.walrus_canonical.proofs.Output.ComparedLists.{cmp_of_groups}
+use Rattle.std.proofs.Common.{◌∙◌, arith}
+use Rattle.walrus_canonical.proofs.Output.ReadyOrder.{records_compared}
 use Rattle.walrus_canonical.proofs.comparing.compare_groups.Goals as goal
 
-pub returns : goal.returns
-returns c =
-    c.compare_all_entries.ensures
-    ∙ cmp_of_groups c.args.entries.now c.args.others.now c.own_base-base.result c.own_base-other_base.result
-    c.own_base-base.ensures c.own_base-other_base.ensures
+pub returns-then-entries-others : goal.returns-then-entries-others
+returns-then-entries-others c =
+    c.compare_records.ensures
+    ∙ records_compared c.args.entries.now c.args.others.now (omega (arith, c.if-entries-others.true))

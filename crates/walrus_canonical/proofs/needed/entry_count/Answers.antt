@@ -2,8 +2,7 @@ use Rattle.std.proofs.Common.{◌≡◌, subst}
 use Rattle.walrus_ty.specs.Records.{section_of}
 use Rattle.walrus_sections.specs.declared.error.ReadError.{ReadError}
 use Rattle.walrus_sections.specs.FirstError.{IsFirstError}
-use Rattle.walrus_normal_form.proofs.Reading.OwnedGroups.{if_err_from}
-use Rattle.walrus_canonical.proofs.Needs.CheckedGroups.{first_refused, one_checked}
+use Rattle.walrus_canonical.proofs.Needs.CheckedGroups.{first_refused, if_err_from, one_checked}
 use Rattle.walrus_canonical.proofs.needed.entry_count.Goals as goal
 
 pub loop-group-preserved : goal.loop-group-preserved

@@ -4,8 +4,7 @@ use Rattle.std.proofs.lemmas.Option.{slice_get-map}
 use Rattle.walrus_ty.specs.Definition.{Definition, rename}
 use Rattle.walrus_ty.specs.Records.{entry_definition}
 use Rattle.walrus_canonical.specs.Steps.Renamings.{index_map}
-use Rattle.walrus_normal_form.proofs.Reading.RenamedItems.{item-replaced}
-use Rattle.walrus_normal_form.proofs.Writing.RenamedGroups.{map-slice_set}
+use Rattle.walrus_canonical.proofs.Reading.RenamedItems.{item-replaced, map-slice_set}
 use Rattle.walrus_canonical.proofs.renaming.rename_entries.Goals as goal
 
 pub loop-at-preserved : goal.loop-at-preserved

@@ -8,8 +8,8 @@ use Rattle.walrus_canonical.proofs.ready.ReadyGroupOrd.cmp.Goals as goal
 pub returns-in-Less : goal.returns-in-Less
 returns-in-Less c =
     less_by_group_key c.self.inside.entries c.other.inside.entries c.self.inside.key c.other.inside.key
-    c.cmp.result c.self.invariant.0 c.other.invariant.0 c.self.invariant.1 c.other.invariant.1 c.cmp.ensures
-    c.in-Less.is
+    c.compare_keys.result c.self.invariant c.other.invariant c.compare_keys.ensures.order
+    c.compare_keys.ensures.less c.in-Less.is
     ∙ (ap (λ (ds : List Definition). definitions_cmp ds
     (shown_definitions (map entry_definition c.other.inside.entries))) c.self.view_is
     ∙ ap (definitions_cmp c.args.self.now) c.other.view_is)
@@ -17,8 +17,8 @@ returns-in-Less c =
 pub returns-in-Greater : goal.returns-in-Greater
 returns-in-Greater c =
     greater_by_group_key c.self.inside.entries c.other.inside.entries c.self.inside.key c.other.inside.key
-    c.cmp.result c.self.invariant.0 c.other.invariant.0 c.self.invariant.1 c.other.invariant.1 c.cmp.ensures
-    c.in-Greater.is
+    c.compare_keys.result c.self.invariant c.other.invariant c.compare_keys.ensures.order
+    c.compare_keys.ensures.greater c.in-Greater.is
     ∙ (ap (λ (ds : List Definition). definitions_cmp ds
     (shown_definitions (map entry_definition c.other.inside.entries))) c.self.view_is
     ∙ ap (definitions_cmp c.args.self.now) c.other.view_is)
