@@ -106,7 +106,8 @@ group_goes i p name hi hp goes is is_new apart = record {
       ap N.definition y.1 ∙ (is_new ∙ sym (ap (λ (u : Definition). rename v u) (ap S.definition x.1 ∙ is))));
   apart = λ k x g names there. (
       let here = each_alone i hi g.0 k g.1 in
-      let named = link_names name x (subst (λ (d : Definition). Names d x) (ap S.definition here.1 ∙ is) names)
+      let named = link_names name x (subst (λ (d : Definition). Names d x) (ap S.definition here.1 ∙ is)
+      names)
       in
       let to = each_new_alone p hp there.0 (v x) there.1 in
       let itself : x ≡ i = named ∙ apart (ap v (sym named) ∙ to.1) in
@@ -234,7 +235,8 @@ link_cmp :
     ordering_then (ordering_then (ordering_then (nat_cmp x y) Equal) Equal) Equal
 link_cmp x y = refl
 
-link_later : (y : ℕ) → (definition_cmp (link y) (link 0) ≡ Equal) ⊎ (definition_cmp (link y) (link 0) ≡ Greater)
+link_later :
+    (y : ℕ) → (definition_cmp (link y) (link 0) ≡ Equal) ⊎ (definition_cmp (link y) (link 0) ≡ Greater)
 link_later zero = inl refl
 link_later (suc y) =
     let less = nat_less 0 (suc y) (omega arith) in
@@ -246,7 +248,8 @@ rest_later : (ds : List Definition) → ¬ (slice_cmp definition_cmp ds [] ≡ L
 rest_later [] e = cc
 rest_later (d ∷ ds) e = cc
 
-link_not_less : (y : ℕ) (ds : List Definition) → ¬ (slice_cmp definition_cmp (link y ∷ ds) (link 0 ∷ []) ≡ Less)
+link_not_less :
+    (y : ℕ) (ds : List Definition) → ¬ (slice_cmp definition_cmp (link y ∷ ds) (link 0 ∷ []) ≡ Less)
 link_not_less y ds e = not_less_if (definition_cmp (link y) (link 0)) (slice_cmp definition_cmp ds [])
     (link_later y) (rest_later ds) e
 
@@ -255,10 +258,12 @@ not_less :
     CanComeNext S (all_indices three_loops) (index_space before) i ds →
     ¬ (slice_cmp definition_cmp ds (link 0 ∷ []) ≡ Less)
 not_less before i [] c e =
-    let low = needed_below three_loops (all_indices three_loops) old_below (all_known three_loops) i c.needed in
+    let low = needed_below three_loops (all_indices three_loops) old_below (all_known three_loops) i c.needed
+    in
     let z = c.written.places i 0 (own i low) in omega (arith, z)
 not_less before i (d ∷ ds) c e =
-    let low = needed_below three_loops (all_indices three_loops) old_below (all_known three_loops) i c.needed in
+    let low = needed_below three_loops (all_indices three_loops) old_below (all_known three_loops) i c.needed
+    in
     let name = link_of i low in
     let y = first_is_link (index_space before) i name.0 d ds low name.1 c.written in
     link_not_less y.0 ds (subst (λ (u : Definition).
@@ -274,7 +279,8 @@ group_is_link (x ∷ y ∷ z ∷ before) g behind e = absurd cc
 
 greedy : IsGreedy three_loops (all_indices three_loops) two_kinds
 greedy before g behind is i ds c e = not_less before i ds c
-    (subst (λ (u : List Definition). slice_cmp definition_cmp ds u ≡ Less) (group_is_link before g behind is) e)
+    (subst (λ (u : List Definition). slice_cmp definition_cmp ds u ≡ Less) (group_is_link before g behind is)
+    e)
 
 pub worked : IsCanonical three_loops (all_indices three_loops) two_kinds three_to_two
 worked = greedy_is_canonical three_loops (all_indices three_loops) two_kinds three_to_two listing greedy

@@ -66,6 +66,8 @@ cmp_of_groups ds es m n p q =
     cmp_of_maps_twice definition_cmp (rename (shown m)) (rename (shown n)) entry_definition
     entry_definition ds es
     ∙ (ap (λ b. definitions_cmp (map (rename (shown b)) (map entry_definition ds))
-    (map (rename (shown n)) (map entry_definition es))) (p ∙ ap own_base (sym (length-map ds entry_definition)))
+    (map (rename (shown n)) (map entry_definition es))) (p ∙ ap own_base
+    (sym (length-map ds entry_definition)))
     ∙ ap (λ b. definitions_cmp (shown_definitions (map entry_definition ds))
-    (map (rename (shown b)) (map entry_definition es))) (q ∙ ap own_base (sym (length-map es entry_definition))))
+    (map (rename (shown b)) (map entry_definition es))) (q ∙ ap own_base
+    (sym (length-map es entry_definition))))

@@ -47,7 +47,8 @@ module _ (task : Task) (done : ℕ → Bool) (before : Section) (by_slot : List 
   T = index_space task.section
 
   item : (i : ℕ) → i < length task.slots →
-      new_index indices i ≡ (if slice_index_or task.marks i false then slice_get by_slot (slot_of task.slots i)
+      new_index indices i ≡ (if slice_index_or task.marks i false then slice_get by_slot
+      (slot_of task.slots i)
       else None)
   item i low =
       let at = slice_get-get_or task.slots i 0 low in

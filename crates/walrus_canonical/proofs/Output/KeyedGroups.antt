@@ -155,7 +155,8 @@ less_by_group_key (d ∷ ds) (e ∷ es) v w o a b of by is =
     let g = shown (own_base (length (map entry_definition (e ∷ es)))) in
     ap (λ p. ordering_then p (definitions_cmp (map (rename f) (map entry_definition ds))
     (map (rename g) (map entry_definition es))))
-    (sym (by (rename f x) (rename g y) (a ∙ sym (key_stays f x.composite)) (b ∙ sym (key_stays g y.composite)) is))
+    (sym (by (rename f x) (rename g y) (a ∙ sym (key_stays f x.composite)) (b ∙ sym (key_stays g y.composite))
+    is))
 
 pub greater_by_group_key :
     (ds es : List EntryAt) (v w : SortKey) (o : Ordering) → v ≡ group_key ds → w ≡ group_key es →
@@ -172,4 +173,5 @@ greater_by_group_key (d ∷ ds) (e ∷ es) v w o a b of by is =
     let g = shown (own_base (length (map entry_definition (e ∷ es)))) in
     ap (λ p. ordering_then p (definitions_cmp (map (rename f) (map entry_definition ds))
     (map (rename g) (map entry_definition es))))
-    (sym (by (rename f x) (rename g y) (a ∙ sym (key_stays f x.composite)) (b ∙ sym (key_stays g y.composite)) is))
+    (sym (by (rename f x) (rename g y) (a ∙ sym (key_stays f x.composite)) (b ∙ sym (key_stays g y.composite))
+    is))

@@ -105,11 +105,13 @@ module _ (task : Task) (c : ℕ) (class : Class) (at : slice_get task.classes c 
       subst (λ (k : Class). Contains (names_in k.entries) slot) same n.names in
       let low : slot < own_base (length class.entries) =
       subst (λ (k : Class). slot < own_base (length k.entries)) same n.low in
-      let r = named_by own slot (subst (λ (ns : List ℕ). Contains ns slot) (sym (all_names class.entries)) names)
+      let r = named_by own slot (subst (λ (ns : List ℕ). Contains ns slot) (sym (all_names class.entries))
+      names)
       in
       let k = o.records.members r.t (slice_get_within own r.t r.d r.at) in
       let at_y = position_of r.d slot r.names in
-      let x = named_too r.d (S.definition k.0) at_y.0 slot (sym (o.records.shapes k.0 r.t r.d k.1 r.at)) at_y.1
+      let x = named_too r.d (S.definition k.0) at_y.0 slot (sym (o.records.shapes k.0 r.t r.d k.1 r.at))
+      at_y.1
       in
       let f : StandsFor S o.head own x.0 slot = record {
         place = r.t;
@@ -212,7 +214,8 @@ module _ (task : Task) (waits : List Wait) (are : AreWaits task.classes waits) (
     waits_for_none : (w : Wait) → Contains waits w → w.waiting ≡ k.0 → done w.named ≡ true
     waits_for_none w m same =
         let o = task.are.of_class k.0 k.1 k.2 in
-        let n = subst (λ (u : ℕ). NamesSlot task.classes u w.named) same (waits_for task.classes waits are w m)
+        let n = subst (λ (u : ℕ). NamesSlot task.classes u w.named) same
+        (waits_for task.classes waits are w m)
         in
         let x = outer_name task k.0 k.1 k.2 w.named n in
         let v = of_head o.head o.marked (sym k.3 ∙ sym o.slot) in
@@ -220,7 +223,8 @@ module _ (task : Task) (waits : List Wait) (are : AreWaits task.classes waits) (
         let d = get_or others x.inside.0 no_place.definition in
         let at_d = slice_get-get_or others x.inside.0 no_place.definition low in
         let at_x = position_of (T.definition x.k) x.x x.names in
-        let y = named_too (T.definition x.k) d at_x.0 x.x (v.shapes x.k x.inside.0 d x.inside.1 at_d) at_x.1 in
+        let y = named_too (T.definition x.k) d at_x.0 x.x (v.shapes x.k x.inside.0 d x.inside.1 at_d) at_x.1
+        in
         let f : StandsFor T o.head others x.x y.0 = record {
           place = x.inside.0;
           position = at_x.0;
@@ -268,10 +272,12 @@ module _ (task : Task) (waits : List Wait) (are : AreWaits task.classes waits) (
         let w = (can_come task done before new_index next b z.0 e.0 p undone_too).written in
         let v = r.written p.head p.marked p.member (p.slot ∙ ap (λ (k : Class). k.first) same) in
         let is : others ≡ map (rename (settled next)) e.0 =
-        written_once T before b.beginning.apart p.head 0 p.member others (map (rename (settled next)) e.0) v w in
+        written_once T before b.beginning.apart p.head 0 p.member others (map (rename (settled next)) e.0) v w
+        in
         let lower : definitions_cmp e.0 ds ≡ Less =
         sym (order_kept task done before new_index next b z.0 class e.0 ds p q undone_too undone_class)
-        ∙ (ap (λ (xs : List Definition). definitions_cmp xs (map (rename (settled next)) ds)) (sym is) ∙ less) in
+        ∙ (ap (λ (xs : List Definition). definitions_cmp xs (map (rename (settled next)) ds)) (sym is) ∙ less)
+        in
         elim (contained_cases rest (ds, c) (e.0, r.c) e.1) [
           | inl first ↦ not_itself ds (
               let here : ds ≡ e.0 = ap (λ (x : List Definition × ℕ). x.0) first in

@@ -289,7 +289,8 @@ module _ (task : Task) (waits : List Wait) (are : AreWaits task.classes waits) (
               let e : other.first + 0 ≡ other.first = omega arith in
               let same : own_after other.first ≡ done other.first = ap own_after (sym e)
               ∙ (other_class task done place class at w.waiting other at_w apart 0 f ∙ ap done e) in
-              let d = names_written task waits are done before new_index next b w other m at_w (sym same ∙ z) in
+              let d = names_written task waits are done before new_index next b w other m at_w (sym same ∙ z)
+              in
               let k : true ≡ false = sym d ∙ still in absurd cc)
         ])
       ]

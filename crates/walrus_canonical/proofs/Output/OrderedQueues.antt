@@ -170,7 +170,8 @@ more_inserted start es left rest k v es' is put apart same =
 pub all_inserted :
     (start es left : List Entry) → left ≡ [] → HaveSame start (es ++ left) → HaveSame start es
 all_inserted start es left none same =
-    subst (λ (fs : List Entry). HaveSame start fs) (ap (λ (ls : List Entry). es ++ ls) none ∙ append-nil es) same
+    subst (λ (fs : List Entry). HaveSame start fs) (ap (λ (ls : List Entry). es ++ ls) none ∙ append-nil es)
+    same
 
 -- ---- the least of the map is taken
 

@@ -19,13 +19,15 @@ use Rattle.walrus_canonical.proofs.Output.ReadyGroups.{becomes_ready}
 -- the records of a class as the queue has them
 abbrev pub queue_key : List ℕ → Class → List Definition
 queue_key new_index k =
-    shown_definitions (map (rename (renamed (own_base (length k.entries)) new_index (own_base (length k.entries))))
+    shown_definitions (map (rename (renamed (own_base (length k.entries)) new_index
+    (own_base (length k.entries))))
     (map entry_definition k.entries))
 
 module _ (task : Task) (waits : List Wait) (done after : ℕ → Bool) (before : Section) (new_index : List ℕ)
     (next : ℕ) (b : IsBegun task after before new_index next) (at : ℕ) (counts : List ℕ)
     (are : AreWaits task.classes waits) (opens : AreOpen task waits done after at counts)
-    (more : (x : ℕ) → done x ≡ true → after x ≡ true) (ready : ℕ → Type 0) (now newer : List Class) (queue : List (List Definition × ℕ))
+    (more : (x : ℕ) → done x ≡ true → after x ≡ true) (ready : ℕ → Type 0) (now newer : List Class)
+    (queue : List (List Definition × ℕ))
     (q : IsQueue task after new_index ready now queue) (c : ℕ) (class : Class)
     (is : slice_get task.classes c ≡ Some class) (none : slice_get counts c ≡ Some 0)
     (undone : after class.first ≡ false) (fresh : ¬ (ready c)) (longer : List (List Definition × ℕ))
@@ -52,7 +54,8 @@ module _ (task : Task) (waits : List Wait) (are : AreWaits task.classes waits) (
     (new_index : List ℕ) (next : ℕ) (b : IsBegun task (λ x. false) [] new_index next) (counts : List ℕ)
     (opens : AreOpen task waits (λ x. false) (λ x. false) 0 counts) (now : List Class)
     (queue : List (List Definition × ℕ))
-    (q : IsQueue task (λ x. false) new_index (λ c. IsReady task (λ x. false) counts c × (c < place)) now queue)
+    (q : IsQueue task (λ x. false) new_index (λ c. IsReady task (λ x. false) counts c × (c < place)) now
+    queue)
   where
     abbrev Below : ℕ → ℕ → Type 0
     Below n c = IsReady task (λ x. false) counts c × (c < n)
@@ -70,7 +73,8 @@ module _ (task : Task) (waits : List Wait) (are : AreWaits task.classes waits) (
         let there = class_at_place task.classes place in
         let k : (k : Class) × (slice_get task.classes place ≡ Some k) =
         (there, slice_get-get_or task.classes place (record { first = 0; entries = [] }) low) in
-        told_anew task (λ x. false) new_index (λ d. Below place d ⊎ (d ≡ place)) (Below (place + 1)) newer longer
+        told_anew task (λ x. false) new_index (λ d. Below place d ⊎ (d ≡ place)) (Below (place + 1)) newer
+        longer
         (pushed task waits (λ x. false) (λ x. false) [] new_index next b 0 counts are opens (λ x d. d)
         (Below place) now newer queue q place k.0 k.1 none refl
         (λ r. (let l = r.1 in omega (arith, l))) longer put firsts others)
@@ -88,7 +92,8 @@ module _ (task : Task) (waits : List Wait) (are : AreWaits task.classes waits) (
 
     -- it waits for something
     pub one_waits :
-        ¬ (slice_get counts place ≡ Some 0) → IsQueue task (λ x. false) new_index (Below (place + 1)) now queue
+        ¬ (slice_get counts place ≡ Some 0) → IsQueue task (λ x. false) new_index (Below (place + 1)) now
+        queue
     one_waits some = told_anew task (λ x. false) new_index (Below place) (Below (place + 1)) now queue q
         (λ d r. (let l = r.1 in (r.0, omega (arith, l))))
         (λ d r. elim (cases_eq d place) [
@@ -100,7 +105,8 @@ module _ (task : Task) (waits : List Wait) (are : AreWaits task.classes waits) (
     pub all_opened :
         length task.classes ≤ place →
         IsQueue task (λ x. false) new_index (IsReady task (λ x. false) counts) now queue
-    all_opened all = told_anew task (λ x. false) new_index (Below place) (IsReady task (λ x. false) counts) now
+    all_opened all = told_anew task (λ x. false) new_index (Below place) (IsReady task (λ x. false) counts)
+        now
         queue q (λ d r. r.0)
         (λ d r. (r, (let l = slice_get_within task.classes d r.0 r.1 in omega (arith, l, all))))
 

@@ -117,7 +117,8 @@ module _ (task : Task) (done : ℕ → Bool) (new_index : List ℕ) (ready : ℕ
       | inr old ↦ absurd (not_queued fs (subst (λ (u : ℕ). Contains queue (fs, u)) (sym p.1) old))
     ])
     | inr old ↦ elim (pushed_cases queue (ds, c) (fs, d) n) [
-      | inl is ↦ absurd (not_queued es (subst (λ (u : ℕ). Contains queue (es, u)) (sym (parts fs d is).1) old))
+      | inl is ↦ absurd (not_queued es (subst (λ (u : ℕ). Contains queue (es, u)) (sym (parts fs d is).1)
+          old))
       | inr old_too ↦ q.once es fs d old old_too
     ]
   ]
@@ -227,5 +228,6 @@ module _ (task : Task) (done : ℕ → Bool) (new_index newer counts : List ℕ)
         let is : other ≡ class = same_Some other class (sym at_d ∙ (ap (slice_get task.classes) e ∙ at)) in
         let z : true ≡ false = sym filled_now ∙ (ap (λ (k : Class). more k.first) (sym is) ∙ opens) in
         absurd cc) in
-        q.left d other at_d (λ r. none (ready_forth d r apart)) (was_undone done class.first end other.first opens));
+        q.left d other at_d (λ r. none (ready_forth d r apart))
+        (was_undone done class.first end other.first opens));
   }

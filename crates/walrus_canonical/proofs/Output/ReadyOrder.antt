@@ -127,7 +127,8 @@ shown_alike base k l small = elim (cases_lt k base) [
 
 pub records_compared :
     (ds es : List EntryAt) → length ds ≡ length es → slice_cmp entry_cmp ds es ≡
-    definitions_cmp (shown_definitions (map entry_definition ds)) (shown_definitions (map entry_definition es))
+    definitions_cmp (shown_definitions (map entry_definition ds))
+    (shown_definitions (map entry_definition es))
 records_compared ds es same =
     let m = length (map entry_definition ds) in
     let n = length (map entry_definition es) in

@@ -92,7 +92,8 @@ module _ (task : Task) (waits : List Wait) (done after : ℕ → Bool)
         told_anew task after new_index (λ d. IsReady task after counts d ⊎ (d ≡ place))
         (IsReady task after lower) newer longer
         (pushed task waits done after before new_index next b (at + 1) lower can.are counts_now can.more
-        (IsReady task after counts) now newer queue q place class waiter.at none undone not_ready_before longer put firsts rest)
+        (IsReady task after counts) now newer queue q place class waiter.at none undone not_ready_before
+        longer put firsts rest)
         (λ d r. elim r [
           | inl x ↦ forth d x
           | inr e ↦ (
@@ -162,7 +163,8 @@ module _ (task : Task) (waits : List Wait) (done : ℕ → Bool) (first end low 
       let z : at + n ≡ length waits = omega (arith, fits) in
       all_released task waits done after (at + n) counts z
       (many_passed task waits done after n at counts (omega (arith, z))
-      (λ k w under less is. sym (same_above done first end w.named (above k w is (omega (arith, under, over)))))
+      (λ k w under less is. sym (same_above done first end w.named
+      (above k w is (omega (arith, under, over)))))
       a)
     where
       above : (k : ℕ) (w : Wait) → slice_get waits k ≡ Some w → high ≤ k → end ≤ w.named

@@ -78,16 +78,17 @@ pub releasing_kept :
     AreOpen task waits done after (at + 1) lower →
     IsQueue task after old.new_index.items (IsReady task after lower) new.classes.items new.ready →
     IsReleasing task (release_of waits done after) before (at + 1) new
-releasing_kept task waits done after before at old new lower counts indices next written h opens queue = record {
-  begun = subst (λ (n : ℕ). IsBegun task after before new.new_index.items n) (sym next)
-      (subst (λ (xs : List ℕ). IsBegun task after before xs old.next) (sym indices) h.begun);
-  written = ap (map group_of) written ∙ h.written;
-  counts = subst (λ (ns : List ℕ). AreOpen task waits done after (at + 1) ns) (sym counts) opens;
-  queue = subst (λ (ns : List ℕ). IsQueue task after new.new_index.items (IsReady task after ns)
-      new.classes.items new.ready) (sym counts)
-      (subst (λ (xs : List ℕ). IsQueue task after xs (IsReady task after lower) new.classes.items
-      new.ready) (sym indices) queue);
-}
+releasing_kept task waits done after before at old new lower counts indices next written h opens queue =
+    record {
+      begun = subst (λ (n : ℕ). IsBegun task after before new.new_index.items n) (sym next)
+          (subst (λ (xs : List ℕ). IsBegun task after before xs old.next) (sym indices) h.begun);
+      written = ap (map group_of) written ∙ h.written;
+      counts = subst (λ (ns : List ℕ). AreOpen task waits done after (at + 1) ns) (sym counts) opens;
+      queue = subst (λ (ns : List ℕ). IsQueue task after new.new_index.items (IsReady task after ns)
+          new.classes.items new.ready) (sym counts)
+          (subst (λ (xs : List ℕ). IsQueue task after xs (IsReady task after lower) new.classes.items
+          new.ready) (sym indices) queue);
+    }
 
 -- ---- what a call ensures of each class where it succeeds
 

@@ -12,7 +12,8 @@ use Rattle.walrus_canonical.proofs.canonical_form.canonicalise.Goals as goal
 pub returns-clause-known : goal.returns-clause-known
 returns-clause-known c =
     subst (λ (gs : List GroupAt). AreIndices (section_of gs)
-    (roots_or_all (section_of gs) (option_copied c.args.roots))) c.as_slice-2.ensures.value c.in_ok-needed.ensures.known
+    (roots_or_all (section_of gs) (option_copied c.args.roots))) c.as_slice-2.ensures.value
+    c.in_ok-needed.ensures.known
 
 pub returns-clause-canonical : goal.returns-clause-canonical
 returns-clause-canonical c =
@@ -26,7 +27,8 @@ returns-clause-canonical c =
     let needs : MarkNeeds section roots c.in_ok-needed.needed.items = subst (λ (gs : List GroupAt).
     MarkNeeds (section_of gs) (roots_or_all (section_of gs) (option_copied c.args.roots))
     c.in_ok-needed.needed.items) c.as_slice-2.ensures.value c.in_ok-needed.ensures.needed in
-    let marked = subst (λ (bs : List Bool). MarkNeeds section roots bs) (sym c.as_slice-3.ensures.value) needs in
+    let marked = subst (λ (bs : List Bool). MarkNeeds section roots bs) (sym c.as_slice-3.ensures.value) needs
+    in
     let are = c.in_ok-read.ensures roots well marked in
     let marked_too = subst (λ (bs : List Bool). MarkNeeds section roots bs) (sym c.as_slice-4.ensures.value)
     needs in

@@ -36,5 +36,6 @@ returns-clause-firsts c = c.loop-entries.invariant.firsts
 pub returns-clause-records : goal.returns-clause-records
 returns-clause-records c =
     none_lack c.args.known.entries c.loop-entries.classes.items
-    (subst (λ (es : List (List EntryAt × ℕ)). LackRecords c.args.known.entries c.loop-entries.classes.items es)
+    (subst (λ (es : List (List EntryAt × ℕ)). LackRecords c.args.known.entries c.loop-entries.classes.items
+    es)
     c.in-None.ensures.steps.0 c.loop-entries.invariant.lack)

@@ -7,5 +7,6 @@ use Rattle.walrus_canonical.proofs.comparing.compare_val_lists.Goals as goal
 pub returns : goal.returns
 returns c =
     c.compare_vals.ensures
-    ∙ cmp_of_maps val_cmp (rename_val (shown c.args.base)) (rename_val (shown c.args.other_base)) c.args.vals.now
+    ∙ cmp_of_maps val_cmp (rename_val (shown c.args.base)) (rename_val (shown c.args.other_base))
+    c.args.vals.now
     c.args.others.now

@@ -33,7 +33,8 @@ loop-group-preserved-in_ok-push_names c =
           c.args.groups.now roots n start end c.in-Some.group.now c.entries_of-entries.result.now
           c.as_slice-then-has_needed.result.now _ _ _ c.requires.well_named turn c.entries_of-entries.ensures
           (c.as_slice-then-has_needed.ensures.value ∙ (c.in_ok-push_names.ensures
-          ∙ ap (λ (ks : List ℕ). ks ++ flat_map (λ e. names_of (entry_definition e)) c.entries_of-entries.result.now)
+          ∙ ap (λ (ks : List ℕ). ks ++ flat_map (λ e. names_of (entry_definition e))
+          c.entries_of-entries.result.now)
           c.clear.ensures.items))
           (c.loop-group.invariant.1 roots h)
           (found_in start end _ _ c.as_slice.ensures.value (c.has_needed.ensures.found c.if-has_needed.true))

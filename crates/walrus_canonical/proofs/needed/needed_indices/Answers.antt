@@ -20,5 +20,6 @@ returns-in_ok-vec-in-None-clause-needed c =
 pub returns-in-Some-clause-known : goal.returns-in-Some-clause-known
 returns-in-Some-clause-known c =
     subst (λ (o : Option (Bor (List ℕ))). OnOk c.needed_by.result
-    (AreIndices (section_of c.args.groups.now) (roots_or_all (section_of c.args.groups.now) (option_copied o))))
+    (AreIndices (section_of c.args.groups.now) (roots_or_all (section_of c.args.groups.now)
+    (option_copied o))))
     (sym c.in-Some.is) c.needed_by.ensures.known

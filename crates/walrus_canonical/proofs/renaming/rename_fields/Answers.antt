@@ -12,12 +12,14 @@ loop-at-preserved c =
     let f = rename_field m in
     let same = c.loop-at.invariant in
     elim c.if-is_some.branch [
-      | then-is_some w ↦ w.fields-is ∙ (ap (λ x. slice_set c.loop-at.fields c.loop-at.at x) w.rename_field.ensures
+      | then-is_some w ↦ w.fields-is ∙ (ap (λ x. slice_set c.loop-at.fields c.loop-at.at x)
+          w.rename_field.ensures
           ∙ item-replaced f c.args.fields.now c.loop-at.fields c.loop-at.at w.index-then-is_some.result.now
           (omega arith) same w.index-then-is_some.ensures)
       | else-is_some w ↦ w.fields-is ∙ item-stays f c.args.fields.now c.loop-at.fields c.loop-at.at
           c.index.result.now (omega arith) same c.index.ensures
           (field-stays m c.index.result.now
-          (no-name c.name.result (field_name c.index.result.now) c.is_some.result c.name.ensures c.is_some.ensures
+          (no-name c.name.result (field_name c.index.result.now) c.is_some.result c.name.ensures
+          c.is_some.ensures
           w.if-is_some.false))
     ]

@@ -18,6 +18,7 @@ loop-at-preserved c =
       | else-is_some w ↦ w.vals-is ∙ item-stays f c.args.vals.now c.loop-at.vals c.loop-at.at
           c.index.result.now (omega arith) same c.index.ensures
           (val-stays m c.index.result.now
-          (no-name c.name.result (val_name c.index.result.now) c.is_some.result c.name.ensures c.is_some.ensures
+          (no-name c.name.result (val_name c.index.result.now) c.is_some.result c.name.ensures
+          c.is_some.ensures
           w.if-is_some.false))
     ]

@@ -10,5 +10,6 @@ loop-wait-preserved c =
     let at = c.loop-wait.wait-index in
     let none : Wait = record { named = 0; waiting = 0 } in
     one_counted waits at (get_or waits at none) c.args.class_count c.loop-wait.counts.items
-    c.add_one.new.counts.items (slice_get-get_or waits at none (omega arith)) (omega arith) c.loop-wait.invariant
+    c.add_one.new.counts.items (slice_get-get_or waits at none (omega arith)) (omega arith)
+    c.loop-wait.invariant
     c.add_one.ensures.long c.add_one.ensures.there c.add_one.ensures.others

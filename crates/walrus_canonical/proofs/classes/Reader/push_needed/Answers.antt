@@ -25,7 +25,8 @@ returns c marks marked filled section roots well needs stands h =
     let inside = b.inside in
     let few = well.few in
     let len_start : c.len.result ≡ start = cc in
-    let len_next : c.len-2.result ≡ length classes = len_is c.args.self.now.classes c.len-2.result c.len-2.ensures in
+    let len_next : c.len-2.result ≡ length classes = len_is c.args.self.now.classes c.len-2.result
+    c.len-2.ensures in
     let firsts_long = firsts_length classes in
     let size = size_of_records c.in_ok-entries.entries ds c.len-count.result c.in_ok-entries.ensures
     c.len-count.ensures in

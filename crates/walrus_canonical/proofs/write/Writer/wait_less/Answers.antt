@@ -7,7 +7,8 @@ pub returns-then-take_one : goal.returns-then-take_one
 returns-then-take_one c =
     let lower = c.take_one.new.counts.items in
     on_ok_weaker c.push_ready.result (λ put task r before at can n h.
-    released_ready task r.waits r.done r.after before at c.args.place can n c.args.self.now c.push_ready.new.self
+    released_ready task r.waits r.done r.after before at c.args.place can n c.args.self.now
+    c.push_ready.new.self
     lower h c.take_one.ensures.long c.take_one.ensures.there c.take_one.ensures.others
     c.push_ready.ensures.counts c.push_ready.ensures.indices c.push_ready.ensures.next
     c.push_ready.ensures.written (λ m e. c.take_one.ensures.zero m e c.if-take_one.true) put

@@ -29,14 +29,17 @@ returns-in_ok-write_group-in-Some c =
     c.in_ok-group.ensures apart in
     let queue = queued_anew task done old.new_index.items (IsReady task done old.counts.items)
     old.classes.items old.ready ((c.in-Some.group, c.in-Some.place) ∷ rest) h.queue taken.0 in
-    outcome task c.args.waits.now are done before old.new_index.items old.next h.begun old.counts.items h.counts
-    old.classes.items c.in-Some.group c.in-Some.place rest queue taken.1 c.first_slot-first.result c.len.result
+    outcome task c.args.waits.now are done before old.new_index.items old.next h.begun old.counts.items
+    h.counts
+    old.classes.items c.in-Some.group c.in-Some.place rest queue taken.1 c.first_slot-first.result
+    c.len.result
     c.saturating_add-end.result
     (λ k at. c.first_slot-first.ensures k
     (ap (λ (cs : List Class). slice_get cs c.in-Some.place) c.as_slice.ensures.value ∙ at))
     entries c.into_entries-entries.ensures count
     c.saturating_add-end.ensures mid.new_index.items mid.next c.in_ok-write_group-in-Some.ensures.given
-    c.in_ok-write_group-in-Some.ensures.indices c.in_ok-write_group-in-Some.ensures.next old mid c.release.new.self
+    c.in_ok-write_group-in-Some.ensures.indices c.in_ok-write_group-in-Some.ensures.next old mid
+    c.release.new.self
     (not_none old.ready (c.in-Some.group, c.in-Some.place) rest taken.0) refl refl
     (c.in_ok-write_group-in-Some.ensures.written ∙ ap (λ (gs : Section). gs ++ plain_group
     (map (rename (renamed (own_base (length entries)) [] old.next)) (map entry_definition entries)) ∷ [])
