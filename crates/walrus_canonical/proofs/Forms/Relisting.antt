@@ -11,7 +11,8 @@ use Rattle.walrus_canonical.proofs.Equality.EqualTypes.{equal_over}
 use Rattle.walrus_canonical.proofs.Forms.Indices.{some_of, is_some_at, built_length, built_at, built_within}
 use Rattle.walrus_canonical.proofs.Forms.Listings.{new_of, needed_of, needed_within, new_once}
 
-module _ (s t : Section) (roots others : List ℕ) (n p : Section) (m w : NewIndices) (f : IsListing s roots n m)
+module _ (s t : Section) (roots others : List ℕ) (n p : Section) (m w : NewIndices)
+    (f : IsListing s roots n m)
     (g : IsListing t others p w) (forth : AreAmong s roots t others) (back : AreAmong t others s roots) where
   abbrev S : IndexSpace
   S = index_space s

@@ -152,62 +152,64 @@ module _ (s : IndexSpace) (marks : List Bool) (slots : List ℕ) (n base i j pla
     -- the group of j has no slots yet
     (later : (y : ℕ) → IsInGroup s j y → length slots ≤ y)
     (ds es : List Definition) (long_ds : length ds ≡ n) (long_es : length es ≡ n)
-    (v : IsKey s (λ p. base + p) (slot_of slots) i ds) (w : IsKey s (λ p. base + p) (slot_of slots) j es) where
-  abbrev inner : ℕ → ℕ
-  inner = inner_for n base
+    (v : IsKey s (λ p. base + p) (slot_of slots) i ds) (w : IsKey s (λ p. base + p) (slot_of slots) j es)
+  where
+    abbrev inner : ℕ → ℕ
+    inner = inner_for n base
 
-  abbrev outer : ℕ → ℕ
-  outer = outer_for n base slots
+    abbrev outer : ℕ → ℕ
+    outer = outer_for n base slots
 
-  key_i : IsKey s inner outer i ds
-  key_i = key_moved s (λ p. base + p) (slot_of slots) inner outer i ds v
-      (λ p h. inner_is n base p (omega (arith, h, long_ds)))
-      (λ k x g names out. outer_is n base slots x (first.low k x g names out) (first.fits k x g names out))
+    key_i : IsKey s inner outer i ds
+    key_i = key_moved s (λ p. base + p) (slot_of slots) inner outer i ds v
+        (λ p h. inner_is n base p (omega (arith, h, long_ds)))
+        (λ k x g names out. outer_is n base slots x (first.low k x g names out) (first.fits k x g names out))
 
-  key_j : IsKey s inner outer j es
-  key_j = key_moved s (λ p. base + p) (slot_of slots) inner outer j es w
-      (λ p h. inner_is n base p (omega (arith, h, long_es)))
-      (λ k x g names out. outer_is n base slots x (second.low k x g names out) (second.fits k x g names out))
+    key_j : IsKey s inner outer j es
+    key_j = key_moved s (λ p. base + p) (slot_of slots) inner outer j es w
+        (λ p h. inner_is n base p (omega (arith, h, long_es)))
+        (λ k x g names out. outer_is n base slots x (second.low k x g names out)
+        (second.fits k x g names out))
 
-  names_x : (x y : ℕ) (a : NameAtOnce s s i j x y) → Names (s.definition a.k) x
-  names_x x y a = names_what_stands (s.definition a.k) a.position x a.first_name
+    names_x : (x y : ℕ) (a : NameAtOnce s s i j x y) → Names (s.definition a.k) x
+    names_x x y a = names_what_stands (s.definition a.k) a.position x a.first_name
 
-  names_y : (x y : ℕ) (a : NameAtOnce s s i j x y) → Names (s.definition a.l) y
-  names_y x y a = names_what_stands (s.definition a.l) a.position y a.second_name
+    names_y : (x y : ℕ) (a : NameAtOnce s s i j x y) → Names (s.definition a.l) y
+    names_y x y a = names_what_stands (s.definition a.l) a.position y a.second_name
 
-  -- both outside
-  both_out :
-      (x y : ℕ) → NameAtOnce s s i j x y → ¬ (IsInGroup s i x) → ¬ (IsInGroup s j y) →
-      (outer x ≡ outer y) ↔ AreEqual s s x y
-  both_out x y a out out_too =
-      let in_i : IsInGroup s i a.k = (a.place, a.first_member) in
-      let in_j : IsInGroup s j a.l = (a.place, a.second_member) in
-      let low_x = first.low a.k x in_i (names_x x y a) out in
-      let low_y = second.low a.l y in_j (names_y x y a) out_too in
-      let is_x = outer_is n base slots x low_x (first.fits a.k x in_i (names_x x y a) out) in
-      let is_y = outer_is n base slots y low_y (second.fits a.l y in_j (names_y x y a) out_too) in
-      let t = told x y low_x low_y (first.marked a.k x in_i (names_x x y a) out)
-      (second.marked a.l y in_j (names_y x y a) out_too) in
-      (λ e. t.0 (is_x ∙ (e ∙ sym is_y)), λ e. sym is_x ∙ (t.1 e ∙ is_y))
-
-  tells_unequal : TellsUnequal s s outer outer i j
-  tells_unequal x y a out e = elim (in_group_or_not s j place y own_j) [
-    | inr out_too ↦ (both_out x y a out out_too).0 e
-    | inl g ↦ absurd (
+    -- both outside
+    both_out :
+        (x y : ℕ) → NameAtOnce s s i j x y → ¬ (IsInGroup s i x) → ¬ (IsInGroup s j y) →
+        (outer x ≡ outer y) ↔ AreEqual s s x y
+    both_out x y a out out_too =
         let in_i : IsInGroup s i a.k = (a.place, a.first_member) in
-        let low = first.low a.k x in_i (names_x x y a) out in
-        let fits = first.fits a.k x in_i (names_x x y a) out in
-        let is = outer_is n base slots x low fits in
-        let past = outer_past n base slots y (later y g) in omega (arith, fits, is, past, e))
-  ]
+        let in_j : IsInGroup s j a.l = (a.place, a.second_member) in
+        let low_x = first.low a.k x in_i (names_x x y a) out in
+        let low_y = second.low a.l y in_j (names_y x y a) out_too in
+        let is_x = outer_is n base slots x low_x (first.fits a.k x in_i (names_x x y a) out) in
+        let is_y = outer_is n base slots y low_y (second.fits a.l y in_j (names_y x y a) out_too) in
+        let t = told x y low_x low_y (first.marked a.k x in_i (names_x x y a) out)
+        (second.marked a.l y in_j (names_y x y a) out_too) in
+        (λ e. t.0 (is_x ∙ (e ∙ sym is_y)), λ e. sym is_x ∙ (t.1 e ∙ is_y))
 
-  pub equal_if_one_key : ds ≡ es → AreEqual s s i j
-  equal_if_one_key e = equal_by_key s s inner outer outer (told_apart n base slots) i j place own_i own_j es
-      (subst (λ (u : List Definition). IsKey s inner outer i u) e key_i) key_j tells_unequal
+    tells_unequal : TellsUnequal s s outer outer i j
+    tells_unequal x y a out e = elim (in_group_or_not s j place y own_j) [
+      | inr out_too ↦ (both_out x y a out out_too).0 e
+      | inl g ↦ absurd (
+          let in_i : IsInGroup s i a.k = (a.place, a.first_member) in
+          let low = first.low a.k x in_i (names_x x y a) out in
+          let fits = first.fits a.k x in_i (names_x x y a) out in
+          let is = outer_is n base slots x low fits in
+          let past = outer_past n base slots y (later y g) in omega (arith, fits, is, past, e))
+    ]
 
-  pub one_key_if_equal : AreEqual s s i j → ds ≡ es
-  one_key_if_equal e = one_key s s inner outer outer (told_apart n base slots) i j place own_i own_j ds es
-      key_i key_j (λ x y a out same. (
-      let like = groups_of s s i j e in
-      let out_too : IsInGroup s j y → ⊥ = λ m. out (m.0, (like.inside x y m.0 a).1 m.1) in
-      (both_out x y a out out_too).1 same)) e
+    pub equal_if_one_key : ds ≡ es → AreEqual s s i j
+    equal_if_one_key e = equal_by_key s s inner outer outer (told_apart n base slots) i j place own_i own_j es
+        (subst (λ (u : List Definition). IsKey s inner outer i u) e key_i) key_j tells_unequal
+
+    pub one_key_if_equal : AreEqual s s i j → ds ≡ es
+    one_key_if_equal e = one_key s s inner outer outer (told_apart n base slots) i j place own_i own_j ds es
+        key_i key_j (λ x y a out same. (
+        let like = groups_of s s i j e in
+        let out_too : IsInGroup s j y → ⊥ = λ m. out (m.0, (like.inside x y m.0 a).1 m.1) in
+        (both_out x y a out out_too).1 same)) e

@@ -27,7 +27,8 @@ contained_none x c = let low = c.1 in omega (arith, low)
 
 -- what is in the lists of the items
 module _ {A B : Type 0} (f : A → List B) where
-  pub in_flat : (xs : List A) (y : B) → Contains (flat_map f xs) y → (x : A) × Contains xs x × Contains (f x) y
+  pub in_flat :
+      (xs : List A) (y : B) → Contains (flat_map f xs) y → (x : A) × Contains xs x × Contains (f x) y
   in_flat [] y c = absurd (contained_none y c)
   in_flat (x ∷ xs) y c = elim (Contains-append_cases (f x) (flat_map f xs) y c) [
     | inl k ↦ (x, contained_first xs x, k)

@@ -94,7 +94,8 @@ read_needed section roots well marks needs start ds b old h marked entries is ne
           let known = p.same_known (λ e. apart (place_of old.known entries) some.0 some.1 e) in
           subst (λ (r : Reading). IsReadTo S marks (start + length ds) r)
           (sym (same_reading new _ slots (p.old_count low) (p.old_firsts low) known))
-          (read_known section roots well marks needs start ds b old.slots old.slot_count old.firsts old.known h
+          (read_known section roots well marks needs start ds b old.slots old.slot_count old.firsts old.known
+          h
           marked entries is k.0 k.2 some.0 some.1 k.1))
     ]
   where

@@ -261,7 +261,8 @@ module _ (section : Section) (roots : List ℕ) (well : IsWellNamed section) (ma
           (map entry_definition es) =
           subst (λ (u : ℕ). IsKey S (λ p. own_base u + p) (slot_of slots) k.head (map entry_definition es))
           as_long k.records in
-          let same = one_key_if_equal S marks slots (length entries) (own_base (length entries)) k.head start 0
+          let same = one_key_if_equal S marks slots (length entries) (own_base (length entries)) k.head start
+          0
           k.member own_start told_here (names_there k.head k.low k.marked) names_here later
           (map entry_definition es) (map entry_definition entries)
           (length-map es entry_definition ∙ as_long) (length-map entries entry_definition) records records_now
@@ -356,7 +357,8 @@ module _ (section : Section) (roots : List ℕ) (well : IsWellNamed section) (ma
       first_is = ap (slice_get firsts_now) (let e : length firsts ≡ length firsts + 0 = omega arith in e)
           ∙ slice_get-right firsts (slot_count ∷ []) 0 slot_count refl
 
-      first_only : (c first : ℕ) → c ≡ length firsts → slice_get firsts_now c ≡ Some first → first ≡ slot_count
+      first_only :
+          (c first : ℕ) → c ≡ length firsts → slice_get firsts_now c ≡ Some first → first ≡ slot_count
       first_only c first e at = same_Some first slot_count (sym at ∙ (ap (slice_get firsts_now) e ∙ first_is))
 
       pub read_new :
@@ -431,7 +433,8 @@ module _ (section : Section) (roots : List ℕ) (well : IsWellNamed section) (ma
         ];
         apart = λ p c first next es less at_p at_c at. elim (get_last firsts slot_count p first at_p) [
           | inr last ↦ absurd (elim (get_last firsts slot_count c next at_c) [
-            | inl old ↦ (let z = slice_get_within firsts c next old in let l = last.0 in omega (arith, z, l, less))
+            | inl old ↦ (let z = slice_get_within firsts c next old in
+                let l = last.0 in omega (arith, z, l, less))
             | inr new ↦ (let l = last.0 in let n = new.0 in omega (arith, l, n, less))
           ])
           | inl old_p ↦ elim (at_other known after entries es (length firsts) p key at) [

@@ -161,7 +161,8 @@ found_marked section roots marks start from count end g well needs a f n e r =
     let filled : 0 < length (definitions_of g) = omega (arith, ends, f, over, low) in (
       filled,
       first_marked section roots marks needs start (definitions_of g)
-          (stands_begins section start g a filled) r.0 (omega (arith, f, over)) (omega (arith, ends, low)) r.3,
+          (stands_begins section start g a filled) r.0 (omega (arith, f, over)) (omega (arith, ends, low))
+          r.3,
     )
 
 pub skipped_ends :
@@ -188,7 +189,8 @@ skipped_ends section marks start from count end g well a f n e slots slots' slot
     let stop : length slots' ≡ end = omega (arith, long, added, n, ends) in
     let r = read_skipped section well marks start (length slots') g a slots (range_with_len 0 count)
     slot_count firsts known
-    (subst (λ (u : ℕ). IsReadTo (index_space section) marks u (reading slots slot_count firsts known)) (sym at) h)
+    (subst (λ (u : ℕ). IsReadTo (index_space section) marks u (reading slots slot_count firsts known))
+    (sym at) h)
     long (λ i over low. none i (omega (arith, f, over)) (omega (arith, stop, low))) in (
       subst (λ (xs : List ℕ). IsReadTo (index_space section) marks (length slots')
           (reading xs slot_count firsts known)) (sym is) r,

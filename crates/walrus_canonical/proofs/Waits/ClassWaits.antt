@@ -112,7 +112,8 @@ to_class (k ∷ cs) n zero slot place e s =
     let same : k ≡ s.class = same_Some k s.class s.at in
     let here : place ≡ n = omega (arith, e) in
     let low = s.low in
-    subst (λ (p : ℕ). Contains (class_waits n k ++ waits_from (suc n) cs) (record { named = slot; waiting = p }))
+    subst (λ (p : ℕ). Contains (class_waits n k ++ waits_from (suc n) cs)
+    (record { named = slot; waiting = p }))
     (sym here)
     (Contains-append_left (class_waits n k) (waits_from (suc n) cs) (record { named = slot; waiting = n })
     (subst (λ (c : Class). Contains (class_waits n c) (record { named = slot; waiting = n })) (sym same)
@@ -130,7 +131,8 @@ pub waits_for :
     NamesSlot classes w.waiting w.named
 waits_for classes waits a w c =
     let r = from_class classes 0 w
-    (Contains-permutation waits (waits_from 0 classes) w (IsPermutation-sym (waits_from 0 classes) waits a.all)
+    (Contains-permutation waits (waits_from 0 classes) w (IsPermutation-sym (waits_from 0 classes) waits
+    a.all)
     c) in
     let e = r.1 in
     let same : r.0 ≡ w.waiting = omega (arith, e) in
@@ -182,7 +184,8 @@ one_counted waits at w n old new is bounded a long there others = record {
         let few = few_counted (take at waits) w.waiting in
         let short = taken_short waits at in
         let inside = slice_get_within waits at w is in
-        let now = there (wait_count (take at waits) w.waiting) was (omega (arith, few, short, inside, bounded)) in
+        let now = there (wait_count (take at waits) w.waiting) was
+        (omega (arith, few, short, inside, bounded)) in
         ap (slice_get new) same ∙ (now ∙ ap (λ (m : ℕ). Some m)
         (sym (counted place w.waiting same ∙ one place same))))
     | inr other ↦ others place other ∙ (a.each place low ∙ ap (λ (m : ℕ). Some m) (sym (none place other)))
