@@ -202,19 +202,3 @@ def statements(function):
 def panics(function):
     """When the function panics at a guard, in words."""
     return [BROKEN[it.words] for it in guards_of(function) if not it.reason]
-
-
-def insert(path, text):
-    """The rewritten text with the guards that are not first in a function."""
-    for _, pattern, new in (it for it in INSERTIONS if it[0] == path):
-        text, count = re.subn(pattern, new, text)
-        if not count:
-            raise ValueError(f'scripts/rust/guards.py: nothing in {path} is like {pattern}')
-    return text
-
-
-def check_paths(paths):
-    """Refuses to go on without a file that an insertion is for."""
-    missing = {it[0] for it in INSERTIONS} - paths
-    if missing:
-        raise ValueError(f'scripts/rust/guards.py: no crate has {", ".join(missing)}')

@@ -20,7 +20,10 @@ MODULES = {
     'programs': (['command_line', 'error_context'], []),
 }
 # What a module has of another one, since walrus has it there.
-ELSEWHERE = {'ir': 'pub use crate::body::{Visitor, VisitorMut, dfs_in_order, dfs_pre_order_mut};\n'}
+ELSEWHERE = {
+    'ir': 'pub use crate::body::{Visitor, VisitorMut, dfs_in_order, dfs_pre_order_mut};\n',
+    'body': 'pub use walrus_traversals::NestedBody;\n',
+}
 HOME = {library: module for module, (libraries, _) in MODULES.items() for library in libraries}
 LIBRARY = f'(?<![\\w:])({"|".join(HOME)})'
 LIBRARY_NAME = re.compile(rf'{LIBRARY}::(\w+)')

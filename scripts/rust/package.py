@@ -4,6 +4,7 @@ import os
 import re
 import shutil
 
+import additions
 import contracts
 import documents
 import examples
@@ -18,8 +19,8 @@ ROOT = os.path.dirname(os.path.dirname(HERE))
 # What is written as it is: the root of the crate, the stand-in for the toolchain's standard library, and tests of guards.
 AS_IT_IS = f'{HERE}/crate'
 ROOTS = ['src/lib.rt', 'src/main.rt']
-# What a type has in Rust alone, by the file that it is in.
-ADDITIONS = {('walrus_ty', 'src/listed.rt'): 'listed.rs'}
+# What takes the place of lines, by file.
+REPLACED = guards.INSERTIONS + additions.REPLACED
 # The file whose examples users don't see, though its functions are public.
 PRIVATE = 'src/sort_key.rt'
 LICENSES = ['LICENSE.md', 'LICENSE-MIT', 'LICENSE-APACHE']
@@ -99,8 +100,8 @@ def rust_text(crate, path, calls, renaming):
         is_guarded = not is_law and (is_public or function.is_of_trait)
         text = text.replace(contracts.body_mark(number), guards.statements(function) if is_guarded else '')
     text = rewriting.with_prelude(text, path in ROOTS and not is_library(crate))
-    text = re.sub(r'\n{3,}', '\n\n', guards.insert(path, text))
-    text += '\n' + read(f'{HERE}/{ADDITIONS[crate, path]}') if (crate, path) in ADDITIONS else ''
+    text = re.sub(r'\n{3,}', '\n\n', rewriting.replace(REPLACED, path, additions.add_clones(text)))
+    text += additions.items().get(f'{crate}/{path}', '')
     return modules.inside(crate, documents.with_aliases(text)) if is_library(crate) else names().outside(text)
 
 
@@ -175,9 +176,17 @@ def is_writable(out):
     return not os.path.isdir(out) or not os.listdir(out) or os.path.isdir(f'{out}/src/rattle_std')
 
 
+def check_paths():
+    """Refuses to go on without a file that something is added to."""
+    added = {path for path, *_ in REPLACED} | set(additions.items())
+    missing = added - {it for crate in crates() for path in sources(crate) for it in (path, f'{crate}/{path}')}
+    if missing:
+        raise ValueError(f'no crate has {", ".join(missing)}')
+
+
 def write_package(out):
     shutil.copytree(AS_IT_IS, out, dirs_exist_ok=True)
-    guards.check_paths({path for crate in crates() for path in sources(crate)})
+    check_paths()
     calls = calls_with_fallible_forms()
     renaming = fallible.Renaming({call for of_file in calls.values() for call in of_file.values()})
     for crate in crates():

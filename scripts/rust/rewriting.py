@@ -108,7 +108,7 @@ COMPILED = [(re.compile(pattern, re.M), text) for pattern, text in RULES]
 
 
 ITEM = re.compile(r'(?P<attributes>(?:^#\[.*\]\n)*)(?P<item>^(?:pub(?:\(\w+\))? )?(?:struct|enum) (?P<name>\w+))', re.M)
-# What is not to be printed: the keys of a hash.
+# What is not to be printed: the keys of a hash. It gets a `Debug` that leaves them out.
 SECRET = {'HashKeys'}
 
 
@@ -142,6 +142,15 @@ def with_prelude(text, is_root):
     lints = LINTS if is_root else ''
     head = re.match(r'(?:(?://!.*|#!\[.*\])?\n)*', text)
     return f'{text[:head.end()]}{lints}use {CRATE}::prelude::*;\n{text[head.end():]}'
+
+
+def replace(rules, path, text):
+    """The rewritten text of a file, by rules of this file: a pattern for its lines, and what takes their place."""
+    for _, pattern, new in (it for it in rules if it[0] == path):
+        text, count = re.subn(pattern, new, text)
+        if not count:
+            raise ValueError(f'nothing in {path} is like {pattern}')
+    return text
 
 
 def rewrite(text):

@@ -9,6 +9,7 @@ use std::hash::{BuildHasher, BuildHasherDefault, Hash};
 const LEAST_SLOTS: usize = 8;
 
 /// A map.
+#[derive(Clone)]
 pub struct HashMap<K, V, S = BuildHasherDefault<FoldHasher>> {
     entries: Vec<(K, V)>,
     // A power of two of them, or none: 0, or half of an entry's hash and, below it, one more than

@@ -1,0 +1,50 @@
+"""What the crate has in Rust alone: items behind those of a file, derives, and other text in place of a file's own."""
+import os
+import re
+
+# The items, behind a line with the crate and the file that they are for.
+FILE = f'{os.path.dirname(os.path.abspath(__file__))}/additions.rs'
+MARK = re.compile(r'^// == (.*)\n', re.M)
+# The types that can be copied in Rust alone.
+COPIED = {'Slot', 'TombstoneArena', 'ArenaSet', 'ModuleTypes', 'ModuleLocals'}
+# By file: a pattern for lines of the rewritten text, and what takes their place.
+REPLACED = [
+    # A hook that is left out does nothing.
+    *((path, r'( +fn \w+\([^;{]*\) -> Result<\(\), Self::Error>)\s*;', r'\1 {\n        Ok(())\n    }')
+      for path in ('src/visitor.rt', 'src/visitor_mut.rt')),
+    ('src/visitor.rt', r'All are\n/// required; one that has nothing to do returns `Ok\(\(\)\)`\.', 'One that\n/// is left out does nothing.'),
+    # Whatever becomes the type of a sequence is taken for it.
+    ('src/function_builder.rt', r'\bty: InstrSeqType,\n', 'ty: impl Into<InstrSeqType>,\n'),
+    ('src/function_builder.rt', r'let id = self\.add_seq\(ty\)', 'let id = self.add_seq(ty.into())'),
+    ('src/function_builder/nested.rt', r'\bty: InstrSeqType,', 'ty: impl Into<InstrSeqType>,'),
+    ('src/function_builder/nested.rt', r'\.add_seq\(ty\)', '.add_seq(ty.into())'),
+    ('src/function_builder/nested.rt', r'let same_ty = ty;', 'let ty: InstrSeqType = ty.into();\n        let same_ty = ty;'),
+    ('src/locals/iter.rt', r"    type Item = &'a Local;\n", '''\\g<0>
+    fn size_hint(&self) -> (usize, Option<usize>) {
+        (self.left.len(), Some(self.left.len()))
+    }
+'''),
+    # The walk of a body that is known to be nested.
+    ('src/traversals.rt', r'(?<=\n    \}\n)    let mut stack', '''    walk(visitor, func, start)
+}
+
+// Walks as `dfs_in_order` does, and checks nothing first.
+pub(crate) fn walk<V: Visitor>(
+    visitor: &mut V,
+    func: &LocalFunction,
+    start: InstrSeqId,
+) -> Result<(), WalkError<V::Error>> {
+    let mut stack'''),
+]
+
+
+def items():
+    """The items by the path of the file that they are for, from the folder crates on."""
+    with open(FILE, encoding='utf-8') as file:
+        _, *parts = MARK.split(file.read())
+    return dict(zip(parts[::2], parts[1::2]))
+
+
+def add_clones(text):
+    """The text with `Clone` for the types that can be copied in Rust alone."""
+    return re.sub(rf'^(?=pub(?:\(crate\))? struct ({"|".join(COPIED)})\b)', '#[derive(Clone)]\n', text, flags=re.M)

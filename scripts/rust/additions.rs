@@ -1,0 +1,171 @@
+// == walrus_ty/src/listed.rt
+
+/// All calls of slices are calls of the list.
+impl<T> std::ops::Deref for Listed<T> {
+    type Target = [T];
+
+    fn deref(&self) -> &[T] {
+        self.as_slice()
+    }
+}
+
+/// The list without items.
+impl<T> Default for Listed<T> {
+    fn default() -> Listed<T> {
+        Listed::from_vec(Vec::new())
+    }
+}
+
+/// `collect` makes a list.
+impl<T> FromIterator<T> for Listed<T> {
+    fn from_iter<I: IntoIterator<Item = T>>(items: I) -> Listed<T> {
+        Listed::from_vec(items.into_iter().collect())
+    }
+}
+// == walrus_id/src/hash_keys.rt
+
+/// The keys are not printed.
+impl std::fmt::Debug for HashKeys {
+    fn fmt(&self, f: &mut std::fmt::Formatter<'_>) -> std::fmt::Result {
+        f.debug_struct("HashKeys").finish_non_exhaustive()
+    }
+}
+// == walrus_arena/src/tombstone_arena.rt
+
+/// The arena without items.
+impl<T> Default for TombstoneArena<T> {
+    fn default() -> Self {
+        TombstoneArena::new()
+    }
+}
+
+impl<T> TombstoneArena<T> {
+    /// The live items for writing, in the order of their ids.
+    pub fn iter_mut(&mut self) -> impl DoubleEndedIterator<Item = (Id<T>, &mut T)> {
+        let live = self.slots.iter_mut().enumerate().filter(|(_, slot)| slot.is_live);
+        live.map(|(at, slot)| (Id::from_index(at), &mut slot.item))
+    }
+}
+// == walrus_arena/src/arena_set.rt
+
+/// The set without items, which finds them by a hash with fixed keys.
+impl<T: Clone + Eq + Hash> Default for ArenaSet<T> {
+    fn default() -> Self {
+        ArenaSet::new()
+    }
+}
+// == walrus_arena/src/iter.rt
+
+impl<T> DoubleEndedIterator for Iter<'_, T> {
+    fn next_back(&mut self) -> Option<Self::Item> {
+        while let Some((slot, rest)) = self.slots.split_last() {
+            self.slots = rest;
+            if slot.is_live {
+                return Some((Id::from_index(self.first + rest.len()), &slot.item));
+            }
+        }
+        None
+    }
+}
+// == walrus_ty/src/ty/references.rt
+
+/// What walrus had as variants before it knew other references.
+#[allow(non_upper_case_globals)]
+impl RefType {
+    /// The same as `FUNCREF`.
+    pub const Funcref: RefType = RefType::FUNCREF;
+    /// The same as `EXTERNREF`.
+    pub const Externref: RefType = RefType::EXTERNREF;
+    /// The same as `EXNREF`.
+    pub const Exnref: RefType = RefType::EXNREF;
+}
+// == walrus_types/src/table.rt
+
+/// The table without types, which finds them by a hash with fixed keys.
+impl Default for ModuleTypes {
+    fn default() -> Self {
+        ModuleTypes::new()
+    }
+}
+// == walrus_types/src/table/iter.rt
+
+impl DoubleEndedIterator for TypesIter<'_> {
+    fn next_back(&mut self) -> Option<Self::Item> {
+        self.items.next_back().map(|(_, ty)| ty)
+    }
+}
+// == ir_instr/src/instr_loc_id.rt
+
+impl std::hash::Hash for InstrLocId {
+    fn hash<H: std::hash::Hasher>(&self, state: &mut H) {
+        self.number.hash(state);
+    }
+}
+// == ir_instr/src/locals.rt
+
+/// The list without locals.
+impl Default for ModuleLocals {
+    fn default() -> Self {
+        ModuleLocals::new()
+    }
+}
+// == ir_instr/src/locals/iter.rt
+
+impl DoubleEndedIterator for LocalsIter<'_> {
+    fn next_back(&mut self) -> Option<Self::Item> {
+        let (local, rest) = self.left.split_last()?;
+        self.left = rest;
+        Some(local)
+    }
+}
+
+impl ExactSizeIterator for LocalsIter<'_> {}
+// == walrus_functions/src/local_function.rt
+
+impl LocalFunction {
+    /// The builder of the function.
+    pub fn builder(&self) -> &FunctionBuilder {
+        &self.builder
+    }
+
+    /// The builder of the function, to go on building.
+    pub fn builder_mut(&mut self) -> &mut FunctionBuilder {
+        &mut self.builder
+    }
+}
+// == walrus_traversals/src/lib.rt
+
+/// A function whose body is nested from a sequence on. Walks from it don't check that again.
+///
+/// ```
+/// use ruffdresser::body::{NestedBody, UsedIds};
+/// # use ruffdresser::{FunctionBuilder, ModuleTypes};
+/// # let func = FunctionBuilder::new(&mut ModuleTypes::new(), &[], &[]).local_func(Vec::new());
+///
+/// let body = NestedBody::new(&func, func.entry_block()).ok_or("not nested")?;
+/// let (mut first, mut second) = (UsedIds::new(), UsedIds::new());
+/// body.dfs_in_order(&mut first)?;
+/// body.dfs_in_order(&mut second)?;
+/// # Ok::<(), Box<dyn std::error::Error>>(())
+/// ```
+#[derive(Clone, Copy, Debug)]
+pub struct NestedBody<'a> {
+    func: &'a walrus_functions::LocalFunction,
+    start: walrus_ir::InstrSeqId,
+}
+
+impl<'a> NestedBody<'a> {
+    /// The function with this sequence, if its body is nested from there on.
+    pub fn new(
+        func: &'a walrus_functions::LocalFunction,
+        start: walrus_ir::InstrSeqId,
+    ) -> Option<Self> {
+        let is_nested = matches!(check_nesting(func, start), Nesting::Nested(_));
+        is_nested.then_some(NestedBody { func, start })
+    }
+
+    /// Walks as the function [`dfs_in_order`] does.
+    pub fn dfs_in_order<V: Visitor>(self, visitor: &mut V) -> Result<(), WalkError<V::Error>> {
+        traversals::walk(visitor, self.func, self.start)
+    }
+}
