@@ -46,6 +46,33 @@ impl<'instr, V: Visitor<'instr>> ruffdresser::ir::Visitor for InOrder<'_, 'instr
     }
 }
 
+// A function whose body is nested from its entry on. Walks from it don't check that again.
+#[derive(Clone, Copy)]
+pub(crate) struct Nested<'instr> {
+    func: &'instr LocalFunction,
+    body: ruffdresser::body::NestedBody<'instr>,
+}
+
+impl<'instr> Nested<'instr> {
+    pub(crate) fn new(func: &'instr LocalFunction) -> Self {
+        let body = ruffdresser::body::NestedBody::new(func.inner(), func.entry_block());
+        Nested { func, body: body.expect("a nested body") }
+    }
+
+    pub(crate) fn walk(self, visitor: &mut impl Visitor<'instr>) {
+        let mut walk = InOrder { visitor, func: Some(self.func.inner()), open: Vec::new() };
+        self.body.dfs_in_order(&mut walk).expect("memory");
+    }
+}
+
+impl std::ops::Deref for Nested<'_> {
+    type Target = LocalFunction;
+
+    fn deref(&self) -> &LocalFunction {
+        self.func
+    }
+}
+
 // The hooks of the fields of one instruction.
 pub(crate) fn visit_fields<'instr>(instr: &Instr, visitor: &mut impl Visitor<'instr>) {
     let mut walk = InOrder { visitor, func: None, open: Vec::new() };
