@@ -59,6 +59,11 @@ impl<'instr> Nested<'instr> {
         Nested { func, body: body.expect("a nested body") }
     }
 
+    pub(crate) fn with_size(func: &'instr LocalFunction) -> (Self, u64) {
+        let nested = Nested::new(func);
+        (nested, func.nested_size(nested))
+    }
+
     pub(crate) fn walk(self, visitor: &mut impl Visitor<'instr>) {
         let mut walk = InOrder { visitor, func: Some(self.func.inner()), open: Vec::new() };
         self.body.dfs_in_order(&mut walk).expect("memory");
