@@ -11,7 +11,7 @@ LAWS = re.compile(r'(^|/)(record_)?laws(/|\.rt$)')
 ALIASES = {'DropInstr': 'Drop', 'LocalFunctions': 'ModuleFunctions', 'data_id': 'data', 'delete_unused_types': 'gc'}
 PUBLIC = re.compile(r'^( *)pub (?:(?:fn|struct|enum|trait) )?(?!try_)(\w+)', re.M)
 FOLDED = ['<details><summary>Contract</summary>']
-HEAD = '| Module | Required | Functions | In Rust |\n|---|---|---|---|\n'
+HEAD = '| Module | Required | Functions |\n|---|---|---|\n'
 
 
 def is_law(path):
@@ -56,12 +56,13 @@ def with_aliases(text):
 
 
 def table(required):
-    """The table of functions that require something: a row for each condition of a module."""
-    rows = {}
+    """The table of functions that require something, with a row for each condition of a module. Behind it is what nothing
+    tests."""
+    tested, untested = {}, {}
     for module, function, found in required:
         for guard in found:
-            is_below = function.path() in guards.DELEGATED
-            how = guard.reason or ('panics, in the call that it makes' if is_below else 'panics')
-            rows.setdefault((module, guard.words, how), []).append(f'`{function.path()}`')
-    return HEAD + ''.join(
-        f'| `{module}` | {words} | {", ".join(names)} | {how} |\n' for (module, words, how), names in rows.items())
+            rows, key = (untested, guard.reason) if guard.reason else (tested, module)
+            rows.setdefault((key, guard.words), []).append(f'`{function.path()}`')
+    rows = [f'| `{module}` | {words} | {", ".join(names)} |\n' for (module, words), names in tested.items()]
+    lines = [f'\nNothing tests that {words} ({", ".join(names)}): {why}.\n' for (why, words), names in untested.items()]
+    return HEAD + ''.join(rows + lines)

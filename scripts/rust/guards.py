@@ -20,7 +20,7 @@ class Guard:
 
 
 DISTINCT = 'rattle_std::guards::are_distinct(ids.iter().map(|id| id.index()))'
-CLOSURE = 'nothing to test: a closure in Rust takes every argument of its type'
+CLOSURE = 'a closure in Rust takes every argument of its type'
 NESTED = 'the body is nested from `start`'
 CHECK = '''match walrus_nesting::try_check_nesting(func, start) {
         Ok(walrus_nesting::Nesting::Nested(_)) => {}
@@ -53,7 +53,7 @@ GUARDS = [
     # Modules.
     (r'IsWrittenAgain bytes\.now new\.now',
      Guard('`new` is what `rename_module` made of `bytes`',
-           reason='nothing to test: only the caller knows with which types and indices it was made')),
+           reason='only the caller knows with which types and indices it was made')),
     # Types and indices.
     (r'IsSome \(signature_of self\.now\.kind\)', Guard('it is a function type', 'self.kind().is_function()')),
     (r'IsSome \(signature_of self\.now\)', Guard('it is a function type', 'self.is_function()')),
