@@ -12,13 +12,15 @@ REPLACED = [
     # A hook that is left out does nothing.
     *((path, r'( +fn \w+\([^;{]*\) -> Result<\(\), Self::Error>)\s*;', r'\1 {\n        Ok(())\n    }')
       for path in ('src/visitor.rt', 'src/visitor_mut.rt')),
-    ('src/visitor.rt', r'All are\n/// required; one that has nothing to do returns `Ok\(\(\)\)`\.', 'One that\n/// is left out does nothing.'),
+    ('src/visitor.rt', r'All are\n/// required; one that has nothing to do returns `Ok\(\(\)\)`\.',
+     'One that\n/// is left out does nothing.'),
     # Whatever becomes the type of a sequence is taken for it.
     ('src/function_builder.rt', r'\bty: InstrSeqType,\n', 'ty: impl Into<InstrSeqType>,\n'),
     ('src/function_builder.rt', r'let id = self\.add_seq\(ty\)', 'let id = self.add_seq(ty.into())'),
     ('src/function_builder/nested.rt', r'\bty: InstrSeqType,', 'ty: impl Into<InstrSeqType>,'),
     ('src/function_builder/nested.rt', r'\.add_seq\(ty\)', '.add_seq(ty.into())'),
-    ('src/function_builder/nested.rt', r'let same_ty = ty;', 'let ty: InstrSeqType = ty.into();\n        let same_ty = ty;'),
+    ('src/function_builder/nested.rt', r'let same_ty = ty;',
+     'let ty: InstrSeqType = ty.into();\n        let same_ty = ty;'),
     ('src/locals/iter.rt', r"    type Item = &'a Local;\n", '''\\g<0>
     fn size_hint(&self) -> (usize, Option<usize>) {
         (self.left.len(), Some(self.left.len()))

@@ -1,5 +1,5 @@
-//! Reads modules, and prints what walrus writes of them: a line for each, with the outcome as it is read and after `gc`. The
-//! lines of its input name the files.
+//! Reads modules, and prints what walrus writes of them: a line for each, with the outcome as it is read and after
+//! `gc`. The lines of its input name the files.
 use std::hash::{DefaultHasher, Hash, Hasher};
 use std::io::{self, BufRead};
 use std::panic::{self, AssertUnwindSafe};

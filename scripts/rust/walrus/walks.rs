@@ -1,8 +1,8 @@
 use ruffdresser::types::HeapType;
 use std::convert::Infallible;
 
-// A visitor of walrus as one of `ruffdresser`. What that shows does not live as long as the function, so this looks it up
-// there again.
+// A visitor of walrus as one of `ruffdresser`. What that shows does not live as long as the function, so this looks it
+// up there again.
 struct InOrder<'v, 'instr, V> {
     visitor: &'v mut V,
     func: Option<&'instr ruffdresser::LocalFunction>,

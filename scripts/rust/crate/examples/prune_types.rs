@@ -1,5 +1,5 @@
-//! Reads the module that its first argument names, and writes it without the types that it does not use to the second. Where
-//! sections describe other bytes that change with it, it is refused.
+//! Writes the module that its first argument names to the second, without the types that it does not use. It is refused
+//! where sections describe other bytes that would change.
 use ruffdresser::arena::HashKeys;
 use ruffdresser::wasm::{NormaliseOptions, UnusedTypes, canonical_module};
 use std::{env, error::Error, fs};
