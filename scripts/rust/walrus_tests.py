@@ -96,7 +96,7 @@ def test_outcomes(cargo, walrus, out, room, report):
 
 def test_all(cargo, room, report):
     """The counts of all tests that can be run."""
-    refused = [is_refused(room, '0.24.3', 'Cargo.toml'), is_refused(room, '0.24.4', 'src/const_expr.rs')]
+    refused = [is_refused(room, '0.24.3', 'Cargo.toml'), is_refused(room, '0.24.4', 'src/arena_set.rs')]
     counts = [report('scripts/walrus_on_this with another version', all(refused))]
     walrus, out = os.environ.get('WALRUS'), f'{room}/walrus'
     if not walrus:
