@@ -1,8 +1,9 @@
 """What scripts/walrus_on_this changes in walrus 0.24.4: rules by file and line, and the texts of our own that they put in.
 
 scripts/rust/walrus/rules.txt has, for each file, a line '== PATH SHA256' and a line '-- FIRST-LAST' before each new text,
-which takes the place of these lines. Behind the numbers may be a file beside it that has the text. Such a file may have
-lines that are written once for each kind of instructions, or once for each kind of ids.
+which takes the place of these lines, or comes before the first one if LAST is below it. Behind the numbers may be a file
+beside it that has the text. Such a file may have lines that are written once for each kind of instructions, or once for
+each kind of ids.
 """
 import dataclasses
 import functools
