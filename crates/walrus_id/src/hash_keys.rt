@@ -3,9 +3,9 @@ ghost use Rattle.std.specs.Prelude.{◌≡◌, IfOk};
 ghost use Rattle.walrus_id.specs.HashKeys.{IsKeyed, fixed_hasher, hasher_with_keys};
 
 use std::hash::{BuildHasher, FoldHasher, Hasher, RandomState};
-use std::io;
 use std::marker::Model;
 use std::random::RandomSource;
+use std::{fmt, io};
 
 /// What the hashes of an `ArenaSet` of `walrus_arena` begin with, and the hashes by which a normal
 /// form finds equal types. The keys change how long a call takes, and no result.
@@ -77,5 +77,12 @@ impl BuildHasher for HashKeys {
 
     fn build_hasher(&self) -> FoldHasher {
         self.initial
+    }
+}
+
+/// The keys are not printed.
+impl fmt::Debug for HashKeys {
+    fn fmt<W: fmt::Write>(&self, f: &mut fmt::Formatter<W>) -> fmt::Result {
+        f.write_str("HashKeys")
     }
 }
