@@ -2,11 +2,13 @@
 ghost use Rattle.std.specs.Prelude.{◌≡◌, ◌≢◌, ◌↔◌, IsTrue, nat_eq};
 ghost use Rattle.std.proofs.Common.{rules};
 ghost use Rattle.std.specs.Cmp.{partial_order_from_own_ties};
-ghost use Rattle.std.specs.Cmp.Rules.{comparing};
+ghost use Rattle.std.specs.Cmp.Rules.{comparing, hashing};
+ghost use Rattle.std.specs.Hash as fed;
 ghost use Rattle.std.specs.Ordering.{nat_cmp, as_partial_cmp};
 ghost use Rattle.ir_instr.specs.Locations.{no_location};
 
 use std::cmp::Ordering;
+use std::hash::{Hash, Hasher};
 use std::marker::Model;
 
 const NO_LOCATION: u32 = 0xffff_ffff;
@@ -14,7 +16,7 @@ const NO_LOCATION: u32 = 0xffff_ffff;
 /// The place of an instruction in the binary that it was read from: a number below 0xffff_ffff, or
 /// the default one of instructions that were read from none.
 ///
-/// Locations are compared and ordered by their number. The default one has 0xffff_ffff, so it comes
+/// Locations are compared, ordered and hashed by their number. The default one has 0xffff_ffff, so it comes
 /// last.
 #[derive(Clone, Copy, Debug)]
 pub struct InstrLocId {
@@ -102,5 +104,15 @@ impl Ord for InstrLocId {
 
     fn cmp(&self, other: &InstrLocId) -> Ordering {
         self.number.cmp(&other.number)
+    }
+}
+
+impl Hash for InstrLocId {
+    ghost hash_input = { fed.u32 };
+
+    ghost respects_eq = { Prim.search (hashing, rules) };
+
+    fn hash<H: Hasher>(&self, state: &mut H) {
+        self.number.hash(state);
     }
 }

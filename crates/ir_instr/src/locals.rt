@@ -149,3 +149,13 @@ impl ModuleLocals {
         }
     }
 }
+
+impl Clone for ModuleLocals {
+    ghost is_clone = { λ l m. m ≡ l };
+
+    fn clone(&self) -> Result<ModuleLocals, AllocError> {
+        Ok(ModuleLocals {
+            locals: self.locals.clone()?,
+        })
+    }
+}

@@ -1,13 +1,19 @@
 -- `items` lists the live items.
-use Rattle.std.proofs.Common.{◌≡◌, ℕ, zero, suc, ◌+◌, ◌-◌, ◌<◌, ◌≤◌, List, [], ◌∷◌, Option, Some, None, All, sym, ap, subst, ◌∙◌, arith, zero-add, add-zero}
+use Rattle.std.proofs.Common.{◌≡◌, ℕ, zero, suc, ◌+◌, ◌-◌, ◌<◌, ◌≤◌, List, [], ◌∷◌, ◌++◌, length, map, Option, Some, None, All, true, false, refl, sym, ap, subst, ◌∙◌, arith, zero-add, add-zero, append-nil, length-append}
 use Rattle.std.specs.List.{AllPairs, Contains}
+use Rattle.std.proofs.lemmas.List.{map-append, length-map}
 use Rattle.std.proofs.lemmas.List.Elements.{All-nil, All-cons, All-weaker, Contains-append_right}
 use Rattle.std.proofs.lemmas.List.Kept.{AllPairs-cons}
+use Rattle.walrus_arena.specs.declared.tombstone_arena.Slot.{Slot}
 use Rattle.walrus_arena.specs.Arena.{Slots, get, items, items_from}
 use Rattle.walrus_arena.specs.Listing.{IsListing}
+use Rattle.walrus_arena.specs.Slot.{value_of}
 
 from_zero : (n : ℕ) → n - 0 ≡ n
 from_zero n = omega arith
+
+pub longer-by_last : {A : Type 0} (xs ys : List A) (last : A) → xs ≡ ys ++ last ∷ [] → length ys < length xs
+longer-by_last xs ys last split = omega (arith, ap length split, length-append ys (last ∷ []))
 
 module _ {T : Type 0} where
   -- the item is live in these slots, of which the first has this id
@@ -79,3 +85,41 @@ module _ {T : Type 0} where
         (complete_from 0 s id value live);
     ascending = ascending_from 0 s;
   }
+
+  items_from-append : (first : ℕ) (s t : Slots T) →
+      items_from first (s ++ t) ≡ items_from first s ++ items_from (first + length s) t
+  items_from-append first [] t = ap (λ k. items_from k t) (sym (add-zero first))
+  items_from-append first (None ∷ rest) t =
+      let place : first + 1 + length rest ≡ first + length (None ∷ rest) = omega arith in
+      items_from-append (first + 1) rest t ∙ ap (λ k. items_from (first + 1) rest ++ items_from k t) place
+  items_from-append first (Some value ∷ rest) t =
+      let place : first + 1 + length rest ≡ first + length (Some value ∷ rest) = omega arith in
+      ap (λ others. (first, value) ∷ others) (items_from-append (first + 1) rest t
+      ∙ ap (λ k. items_from (first + 1) rest ++ items_from k t) place)
+
+  -- the items of slots, of which one more is last
+  items_from-last : (first : ℕ) (slots rest : List (Slot T)) (last : Slot T) → slots ≡ rest ++ last ∷ [] →
+      items_from first (map value_of slots)
+      ≡ items_from first (map value_of rest) ++ items_from (first + length rest) (value_of last ∷ [])
+  items_from-last first slots rest last split = ap (λ all. items_from first (map value_of all)) split
+      ∙ ap (items_from first) (map-append value_of rest (last ∷ []))
+      ∙ items_from-append first (map value_of rest) (value_of last ∷ [])
+      ∙ ap (λ k. items_from first (map value_of rest) ++ items_from (first + k) (value_of last ∷ []))
+      (length-map rest value_of)
+
+  pub items_from-last_dead : (first : ℕ) (slots rest : List (Slot T)) (last : Slot T) → slots ≡ rest ++ last ∷ [] →
+      last.is_live ≡ false → items_from first (map value_of slots) ≡ items_from first (map value_of rest)
+  items_from-last_dead first slots rest last split dead =
+      let none : value_of last ≡ None = rw dead refl in
+      items_from-last first slots rest last split
+      ∙ ap (λ v. items_from first (map value_of rest) ++ items_from (first + length rest) (v ∷ [])) none
+      ∙ append-nil (items_from first (map value_of rest))
+
+  pub items_from-last_live : (first : ℕ) (slots rest : List (Slot T)) (last : Slot T) (id : ℕ) →
+      slots ≡ rest ++ last ∷ [] → last.is_live ≡ true → id ≡ first + length rest →
+      items_from first (map value_of slots) ≡ items_from first (map value_of rest) ++ (id, last.item) ∷ []
+  items_from-last_live first slots rest last id split live place =
+      let some : value_of last ≡ Some last.item = rw live refl in
+      items_from-last first slots rest last split
+      ∙ ap (λ v. items_from first (map value_of rest) ++ items_from (first + length rest) (v ∷ [])) some
+      ∙ ap (λ k. items_from first (map value_of rest) ++ (k, last.item) ∷ []) (sym place)

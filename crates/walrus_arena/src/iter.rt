@@ -1,5 +1,5 @@
 //! The iterator of an arena.
-ghost use Rattle.std.specs.Iterator.{YieldsFirstBy, item_count};
+ghost use Rattle.std.specs.Iterator.{YieldsFirstBy, YieldsLastBy, item_count};
 
 use super::tombstone_arena::Slot;
 use crate::Id;
@@ -41,6 +41,20 @@ impl<'a, T> Iterator for Iter<'a, T> {
             self.first += 1;
             if slot.is_live {
                 return Some((Id::from_index(at), &slot.item));
+            }
+        }
+        None
+    }
+}
+
+impl<'a, T> DoubleEndedIterator for Iter<'a, T> {
+    ghost next_back_gives = { YieldsLastBy (λ item. (item.0, item.1.now)) (λ rest. rest) };
+
+    fn next_back(&mut self) -> Option<(Id<T>, &'a T)> {
+        while let Some((slot, rest)) = self.slots.split_last() {
+            self.slots = rest;
+            if slot.is_live {
+                return Some((Id::from_index(self.first + rest.len()), &slot.item));
             }
         }
         None

@@ -29,7 +29,7 @@ impl Model for LocalFunction {
 }
 
 impl LocalFunction {
-    ghost use Rattle.walrus_functions.specs.LocalLends.{LendsBlock};
+    ghost use Rattle.walrus_functions.specs.LocalLends.{LendsBlock, LendsBuilder};
 
     pub(crate) fn new(builder: FunctionBuilder, args: Vec<LocalId>) -> LocalFunction
         ensures { result ≡ record { body = builder; args = args.items } }
@@ -100,6 +100,21 @@ impl LocalFunction {
         ensures value { slice_get self.old.body.seqs id ≡ Some result.now }
     {
         self.builder.seq_mut(id)
+    }
+
+    /// The builder that it was made of.
+    pub fn builder(&self) -> &FunctionBuilder
+        ensures { result.now ≡ self.now.body }
+    {
+        &self.builder
+    }
+
+    /// The builder that it was made of, to go on building. Another builder can be put in its place.
+    pub fn builder_mut(&mut self) -> &mut FunctionBuilder
+        ensures* writes_back { sem 𝓛 (LendsBuilder self.entry result) }
+        ensures value { result.now ≡ self.old.body }
+    {
+        &mut self.builder
     }
 }
 

@@ -1,5 +1,5 @@
 //! The iterator of a module's locals.
-ghost use Rattle.std.specs.Iterator.{YieldsFirstBy, item_count};
+ghost use Rattle.std.specs.Iterator.{YieldsFirstBy, YieldsLastBy, item_count};
 
 use super::Local;
 use std::marker::Model;
@@ -34,5 +34,25 @@ impl<'a> Iterator for LocalsIter<'a> {
             }
             None => None,
         }
+    }
+}
+
+impl<'a> DoubleEndedIterator for LocalsIter<'a> {
+    ghost next_back_gives = { YieldsLastBy (λ local. local.now) (λ rest. rest) };
+
+    fn next_back(&mut self) -> Option<&'a Local> {
+        match self.left.split_last() {
+            Some((local, rest)) => {
+                self.left = rest;
+                Some(local)
+            }
+            None => None,
+        }
+    }
+}
+
+impl<'a> ExactSizeIterator for LocalsIter<'a> {
+    fn len(&self) -> usize {
+        self.left.len()
     }
 }

@@ -1,5 +1,5 @@
 //! The iterator of a table.
-ghost use Rattle.std.specs.Iterator.{YieldsFirstBy, item_count};
+ghost use Rattle.std.specs.Iterator.{YieldsFirstBy, YieldsLastBy, item_count};
 
 use crate::Type;
 use std::marker::Model;
@@ -29,6 +29,17 @@ impl<'a> Iterator for TypesIter<'a> {
 
     fn next(&mut self) -> Option<&'a Type> {
         match self.items.next() {
+            Some((_, ty)) => Some(ty),
+            None => None,
+        }
+    }
+}
+
+impl<'a> DoubleEndedIterator for TypesIter<'a> {
+    ghost next_back_gives = { YieldsLastBy (λ ty. ty.now) (λ rest. rest) };
+
+    fn next_back(&mut self) -> Option<&'a Type> {
+        match self.items.next_back() {
             Some((_, ty)) => Some(ty),
             None => None,
         }
