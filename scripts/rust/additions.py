@@ -6,7 +6,7 @@ import re
 FILE = f'{os.path.dirname(os.path.abspath(__file__))}/additions.rs'
 MARK = re.compile(r'^// == (.*)\n', re.M)
 # The types that can be copied in Rust alone.
-COPIED = {'Slot', 'TombstoneArena', 'ArenaSet', 'ModuleTypes', 'ModuleLocals'}
+COPIED = {'Slot', 'TombstoneArena', 'ArenaSet', 'ModuleTypes'}
 # By file: a pattern for lines of the rewritten text, and what takes their place.
 REPLACED = [
     # A hook that is left out does nothing.

@@ -22,14 +22,6 @@ impl<T> FromIterator<T> for Listed<T> {
         Listed::from_vec(items.into_iter().collect())
     }
 }
-// == walrus_id/src/hash_keys.rt
-
-/// The keys are not printed.
-impl std::fmt::Debug for HashKeys {
-    fn fmt(&self, f: &mut std::fmt::Formatter<'_>) -> std::fmt::Result {
-        f.debug_struct("HashKeys").finish_non_exhaustive()
-    }
-}
 // == walrus_arena/src/tombstone_arena.rt
 
 /// The arena without items.
@@ -54,19 +46,6 @@ impl<T: Clone + Eq + Hash> Default for ArenaSet<T> {
         ArenaSet::new()
     }
 }
-// == walrus_arena/src/iter.rt
-
-impl<T> DoubleEndedIterator for Iter<'_, T> {
-    fn next_back(&mut self) -> Option<Self::Item> {
-        while let Some((slot, rest)) = self.slots.split_last() {
-            self.slots = rest;
-            if slot.is_live {
-                return Some((Id::from_index(self.first + rest.len()), &slot.item));
-            }
-        }
-        None
-    }
-}
 // == walrus_ty/src/ty/references.rt
 
 /// What walrus had as variants before it knew other references.
@@ -87,50 +66,12 @@ impl Default for ModuleTypes {
         ModuleTypes::new()
     }
 }
-// == walrus_types/src/table/iter.rt
-
-impl DoubleEndedIterator for TypesIter<'_> {
-    fn next_back(&mut self) -> Option<Self::Item> {
-        self.items.next_back().map(|(_, ty)| ty)
-    }
-}
-// == ir_instr/src/instr_loc_id.rt
-
-impl std::hash::Hash for InstrLocId {
-    fn hash<H: std::hash::Hasher>(&self, state: &mut H) {
-        self.number.hash(state);
-    }
-}
 // == ir_instr/src/locals.rt
 
 /// The list without locals.
 impl Default for ModuleLocals {
     fn default() -> Self {
         ModuleLocals::new()
-    }
-}
-// == ir_instr/src/locals/iter.rt
-
-impl DoubleEndedIterator for LocalsIter<'_> {
-    fn next_back(&mut self) -> Option<Self::Item> {
-        let (local, rest) = self.left.split_last()?;
-        self.left = rest;
-        Some(local)
-    }
-}
-
-impl ExactSizeIterator for LocalsIter<'_> {}
-// == walrus_functions/src/local_function.rt
-
-impl LocalFunction {
-    /// The builder of the function.
-    pub fn builder(&self) -> &FunctionBuilder {
-        &self.builder
-    }
-
-    /// The builder of the function, to go on building.
-    pub fn builder_mut(&mut self) -> &mut FunctionBuilder {
-        &mut self.builder
     }
 }
 // == walrus_traversals/src/lib.rt

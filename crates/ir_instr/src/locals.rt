@@ -1,6 +1,7 @@
 //! The locals of functions.
 ghost use Rattle.std.specs.Prelude.{◌≡◌, ◌<◌, ◌↔◌, [], ◌∷◌, ◌++◌, length, map, slice_get, IsTrue, IfOk, OnOk, OnErr, Some};
 ghost use Rattle.std.specs.Borrow.{sem};
+ghost use Rattle.std.specs.List.{AllZip};
 ghost use Rattle.ir_instr.specs.Locals.{unnamed_local, unnamed_locals};
 ghost use Rattle.ir_instr.specs.LocalLends.{LendsLocal};
 
@@ -151,7 +152,7 @@ impl ModuleLocals {
 }
 
 impl Clone for ModuleLocals {
-    ghost is_clone = { λ l m. m ≡ l };
+    ghost is_clone = { AllZip ⟦<Local as Clone>⟧.is_clone };
 
     fn clone(&self) -> Result<ModuleLocals, AllocError> {
         Ok(ModuleLocals {

@@ -73,7 +73,7 @@ fn locals_are_counted_and_given_from_the_back() {
 
 #[test]
 fn keys_are_not_printed() {
-    assert_eq!(format!("{:?}", HashKeys::new(12, 34)), "HashKeys { .. }");
+    assert_eq!(format!("{:?}", HashKeys::new(12, 34)), "HashKeys");
 }
 
 #[test]
