@@ -9,13 +9,13 @@ MODULES = {
     'arena': (['walrus_id', 'walrus_arena'], ['walrus_arena']),
     'types': (['walrus_ty', 'walrus_sections', 'walrus_normal_form', 'walrus_normal_form_check', 'walrus_canonical',
                'walrus_types'],
-              ['walrus_types']),
+              ['walrus_types', 'walrus_canonical']),
     'ir': (['ir_operators', 'ir_instr', 'ir_const_expr', 'walrus_ir'], ['walrus_ir']),
     'body': (['walrus_functions', 'walrus_nesting', 'walrus_traversals', 'walrus_traversals_mut', 'walrus_body'],
              ['walrus_body']),
     'passes': (['walrus_unused', 'walrus_passes'], ['walrus_passes']),
     'text': (['walrus_text'], ['walrus_text']),
-    'wasm': (['wasm_binary', 'wasm_module', 'wasm_normalise'], ['wasm_module', 'wasm_binary', 'wasm_normalise']),
+    'wasm': (['wasm_binary', 'wasm_module', 'wasm_normalise'], ['wasm_normalise', 'wasm_module', 'wasm_binary']),
     # What the programs share. Docs don't show it.
     'programs': (['command_line', 'error_context'], []),
 }
