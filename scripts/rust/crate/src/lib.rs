@@ -2,7 +2,8 @@
 //! and function bodies of WebAssembly modules, and type sections in normal and in canonical form.
 //!
 //! - [`arena`]: arenas whose ids are never reused, and sets of values over them.
-//! - [`types`]: the table of a module's types, the records of a type section, and its normal and canonical forms.
+//! - [`types`]: the table of a module's types, the records of a type section, and its
+//!   normal and canonical forms.
 //! - [`ir`]: instructions, sequences of them, locals and constant expressions.
 //! - [`body`]: functions, their builders, and walks over their bodies.
 //! - [`passes`]: deleting unused types, replacing functions and calls, adapters.
