@@ -149,7 +149,6 @@ pub use Rattle.wasm_binary.specs.Faults
 pub use Rattle.wasm_binary.specs.SectionProgress
 pub use Rattle.wasm_binary.specs.Modules
 pub use Rattle.wasm_binary.specs.ModuleSections
-pub use Rattle.wasm_binary.specs.Replacement
 pub use Rattle.wasm_binary.specs.Sections as SectionPlaces
 pub use Rattle.wasm_binary.specs.CustomSections
 pub use Rattle.wasm_module.specs.Sections
@@ -175,7 +174,6 @@ pub use Rattle.wasm_binary.specs.declared.error.Expected
 pub use Rattle.wasm_binary.specs.declared.error.NotHeld
 pub use Rattle.wasm_binary.specs.declared.error.DecodeError
 pub use Rattle.wasm_binary.specs.declared.error.EncodeError
-pub use Rattle.wasm_binary.specs.declared.error.ReplaceError
 pub use Rattle.wasm_module.specs.declared.scan.ScanError
 pub use Rattle.wasm_module.specs.declared.renaming.RenameError
 pub use Rattle.wasm_module.specs.declared.renaming.Widths

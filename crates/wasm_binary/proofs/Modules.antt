@@ -2,14 +2,13 @@
 pub mod Orders
 pub mod Readings
 pub mod Seen
+pub mod Passed
 pub mod Framing
 pub mod GoingOn
 pub mod Faulting
-pub mod Replacing
 pub mod Uniqueness
 pub mod TypeContents
 pub mod FirstSections
-pub mod Customs
 pub mod BadTypes
 pub mod Around
 pub mod CustomNames

@@ -7,5 +7,4 @@ pub mod Modules
 pub mod ModuleSections
 pub mod Sections
 pub mod CustomSections
-pub mod Replacement
 pub mod Steps

@@ -5,9 +5,8 @@ use Rattle.walrus_ty.specs.declared.records.GroupAt.{GroupAt}
 use Rattle.wasm_binary.specs.declared.error.DecodeError.{DecodeError}
 use Rattle.wasm_binary.specs.declared.error.DecodeError.TheVariants as decode
 use Rattle.wasm_binary.specs.Grammar.{IsTypes}
-use Rattle.wasm_binary.specs.Faults.{IsNoText, BeginsNoText, IsBegun, IsSeenThere, error_offset, NamesUnsupported}
-use Rattle.wasm_binary.specs.Modules.{IsTypeSectionAt, HasNoTypeSection, IsNoModule}
-use Rattle.wasm_binary.specs.Replacement.{IsNoModuleBy}
+use Rattle.wasm_binary.specs.Faults.{IsNoText, BeginsNoText, GoesOn, IsBegun, IsSeenThere, error_offset, NamesUnsupported}
+use Rattle.wasm_binary.specs.Modules.{IsTypeSectionAt, HasNoTypeSection, IsModule, IsNoModule, BeginsNoModule}
 
 -- The bytes are a module, and what its type section contains is a text of these groups. Without
 -- such a section there are none.
@@ -29,6 +28,16 @@ abbrev pub BeginsNoTypes : List ℕ → Type 0
 BeginsNoTypes prefix = (more : List ℕ) (groups : List GroupAt) → HasTypes (prefix ++ more) groups → ⊥
 
 -- ---- what an error says
+
+-- The bytes are no module, and the error says where: in the bytes or at their end. With the byte
+-- there no module goes on, and with the bytes before it one does.
+pub record IsNoModuleBy (bytes : List ℕ) (e : DecodeError) : Type 0 where
+  pub no_module : IsNoModule bytes
+  pub place : IfSome (error_offset e) (λ offset. offset ≤ length bytes)
+  pub stuck :
+      IfSome (error_offset e)
+      (λ offset. offset < length bytes → BeginsNoModule (take (offset + 1) bytes))
+  pub begun : IfSome (error_offset e) (λ offset. GoesOn IsModule (take offset bytes))
 
 -- The bytes are a text of no groups, and the error says where, as one of `decode_types` does.
 pub record IsNoTextBy (bytes : List ℕ) (e : DecodeError) : Type 0 where

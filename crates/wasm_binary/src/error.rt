@@ -4,7 +4,6 @@ ghost use Rattle.wasm_binary.specs.Steps.Refusals.{IsWithin, refusal, error_refu
 ghost use Rattle.wasm_binary.specs.declared.error.EncodeError.TheVariants as encode;
 ghost use Rattle.wasm_binary.specs.declared.error.RawReadError.TheVariants as errors;
 ghost use Rattle.wasm_binary.specs.declared.error.Reason.TheVariants as reason;
-ghost use Rattle.wasm_binary.specs.declared.error.ReplaceError.TheVariants as replace;
 
 use std::alloc::{AllocError, AllocFailed};
 use thiserror::Error;
@@ -107,20 +106,6 @@ pub enum EncodeError {
     /// A list has 2^32 items or more, so that no text counts them.
     #[error("too many items")]
     TooMany,
-    /// Memory was refused.
-    #[error("out of memory")]
-    Memory,
-}
-
-/// Why a type section was not replaced.
-#[derive(Clone, Copy, PartialEq, Eq, Debug, Error)]
-pub enum ReplaceError {
-    /// The bytes are no module.
-    #[error("{0}")]
-    NoModule(DecodeError),
-    /// The content has 2^32 bytes or more, so that no size counts them.
-    #[error("too long a type section")]
-    TooLong,
     /// Memory was refused.
     #[error("out of memory")]
     Memory,
@@ -230,29 +215,5 @@ impl<T: Drop> From<AllocFailed<T>> for EncodeError {
 
     fn from(_: AllocFailed<T>) -> EncodeError {
         EncodeError::Memory
-    }
-}
-
-impl From<DecodeError> for ReplaceError {
-    ghost from_gives = { λ e r. r ≡ replace.NoModule e };
-
-    fn from(error: DecodeError) -> ReplaceError {
-        ReplaceError::NoModule(error)
-    }
-}
-
-impl From<AllocError> for ReplaceError {
-    ghost from_gives = { λ _ e. e ≡ replace.Memory };
-
-    fn from(_: AllocError) -> ReplaceError {
-        ReplaceError::Memory
-    }
-}
-
-impl<T: Drop> From<AllocFailed<T>> for ReplaceError {
-    ghost from_gives = { λ _ e. e ≡ replace.Memory };
-
-    fn from(_: AllocFailed<T>) -> ReplaceError {
-        ReplaceError::Memory
     }
 }

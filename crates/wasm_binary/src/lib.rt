@@ -1,9 +1,8 @@
 //! The type section of a WebAssembly module in the binary format, as records of
 //! [`walrus_ty`](walrus_ty::GroupAt).
 //!
-//! - [`type_section`] finds the type section of a module, and [`replace_type_section`] gives it
-//!   another content. The rest of the module still names the old indices then. [`section_around`]
-//!   says which section a byte is in, and [`custom_section_name`] which name it has.
+//! - [`type_section`] finds the type section of a module. [`section_around`] says which section a
+//!   byte is in, and [`custom_section_name`] which name it has.
 //! - [`decode_types`] reads the groups of a section, and says where bytes are no text of groups.
 //!   [`module_types`] reads the groups of a module. A [`TypeSectionReader`] reads a section group
 //!   by group, in the memory of one.
@@ -36,8 +35,5 @@ mod module;
 
 pub use decode::{TypeSectionReader, decode_types};
 pub use encode::encode_types;
-pub use error::{DecodeError, EncodeError, Expected, NotHeld, ReplaceError};
-pub use module::{
-    SectionPlace, custom_section_name, module_types, replace_type_section, section_around,
-    type_section,
-};
+pub use error::{DecodeError, EncodeError, Expected, NotHeld};
+pub use module::{SectionPlace, custom_section_name, module_types, section_around, type_section};

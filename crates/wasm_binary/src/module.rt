@@ -3,13 +3,10 @@
 //! WebAssembly core specification, "Binary Format", modules.
 ghost use Rattle.std.specs.Prelude.{◌≡◌, ◌+◌, ◌-◌, ◌<◌, ◌≤◌, length, take, IfOk, IfErr, IfSome, IfNone, IsSome};
 ghost use Rattle.wasm_binary.specs.Faults.{GoesOn, error_offset};
-ghost use Rattle.wasm_binary.specs.Replacement.{IsNoModuleBy};
-ghost use Rattle.wasm_binary.specs.Steps.Framing.{IsTypeSectionFrom};
 ghost use Rattle.wasm_binary.specs.Modules.{IsTypeSectionAt, HasNoTypeSection, IsModule, IsNoModule, BeginsNoModule};
 
 mod around;
 mod custom;
-mod replace;
 mod section;
 mod types;
 
@@ -17,7 +14,6 @@ use crate::error::{DecodeError, Fault};
 use crate::module::section::{TYPE, place_after, read_header, read_section};
 pub use around::{SectionPlace, section_around};
 pub use custom::custom_section_name;
-pub use replace::replace_type_section;
 use std::ops::Range;
 pub use types::module_types;
 
@@ -64,37 +60,15 @@ pub fn type_section(bytes: &[u8]) -> Result<Option<Range<usize>>, DecodeError>
     ensures begun { IfErr result (λ e. IfSome (error_offset e) (λ offset.
         GoesOn IsModule (take offset bytes.now))) }
 {
-    match find_type_section(bytes)? {
-        Some(found) => Ok(Some(found.content)),
-        None => Ok(None),
-    }
-}
-
-/// A type section in the bytes of a module.
-#[derive(Drop)]
-struct TypeSection {
-    /// The place of its id.
-    id: usize,
-    /// The place of what it has after its id and size.
-    content: Range<usize>,
-}
-
-fn find_type_section(bytes: &[u8]) -> Result<Option<TypeSection>, DecodeError>
-    ensures found { IfOk result (λ found. IfSome found (λ s.
-        IsTypeSectionFrom bytes.now s.id s.content.start s.content.end)) }
-    ensures none { IfOk result (λ found. IfNone found (HasNoTypeSection bytes.now)) }
-    ensures refused { IfErr result (λ e. IsNoModuleBy bytes.now e) }
-    ensures placed { IfErr result (λ e. IsSome (error_offset e)) }
-{
     match scan_sections(bytes) {
         Ok(found) => Ok(found),
         Err(fault) => Err(fault.refusal(bytes.len())),
     }
 }
 
-fn scan_sections(bytes: &[u8]) -> Result<Option<TypeSection>, Fault>
-    ensures found { IfOk result (λ found. IfSome found (λ s.
-        IsTypeSectionFrom bytes.now s.id s.content.start s.content.end)) }
+fn scan_sections(bytes: &[u8]) -> Result<Option<Range<usize>>, Fault>
+    ensures found { IfOk result (λ found. IfSome found (λ r.
+        IsTypeSectionAt bytes.now r.start r.end)) }
     ensures none { IfOk result (λ found. IfNone found (HasNoTypeSection bytes.now)) }
     ensures refused { IfErr result (λ f. IsNoModule bytes.now) }
     ensures place { IfErr result (λ f. f.left ≤ length bytes.now) }
@@ -110,10 +84,7 @@ fn scan_sections(bytes: &[u8]) -> Result<Option<TypeSection>, Fault>
         let (id, content, after) = read_section(last, rest)?;
         if id == TYPE {
             let end = bytes.len() - after.len();
-            found = Some(TypeSection {
-                id: bytes.len() - rest.len(),
-                content: end - content.len()..end,
-            });
+            found = Some(end - content.len()..end);
         }
         last = place_after(last, id);
         rest = after;

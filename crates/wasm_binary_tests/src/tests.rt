@@ -8,7 +8,6 @@ mod modules;
 mod names;
 mod productions;
 mod refusals;
-mod replacing;
 mod speed;
 mod turns;
 mod unsupported;

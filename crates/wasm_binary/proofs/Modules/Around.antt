@@ -1,18 +1,14 @@
 -- What is known of a module after some of its sections, where the others are not judged.
-use Rattle.std.proofs.Common.{◌≡◌, ℕ, ◌+◌, ◌-◌, ◌<◌, ◌≤◌, List, [], ◌∷◌, ◌++◌, length, take, drop, slice_index_or, Ok, Err, refl, sym, ap, subst, ◌∙◌, arith, append_assoc, append-nil, length-append, take_at}
-use Rattle.std.proofs.lemmas.List.{map-append, drop-drop, take_all, length-drop}
+use Rattle.std.proofs.Common.{◌≡◌, ℕ, ◌+◌, ◌-◌, ◌≤◌, List, [], ◌∷◌, ◌++◌, length, take, drop, slice_index_or, Ok, Err, refl, sym, ap, subst, ◌∙◌, arith, append_assoc, append-nil, length-append, take_at}
+use Rattle.std.proofs.lemmas.List.{drop-drop, take_all, length-drop}
 use Rattle.std.proofs.Math.Seq.{drop-append_seam}
-use Rattle.wasm_binary.specs.Grammar.{AreItems, none}
-use Rattle.wasm_binary.specs.Modules.{Section, section, ids, sized, IsSection, AreInOrder, no_more, header, IsModule, framed}
+use Rattle.wasm_binary.specs.Modules.{Section, ids, AreInOrder, no_more, header, IsModule, framed}
 use Rattle.wasm_binary.specs.Sections.{IsSizeAt}
-use Rattle.wasm_binary.specs.Steps.Framing.{HasPassed, place_after, header_at, section_at}
+use Rattle.wasm_binary.specs.Steps.Framing.{HasPassed}
 use Rattle.wasm_binary.specs.Steps.Reading.{u32_at}
 use Rattle.wasm_binary.specs.declared.error.Fault.{Fault}
-use Rattle.wasm_binary.proofs.Basics.{Reading, Takes}
+use Rattle.wasm_binary.proofs.Basics.{Reading}
 use Rattle.wasm_binary.proofs.Integers.{u32_sound, u32_complete}
-use Rattle.wasm_binary.proofs.Modules.Framing.{joined, one_text, others_of}
-use Rattle.wasm_binary.proofs.Modules.Orders.{order_on}
-use Rattle.wasm_binary.proofs.Modules.Readings.{IsNextSection, header_sound, section_sound}
 
 pub size_there : (bytes rest : List ℕ) (n : ℕ) → u32_at bytes ≡ Ok (n, rest) → IsSizeAt n bytes
 size_there bytes rest n e = let t = u32_sound bytes n rest e in (t.text, rest, t.is_text, t.parts)
@@ -23,56 +19,6 @@ no_error n rest f x e h = absurd cc
 pub no_size_there : (bytes : List ℕ) (f : Fault) → u32_at bytes ≡ Err f → (n : ℕ) → IsSizeAt n bytes → ⊥
 no_size_there bytes f e n t =
     no_error n t.1 f (u32_at bytes) e (ap u32_at t.3 ∙ u32_complete t.0 n t.1 t.2)
-
-pub none_passed : (bytes rest : List ℕ) → header_at bytes ≡ Ok (tt, rest) → HasPassed bytes rest 0
-none_passed bytes rest e =
-    let t = header_sound bytes tt rest e in
-    record {
-      texts = [];
-      before = [];
-      whole = t.parts ∙ ap (λ (u : List ℕ). u ++ rest) t.is_text;
-      are = none;
-      joins = λ after h. h;
-      splits = λ more all h o. (all, h, o);
-    }
-
-one_more : (bytes rest after : List ℕ) (last : ℕ) (s : Section) (p : HasPassed bytes rest last) →
-    Takes (IsNextSection last) rest s after → HasPassed bytes after (place_after last s.id)
-one_more bytes rest after last s p t =
-    let ids-are : ids (p.before ++ s ∷ []) ≡ ids p.before ++ s.id ∷ [] =
-    map-append (λ (k : Section). k.id) p.before (s ∷ []) in
-    record {
-      texts = p.texts ++ t.text;
-      before = p.before ++ s ∷ [];
-      whole = p.whole ∙ ap (λ (u : List ℕ). header ++ u) (ap (λ (u : List ℕ). p.texts ++ u) t.parts
-          ∙ sym (append_assoc p.texts t.text after));
-      are = joined p.texts t.text p.before (s ∷ []) p.are (one_text t.text s t.is_text.0);
-      joins = λ ks o.
-          subst (λ (u : List ℕ). AreInOrder 0 u) (sym (ap (λ (u : List ℕ). u ++ ks) ids-are
-          ∙ append_assoc (ids p.before) (s.id ∷ []) ks))
-          (p.joins (s.id ∷ ks) (order_on last s.id ks t.is_text.1 o));
-      splits = λ more all h o.
-          let k = p.splits (t.text ++ more) all
-          (subst (λ (u : List ℕ). AreItems IsSection u all) (append_assoc p.texts t.text more) h) o in
-          let others = others_of last t.text more s k.0 t.is_text (k.1, k.2) in
-          (others.0, others.1.0, others.1.1);
-    }
-
-pub one_passed : (bytes rest after content : List ℕ) (last id : ℕ) → HasPassed bytes rest last →
-    section_at last rest ≡ Ok (section id content, after) → HasPassed bytes after (place_after last id)
-one_passed bytes rest after content last id p e =
-    one_more bytes rest after last (section id content) p
-    (section_sound last rest (section id content) after e)
-
-section_long : (text : List ℕ) (s : Section) → IsSection text s → 0 < length text
-section_long _ _ (sized id size content h) = omega arith
-
-pub less_left : (rest after content : List ℕ) (last id : ℕ) →
-    section_at last rest ≡ Ok (section id content, after) → length after < length rest
-less_left rest after content last id e =
-    let t = section_sound last rest (section id content) after e in
-    let long = ap (λ (u : List ℕ). length u) t.parts ∙ length-append t.text after in
-    omega (arith, long, section_long t.text (section id content) t.is_text.0)
 
 -- the bytes before those that are left
 abbrev prefix : (bytes rest : List ℕ) (last : ℕ) → HasPassed bytes rest last → List ℕ

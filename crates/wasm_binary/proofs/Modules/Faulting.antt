@@ -1,16 +1,17 @@
 -- Where the reading of a module stops, no module goes on.
-use Rattle.std.proofs.Common.{◌≡◌, ℕ, ◌+◌, ◌-◌, ◌<◌, ◌≤◌, nat_eq, false, inl, inr, List, [], ◌∷◌, ◌++◌, length, take, Option, Ok, Err, refl, sym, ap, subst, ◌∙◌, arith, append_assoc, length-append, take_at}
+use Rattle.std.proofs.Common.{◌≡◌, ℕ, ◌+◌, ◌-◌, ◌<◌, ◌≤◌, nat_eq, false, inl, inr, List, [], ◌∷◌, ◌++◌, length, take, Ok, Err, refl, sym, ap, subst, ◌∙◌, arith, append_assoc, length-append, take_at}
 use Rattle.std.proofs.lemmas.List.{append_cancel_left}
 use Rattle.wasm_binary.specs.declared.error.Fault.{Fault}
 use Rattle.wasm_binary.specs.Faults.{GoesOn}
-use Rattle.wasm_binary.specs.Modules.{Section, header, IsModule, framed, IsNoModule, BeginsNoModule}
+use Rattle.wasm_binary.specs.Grammar.{AreItems}
+use Rattle.wasm_binary.specs.Modules.{Section, IsSection, header, IsModule, framed, IsNoModule, BeginsNoModule}
 use Rattle.wasm_binary.specs.Steps.Reading.{IsSeenAtOnce}
-use Rattle.wasm_binary.specs.Steps.Framing.{header_at, section_at}
+use Rattle.wasm_binary.specs.Steps.Framing.{HasPassed, header_at, section_at}
 use Rattle.wasm_binary.proofs.Basics.{Reading}
 use Rattle.wasm_binary.proofs.Faults.{failed, DoesNotRead, Stops}
 use Rattle.wasm_binary.proofs.Modules.Readings.{header_complete, header_stuck, section_stuck}
 use Rattle.wasm_binary.proofs.Modules.Seen.{header_seen, section_seen}
-use Rattle.wasm_binary.proofs.Modules.Framing.{AreBehind, begins, State}
+use Rattle.wasm_binary.proofs.Modules.Passed.{AreBehind, begins}
 use Rattle.wasm_binary.proofs.Modules.GoingOn.{StopsBehind, header_goes_on, section_goes_on, goes_on_before}
 
 -- what a fault says of the bytes
@@ -86,14 +87,13 @@ header_faulty bytes f e =
 
 -- ---- sections
 
-no_section : {R : Type 0} (opening start stop : R → ℕ) (bytes rest : List ℕ) (last : ℕ) (found : Option R)
-    (state : State opening start stop bytes rest last found) (xs : List ℕ)
+no_section : (bytes rest : List ℕ) (last : ℕ) (state : HasPassed bytes rest last) (xs : List ℕ)
     → (xs ≡ [] → ⊥) → DoesNotRead (section_at last) xs → IsNoModule (header ++ (state.texts ++ xs))
-no_section opening start stop bytes rest last found state xs some n sections h =
+no_section bytes rest last state xs some n sections h =
     let m = module_parts (header ++ (state.texts ++ xs)) sections h in
     let same : m.0 ≡ state.texts ++ xs = append_cancel_left header m.0 (state.texts ++ xs) (sym m.1) in
-    let a = state.splits xs sections (subst (λ (u : List ℕ). AreBehind 0 u sections) same m.2) in
-    elim (begins last xs a.0 a.1.0 a.1.1) [
+    let a = state.splits xs sections (subst (λ (u : List ℕ). AreItems IsSection u sections) same m.2.0) m.2.1 in
+    elim (begins last xs a.0 a.1 a.2) [
       | inl e ↦ some e.0
       | inr b ↦ not_both (section_at last xs) n.0 (b.first, b.rest) n.1 b.reads
     ]
@@ -106,17 +106,16 @@ not_empty : (prefix other : List ℕ) (b : ℕ) → prefix ++ b ∷ other ≡ []
 not_empty [] other b e = absurd cc
 not_empty (x ∷ prefix) other b e = absurd cc
 
-pub section_faulty : {R : Type 0} (opening start stop : R → ℕ) (bytes rest : List ℕ) (last : ℕ)
-    (found : Option R) (f : Fault) → State opening start stop bytes rest last found
+pub section_faulty : (bytes rest : List ℕ) (last : ℕ) (f : Fault) → HasPassed bytes rest last
     → false ≡ nat_eq (length rest) 0 → section_at last rest ≡ Err f → IsFaulty bytes f
-section_faulty opening start stop bytes rest last found f state more e =
+section_faulty bytes rest last f state more e =
     let some = not_nothing rest more in
     let pre : List ℕ = header ++ state.texts in
     let whole : bytes ≡ pre ++ rest = state.whole ∙ sym (append_assoc header state.texts rest) in
     faulty (section_at last) bytes pre rest f whole (section_stuck last rest f e) (section_seen last rest f e)
-    (subst IsNoModule (sym state.whole) (no_section opening start stop bytes rest last found state rest some
+    (subst IsNoModule (sym state.whole) (no_section bytes rest last state rest some
     (f, e)))
-    (section_goes_on opening start stop bytes rest last found f state e)
+    (section_goes_on bytes rest last f state e)
     (λ b prefix other n. subst IsNoModule (sym (append_assoc header state.texts (prefix ++ b ∷ other)))
-    (no_section opening start stop bytes rest last found state (prefix ++ b ∷ other) (not_empty prefix other b)
+    (no_section bytes rest last state (prefix ++ b ∷ other) (not_empty prefix other b)
     n))

@@ -1,12 +1,13 @@
 -- The sections of a module up to its type section, all of which are custom.
-use Rattle.std.proofs.Common.{◌≡◌, ℕ, ◌<◌, ◌≤◌, inl, inr, List, [], ◌∷◌, ◌++◌, length, take, drop, refl, sym, ap, subst, ◌∙◌, arith, append_assoc, append-nil, take-append-drop}
+use Rattle.std.proofs.Common.{◌≡◌, ℕ, suc, suc-le-suc, ◌<◌, ◌≤◌, inl, inr, List, [], ◌∷◌, ◌++◌, length, take, drop, refl, sym, ap, subst, ◌∙◌, arith, append_assoc, append-nil, take-append-drop}
 use Rattle.std.proofs.Math.Seq.{take-append_seam}
 use Rattle.std.proofs.lemmas.List.{append_cancel_left, take-append-le}
 use Rattle.std.specs.Prelude.{slice_range}
+use Rattle.std.specs.List.{All}
 use Rattle.walrus_ty.specs.declared.records.GroupAt.{GroupAt}
 use Rattle.wasm_binary.specs.Leb128.{IsU32}
 use Rattle.wasm_binary.specs.Grammar.{AreItems, none, next, IsTypes}
-use Rattle.wasm_binary.specs.Modules.{Section, ids, IsSection, sized, AreInOrder, header, AreAroundTypes, around, IsTypeSectionAt, HasNoTypeSection}
+use Rattle.wasm_binary.specs.Modules.{Section, ids, IsSection, sized, AreInOrder, header, IsOther, AreAroundTypes, around, IsTypeSectionAt, HasNoTypeSection}
 use Rattle.wasm_binary.specs.ModuleSections.{HasTypes, in_section, without_section}
 use Rattle.wasm_binary.specs.Steps.Reading.{u32_at}
 use Rattle.wasm_binary.specs.Steps.Framing.{place_of, place_after, section_at}
@@ -15,10 +16,21 @@ use Rattle.wasm_binary.proofs.Integers.{u32_complete}
 use Rattle.wasm_binary.proofs.Modules.Orders.{place_is, after_is, order_parts}
 use Rattle.wasm_binary.proofs.Modules.Readings.{section_complete}
 use Rattle.wasm_binary.proofs.Modules.Faulting.{module_parts}
-use Rattle.wasm_binary.proofs.Modules.Replacing.{AreOthers, are_others}
 use Rattle.wasm_binary.proofs.Modules.TypeContents.{content_is}
 
 -- ---- they are custom
+
+-- none of the ids is that of type sections
+abbrev AreOthers : List ℕ → Type 0
+AreOthers [] = Unit {0}
+AreOthers (id ∷ ks) = (id ≡ 1 → ⊥) × AreOthers ks
+
+are_others : (sections : List Section) → All IsOther sections → AreOthers (ids sections)
+are_others [] h = tt
+are_others (s ∷ sections) h = (
+  h 0 s (omega arith),
+  are_others sections (λ k d lt. h (suc k) d (suc-le-suc lt)),
+)
 
 -- each of the ids is that of custom sections
 abbrev pub AreCustoms : List ℕ → Type 0

@@ -1,5 +1,5 @@
 -- Where the reading of a module stops, a module goes on with the bytes before.
-use Rattle.std.proofs.Common.{◌≡◌, ℕ, ◌^◌, ◌+◌, ◌-◌, ◌≤◌, inl, nat_eq, nat_lt, nat_le, List, [], ◌∷◌, ◌++◌, length, take, Option, refl, sym, ap, subst, ◌∙◌, arith, append_assoc, append-nil, length-append, take_at, eqb-true}
+use Rattle.std.proofs.Common.{◌≡◌, ℕ, ◌^◌, ◌+◌, ◌-◌, ◌≤◌, inl, nat_eq, nat_lt, nat_le, List, [], ◌∷◌, ◌++◌, length, take, refl, sym, ap, subst, ◌∙◌, arith, append_assoc, append-nil, length-append, take_at, eqb-true}
 use Rattle.std.proofs.Math.ListN.{replicate}
 use Rattle.std.proofs.lemmas.Bool.{leb-false}
 use Rattle.std.proofs.lemmas.List.{map-append, length-replicate}
@@ -12,14 +12,14 @@ use Rattle.wasm_binary.specs.Grammar.{none}
 use Rattle.wasm_binary.specs.Leb128.{last, IsU32}
 use Rattle.wasm_binary.specs.Modules.{Section, section, ids, AreInOrder, no_more, magic, version, header, IsModule, framed}
 use Rattle.wasm_binary.specs.Steps.Reading.{◌>>=◌, u32_at}
-use Rattle.wasm_binary.specs.Steps.Framing.{literal_at, header_at, place_of, place_after, id_at, content_at, section_at}
+use Rattle.wasm_binary.specs.Steps.Framing.{HasPassed, literal_at, header_at, place_of, place_after, id_at, content_at, section_at}
 use Rattle.wasm_binary.proofs.Basics.{Reading, IsSound, done, which}
 use Rattle.wasm_binary.proofs.Integers.{u32_sound}
-use Rattle.wasm_binary.proofs.Faults.{failed, stop, here, left_is, map_err, step_err}
+use Rattle.wasm_binary.proofs.Faults.{failed, here, left_is, map_err, step_err}
 use Rattle.wasm_binary.proofs.Beginnings.{integer_unended}
 use Rattle.wasm_binary.proofs.Modules.Orders.{order_on}
 use Rattle.wasm_binary.proofs.Modules.Readings.{IsLiteral, literal_sound, IsHeader, both, IsNextId, id_sound, IsContent, IsNextSection, next_section}
-use Rattle.wasm_binary.proofs.Modules.Framing.{State, joined, one_text}
+use Rattle.wasm_binary.proofs.Modules.Passed.{joined, one_text}
 
 -- Reading stopped behind `prefix`, with which a text goes on.
 pub record StopsBehind {A : Type 0} (IsText : List ℕ → A → Type 0) (bytes : List ℕ) (f : Fault) : Type 0 where
@@ -213,11 +213,9 @@ section_stops before bytes f e =
     (id_stops before) content_stops (0 ∷ []) [] empty_content (next_section before) bytes f e
 
 -- behind those that were read
-pub section_goes_on : {R : Type 0} (opening start stop : R → ℕ) (bytes rest : List ℕ) (before : ℕ)
-    (found : Option R) (f : Fault)
-    → State opening start stop bytes rest before found → section_at before rest ≡ failed f →
-    StopsBehind IsModule bytes f
-section_goes_on opening start stop bytes rest before found f state e =
+pub section_goes_on : (bytes rest : List ℕ) (before : ℕ) (f : Fault) → HasPassed bytes rest before →
+    section_at before rest ≡ failed f → StopsBehind IsModule bytes f
+section_goes_on bytes rest before f state e =
     let s = section_stops before rest f e in
     let g = s.goes_on in
     let v : Section = g.value in

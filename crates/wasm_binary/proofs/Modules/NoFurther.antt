@@ -6,7 +6,7 @@ use Rattle.wasm_binary.specs.Modules.{IsSection, header}
 use Rattle.wasm_binary.specs.Sections.{NoneEndsBetween, HasNoHeaderBy}
 use Rattle.wasm_binary.specs.Steps.Framing.{HasPassed, HeaderLeavesFewer, LeavesFewer, header_at, section_at}
 use Rattle.wasm_binary.proofs.Modules.Faulting.{module_parts}
-use Rattle.wasm_binary.proofs.Modules.Framing.{begins}
+use Rattle.wasm_binary.proofs.Modules.Passed.{begins}
 use Rattle.wasm_binary.proofs.Modules.Readings.{header_complete, section_sound, section_complete}
 
 -- one list, cut at two places

@@ -7,7 +7,7 @@ use Rattle.wasm_binary.specs.Steps.Framing.{place_after}
 use Rattle.wasm_binary.proofs.Basics.{value_is, rest_is}
 use Rattle.wasm_binary.proofs.Modules.Orders.{order_parts}
 use Rattle.wasm_binary.proofs.Modules.Readings.{section_complete}
-use Rattle.wasm_binary.proofs.Modules.Framing.{AreBehind, begins, nothing_reads, joined}
+use Rattle.wasm_binary.proofs.Modules.Passed.{AreBehind, begins, nothing_reads, joined}
 use Rattle.wasm_binary.proofs.Modules.Faulting.{module_parts}
 
 same_sections : (last : ℕ) (bytes : List ℕ) (a b : List Section) → AreItems IsSection bytes a →

@@ -1,20 +1,12 @@
 -- Reading a module's header and sections from left to right: the first fault, or what was read and
 -- the bytes after it.
-use Rattle.std.specs.Prelude.{◌≡◌, ℕ, ◌<◌, Bool, false, List, [], ◌∷◌, ◌++◌, length, take, drop, Result, Ok, Err, nat_lt, nat_le, nat_eq, cond}
+use Rattle.std.specs.Prelude.{◌≡◌, ℕ, ◌<◌, List, [], ◌∷◌, ◌++◌, length, take, drop, Result, Ok, Err, nat_lt, nat_le, nat_eq, cond}
 use Rattle.wasm_binary.specs.declared.error.Expected.{Expected}
 use Rattle.wasm_binary.specs.declared.error.Expected.TheVariants as expected
 use Rattle.wasm_binary.specs.declared.error.Fault.{Fault}
-use Rattle.std.specs.List.{All}
 use Rattle.wasm_binary.specs.Grammar.{AreItems}
-use Rattle.wasm_binary.specs.Modules.{Section, section, ids, IsSection, AreInOrder, magic, version, header, IsTypeSectionAt}
-use Rattle.wasm_binary.specs.Replacement.{IsCustom, BeginsWithNoCustom}
+use Rattle.wasm_binary.specs.Modules.{Section, section, ids, IsSection, AreInOrder, magic, version, header}
 use Rattle.wasm_binary.specs.Steps.Reading.{◌>>=◌, expected_error, u32_at}
-
--- The type section whose id stands at `opening`, and whose content begins at `start` and ends
--- before `stop`.
-pub record IsTypeSectionFrom (bytes : List ℕ) (opening start stop : ℕ) : Type 0 where
-  pub there : IsTypeSectionAt bytes start stop
-  pub opens : opening ≡ length there.prefix
 
 -- Some sections of a module were passed, the last of which that isn't custom has the place `last`,
 -- and these bytes are left.
@@ -28,20 +20,6 @@ pub record HasPassed (bytes rest : List ℕ) (last : ℕ) : Type 0 where
       (more : List ℕ) (all : List Section) → AreItems IsSection (texts ++ more) all
       → AreInOrder 0 (ids all)
       → (after : List Section) × AreItems IsSection more after × AreInOrder last (ids after)
-
--- the bytes behind the custom sections with which a module begins
-pub record IsBehindCustoms (bytes rest : List ℕ) : Type 0 where
-  pub texts : List ℕ
-  pub sections : List Section
-  pub parts : bytes ≡ header ++ (texts ++ rest)
-  pub are : AreItems IsSection texts sections
-  pub customs : All IsCustom sections
-  pub first : BeginsWithNoCustom rest
-
--- the first byte is the id of custom sections
-unfoldable pub begins_custom : List ℕ → Bool
-begins_custom [] = false
-begins_custom (b ∷ bytes) = nat_eq b 0
 
 -- What a function returned, seen by view, is what reading gives.
 abbrev pub Reads : {X Y : Type 0} → (X → Y) → Result X Fault → Result Y Fault → Type 0

@@ -2,7 +2,7 @@
 //! WebAssembly core specification, "Binary Format", sections and modules.
 ghost use Rattle.std.specs.Prelude.{◌≡◌};
 ghost use Rattle.wasm_binary.specs.Modules.{section};
-ghost use Rattle.wasm_binary.specs.Steps.Framing.{begins_custom, Reads, literal_at, header_at, place_of, place_after, id_at, content_at, section_at};
+ghost use Rattle.wasm_binary.specs.Steps.Framing.{Reads, literal_at, header_at, place_of, place_after, id_at, content_at, section_at};
 
 use crate::error::{Expected, Fault};
 use crate::leb128::read_size;
@@ -70,17 +70,6 @@ fn read_id(last: u8, bytes: &[u8]) -> Result<(u8, &[u8]), Fault>
         return Err(Fault::at(bytes, Expected::LaterSection));
     }
     Ok((id, rest))
-}
-
-/// Whether the sections in these bytes begin with a custom one.
-#[tactic(auto, unfolding(crate::specs::Steps::Framing::begins_custom))]
-pub fn begins_custom(bytes: &[u8]) -> bool
-    ensures { result ≡ begins_custom bytes.now }
-{
-    match bytes {
-        [id, ..] => *id == CUSTOM,
-        [] => false,
-    }
 }
 
 /// The place of the last section that is not custom, after one of this id.

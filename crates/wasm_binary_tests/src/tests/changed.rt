@@ -6,7 +6,7 @@
 use super::*;
 use crate::assertions::assert_equal;
 use std::test::*;
-use wasm_binary::{encode_types, replace_type_section};
+use wasm_binary::encode_types;
 
 /// Two function types. The bytes are their shortest text.
 const FUNCTIONS: [u8; 13] = [
@@ -144,30 +144,18 @@ fn module_changes(alloc: Global, bytes: &[u8], at: usize) -> Result<Tally, Fail>
     let mut tally = (0, 0);
     for byte in 0..=255 {
         let changed = with_byte(alloc, bytes, at, byte)?;
-        tally = add_outcome(tally, bad_byte_of_module(alloc, &changed)?);
+        tally = add_outcome(tally, bad_byte_of_module(&changed)?);
     }
     Ok(tally)
 }
 
 /// The place of the first bad byte of a module: none where the bytes are one.
-fn bad_byte_of_module(alloc: Global, bytes: &[u8]) -> Result<Option<usize>, Fail> {
+fn bad_byte_of_module(bytes: &[u8]) -> Result<Option<usize>, Fail> {
     match content_of(bytes) {
-        Ok(Some(content)) if stands_again(alloc, bytes, content) => Ok(None),
-        Ok(Some(_)) => Err("the module has another content".into()),
-        Ok(None) => Ok(None),
+        Ok(_) => Ok(None),
         Err(DecodeError::Malformed { offset, .. }) => Ok(Some(offset)),
         Err(_) => Err("the error has no place".into()),
     }
-}
-
-/// Whether the module with the content of its type section put there again has that content, and
-/// is these bytes or shorter.
-fn stands_again(alloc: Global, bytes: &[u8], content: &[u8]) -> bool {
-    let Ok(new) = replace_type_section(alloc, bytes, content) else {
-        return false;
-    };
-    let is_shortest = new.len() < bytes.len() || new.as_slice() == bytes;
-    is_shortest && content_of(&new) == Ok(Some(content))
 }
 
 /// With how many of the 256 bytes at a place the module has no type section.

@@ -1,8 +1,7 @@
 //! Modules that a compiler made of C: Debian clang 14.0.6, and its linker.
 use super::*;
-use crate::assertions::assert_equal;
 use std::test::*;
-use wasm_binary::{encode_types, replace_type_section};
+use wasm_binary::encode_types;
 
 // What `clang --target=wasm32 -O1 -c` makes of
 //
@@ -79,28 +78,12 @@ fn has_types(alloc: Global, bytes: &[u8], types: &[GroupAt]) -> bool {
     }
 }
 
-/// The module with what its types are written as in place of them.
-fn rewrite_types(alloc: Global, bytes: &[u8]) -> Result<Vec<u8>, Fail> {
-    let content = content_of(bytes).ok().ok_or("the bytes are a module")?;
-    let content = content.ok_or("the module has types")?;
-    let types = decode_types(alloc, content)
-        .ok()
-        .ok_or("the types are read")?;
-    let text = encode_types(alloc, &types)
-        .ok()
-        .ok_or("the types are written")?;
-    let new = replace_type_section(alloc, bytes, &text).ok();
-    Ok(new.ok_or("the types are replaced")?)
-}
-
-/// The module with a size of its type section in one byte in place of the five after its id.
-fn with_short_size(alloc: Global, bytes: &[u8], size: u8) -> Result<Vec<u8>, Fail> {
-    let (front, rest) = bytes.split_at_checked(9).ok_or("there is a size")?;
-    let (_, rest) = rest.split_at_checked(5).ok_or("the size has five bytes")?;
-    let mut short = front.to_vec(alloc)?;
-    short.push(size)?;
-    short.extend_from_slice(rest)?;
-    Ok(short)
+/// Whether the types of the module are written as they are there.
+fn is_written_so(alloc: Global, bytes: &[u8], types: &[GroupAt]) -> bool {
+    let Ok(text) = encode_types(alloc, types) else {
+        return false;
+    };
+    content_of(bytes) == Ok(Some(text.as_slice()))
 }
 
 /// A group of one function type.
@@ -117,10 +100,7 @@ fn types_of_an_object(rt: HostRuntime) -> Result<(), Fail> {
         single(rt.alloc(), &[ValAt::F64, ValAt::F32], &[ValAt::F64])?,
     ];
     assert!(rt; has_types(rt.alloc(), &ARITHMETIC, &types));
-    let new = rewrite_types(rt.alloc(), &ARITHMETIC)?;
-    assert!(rt; has_types(rt.alloc(), &new, &types));
-    let wanted = with_short_size(rt.alloc(), &ARITHMETIC, 21)?;
-    assert_equal(&rt, new.as_slice(), wanted.as_slice());
+    assert!(rt; is_written_so(rt.alloc(), &ARITHMETIC, &types));
     Ok(())
 }
 
@@ -135,10 +115,7 @@ fn types_of_vectors_and_several_results(rt: HostRuntime) -> Result<(), Fail> {
         )?,
     ];
     assert!(rt; has_types(rt.alloc(), &VECTORS, &types));
-    let new = rewrite_types(rt.alloc(), &VECTORS)?;
-    assert!(rt; has_types(rt.alloc(), &new, &types));
-    let wanted = with_short_size(rt.alloc(), &VECTORS, 14)?;
-    assert_equal(&rt, new.as_slice(), wanted.as_slice());
+    assert!(rt; is_written_so(rt.alloc(), &VECTORS, &types));
     Ok(())
 }
 
@@ -151,8 +128,6 @@ fn types_of_a_linked_module(rt: HostRuntime) -> Result<(), Fail> {
         single(rt.alloc(), &[], &[ValAt::I32])?,
     ];
     assert!(rt; has_types(rt.alloc(), &APPLY, &types));
-    let new = rewrite_types(rt.alloc(), &APPLY)?;
-    assert!(rt; has_types(rt.alloc(), &new, &types));
-    assert_equal(&rt, new.as_slice(), APPLY.as_slice());
+    assert!(rt; is_written_so(rt.alloc(), &APPLY, &types));
     Ok(())
 }

@@ -3,9 +3,7 @@
 use super::*;
 use crate::assertions::assert_equal;
 use std::test::*;
-use wasm_binary::{
-    EncodeError, ReplaceError, TypeSectionReader, encode_types, module_types, replace_type_section,
-};
+use wasm_binary::{EncodeError, TypeSectionReader, encode_types, module_types};
 
 // The groups of the bytes. After a refusal the call is made again.
 fn decode_again(alloc: Global, bytes: &[u8]) -> Result<Vec<GroupAt>, DecodeError> {
@@ -112,24 +110,4 @@ fn a_refused_encode_writes_again(rt: HostRuntime) {
     assert_equal(&rt, groups.len(), 2);
     assert_equal(&rt, sizes(&groups[0]), [1, 9, 0]);
     assert_equal(&rt, sizes(&groups[1]), [1, 1, 0]);
-}
-
-// The module with other types. After a refusal the call is made again.
-fn replace_again(alloc: Global, bytes: &[u8], content: &[u8]) -> Result<Vec<u8>, ReplaceError> {
-    match replace_type_section(alloc, bytes, content) {
-        Err(ReplaceError::Memory) => replace_type_section(alloc, bytes, content),
-        other => other,
-    }
-}
-
-#[test]
-fn a_refused_replacement_is_made_again(rt: HostRuntime) {
-    let bytes = [0, 0x61, 0x73, 0x6D, 1, 0, 0, 0, 1, 1, 0, 3, 1, 0];
-    let new = replace_again(rt.alloc(), &bytes, &[1, 0x60, 0, 0])
-        .ok()
-        .expect(&rt, "the second call replaces");
-    let wanted = [
-        0, 0x61, 0x73, 0x6D, 1, 0, 0, 0, 1, 4, 1, 0x60, 0, 0, 3, 1, 0,
-    ];
-    assert_equal(&rt, new.as_slice(), wanted.as_slice());
 }

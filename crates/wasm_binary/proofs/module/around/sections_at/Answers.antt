@@ -1,5 +1,5 @@
 use Rattle.std.proofs.Common.{arith}
-use Rattle.wasm_binary.proofs.Modules.Around.{none_passed, one_passed, less_left}
+use Rattle.wasm_binary.proofs.Modules.Passed.{none_passed, one_passed, less_left}
 use Rattle.wasm_binary.proofs.module.around.sections_at.Goals as goal
 
 pub loop-id-init : goal.loop-id-init
