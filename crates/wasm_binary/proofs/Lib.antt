@@ -7,8 +7,7 @@ pub mod Composites
 pub mod Groups
 pub mod Faults
 pub mod FirstFaults
-pub mod Beginnings
-pub mod SectionBeginnings
+pub mod ListFaults
 pub mod Places
 pub mod Sections
 pub mod Progress

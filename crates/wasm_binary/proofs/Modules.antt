@@ -1,10 +1,8 @@
 -- How the sections of a module are read.
 pub mod Orders
 pub mod Readings
-pub mod Seen
 pub mod Passed
 pub mod Framing
-pub mod GoingOn
 pub mod Faulting
 pub mod Uniqueness
 pub mod TypeContents

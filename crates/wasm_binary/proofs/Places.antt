@@ -69,7 +69,7 @@ sub_is_no_group : (is_final : Bool) → nat_eq (sub_code is_final) 0x4E ≡ fals
 sub_is_no_group true = refl
 sub_is_no_group false = refl
 
-sub_fails : (is_final : Bool) (rest : List ℕ) (f : Fault) → declared_at is_final rest ≡ failed f →
+pub sub_fails : (is_final : Bool) (rest : List ℕ) (f : Fault) → declared_at is_final rest ≡ failed f →
     entry_at (sub_code is_final ∷ rest) ≡ failed f
 unfolding entry_at
 sub_fails true rest f e = e

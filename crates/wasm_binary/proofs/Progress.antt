@@ -1,7 +1,9 @@
 -- Reading a section group by group: what was read of it, and what the next answer says of it.
-use Rattle.std.proofs.Common.{◌≡◌, ℕ, zero, suc, ◌+◌, ◌-◌, ◌<◌, ◌≤◌, true, false, nat_eq, eqb-true, List, [], ◌∷◌, ◌++◌, length, Ok, Err, refl, sym, ap, subst, ◌∙◌, append-nil, ne_eqb, arith}
+use Rattle.std.proofs.Common.{◌≡◌, ℕ, zero, suc, ◌+◌, ◌-◌, ◌<◌, ◌≤◌, true, false, nat_eq, eqb-true, List, [], ◌∷◌, ◌++◌, length, Ok, Err, refl, sym, ap, subst, ◌∙◌, append-nil, arith}
+use Rattle.std.proofs.lemmas.List.{nil_from_length}
 use Rattle.walrus_ty.specs.declared.records.GroupAt.{GroupAt}
 use Rattle.wasm_binary.specs.declared.error.Expected.TheVariants as expected
+use Rattle.wasm_binary.specs.declared.error.Reason.TheVariants as reason
 use Rattle.wasm_binary.specs.declared.error.Fault.{Fault}
 use Rattle.wasm_binary.specs.declared.error.RawReadError.{RawReadError}
 use Rattle.wasm_binary.specs.declared.error.RawReadError.TheVariants as errors
@@ -13,7 +15,10 @@ use Rattle.wasm_binary.specs.Steps.Progress.{prefix_at, groups_before, progress,
 use Rattle.wasm_binary.proofs.Basics.{Reading, bind_ok, value_is, rest_is}
 use Rattle.wasm_binary.proofs.Integers.{u32_sound}
 use Rattle.wasm_binary.proofs.Lists.{with_prefix, items_take}
+use Rattle.wasm_binary.specs.Steps.Refusals.{refusal, IsWithin, error_refusal}
 use Rattle.wasm_binary.proofs.Groups.{group_sound, types_take}
+use Rattle.wasm_binary.proofs.Faults.{stop}
+use Rattle.wasm_binary.proofs.Sections.{left_fits, Refuses, fault_refuses, error_within, error_refuses}
 
 -- ---- items one after the other
 
@@ -180,12 +185,16 @@ unfolding types_at
 whole bytes groups left e h = rw (e, h) refl
 
 pub ends : (bytes : List ℕ) (remaining : ℕ) (left : List ℕ) → IsReadTo bytes remaining left
-    → remaining ≡ 0 → left ≡ [] → IsTypes bytes (groups_before remaining bytes)
+    → remaining ≡ 0 → nat_eq (length left) 0 ≡ true → IsTypes bytes (groups_before remaining bytes)
 ends bytes remaining left r none empty =
     types_take bytes (groups_before remaining bytes)
-    (whole bytes (groups_before remaining bytes) left (all_read bytes remaining left r none) empty)
+    (whole bytes (groups_before remaining bytes) left (all_read bytes remaining left r none)
+    (nil_from_length left (eqb-true (length left) 0 empty)))
 
 -- ---- a fault
+
+pub some_remain : (n : ℕ) → (n ≡ 0 → ⊥) → 0 < n
+some_remain n h = omega (arith, h)
 
 first_fails : (n : ℕ) (left : List ℕ) (f : Fault) → 0 < n → group_at left ≡ Err f
     → items_at group_at n left ≡ Err f
@@ -198,36 +207,38 @@ vec_fails : (bytes : List ℕ) (prefix : List GroupAt) (read : Reading (List Gro
 unfolding types_at
 vec_fails bytes prefix read f e h = rw (e, h) refl
 
-pub next_fails : (bytes : List ℕ) (remaining : ℕ) (left : List ℕ) (f : Fault) → IsReadTo bytes remaining left
+next_fails : (bytes : List ℕ) (remaining : ℕ) (left : List ℕ) (f : Fault) → IsReadTo bytes remaining left
     → 0 < remaining → group_at left ≡ Err f → types_at bytes ≡ Err f
 next_fails bytes remaining left f r some h =
     vec_fails bytes (groups_before remaining bytes) (items_at group_at remaining left) f
     (goes_on bytes remaining left r) (first_fails remaining left f some h)
 
 -- what is wrong with the next group is wrong with the section
-pub fails : (bytes : List ℕ) (remaining : ℕ) (left after : List ℕ) (e : RawReadError) →
+fails : (bytes : List ℕ) (remaining : ℕ) (left after : List ℕ) (e : RawReadError) →
     IsReadTo bytes remaining left
     → 0 < remaining → Fails after e (group_at left) → Fails after e (types_at bytes)
 fails bytes remaining left after errors.Memory r some h = tt
 fails bytes remaining left after (errors.Reason k) r some h =
     next_fails bytes remaining left (record { left = length after; reason = k }) r some h
 
+pub refuses_next : (bytes : List ℕ) (remaining : ℕ) (left after : List ℕ) (e : RawReadError) →
+    IsReadTo bytes remaining left → (remaining ≡ 0 → ⊥) → Fails after e (group_at left) →
+    IsWithin (length bytes) (length after) e × Refuses bytes (error_refusal (length bytes) (length after) e)
+refuses_next bytes remaining left after e r some h =
+    let k = fails bytes remaining left after e r (some_remain remaining some) h in
+    (error_within bytes after e k, error_refuses bytes after e k)
+
 -- so are bytes behind the last group
-pub trails : (bytes : List ℕ) (remaining : ℕ) (left : List ℕ) → IsReadTo bytes remaining left
-    → remaining ≡ 0 → (left ≡ [] → ⊥) → types_at bytes ≡ expected_error left expected.End
+trails : (bytes : List ℕ) (remaining : ℕ) (left : List ℕ) → IsReadTo bytes remaining left
+    → remaining ≡ 0 → nat_eq (length left) 0 ≡ false → types_at bytes ≡ expected_error left expected.End
 unfolding types_at
-trails bytes remaining [] r none some = absurd (some refl)
-trails bytes remaining (b ∷ left) r none some =
-    rw (all_read bytes remaining (b ∷ left) r none, ne_eqb (suc (length left)) 0 (λ q. omega (arith, q))) refl
+trails bytes remaining left r none some = rw (all_read bytes remaining left r none, some) refl
 
--- ---- what the code's tests say
-
-pub nothing_left : (left : List ℕ) → nat_eq (length left) 0 ≡ true → left ≡ []
-nothing_left [] h = refl
-nothing_left (b ∷ left) h = absurd (let q = eqb-true (suc (length left)) 0 h in omega (arith, q))
-
-pub something_left : (left : List ℕ) → nat_eq (length left) 0 ≡ false → left ≡ [] → ⊥
-something_left left h e = let none : nat_eq (length left) 0 ≡ true = rw e refl in absurd cc
-
-pub some_remain : (n : ℕ) → (n ≡ 0 → ⊥) → 0 < n
-some_remain n h = omega (arith, h)
+pub refuses_trailing : (bytes : List ℕ) (remaining : ℕ) (left : List ℕ) → IsReadTo bytes remaining left
+    → remaining ≡ 0 → nat_eq (length left) 0 ≡ false →
+    (length left ≤ length bytes)
+    × Refuses bytes (refusal (length bytes) (stop left (reason.Expected expected.End)))
+refuses_trailing bytes remaining left r none some =
+    let f = stop left (reason.Expected expected.End) in
+    let k = trails bytes remaining left r none some in
+    (left_fits bytes f k, fault_refuses bytes f k)

@@ -1,6 +1,5 @@
--- Header and sections: what is read has the text that stands there, what has a text is read, and
--- where reading stops nothing goes on.
-use Rattle.std.proofs.Common.{◌≡◌, ℕ, ◌≤◌, inl, inr, nat_eq, nat_lt, nat_le, cond, List, [], ◌∷◌, ◌++◌, length, take, drop, Ok, refl, sym, ap, subst, ◌∙◌, arith, append_assoc, append-nil, length-append, length-take-le, take-append-drop, take_at, drop_at, eqb-true, eq-eqb, ne_eqb, ltb-true, lt-ltb, leb-true, le-leb}
+-- Header and sections: what is read has the text that stands there, and what has a text is read.
+use Rattle.std.proofs.Common.{◌≡◌, ℕ, ◌≤◌, inl, inr, nat_eq, nat_lt, nat_le, cond, List, [], ◌∷◌, ◌++◌, length, take, drop, Ok, refl, sym, ap, subst, ◌∙◌, arith, append_assoc, length-append, length-take-le, take-append-drop, take_at, drop_at, eqb-true, eq-eqb, ne_eqb, ltb-true, lt-ltb, leb-true, le-leb}
 use Rattle.std.proofs.lemmas.Bool.{eqb-false}
 use Rattle.wasm_binary.specs.declared.error.Expected.{Expected}
 use Rattle.wasm_binary.specs.declared.error.Expected.TheVariants as expected
@@ -11,7 +10,7 @@ use Rattle.wasm_binary.specs.Steps.Reading.{u32_at}
 use Rattle.wasm_binary.specs.Steps.Framing.{literal_at, header_at, place_of, id_at, content_at, section_at}
 use Rattle.wasm_binary.proofs.Basics.{Takes, IsSound, IsComplete, bind_ok, guard_ok, done, value_is, rest_is, which, pair_takes, pair_again}
 use Rattle.wasm_binary.proofs.Integers.{u32_sound, u32_complete}
-use Rattle.wasm_binary.proofs.Faults.{failed, IsStuck, stop, left_is, end_stops, first_stops, tag_stops, begin_stops, step_err, pair_stuck, u32_stuck}
+use Rattle.wasm_binary.proofs.Faults.{failed, stop}
 use Rattle.wasm_binary.proofs.Modules.Orders.{Follows, place_from, place_is, not_custom}
 
 -- ---- the header
@@ -37,20 +36,9 @@ unfolding literal_at
 literal_again e [] rest = refl
 literal_again e (k ∷ text) rest = rw (eq-eqb k k refl) (literal_again e text rest)
 
-literal_complete : (e : Expected) (text : List ℕ) → IsComplete (IsLiteral text) (literal_at e text)
+pub literal_complete : (e : Expected) (text : List ℕ) → IsComplete (IsLiteral text) (literal_at e text)
 literal_complete e text bytes v rest h = ap (λ (u : List ℕ). literal_at e text (u ++ rest)) h ∙ literal_again
     e text rest
-
-literal_stuck : (e : Expected) (text : List ℕ) → IsStuck (literal_at e text)
-unfolding literal_at
-literal_stuck e [] bytes f h = absurd cc
-literal_stuck e (k ∷ text) [] f h = end_stops (literal_at e (k ∷ text)) (reason.Expected e) f h
-literal_stuck e (k ∷ text) (b ∷ bytes) f h =
-    which (nat_eq b k) _ _ (failed f) h
-    (λ q h1. tag_stops (literal_at e text) (literal_at e (k ∷ text)) b bytes f
-    (literal_stuck e text bytes f h1) (λ xs g n. (g, rw q n)))
-    (λ q h1. first_stops (literal_at e (k ∷ text)) b bytes (reason.Expected e) f h1 (λ other.
-    (stop (b ∷ other) (reason.Expected e), rw q refl)))
 
 abbrev pub IsHeader : List ℕ → Unit {0} → Type 0
 IsHeader bytes u = bytes ≡ header
@@ -73,13 +61,6 @@ header_complete rest =
     (literal_at expected.Version version) both
     (literal_complete expected.Magic magic) (literal_complete expected.Version version) magic version tt tt
     rest refl refl
-
-pub header_stuck : IsStuck header_at
-unfolding header_at
-header_stuck bytes f e =
-    pair_stuck (IsLiteral magic) (literal_at expected.Magic magic) (literal_at expected.Version version) both
-    (literal_sound expected.Magic magic) (literal_complete expected.Magic magic)
-    (literal_stuck expected.Magic magic) (literal_stuck expected.Version version) bytes f e
 
 -- ---- ids
 
@@ -121,20 +102,8 @@ id_again last id rest (inr f) =
       lt-ltb last f.0 f.2,
     ) refl
 
-id_complete : (last : ℕ) → IsComplete (IsNextId last) (id_at last)
+pub id_complete : (last : ℕ) → IsComplete (IsNextId last) (id_at last)
 id_complete last text id rest h = ap (λ (u : List ℕ). id_at last (u ++ rest)) h.0 ∙ id_again last id rest h.1
-
-id_stuck : (last : ℕ) → IsStuck (id_at last)
-unfolding id_at
-id_stuck last [] f e = end_stops (id_at last) (reason.Expected expected.SectionId) f e
-id_stuck last (b ∷ bytes) f e =
-    which (nat_eq b 0) _ _ (failed f) e (λ h q. absurd cc) (λ h q.
-    which (nat_eq (place_of b) 0) _ _ (failed f) q
-    (λ h1 q1. first_stops (id_at last) b bytes (reason.Expected expected.SectionId) f q1 (λ other.
-    (stop (b ∷ other) (reason.Expected expected.SectionId), rw (h, h1) refl)))
-    (λ h1 q1. which (nat_lt last (place_of b)) _ _ (failed f) q1 (λ h2 q2. absurd cc) (λ h2 q2.
-    first_stops (id_at last) b bytes (reason.Expected expected.LaterSection) f q2 (λ other.
-    (stop (b ∷ other) (reason.Expected expected.LaterSection), rw (h, h1, h2) refl)))))
 
 -- ---- contents
 
@@ -180,21 +149,6 @@ content_complete text content rest h =
     ap (λ (u : List ℕ). content_at (u ++ rest)) h.2 ∙ ap content_at (append_assoc h.0 content rest)
     ∙ content_again h.0 content rest h.1
 
-content_stuck : IsStuck content_at
-unfolding content_at
-content_stuck bytes f e =
-    step_err (u32_at bytes) _ f e
-    (λ h. begin_stops u32_at content_at bytes f (u32_stuck bytes f h) (λ xs g n. (g, rw n refl)))
-    (λ n rest h q. which (nat_le n (length rest)) _ _ (failed f) q (λ h1 q1. absurd cc) (λ h1 q1.
-    record {
-      prefix = bytes;
-      left = [];
-      parts = sym (append-nil bytes);
-      place = left_is [] (reason.Expected expected.Content) f q1;
-      stuck = λ s b after other k. absurd cc;
-      counted = λ c count after m k u other. absurd cc;
-    }))
-
 -- ---- sections
 
 abbrev pub IsNextSection : ℕ → List ℕ → Section → Type 0
@@ -222,9 +176,3 @@ section_again last _ _ rest (sized id size content h) f =
 
 pub section_complete : (last : ℕ) → IsComplete (IsNextSection last) (section_at last)
 section_complete last text s rest h = section_again last text s rest h.0 h.1
-
-pub section_stuck : (last : ℕ) → IsStuck (section_at last)
-unfolding section_at
-section_stuck last bytes f e =
-    pair_stuck (IsNextId last) (id_at last) content_at section (id_sound last) (id_complete last)
-    (id_stuck last) content_stuck bytes f e

@@ -1,5 +1,5 @@
 use Rattle.wasm_binary.proofs.Progress.{begins, begins_with_none, begins_with_groups, count_fails}
-use Rattle.wasm_binary.proofs.Sections.{error_within, error_refused, error_placed, error_stuck, error_begun, error_unsupported}
+use Rattle.wasm_binary.proofs.Sections.{error_within, error_refuses}
 use Rattle.wasm_binary.proofs.decode.reader.TypeSectionReader.new.Goals as goal
 
 pub invariant_of-result : goal.invariant_of-result
@@ -20,15 +20,15 @@ refusal-requires c = error_within c.args.bytes.now c.read_u32.new.input.now c.in
 
 pub returns-in-Err : goal.returns-in-Err
 returns-in-Err c =
-    let fails = count_fails _ _ _ c.in-Err.ensures in
-    let input = c.read_u32.new.input.now in
+    let r = error_refuses c.args.bytes.now c.read_u32.new.input.now c.in-Err.error
+    (count_fails _ _ _ c.in-Err.ensures) in
     rw c.refusal.ensures (record {
       bytes = tt;
       groups = tt;
       begins = tt;
-      refused = error_refused c.args.bytes.now input c.in-Err.error fails;
-      place = error_placed c.args.bytes.now input c.in-Err.error fails;
-      stuck = error_stuck c.args.bytes.now input c.in-Err.error fails;
-      begun = error_begun c.args.bytes.now input c.in-Err.error fails;
-      unsupported = error_unsupported c.args.bytes.now input c.in-Err.error fails;
+      refused = r.refused;
+      place = r.place;
+      stuck = r.stuck;
+      begun = r.begun;
+      unsupported = r.unsupported;
     })

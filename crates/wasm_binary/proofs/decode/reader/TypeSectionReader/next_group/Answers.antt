@@ -1,6 +1,5 @@
 use Rattle.std.proofs.Common.{rules, sym}
-use Rattle.wasm_binary.proofs.Progress.{begins_with_groups, group_follows, ends, fails, trails, nothing_left, something_left, some_remain}
-use Rattle.wasm_binary.proofs.Sections.{refused, stuck_there, begun_before, unsupported_there, left_fits, error_within, error_refused, error_stuck, error_begun, error_unsupported}
+use Rattle.wasm_binary.proofs.Progress.{begins_with_groups, group_follows, ends, refuses_next, refuses_trailing, some_remain}
 use Rattle.wasm_binary.proofs.decode.reader.TypeSectionReader.next_group.Goals as goal
 
 pub returns-then-is_empty-clause-begins : goal.returns-then-is_empty-clause-begins
@@ -9,13 +8,12 @@ returns-then-is_empty-clause-begins c = rw (← c.self.view_is) (begins_with_gro
 pub returns-then-is_empty-clause-end : goal.returns-then-is_empty-clause-end
 returns-then-is_empty-clause-end c =
     rw (← c.self.view_is) (ends c.self.inside.bytes.now c.self.inside.remaining c.self.inside.rest.now
-    c.self.invariant c.if-self-eq0.true (nothing_left c.self.inside.rest.now (sym c.if-is_empty.ensures)))
+    c.self.invariant c.if-self-eq0.true (sym c.if-is_empty.ensures))
 
 pub refusal-requires : goal.refusal-requires
 refusal-requires c =
-    rw c.expected-error.ensures (left_fits c.self.inside.bytes.now _
-    (trails c.self.inside.bytes.now c.self.inside.remaining c.self.inside.rest.now c.self.invariant
-    c.if-self-eq0.true (something_left c.self.inside.rest.now (sym c.if-is_empty.ensures))))
+    rw c.expected-error.ensures
+    (refuses_trailing _ _ _ c.self.invariant c.if-self-eq0.true (sym c.if-is_empty.ensures)).0
 
 pub returns-then-self-eq0-clause-end : goal.returns-then-self-eq0-clause-end
 returns-then-self-eq0-clause-end c = search rules
@@ -23,30 +21,22 @@ returns-then-self-eq0-clause-end c = search rules
 pub returns-then-self-eq0-clause-refused : goal.returns-then-self-eq0-clause-refused
 returns-then-self-eq0-clause-refused c =
     rw (c.refusal.ensures, c.expected-error.ensures, ← c.self.view_is)
-    (refused c.self.inside.bytes.now _ (trails c.self.inside.bytes.now c.self.inside.remaining
-    c.self.inside.rest.now c.self.invariant c.if-self-eq0.true
-    (something_left c.self.inside.rest.now (sym c.if-is_empty.ensures))))
+    (refuses_trailing _ _ _ c.self.invariant c.if-self-eq0.true (sym c.if-is_empty.ensures)).1.refused
 
 pub returns-then-self-eq0-clause-stuck : goal.returns-then-self-eq0-clause-stuck
 returns-then-self-eq0-clause-stuck c =
     rw (c.refusal.ensures, c.expected-error.ensures, ← c.self.view_is)
-    (stuck_there c.self.inside.bytes.now _ (trails c.self.inside.bytes.now c.self.inside.remaining
-    c.self.inside.rest.now c.self.invariant c.if-self-eq0.true
-    (something_left c.self.inside.rest.now (sym c.if-is_empty.ensures))))
+    (refuses_trailing _ _ _ c.self.invariant c.if-self-eq0.true (sym c.if-is_empty.ensures)).1.stuck
 
 pub returns-then-self-eq0-clause-begun : goal.returns-then-self-eq0-clause-begun
 returns-then-self-eq0-clause-begun c =
     rw (c.refusal.ensures, c.expected-error.ensures, ← c.self.view_is)
-    (begun_before c.self.inside.bytes.now _ (trails c.self.inside.bytes.now c.self.inside.remaining
-    c.self.inside.rest.now c.self.invariant c.if-self-eq0.true
-    (something_left c.self.inside.rest.now (sym c.if-is_empty.ensures))))
+    (refuses_trailing _ _ _ c.self.invariant c.if-self-eq0.true (sym c.if-is_empty.ensures)).1.begun
 
 pub returns-then-self-eq0-clause-unsupported : goal.returns-then-self-eq0-clause-unsupported
 returns-then-self-eq0-clause-unsupported c =
     rw (c.refusal.ensures, c.expected-error.ensures, ← c.self.view_is)
-    (unsupported_there c.self.inside.bytes.now _ (trails c.self.inside.bytes.now c.self.inside.remaining
-    c.self.inside.rest.now c.self.invariant c.if-self-eq0.true
-    (something_left c.self.inside.rest.now (sym c.if-is_empty.ensures))))
+    (refuses_trailing _ _ _ c.self.invariant c.if-self-eq0.true (sym c.if-is_empty.ensures)).1.unsupported
 
 pub invariant_of-self : goal.invariant_of-self
 invariant_of-self c =
@@ -73,29 +63,25 @@ returns-in-Ok-clause-begins c =
     begins_with_groups _ _ _ on.read_to
 
 pub refusal-requires-in-Err : goal.refusal-requires-in-Err
-refusal-requires-in-Err c = error_within c.self.inside.bytes.now c.read_group.new.input.now c.in-Err.error
-    (fails _ _ _ _ _ c.self.invariant (some_remain _ c.if-self-eq0.false) c.in-Err.ensures)
+refusal-requires-in-Err c =
+    (refuses_next _ _ _ _ _ c.self.invariant c.if-self-eq0.false c.in-Err.ensures).0
 
 pub returns-in-Err-clause-refused : goal.returns-in-Err-clause-refused
 returns-in-Err-clause-refused c =
     rw (c.refusal-in-Err.ensures, ← c.self.view_is)
-    (error_refused c.self.inside.bytes.now c.read_group.new.input.now c.in-Err.error
-    (fails _ _ _ _ _ c.self.invariant (some_remain _ c.if-self-eq0.false) c.in-Err.ensures))
+    (refuses_next _ _ _ _ _ c.self.invariant c.if-self-eq0.false c.in-Err.ensures).1.refused
 
 pub returns-in-Err-clause-stuck : goal.returns-in-Err-clause-stuck
 returns-in-Err-clause-stuck c =
     rw (c.refusal-in-Err.ensures, ← c.self.view_is)
-    (error_stuck c.self.inside.bytes.now c.read_group.new.input.now c.in-Err.error
-    (fails _ _ _ _ _ c.self.invariant (some_remain _ c.if-self-eq0.false) c.in-Err.ensures))
+    (refuses_next _ _ _ _ _ c.self.invariant c.if-self-eq0.false c.in-Err.ensures).1.stuck
 
 pub returns-in-Err-clause-begun : goal.returns-in-Err-clause-begun
 returns-in-Err-clause-begun c =
     rw (c.refusal-in-Err.ensures, ← c.self.view_is)
-    (error_begun c.self.inside.bytes.now c.read_group.new.input.now c.in-Err.error
-    (fails _ _ _ _ _ c.self.invariant (some_remain _ c.if-self-eq0.false) c.in-Err.ensures))
+    (refuses_next _ _ _ _ _ c.self.invariant c.if-self-eq0.false c.in-Err.ensures).1.begun
 
 pub returns-in-Err-clause-unsupported : goal.returns-in-Err-clause-unsupported
 returns-in-Err-clause-unsupported c =
     rw (c.refusal-in-Err.ensures, ← c.self.view_is)
-    (error_unsupported c.self.inside.bytes.now c.read_group.new.input.now c.in-Err.error
-    (fails _ _ _ _ _ c.self.invariant (some_remain _ c.if-self-eq0.false) c.in-Err.ensures))
+    (refuses_next _ _ _ _ _ c.self.invariant c.if-self-eq0.false c.in-Err.ensures).1.unsupported
