@@ -1,7 +1,8 @@
--- Which codes proposals have for instructions, types and imports, by the section that they are in.
+-- Which codes proposals have for instructions, types, imports and alignments, by the section that they are in.
 -- Release 3.0 of the WebAssembly core specification has none of them.
 -- Proposals to WebAssembly: stack switching, custom descriptors, shared-everything threads, compact
--- import section, memory control, half precision, reference-typed strings.
+-- import section, memory control, half precision, reference-typed strings, relaxed atomics and
+-- multibyte array access.
 use Rattle.std.specs.Prelude.{◌≡◌, ℕ, zero, suc, ◌-◌, ◌≤◌, ◌⊎◌, List, length, take, drop, Option, Some, None, slice_get}
 use Rattle.std.specs.List.{All}
 use Rattle.error_context.specs.declared.proposal.Code.{Code}
@@ -61,6 +62,7 @@ UsesProposal part.Instruction proposal.HalfPrecision id code =
     HasInstructions id × IsNumberIn 0xFC 0x30 0x31 code
 UsesProposal part.Instruction proposal.ReferenceTypedStrings id code =
     HasInstructions id × IsNumberIn 0xFB 0x80 0xB7 code
+UsesProposal part.Instruction proposal.MemoryAccessBits id code = ⊥
 UsesProposal part.TypeForm proposal.StackSwitching id code =
     (id ≡ 1) × IsByte 0x5D code ⊎ HasTypes id × (IsByte 0x68 code ⊎ IsByte 0x75 code)
 UsesProposal part.TypeForm proposal.CustomDescriptors id code = (id ≡ 1) × IsByteIn 0x4C 0x4D code
@@ -70,6 +72,7 @@ UsesProposal part.TypeForm proposal.CompactImports id code = ⊥
 UsesProposal part.TypeForm proposal.MemoryControl id code = ⊥
 UsesProposal part.TypeForm proposal.HalfPrecision id code = ⊥
 UsesProposal part.TypeForm proposal.ReferenceTypedStrings id code = HasTypes id × IsByte 0x67 code
+UsesProposal part.TypeForm proposal.MemoryAccessBits id code = ⊥
 UsesProposal part.Import proposal.StackSwitching id code = ⊥
 UsesProposal part.Import proposal.CustomDescriptors id code = (id ≡ 2) × IsByte 0x20 code
 UsesProposal part.Import proposal.SharedEverythingThreads id code = ⊥
@@ -77,6 +80,10 @@ UsesProposal part.Import proposal.CompactImports id code = (id ≡ 2) × IsByteI
 UsesProposal part.Import proposal.MemoryControl id code = ⊥
 UsesProposal part.Import proposal.HalfPrecision id code = ⊥
 UsesProposal part.Import proposal.ReferenceTypedStrings id code = ⊥
+UsesProposal part.Import proposal.MemoryAccessBits id code = ⊥
+UsesProposal part.Alignment proposal.MemoryAccessBits id code =
+    (id ≡ 10) × (IsByteIn 0x10 0x14 code ⊎ IsByteIn 0x20 0x24 code ⊎ IsByteIn 0x30 0x34 code)
+UsesProposal part.Alignment _ id code = ⊥
 
 -- no part begins with it
 abbrev pub IsUnused : ℕ → Code → Type 0

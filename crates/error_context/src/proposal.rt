@@ -1,4 +1,4 @@
-//! Instructions, types and imports of proposals to WebAssembly, by their codes.
+//! Instructions, types, imports and alignments of proposals to WebAssembly, by their codes.
 //!
 //! The codes are those of the proposals that [`Proposal`] lists.
 ghost use Rattle.std.specs.Prelude.{◌≡◌, ◌↔◌, false, slice_get, IsTrue, IfNone, IfSome};
@@ -26,6 +26,8 @@ pub enum Proposal {
     HalfPrecision,
     /// Reference-typed strings.
     ReferenceTypedStrings,
+    /// Relaxed atomics, or multibyte array access: bits beside an alignment.
+    MemoryAccessBits,
 }
 
 /// A part of a module for which proposals have new codes.
@@ -37,9 +39,11 @@ pub enum Part {
     TypeForm,
     /// An import.
     Import,
+    /// The alignment of a memory access.
+    Alignment,
 }
 
-/// The code with which an instruction, a type or the description of an import begins.
+/// The code with which an instruction, a type, an alignment or the description of an import begins.
 #[derive(Clone, Copy, PartialEq, Eq, Debug)]
 pub enum Code {
     /// A byte.
@@ -72,6 +76,9 @@ const IMPORT: u8 = 2;
 
 /// The id of the global section.
 const GLOBAL: u8 = 6;
+
+/// The id of the code section.
+const CODE: u8 = 10;
 
 /// How many bytes of an integer of 32 bits can have a continuation bit.
 const MOST_CONTINUED: usize = 4;
@@ -194,6 +201,10 @@ fn part_of_byte(id: u8, byte: u8) -> Option<(Part, Proposal)>
             Proposal::SharedEverythingThreads,
         )),
         0x20 if id == IMPORT => Some((Part::Import, Proposal::CustomDescriptors)),
+        0x10..=0x14 | 0x20..=0x24 | 0x30..=0x34 if id == CODE => Some((
+            Part::Alignment,
+            Proposal::MemoryAccessBits,
+        )),
         0x7E | 0x7F if id == IMPORT => Some((Part::Import, Proposal::CompactImports)),
         _ => None,
     }
@@ -268,6 +279,7 @@ impl fmt::Display for Part {
             Part::Instruction => write!(f, "an instruction"),
             Part::TypeForm => write!(f, "a type"),
             Part::Import => write!(f, "an import"),
+            Part::Alignment => write!(f, "an alignment"),
         }
     }
 }
@@ -282,6 +294,7 @@ impl fmt::Display for Proposal {
             Proposal::MemoryControl => write!(f, "memory control"),
             Proposal::HalfPrecision => write!(f, "half precision"),
             Proposal::ReferenceTypedStrings => write!(f, "reference-typed strings"),
+            Proposal::MemoryAccessBits => { write!(f, "relaxed atomics or multibyte array access") }
         }
     }
 }
