@@ -4,5 +4,6 @@ pub mod Definitions
 pub mod Members
 pub mod EqualTypes
 pub mod DecidedTypes
+pub mod Written
 pub mod Keys
 pub mod Renamed

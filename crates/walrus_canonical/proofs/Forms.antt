@@ -3,7 +3,6 @@ pub mod Counting
 pub mod Orders
 pub mod Indices
 pub mod Listings
-pub mod Relisting
 pub mod Rounds
 pub mod Canonical
 pub mod Beginnings

@@ -3,7 +3,6 @@ pub mod PlainGroups
 pub mod IndicesGiven
 pub mod ComparedLists
 pub mod KeyedGroups
-pub mod RenamedGroups
 pub mod ReadyGroups
 pub mod ReadyOrder
 pub mod LeastReady

@@ -1,6 +1,4 @@
 -- A section is read into classes of equal groups.
-pub mod NamelessValues
-pub mod RenamedItems
 pub mod RenamedKeys
 pub mod ClassKeys
 pub mod ToldGroups

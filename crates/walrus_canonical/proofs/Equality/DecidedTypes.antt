@@ -225,7 +225,7 @@ module _ (first second : Section) where
         let p = own_member s i h in
         let q = own_member t j hj in
         by_rows i j p.0 q.0 p.1 q.1 (λ x y k g names out.
-        let less = named_outside first i k x below h g names out in
+        let less = named_outside first i x below h (k, g, names, out) in
         decided_below below bound x y (omega (arith, less, low)) (omega (arith, less, h)))
   ]
 

@@ -3,11 +3,27 @@
 use Rattle.std.proofs.Common.{◌≡◌, ℕ, zero, suc, ◌<◌, sym, ap, subst, ◌∙◌, inl, inr, arith}
 use Rattle.std.proofs.lemmas.Bool.{cases_lt}
 use Rattle.walrus_sections.specs.Section.{IndexSpace, index_space, NamesBelowEnds}
-use Rattle.walrus_ty.specs.Definition.{rename}
+use Rattle.walrus_ty.specs.Definition.{Names, rename}
 use Rattle.walrus_ty.specs.Groups.{Section}
 use Rattle.walrus_canonical.specs.EqualTypes.{IsMember, IsInGroup, NamesAt, NameAtOnce, HaveLikeGroups, AreEqual, equal}
-use Rattle.walrus_canonical.proofs.Equality.Definitions.{named_too, named_once, names_what_stands}
+use Rattle.walrus_canonical.proofs.Equality.Definitions.{named_too, named_once, names_what_stands, position_of}
 use Rattle.walrus_canonical.proofs.Equality.Members.{mate_from, mate_to, place_once, in_group_or_not, own_member, member_within, member_once, named_outside}
+
+-- names at one position of the definitions at one place
+pub at_once :
+    {s t : IndexSpace} {i j x y place k l : ℕ} (position : ℕ) → IsMember s i place k →
+    IsMember t j place l → NamesAt (s.definition k) position x → NamesAt (t.definition l) position y →
+    NameAtOnce s t i j x y
+at_once {place = p} {k = a} {l = b} position m n at_x at_y = record {
+  place = p;
+  position = position;
+  k = a;
+  l = b;
+  first_member = m;
+  second_member = n;
+  first_name = at_x;
+  second_name = at_y;
+}
 
 -- ---- what equal types have in common
 
@@ -25,13 +41,13 @@ module _ (section : Section) where
   abbrev s : IndexSpace
   s = index_space section
 
-  same_names : (i x y : ℕ) → NameAtOnce s s i i x y → x ≡ y
+  pub same_names : (i x y : ℕ) → NameAtOnce s s i i x y → x ≡ y
   same_names i x y n =
       let is : n.k ≡ n.l = member_once section i n.place n.k n.l n.first_member n.second_member in
       named_once (s.definition n.l) n.position x y
       (subst (λ (u : ℕ). NamesAt (s.definition u) n.position x) is n.first_name) n.second_name
 
-  like_itself : (i : ℕ) → i < s.count → HaveLikeGroups s s i i
+  pub like_itself : (i : ℕ) → i < s.count → HaveLikeGroups s s i i
   like_itself i h = let own = own_member s i h in record {
     own_place = own.0;
     first_own = own.1;
@@ -51,8 +67,8 @@ module _ (section : Section) where
   equal_below below zero i low h = absurd (omega (arith, low))
   equal_below below (suc bound) i low h = equal i i (like_itself i h) (λ x y n outside.
       let is = same_names i x y n in
-      let less = named_outside section i n.k x below h (n.place, n.first_member)
-      (names_what_stands (s.definition n.k) n.position x n.first_name) outside in
+      let less = named_outside section i x below h (n.k, (n.place, n.first_member),
+      names_what_stands (s.definition n.k) n.position x n.first_name, outside) in
       subst (λ (u : ℕ). AreEqual s s x u) is
       (equal_below below bound x (omega (arith, less, low)) (omega (arith, less, h))))
 
@@ -62,16 +78,7 @@ module _ (section : Section) where
 -- ---- both ways round
 
 names_back : (s t : IndexSpace) (i j x y : ℕ) → NameAtOnce s t i j x y → NameAtOnce t s j i y x
-names_back s t i j x y n = record {
-  place = n.place;
-  position = n.position;
-  k = n.l;
-  l = n.k;
-  first_member = n.second_member;
-  second_member = n.first_member;
-  first_name = n.second_name;
-  second_name = n.first_name;
-}
+names_back s t i j x y n = at_once n.position n.second_member n.first_member n.second_name n.first_name
 
 groups_back : (s t : IndexSpace) (i j : ℕ) → HaveLikeGroups s t i j → HaveLikeGroups t s j i
 groups_back s t i j g = record {
@@ -91,41 +98,17 @@ equal_back s t _ _ (equal i j g rest) = equal j i (groups_back s t i j g) (λ y 
 
 -- ---- over a third one
 
-record NamesBetween (s t u : IndexSpace) (i j k x z : ℕ) : Type 0 where
-  pub y : ℕ
-  pub first : NameAtOnce s t i j x y
-  pub second : NameAtOnce t u j k y z
-
 names_between :
     (s t u : IndexSpace) (i j k x z : ℕ) → HaveLikeGroups s t i j → NameAtOnce s u i k x z →
-    NamesBetween s t u i j k x z
+    (y : ℕ) × NameAtOnce s t i j x y × NameAtOnce t u j k y z
 names_between s t u i j k x z g n =
     let l = g.first_places n.k n.place n.first_member in
     let same = g.shapes n.k l.0 n.place n.first_member l.1 in
-    let y = named_too (s.definition n.k) (t.definition l.0) n.position x same n.first_name in
-    record {
-      y = y.0;
-      first = record {
-        place = n.place;
-        position = n.position;
-        k = n.k;
-        l = l.0;
-        first_member = n.first_member;
-        second_member = l.1;
-        first_name = n.first_name;
-        second_name = y.1;
-      };
-      second = record {
-        place = n.place;
-        position = n.position;
-        k = l.0;
-        l = n.l;
-        first_member = l.1;
-        second_member = n.second_member;
-        first_name = y.1;
-        second_name = n.second_name;
-      };
-    }
+    let y = named_too (s.definition n.k) (t.definition l.0) n.position x same n.first_name in (
+      y.0,
+      at_once n.position n.first_member l.1 n.first_name y.1,
+      at_once n.position l.1 n.second_member y.1 n.second_name,
+    )
 
 groups_over :
     (s t u : IndexSpace) (i j k : ℕ) → HaveLikeGroups s t i j → HaveLikeGroups t u j k →
@@ -144,8 +127,8 @@ groups_over s t u i j k g h = record {
       g.shapes a b.0 place x b.1 ∙ h.shapes b.0 c place b.1 z);
   inside = λ x z place n. (
       let b = names_between s t u i j k x z g n in
-      let p = g.inside x b.y place b.first in
-      let q = h.inside b.y z place b.second in
+      let p = g.inside x b.0 place b.1 in
+      let q = h.inside b.0 z place b.2 in
       (λ m. q.0 (p.0 m), λ m. p.1 (q.1 m)));
 }
 
@@ -154,24 +137,16 @@ pub equal_over :
 equal_over s t u _ _ k (equal i j g rest) e =
     equal i k (groups_over s t u i j k g (groups_of t u j k e)) (λ x z n outside.
     let b = names_between s t u i j k x z g n in
-    equal_over s t u x b.y z (rest x b.y b.first outside)
-    (named_of t u j k e b.y z b.second (λ m. outside (m.0, (g.inside x b.y m.0 b.first).1 m.1))))
+    equal_over s t u x b.0 z (rest x b.0 b.1 outside)
+    (named_of t u j k e b.0 z b.2 (λ m. outside (m.0, (g.inside x b.0 m.0 b.1).1 m.1))))
 
 -- ---- the other types of their groups, and what they name
 
 module _ (s t : IndexSpace) (i j place k l : ℕ) (e : AreEqual s t i j) (at_k : IsMember s i place k)
     (at_l : IsMember t j place l) where
   names_to : (x y : ℕ) → NameAtOnce s t k l x y → NameAtOnce s t i j x y
-  names_to x y n = record {
-    place = n.place;
-    position = n.position;
-    k = n.k;
-    l = n.l;
-    first_member = mate_to s i place k n.place n.k at_k n.first_member;
-    second_member = mate_to t j place l n.place n.l at_l n.second_member;
-    first_name = n.first_name;
-    second_name = n.second_name;
-  }
+  names_to x y n = at_once n.position (mate_to s i place k n.place n.k at_k n.first_member)
+      (mate_to t j place l n.place n.l at_l n.second_member) n.first_name n.second_name
 
   mates_alike : HaveLikeGroups s t i j → HaveLikeGroups s t k l
   mates_alike g = record {
@@ -198,25 +173,32 @@ module _ (s t : IndexSpace) (i j place k l : ℕ) (e : AreEqual s t i j) (at_k :
       named_of s t i j e x y (names_to x y n) (λ m.
       outside (m.0, mate_from s i place k m.0 x at_k m.1)))
 
+-- types that equal types name at once
+pub equal_at_once :
+    (s t : IndexSpace) (i j x y : ℕ) → AreEqual s t i j → NameAtOnce s t i j x y → AreEqual s t x y
+equal_at_once s t i j x y e n =
+    let g = groups_of s t i j e in
+    elim (in_group_or_not s i g.own_place x g.first_own) [
+      | inl m ↦ equal_mates s t i j m.0 x y e m.1 ((g.inside x y m.0 n).0 m.1)
+      | inr outside ↦ named_of s t i j e x y n outside
+    ]
+
 pub equal_names :
     (s t : IndexSpace) (i j position x y : ℕ) → AreEqual s t i j →
     NamesAt (s.definition i) position x → NamesAt (t.definition j) position y → AreEqual s t x y
 equal_names s t i j position x y e at_x at_y =
     let g = groups_of s t i j e in
-    let n : NameAtOnce s t i j x y = record {
-      place = g.own_place;
-      position = position;
-      k = i;
-      l = j;
-      first_member = g.first_own;
-      second_member = g.second_own;
-      first_name = at_x;
-      second_name = at_y;
-    } in
-    elim (in_group_or_not s i g.own_place x g.first_own) [
-      | inl m ↦ equal_mates s t i j m.0 x y e m.1 ((g.inside x y m.0 n).0 m.1)
-      | inr outside ↦ named_of s t i j e x y n outside
-    ]
+    equal_at_once s t i j x y e (at_once position g.first_own g.second_own at_x at_y)
+
+-- what the one group names, the other one names too
+pub named_there :
+    (s t : IndexSpace) (i j k x : ℕ) → HaveLikeGroups s t i j → IsInGroup s i k →
+    Names (s.definition k) x → (y : ℕ) × NameAtOnce s t i j x y
+named_there s t i j k x g m names =
+    let l = g.first_places k m.0 m.1 in
+    let at_x = position_of (s.definition k) x names in
+    let y = named_too (s.definition k) (t.definition l.0) at_x.0 x (g.shapes k l.0 m.0 m.1 l.1) at_x.1 in
+    (y.0, at_once at_x.0 m.1 l.1 at_x.1 y.1)
 
 -- ---- in sections
 

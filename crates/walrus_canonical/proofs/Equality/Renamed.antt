@@ -8,7 +8,7 @@ use Rattle.walrus_canonical.specs.EqualTypes.{IsMember, IsInGroup, AreShapedAlik
 use Rattle.walrus_canonical.specs.Listing.{IsNeeded, at_root, by_group, by_name, NewIndices, new_index, IsListing, AreAmong}
 use Rattle.walrus_canonical.specs.Renamed.{GroupGoesTo, new_or_zero}
 use Rattle.walrus_canonical.proofs.Equality.Definitions.{named_too, names_what_stands, position_of, renamed_shape, renamed_name, same_by_names}
-use Rattle.walrus_canonical.proofs.Equality.EqualTypes.{groups_of, equal_back, equal_over, equal_mates, equal_names}
+use Rattle.walrus_canonical.proofs.Equality.EqualTypes.{groups_of, equal_back, equal_over, equal_mates, equal_names, equal_at_once, named_there}
 use Rattle.walrus_canonical.proofs.Equality.Members.{place_once}
 use Rattle.walrus_canonical.proofs.Forms.Listings.{new_of, needed_of, listed_once}
 
@@ -101,23 +101,9 @@ module _ (s : Section) (roots : List ℕ) (n : Section) (m : NewIndices) (f : Is
         IsInGroup S i x
     none_comes_in k x g names inside =
         let h = groups_of S N i p there in
-        let l = h.first_places k g.0 g.1 in
-        let shape = h.shapes k l.0 g.0 g.1 l.1 in
-        let at_x = position_of (S.definition k) x names in
-        let y = named_too (S.definition k) (N.definition l.0) at_x.0 x shape at_x.1 in
-        let same = equal_mates S N i p g.0 k l.0 there g.1 l.1 in
-        let is = goes_to x y.0 (named k x g names) (equal_names S N k l.0 at_x.0 x y.0 same at_x.1 y.1) in
-        let n : NameAtOnce S N i p x y.0 = record {
-          place = g.0;
-          position = at_x.0;
-          k = k;
-          l = l.0;
-          first_member = g.1;
-          second_member = l.1;
-          first_name = at_x.1;
-          second_name = y.1;
-        } in
-        (inside.0, (h.inside x y.0 inside.0 n).1 (subst (λ (u : ℕ). IsMember N p inside.0 u) is inside.1))
+        let y = named_there S N i p k x h g names in
+        let is = goes_to x y.0 (named k x g names) (equal_at_once S N i p x y.0 there y.1) in
+        (inside.0, (h.inside x y.0 inside.0 y.1).1 (subst (λ (u : ℕ). IsMember N p inside.0 u) is inside.1))
 
     pub listing_renames : GroupGoesTo S N (new_or_zero m) i p
     listing_renames = let h = groups_of S N i p there in record {
@@ -148,10 +134,9 @@ among_by_roots s t roots others h _ (by_name user i n names) =
     let T = index_space t in
     let j = among_by_roots s t roots others h user n in
     let g = groups_of S T user j.0 j.2 in
-    let shape = g.shapes user j.0 g.own_place g.first_own g.second_own in
-    let at_i = position_of (S.definition user) i names in
-    let y = named_too (S.definition user) (T.definition j.0) at_i.0 i shape at_i.1 in (
+    let y = named_there S T user j.0 user i g (g.own_place, g.first_own) names in (
       y.0,
-      by_name j.0 y.0 j.1 (names_what_stands (T.definition j.0) at_i.0 y.0 y.1),
-      equal_names S T user j.0 at_i.0 i y.0 j.2 at_i.1 y.1,
+      by_name y.1.l y.0 (by_group j.0 y.1.l j.1 (y.1.place, y.1.second_member))
+          (names_what_stands (T.definition y.1.l) y.1.position y.0 y.1.second_name),
+      equal_at_once S T user j.0 i y.0 j.2 y.1,
     )

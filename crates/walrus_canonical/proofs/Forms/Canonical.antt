@@ -6,9 +6,8 @@ use Rattle.walrus_canonical.specs.Listing.{IsNeeded, NewIndices, IsListing, IsCa
 use Rattle.walrus_canonical.specs.Renamed.{new_or_zero}
 use Rattle.walrus_sections.specs.Section.{index_space}
 use Rattle.walrus_canonical.proofs.Forms.Orders.{section_once}
-use Rattle.walrus_canonical.proofs.Forms.Listings.{same_indices, among_by_listing}
-use Rattle.walrus_canonical.proofs.Forms.Relisting.{relisted, relisting}
-use Rattle.walrus_canonical.proofs.Forms.Rounds.{all_needed, all_known, new_roots_need, new_roots_known, after, listing_after, listing_itself}
+use Rattle.walrus_canonical.proofs.Forms.Listings.{same_indices, among_by_listing, relisting}
+use Rattle.walrus_canonical.proofs.Forms.Rounds.{all_needed, all_known, new_roots_need, new_roots_known, listing_after, listing_itself}
 
 pub one_section :
     (s n p : Section) (roots : List ℕ) (m w : NewIndices) → IsCanonical s roots n m →
@@ -31,11 +30,10 @@ complete s t n p roots others m w c d = (
         among_by_listing s t roots others n m w c.listing g,
         among_by_listing t s others roots n w m g c.listing,
       ))),
-  (λ h. section_once n p c.listing.plain d.listing.plain
-      (d.least n (relisted s t roots others n p m w c.listing d.listing h.0 h.1)
-      (relisting s t roots others n p m w c.listing d.listing h.0 h.1))
-      (c.least p (relisted t s others roots p n w m d.listing c.listing h.1 h.0)
-      (relisting t s others roots p n w m d.listing c.listing h.1 h.0))),
+  (λ h. (
+      let x = relisting s t roots others n p m w c.listing d.listing h.0 h.1 in
+      let y = relisting t s others roots p n w m d.listing c.listing h.1 h.0 in
+      section_once n p c.listing.plain d.listing.plain (d.least n x.0 x.1) (c.least p y.0 y.1))),
 )
 
 -- a canonical section stays as it is under all roots that need all of it
@@ -46,8 +44,7 @@ round_again :
     IsCanonical n others n (kept_indices n)
 round_again s n roots others m c all known = record {
   listing = listing_itself s n roots others m c.listing all known;
-  least = λ o w g. c.least o (after s n o roots others m w c.listing g all)
-      (listing_after s n o roots others m w c.listing g all);
+  least = λ o w g. (let v = listing_after s n o roots others m w c.listing g all in c.least o v.0 v.1);
 }
 
 pub second_round :

@@ -1,5 +1,5 @@
 -- The least group that can come next behind a section whose types are apart.
-use Rattle.std.proofs.Common.{◌≡◌, ℕ, zero, suc, ◌<◌, ◌≤◌, List, length, refl, subst, inl, inr, ◌⊎◌, Contains, get_or, arith}
+use Rattle.std.proofs.Common.{◌≡◌, ℕ, zero, suc, ◌+◌, ◌<◌, ◌≤◌, List, length, refl, subst, inl, inr, ◌⊎◌, Contains, get_or, arith}
 use Rattle.std.proofs.lemmas.Bool.{cases_lt}
 use Rattle.std.proofs.lemmas.Option.{slice_get_within, slice_get-get_or, get_or_from_slice_get}
 use Rattle.std.specs.declared.cmp.Ordering.{Ordering}
@@ -12,14 +12,15 @@ use Rattle.walrus_ty.specs.Definition.{Definition, Names, names_of, definition_c
 use Rattle.walrus_ty.specs.Groups.{Section}
 use Rattle.walrus_ty.proofs.Names.Definitions.{definitions_total}
 use Rattle.walrus_sections.specs.Section.{IndexSpace, index_space, no_place, NamesBelowEnds}
-use Rattle.walrus_canonical.specs.EqualTypes.{IsInGroup, AreEqual}
+use Rattle.walrus_canonical.specs.EqualTypes.{IsInGroup, NamesOutside, AreEqual}
 use Rattle.walrus_canonical.specs.Listing.{IsNeeded, by_group, by_name}
 use Rattle.walrus_canonical.specs.Greedy.{StandsFor, IsWrittenAs, CanComeNext}
 use Rattle.walrus_canonical.proofs.Equality.Definitions.{named_too, names_what_stands, position_of}
 use Rattle.walrus_canonical.proofs.Equality.Members.{in_group_or_not, own_member, named_outside}
 use Rattle.walrus_canonical.proofs.Equality.Decisions.{Decided, some_below, all_below}
 use Rattle.walrus_canonical.proofs.Equality.DecidedTypes.{equal_or_not}
-use Rattle.walrus_canonical.proofs.Equality.EqualTypes.{equal_within}
+use Rattle.walrus_canonical.proofs.Equality.Written.{stands_there}
+use Rattle.walrus_canonical.proofs.Equality.EqualTypes.{equal_itself, equal_within}
 use Rattle.walrus_canonical.proofs.Needs.DecidedNeeds.{needed_or_not}
 use Rattle.walrus_canonical.proofs.Forms.Listings.{needed_below}
 use Rattle.walrus_canonical.proofs.Forms.Writing.{written_once, as_written, written_so}
@@ -101,31 +102,16 @@ module _ (r : Rooted) (pre : Section)
   listed_if_written : (i : ℕ) (ds : List Definition) → IsWrittenAs S P i ds → (k : ℕ) →
       AreListed i k
   listed_if_written i ds w k g x names out =
-      let low = w.places k g.0 g.1 in
-      let none = no_place.definition in
-      let d = get_or ds g.0 none in
-      let at_d = slice_get-get_or ds g.0 none low in
-      let at_x = position_of (S.definition k) x names in
-      let y = named_too (S.definition k) d at_x.0 x (w.shapes k g.0 d g.1 at_d) at_x.1 in
-      let n : StandsFor S i ds x y.0 = record {
-        place = g.0;
-        position = at_x.0;
-        k = k;
-        definition = d;
-        member = g.1;
-        written = at_d;
-        old_name = at_x.1;
-        new_name = y.1;
-      } in
-      (y.0, w.outer x y.0 n out)
+      let y = stands_there S (λ p. P.count + p) (AreEqual S P) i ds w k x g names in
+      (y.0, w.others x y.0 y.1 out)
 
   next_if_listed :
       (i : ℕ) → IsNeeded S r.roots i → (IsFound i → ⊥) → ((k : ℕ) → k < S.count → AreListed i k) →
       (ds : List Definition) × Next i ds
   next_if_listed i h none listed =
       let low = needed_within r i h in
-      let each : (k x : ℕ) → IsInGroup S i k → Names (S.definition k) x → (IsInGroup S i x → ⊥) →
-      IsFound x = λ k x g names out. listed k (needed_within r k (by_group i k h g)) g x names out in (
+      let each : (x : ℕ) → NamesOutside S i x → IsFound x = λ x o.
+      listed o.0 (needed_within r o.0 (by_group i o.0 h o.1)) o.1 x o.2 o.3 in (
         as_written r.section P found i low each,
         record {
           needed = h;
@@ -162,8 +148,8 @@ module _ (r : Rooted) (pre : Section)
 
   pub next_once : (i : ℕ) (ds es : List Definition) → Next i ds → Next i es → ds ≡ es
   next_once i ds es x y =
-      let own = own_member S i (needed_within r i x.needed) in
-      written_once S pre apart i own.0 own.1 ds es x.written y.written
+      let same = equal_itself r.section r.below i (needed_within r i x.needed) in
+      written_once r.section pre apart i i same ds es x.written y.written
 
   pub record Least (bound : ℕ) : Type 0 where
     pub i : ℕ
@@ -176,92 +162,60 @@ module _ (r : Rooted) (pre : Section)
   abbrev pub NoneNext : ℕ → Type 0
   NoneNext bound = (j : ℕ) (es : List Definition) → j < bound → Next j es → ⊥
 
-  least_with :
-      (bound : ℕ) → Least bound → (ds : List Definition) → Next bound ds → Least (suc bound)
-  least_with bound b ds n = elim (less_or_not (slice_cmp definition_cmp ds b.ds)) [
-    | inl less ↦ record {
-      i = bound;
-      ds = ds;
-      next = n;
-      least = λ j es low x e. elim (cases_lt j bound) [
-        | inl lower ↦ b.least j es lower x (definitions_order.trans es ds b.ds e less)
-        | inr over ↦ not_less_itself ds (subst (λ (u : List Definition).
-            slice_cmp definition_cmp u ds ≡ Less) (next_at bound j es ds low over x n) e)
-      ];
-    }
-    | inr not_less ↦ record {
-      i = b.i;
-      ds = b.ds;
-      next = b.next;
-      least = λ j es low x e. elim (cases_lt j bound) [
-        | inl lower ↦ b.least j es lower x e
-        | inr over ↦ not_less (subst (λ (u : List Definition).
-            slice_cmp definition_cmp u b.ds ≡ Less) (next_at bound j es ds low over x n) e)
-      ];
-    }
+  below_or_last : {A : Type 0} (bound j : ℕ) → j < suc bound → (j < bound → A) → (j ≡ bound → A) → A
+  below_or_last bound j low f g = elim (cases_lt j bound) [
+    | inl lower ↦ f lower
+    | inr over ↦ g (omega (arith, low, over))
   ]
-    where
-      less_or_not : (o : Ordering) → Decided (o ≡ Less)
-      less_or_not Less = inl refl
-      less_or_not Equal = inr (λ e. cc)
-      less_or_not Greater = inr (λ e. cc)
 
-      next_at :
-          (bound j : ℕ) (es ds : List Definition) → j < suc bound → bound ≤ j → Next j es →
-          Next bound ds → es ≡ ds
-      next_at bound j es ds low over x n =
-          let is : j ≡ bound = omega (arith, low, over) in
-          next_once bound es ds (subst (λ (u : ℕ). Next u es) is x) n
-
-  first_least :
-      (bound : ℕ) → NoneNext bound → (ds : List Definition) → Next bound ds → Least (suc bound)
-  first_least bound none ds n = record {
+  -- what can come next at the bound is the least, or the least of those below it stays
+  last_least :
+      (bound : ℕ) (ds : List Definition) → Next bound ds →
+      ((j : ℕ) (es : List Definition) → j < bound → Next j es → slice_cmp definition_cmp es ds ≡ Less → ⊥) →
+      Least (suc bound)
+  last_least bound ds n below = record {
     i = bound;
     ds = ds;
     next = n;
-    least = λ j es low x e. elim (cases_lt j bound) [
-      | inl lower ↦ none j es lower x
-      | inr over ↦
-          let is : j ≡ bound = omega (arith, low, over) in
-          not_less_itself ds (subst (λ (u : List Definition). slice_cmp definition_cmp u ds ≡ Less)
-          (next_once bound es ds (subst (λ (u : ℕ). Next u es) is x) n) e)
-    ];
+    least = λ j es low x e. below_or_last bound j low (λ lower. below j es lower x e) (λ is.
+        not_less_itself ds (subst (λ (u : List Definition). slice_cmp definition_cmp u ds ≡ Less)
+        (next_once bound es ds (subst (λ (u : ℕ). Next u es) is x) n) e));
   }
 
-  later_none :
-      (bound : ℕ) → NoneNext bound → ((ds : List Definition) × Next bound ds → ⊥) →
-      NoneNext (suc bound)
-  later_none bound none out j es low x = elim (cases_lt j bound) [
-    | inl lower ↦ none j es lower x
-    | inr over ↦
-        let is : j ≡ bound = omega (arith, low, over) in
-        out (es, subst (λ (u : ℕ). Next u es) is x)
-  ]
-
   same_least :
-      (bound : ℕ) → Least bound → ((ds : List Definition) × Next bound ds → ⊥) → Least (suc bound)
-  same_least bound b out = record {
+      (bound : ℕ) (b : Least bound) →
+      ((es : List Definition) → Next bound es → slice_cmp definition_cmp es b.ds ≡ Less → ⊥) →
+      Least (suc bound)
+  same_least bound b last = record {
     i = b.i;
     ds = b.ds;
     next = b.next;
-    least = λ j es low x e. elim (cases_lt j bound) [
-      | inl lower ↦ b.least j es lower x e
-      | inr over ↦
-          let is : j ≡ bound = omega (arith, low, over) in
-          out (es, subst (λ (u : ℕ). Next u es) is x)
-    ];
+    least = λ j es low x e. below_or_last bound j low (λ lower. b.least j es lower x e)
+        (λ is. last es (subst (λ (u : ℕ). Next u es) is x) e);
   }
+
+  less_or_not : (o : Ordering) → Decided (o ≡ Less)
+  less_or_not Less = inl refl
+  less_or_not Equal = inr (λ e. cc)
+  less_or_not Greater = inr (λ e. cc)
 
   pub choose : (bound : ℕ) → bound ≤ S.count → NoneNext bound ⊎ Least bound
   choose zero h = inl (λ j es low x. omega (arith, low))
   choose (suc bound) h = elim (choose bound (omega (arith, h))) [
     | inl none ↦ elim (next_or_not bound h) [
-      | inl x ↦ inr (first_least bound none x.0 x.1)
-      | inr out ↦ inl (later_none bound none out)
+      | inl x ↦ inr (last_least bound x.0 x.1 (λ j es low y e. none j es low y))
+      | inr out ↦ inl (λ j es low x. below_or_last bound j low (λ lower. none j es lower x)
+          (λ is. out (es, subst (λ (u : ℕ). Next u es) is x)))
     ]
     | inr b ↦ elim (next_or_not bound h) [
-      | inl x ↦ inr (least_with bound b x.0 x.1)
-      | inr out ↦ inr (same_least bound b out)
+      | inr out ↦ inr (same_least bound b (λ es x e. out (es, x)))
+      | inl x ↦ elim (less_or_not (slice_cmp definition_cmp x.0 b.ds)) [
+        | inl less ↦ inr (last_least bound x.0 x.1 (λ j es low y e. b.least j es low y
+            (definitions_order.trans es x.0 b.ds e less)))
+        | inr not_less ↦ inr (same_least bound b (λ es y e. not_less
+            (subst (λ (u : List Definition). slice_cmp definition_cmp u b.ds ≡ Less)
+            (next_once bound es x.0 y x.1) e)))
+      ]
     ]
   ]
 
@@ -274,7 +228,7 @@ module _ (r : Rooted) (pre : Section)
     | inr out ↦ absurd (
         let hj = needed_within r j h in
         let x = next_if_listed j h out (λ k hk g x names outside.
-        let less = named_outside r.section j k x r.below hj g names outside in
+        let less = named_outside r.section j x r.below hj (k, g, names, outside) in
         found_below none bound x (omega (arith, less, low)) (by_name k x (by_group j k h g) names)) in
         none j x.0 hj x.1)
   ]

@@ -11,7 +11,7 @@ use Rattle.walrus_canonical.specs.Listing.{AreIndices, IsNeeded, NewIndices, new
 use Rattle.walrus_canonical.specs.Greedy.{CanComeNext, AreLeast, IsBeginning, AreNewIndices, plain_group}
 use Rattle.walrus_canonical.proofs.Equality.EqualTypes.{equal_back, equal_over, equal_within, one_type}
 use Rattle.walrus_canonical.proofs.Forms.Counting.{no_more}
-use Rattle.walrus_canonical.proofs.Forms.Indices.{some_of, is_some_at, built_length, built_at, built_within}
+use Rattle.walrus_canonical.proofs.Forms.Listings.{new_indices, listing_of}
 use Rattle.walrus_canonical.proofs.Equality.Decisions.{Decided}
 use Rattle.walrus_canonical.proofs.Needs.DecidedNeeds.{needed_or_not}
 use Rattle.walrus_canonical.proofs.Forms.Greedy.{greedy_is_canonical}
@@ -66,94 +66,14 @@ module _ (r : Rooted) where
 
   -- ---- the whole
 
-  module _ (few : S.count < 2 ^ 32) (pre : Section) (b : IsBeginning s r.roots pre) where
-    abbrev P : IndexSpace
-    P = index_space pre
-
-    listing : (m : NewIndices) → AreNewIndices s r.roots pre m → IsListing s r.roots pre m
-    listing m a = record {
-      one_each = a.one_each;
-      needed = a.needed;
-      below = λ i p e. (equal_within s pre i p (a.equal i p e)).1;
-      onto = λ p h. (
-          let i = b.onto p h in
-          let q = some_of (new_index m i.0) ((a.needed i.0).1 i.1) in
-          let is = one_type pre b.apart q.0 p (equal_over P S P q.0 i.0 p
-          (equal_back S P i.0 q.0 (a.equal i.0 q.0 q.1)) i.2) in
-          (i.0, q.1 ∙ ap (λ (u : ℕ). Some u) is));
-      equal = a.equal;
-      apart = b.apart;
-      plain = b.plain;
-      well_named = record {
-        few = (let z = no_longer pre b in omega (arith, z, few));
+  pub whole :
+      S.count < 2 ^ 32 → (pre : Section) → IsBeginning s r.roots pre → (m : NewIndices) →
+      AreNewIndices s r.roots pre m → IsCanonical s r.roots pre m
+  whole few pre b m a = greedy_is_canonical s r.roots pre m
+      (listing_of s r.roots pre m a b.onto b.apart b.plain (record {
+        few = omega (arith, no_longer pre b, few);
         below_ends = b.below_ends;
-      };
-    }
-
-    pub whole : (m : NewIndices) → AreNewIndices s r.roots pre m → IsCanonical s r.roots pre m
-    whole m a = greedy_is_canonical s r.roots pre m (listing m a) b.greedy
-
-  -- ---- new indices, where each needed type is there
-
-  module _ (pre : Section)
-      (all : (j : ℕ) → IsNeeded S r.roots j → (p : ℕ) × AreEqual S (index_space pre) j p) where
-    abbrev Q : IndexSpace
-    Q = index_space pre
-
-    new_by : (j : ℕ) → Decided (IsNeeded S r.roots j) → Option ℕ
-    new_by j (inl h) = Some (all j h).0
-    new_by j (inr out) = None
-
-    by_sound :
-        (j p : ℕ) (d : Decided (IsNeeded S r.roots j)) → new_by j d ≡ Some p →
-        IsNeeded S r.roots j × AreEqual S Q j p
-    unfolding new_by
-    by_sound j p (inl h) e = (
-      h,
-      subst (λ (u : ℕ). AreEqual S Q j u) (same_Some (all j h).0 p e) (all j h).1,
-    )
-    by_sound j p (inr out) e = absurd cc
-
-    by_complete :
-        (j : ℕ) (d : Decided (IsNeeded S r.roots j)) → IsNeeded S r.roots j →
-        (p : ℕ) × (new_by j d ≡ Some p)
-    unfolding new_by
-    by_complete j (inl h) n = ((all j h).0, refl)
-    by_complete j (inr out) n = absurd (out n)
-
-    need : (j : ℕ) → Decided (IsNeeded S r.roots j)
-    need j = needed_or_not s r.roots r.below r.known j
-
-    new_for : ℕ → Option ℕ
-    new_for j = new_by j (need j)
-
-    indices : NewIndices
-    indices = map new_for (range_with_len 0 S.count)
-
-    index_sound :
-        (i p : ℕ) → new_index indices i ≡ Some p → IsNeeded S r.roots i × AreEqual S Q i p
-    unfolding indices new_for
-    index_sound i p e = by_sound i p (need i) (built_within new_for S.count i p e).1
-
-    index_complete : (i : ℕ) → IsNeeded S r.roots i → (p : ℕ) × (new_index indices i ≡ Some p)
-    unfolding indices new_for
-    index_complete i h =
-        let p = by_complete i (need i) h in
-        (p.0, built_at new_for S.count i (needed_within r i h) ∙ p.1)
-
-    one_each : length indices ≡ S.count
-    unfolding indices
-    one_each = built_length new_for S.count
-
-    are_new : AreNewIndices s r.roots pre indices
-    are_new = record {
-      one_each = one_each;
-      needed = λ i. (
-        (λ h. (let p = some_of (new_index indices i) h in (index_sound i p.0 p.1).0)),
-        (λ h. (let p = index_complete i h in is_some_at (new_index indices i) p.0 p.1)),
-      );
-      equal = λ i p e. (index_sound i p e).1;
-    }
+      })) b.greedy
 
   -- ---- from the empty beginning to the whole
 
@@ -164,8 +84,9 @@ module _ (r : Rooted) where
   canonical_from few zero pre b h = absurd (let z = no_longer pre b in omega (arith, z, h))
   canonical_from few (suc fuel) pre b h = elim (choose r pre b.apart S.count (omega arith)) [
     | inl none ↦
-        let all = all_found r pre b.apart none in
-        (pre, indices pre all, whole few pre b (indices pre all) (are_new pre all))
+        let m = new_indices s r.roots pre (needed_within r) (needed_or_not s r.roots r.below r.known)
+        (all_found r pre b.apart none) in
+        (pre, m.0, whole few pre b m.0 m.1)
     | inr c ↦
         let least : AreLeast S r.roots (index_space pre) c.ds = λ j es x.
         c.least j es (needed_within r j x.needed) x in

@@ -9,9 +9,10 @@ use Rattle.walrus_sections.specs.Section.{IndexSpace, index_space, NamesBelowEnd
 use Rattle.walrus_sections.proofs.Sections.Rows.{laid_out}
 use Rattle.walrus_canonical.specs.EqualTypes.{IsMember, AreShapedAlike, NamesAt, NameAtOnce, AreEqual, equal}
 use Rattle.walrus_canonical.specs.Listing.{IsNeeded, by_group, group_definitions}
-use Rattle.walrus_canonical.specs.Greedy.{StandsFor, CanComeNext, AreLeast, IsGreedy, IsBeginning, plain_group}
+use Rattle.walrus_canonical.specs.Greedy.{IsWrittenBy, StandsFor, CanComeNext, AreLeast, IsGreedy, IsBeginning, plain_group}
 use Rattle.walrus_canonical.proofs.Equality.Definitions.{named_too, position_of}
 use Rattle.walrus_canonical.proofs.Equality.EqualTypes.{groups_of, equal_back, equal_over, equal_mates, equal_within}
+use Rattle.walrus_canonical.proofs.Equality.Written.{of_mate, own_written, equal_if_one, name_there}
 use Rattle.walrus_canonical.proofs.Equality.Members.{place_once, in_group_or_not, own_member, mate_from, mate_to, member_end}
 use Rattle.walrus_canonical.proofs.Forms.Orders.{plain_definitions, plain_if_filled}
 use Rattle.walrus_canonical.proofs.Forms.Beginnings.{same_definition, same_end, equal_before}
@@ -92,56 +93,16 @@ module _ (r : Rooted) (pre : Section) (b : IsBeginning r.section r.roots pre) (i
   to_J : (q l : ℕ) → IsMember Q c q l → IsMember Q J q l
   to_J q l m = mate_from Q c own.0 J q l at_J m
 
-  from_J : (q l : ℕ) → IsMember Q J q l → IsMember Q c q l
-  from_J q l m = mate_to Q c own.0 J q l at_J m
-
-  stands : (x y : ℕ) → NameAtOnce S Q i J x y → StandsFor S i ds x y
-  stands x y n =
-      let is = begin.only n.place n.l (from_J n.place n.l n.second_member) in record {
-        place = n.place;
-        position = n.position;
-        k = n.k;
-        definition = Q.definition (c + n.place);
-        member = n.first_member;
-        written = begin.definition n.place is.0;
-        old_name = n.first_name;
-        new_name = subst (λ (u : ℕ). NamesAt (Q.definition u) n.position y) is.1 n.second_name;
-      }
-
-  inside_to : (x y q : ℕ) → NameAtOnce S Q i J x y → IsMember S i q x → IsMember Q J q y
-  inside_to x y q n m =
-      let is = can.written.inner x y q (stands x y n) m in
-      subst (λ (u : ℕ). IsMember Q J q u) (sym is)
-      (to_J q (c + q) (begin.member q (can.written.places x q m)))
-
-  inside_from : (x y q : ℕ) → NameAtOnce S Q i J x y → IsMember Q J q y → IsMember S i q x
-  inside_from x y q n m =
-      let is = (begin.only q y (from_J q y m)).1 in
-      elim (in_group_or_not S i own.0 x own.1) [
-        | inl a ↦
-            let is_too = can.written.inner x y a.0 (stands x y n) a.1 in
-            let same : a.0 ≡ q = omega (arith, is, is_too) in
-            subst (λ (u : ℕ). IsMember S i u x) same a.1
-        | inr out ↦ absurd (
-            let less = (equal_within r.section pre x y (can.written.outer x y (stands x y n) out)).1 in
-            omega (arith, is, less))
-      ]
+  new_written : IsWrittenBy Q (λ p. c + p) (λ x y. y ≡ x) J ds
+  new_written = of_mate Q (λ p. c + p) (λ x y. y ≡ x) c ds (own_written Q c ds begin) own.0 J at_J
 
   new_equal : AreEqual S Q i J
-  new_equal = equal i J (record {
-    own_place = own.0;
-    first_own = own.1;
-    second_own = to_J own.0 J at_J;
-    first_places = λ k q m. (c + q, to_J q (c + q) (begin.member q (can.written.places k q m)));
-    second_places = λ l q m. can.written.members q (begin.only q l (from_J q l m)).0;
-    shapes = λ k l q x y. (
-        let is = begin.only q l (from_J q l y) in
-        subst (λ (u : ℕ). AreShapedAlike (S.definition k) (Q.definition u)) (sym is.1)
-        (can.written.shapes k q (Q.definition (c + q)) x (begin.definition q is.0)));
-    inside = λ x y q n. (inside_to x y q n, inside_from x y q n);
-  }) (λ x y n out.
-      let e = can.written.outer x y (stands x y n) out in
-      equal_over S P Q x y y e (old_back y (equal_within r.section pre x y e).1))
+  new_equal = equal_if_one S Q (λ p. c + p) (λ p. c + p) (AreEqual S P) (λ x y. y ≡ x) i J own.0 own.1
+      (to_J own.0 J at_J) ds can.written new_written (λ p q h k e. omega (arith, e))
+      (λ x p o h e. omega (arith, (equal_within r.section pre x (c + p) e).1))
+      (λ y p o h e. o.3 (p, subst (λ (u : ℕ). IsMember Q J p u) e (to_J p (c + p) (begin.member p h))))
+      (λ x y z n o u old is. equal_over S P Q x z y old
+      (subst (λ (v : ℕ). AreEqual P Q z v) is (old_back z (equal_within r.section pre x z old).1)))
 
   pub member_equal : (k t : ℕ) → IsMember S i t k → AreEqual S Q k (c + t)
   member_equal k t m = equal_mates S Q i J t k (c + t) new_equal m
@@ -214,27 +175,6 @@ module _ (r : Rooted) (pre : Section) (b : IsBeginning r.section r.roots pre) (i
 
   -- ---- its names
 
-  new_stands :
-      (p : ℕ) (x : NewPlace p) (k position : ℕ) → NamesAt (Q.definition p) position k →
-      (y : ℕ) × StandsFor S i ds y k
-  new_stands p x k position at_k =
-      let at_p : slice_get ds x.t ≡ Some (Q.definition p) = begin.definition x.t x.low_t
-      ∙ ap (λ (u : ℕ). Some (Q.definition u)) (sym x.is) in
-      let shape = can.written.shapes x.k x.t (Q.definition p) x.at at_p in
-      let y = named_too (Q.definition p) (S.definition x.k) position k (sym shape) at_k in (
-        y.0,
-        record {
-          place = x.t;
-          position = position;
-          k = x.k;
-          definition = Q.definition p;
-          member = x.at;
-          written = at_p;
-          old_name = y.1;
-          new_name = at_k;
-        },
-      )
-
   new_end : (q : ℕ) → q < length ds → Q.end c ≡ Q.end (c + q)
   new_end q low_q = member_end next c q (c + q) (begin.member q low_q)
 
@@ -243,17 +183,18 @@ module _ (r : Rooted) (pre : Section) (b : IsBeginning r.section r.roots pre) (i
       let count = count_is in
       let low_x = x.low_t in
       let end_p : Q.end c ≡ Q.end p = new_end x.t x.low_t ∙ ap Q.end (sym x.is) in
-      let at_k = position_of (Q.definition p) k names in
-      let y = new_stands p x k at_k.0 at_k.1 in
+      let at_p : slice_get ds x.t ≡ Some (Q.definition p) = begin.definition x.t x.low_t
+      ∙ ap (λ (u : ℕ). Some (Q.definition u)) (sym x.is) in
+      let y = name_there S (λ q. c + q) (AreEqual S P) i ds can.written x.t k (Q.definition p) at_p names in
       elim (in_group_or_not S i own.0 y.0 own.1) [
         | inl m ↦
-            let is = can.written.inner y.0 k m.0 y.1 m.1 in
+            let is = can.written.own y.0 k m.0 y.1 m.1 in
             let low_m = can.written.places y.0 m.0 m.1 in
             let end_m = new_end m.0 low_m in
             let own_end = (laid_out next).own (c + m.0) (omega (arith, low_m, count)) in
             omega (arith, is, end_p, end_m, own_end)
         | inr out ↦
-            let less = (equal_within r.section pre y.0 k (can.written.outer y.0 k y.1 out)).1 in
+            let less = (equal_within r.section pre y.0 k (can.written.others y.0 k y.1 out)).1 in
             let is = x.is in
             let own_end = (laid_out next).own p (omega (arith, is, low_x, count)) in
             omega (arith, less, is, own_end)

@@ -13,6 +13,7 @@ use Rattle.walrus_canonical.specs.Greedy.{StandsFor, IsWrittenAs, CanComeNext, I
 use Rattle.walrus_canonical.proofs.Equality.Definitions.{names_what_stands}
 use Rattle.walrus_canonical.proofs.Equality.EqualTypes.{groups_of, named_of, equal_back, equal_over, equal_within}
 use Rattle.walrus_canonical.proofs.Equality.Members.{named_outside}
+use Rattle.walrus_canonical.proofs.Equality.Written.{said_anew, own_written, of_equal}
 use Rattle.walrus_canonical.proofs.Forms.Orders.{plain_once}
 use Rattle.walrus_canonical.proofs.Forms.Listings.{new_of, needed_of, fewest}
 use Rattle.walrus_canonical.proofs.Forms.Beginnings.{equal_before, named_below_before}
@@ -47,49 +48,12 @@ module _ (s : Section) (roots : List ℕ) (pre ys : Section) (w : NewIndices)
       (equal_over O P O p p P.count (before p less)
       (equal_over P S O p i P.count (equal_back S P i p same) there))
 
-  definition_is :
-      (place : ℕ) (d : Definition) → slice_get ds place ≡ Some d → place < length ds →
-      d ≡ O.definition (P.count + place)
-  definition_is place d at_d low =
-      same_Some d (O.definition (P.count + place)) (sym at_d ∙ b.definition place low)
-
-  low_place : (k place : ℕ) → IsMember S i place k → place < length ds
-  low_place k place x =
-      let l = (groups_of S O i P.count there).first_places k place x in (b.only place l.0 l.1).0
-
-  at_once : (x y : ℕ) → StandsFor S i ds x y → NameAtOnce S O i P.count x y
-  at_once x y n = let low = low_place n.k n.place n.member in record {
-    place = n.place;
-    position = n.position;
-    k = n.k;
-    l = P.count + n.place;
-    first_member = n.member;
-    second_member = b.member n.place low;
-    first_name = n.old_name;
-    second_name = subst (λ (d : Definition). NamesAt d n.position y)
-        (definition_is n.place n.definition n.written low) n.new_name;
-  }
-
   written : IsWrittenAs S P i ds
-  written = let h = groups_of S O i P.count there in record {
-    places = low_place;
-    members = λ place low. h.second_places (P.count + place) place (b.member place low);
-    shapes = λ k place d x at_d. (
-        let low = low_place k place x in
-        subst (λ (u : Definition). AreShapedAlike (S.definition k) u)
-        (sym (definition_is place d at_d low))
-        (h.shapes k (P.count + place) place x (b.member place low)));
-    inner = λ x y place n mx. (
-        (b.only place y ((h.inside x y place (at_once x y n)).0 mx)).1);
-    outer = λ x y n outside. (
-        let a = at_once x y n in
-        let same = named_of S O i P.count there x y a outside in
-        let low = named_outside (pre ++ ys) P.count a.l y g.well_named.below_ends low_base
-        (a.place, a.second_member)
-        (names_what_stands (O.definition a.l) a.position y a.second_name)
-        (λ q. outside (q.0, (h.inside x y q.0 a).1 q.1)) in
-        equal_over S O P x y y same (before y low));
-  }
+  written = said_anew S (λ p. P.count + p) _ i ds
+      (of_equal S O i P.count there (λ p. P.count + p) (λ x y. y ≡ x) ds (own_written O P.count ds b))
+      (λ p. P.count + p) (AreEqual S P) (λ p h. refl) (λ x z o e.
+      let low = named_outside (pre ++ ys) P.count e.0 g.well_named.below_ends low_base e.1 in
+      subst (λ (u : ℕ). AreEqual S P x u) (sym e.3) (equal_over S O P x e.0 e.0 e.2 (before e.0 low)))
 
   pub can_come : CanComeNext S roots P i ds
   can_come = record {

@@ -1,18 +1,22 @@
 -- Listings: a listing of the needed types has one index for types that are equal, and another one
 -- for types that are not.
-use Rattle.std.proofs.Common.{◌≡◌, ℕ, ◌<◌, ◌≤◌, List, sym, ap, subst, ◌∙◌, inl, inr, Some, None, Contains, arith}
+use Rattle.std.proofs.Common.{◌≡◌, ℕ, ◌<◌, ◌≤◌, List, map, refl, sym, ap, subst, ◌∙◌, inl, inr, Option, Some, None, IsSome, Contains, arith}
+use Rattle.std.specs.List.{range_with_len}
+use Rattle.std.proofs.lemmas.Option.{same_Some}
 use Rattle.std.specs.Prelude.{◌↔◌}
 use Rattle.std.proofs.lemmas.List.{ext_get_or}
 use Rattle.walrus_ty.specs.Groups.{Section}
-use Rattle.walrus_sections.specs.Section.{IndexSpace, index_space, NamesBelowEnds}
+use Rattle.walrus_sections.specs.Section.{IndexSpace, index_space, NamesBelowEnds, IsWellNamed}
 use Rattle.walrus_sections.proofs.Sections.Lying.{in_or_out}
 use Rattle.walrus_sections.proofs.Sections.Rows.{laid_out}
 use Rattle.walrus_canonical.specs.EqualTypes.{AreEqual}
-use Rattle.walrus_canonical.specs.Listing.{IsNeeded, at_root, by_group, by_name, NewIndices, new_index, IsListing, AreAmong, Covers}
-use Rattle.walrus_canonical.proofs.Equality.EqualTypes.{equal_back, equal_over, one_type}
+use Rattle.walrus_canonical.specs.Listing.{IsNeeded, at_root, by_group, by_name, NewIndices, new_index, HasPlainGroups, IsListing, AreAmong, Covers}
+use Rattle.walrus_canonical.specs.Greedy.{AreNewIndices}
+use Rattle.walrus_canonical.proofs.Equality.Decisions.{Decided}
+use Rattle.walrus_canonical.proofs.Equality.EqualTypes.{equal_back, equal_over, equal_within, one_type}
 use Rattle.walrus_canonical.proofs.Equality.Members.{member_within}
 use Rattle.walrus_canonical.proofs.Forms.Counting.{no_more}
-use Rattle.walrus_canonical.proofs.Forms.Indices.{some_of, is_some_at, index_within}
+use Rattle.walrus_canonical.proofs.Forms.Indices.{some_of, is_some_at, index_within, built_length, built_at, built_within}
 
 -- what roots need are indices, where the roots are
 pub needed_below :
@@ -25,6 +29,76 @@ needed_below s roots below known _ (by_name user i h names) =
     let hu = needed_below s roots below known user h in
     let low = below user hu i names in
     let fits = (laid_out s).fits user hu in omega (arith, low, fits)
+
+-- ---- the new indices of the needed types, where each is equal to one of a section
+
+module _ (s : Section) (roots : List ℕ) (n : Section)
+    (within : (i : ℕ) → IsNeeded (index_space s) roots i → i < (index_space s).count)
+    (need : (i : ℕ) → Decided (IsNeeded (index_space s) roots i))
+    (there : (i : ℕ) → IsNeeded (index_space s) roots i →
+    (p : ℕ) × AreEqual (index_space s) (index_space n) i p) where
+  abbrev Is : ℕ → ℕ → Type 0
+  Is i p = IsNeeded (index_space s) roots i × AreEqual (index_space s) (index_space n) i p
+
+  new_by : (i : ℕ) → Decided (IsNeeded (index_space s) roots i) → Option ℕ
+  new_by i (inl h) = Some (there i h).0
+  new_by i (inr out) = None
+
+  by_sound : (i p : ℕ) (d : Decided (IsNeeded (index_space s) roots i)) → new_by i d ≡ Some p → Is i p
+  unfolding new_by
+  by_sound i p (inl h) e = (
+    h,
+    subst (λ (u : ℕ). AreEqual (index_space s) (index_space n) i u) (same_Some (there i h).0 p e) (there i h).1,
+  )
+  by_sound i p (inr out) e = absurd cc
+
+  by_some :
+      (i : ℕ) (d : Decided (IsNeeded (index_space s) roots i)) → IsNeeded (index_space s) roots i →
+      IsSome (new_by i d)
+  unfolding new_by
+  by_some i (inl h) h' = refl
+  by_some i (inr out) h' = absurd (out h')
+
+  pub new_indices : (m : NewIndices) × AreNewIndices s roots n m
+  new_indices =
+      let new : ℕ → Option ℕ = λ i. new_by i (need i) in
+      let sound : (i p : ℕ) → new_index (map new (range_with_len 0 (index_space s).count)) i ≡ Some p → Is i p =
+      λ i p e. by_sound i p (need i) (built_within new (index_space s).count i p e).1 in (
+        map new (range_with_len 0 (index_space s).count),
+        record {
+          one_each = built_length new (index_space s).count;
+          needed = λ i. (
+            λ h. (let p = some_of _ h in (sound i p.0 p.1).0),
+            λ h. subst IsSome (sym (built_at new (index_space s).count i (within i h))) (by_some i (need i) h),
+          );
+          equal = λ i p e. (sound i p e).1;
+        },
+      )
+
+-- such a section lists the types, if it has nothing else, and each once
+pub listing_of :
+    (s : Section) (roots : List ℕ) (n : Section) (m : NewIndices) → AreNewIndices s roots n m →
+    ((p : ℕ) → p < (index_space n).count → (i : ℕ) × IsNeeded (index_space s) roots i
+    × AreEqual (index_space s) (index_space n) i p) →
+    ((p q : ℕ) → p < q → q < (index_space n).count → ¬ (AreEqual (index_space n) (index_space n) p q)) →
+    HasPlainGroups n → IsWellNamed n → IsListing s roots n m
+listing_of s roots n m a onto apart plain well = record {
+  one_each = a.one_each;
+  needed = a.needed;
+  below = λ i p e. (equal_within s n i p (a.equal i p e)).1;
+  onto = λ p h. (
+      let S = index_space s in
+      let N = index_space n in
+      let i = onto p h in
+      let q = some_of (new_index m i.0) ((a.needed i.0).1 i.1) in
+      let is = one_type n apart q.0 p
+      (equal_over N S N q.0 i.0 p (equal_back S N i.0 q.0 (a.equal i.0 q.0 q.1)) i.2) in
+      (i.0, q.1 ∙ ap (λ (u : ℕ). Some u) is));
+  equal = a.equal;
+  apart = apart;
+  plain = plain;
+  well_named = well;
+}
 
 module _ (s : Section) (roots : List ℕ) (n : Section) (m : NewIndices) (f : IsListing s roots n m) where
   abbrev S : IndexSpace
@@ -42,6 +116,12 @@ module _ (s : Section) (roots : List ℕ) (n : Section) (m : NewIndices) (f : Is
   pub needed_within : (i : ℕ) → IsNeeded S roots i → i < S.count
   needed_within i h =
       let p = new_of i h in subst (λ (u : ℕ). i < u) f.one_each (index_within m i p.0 p.1)
+
+  pub needed_if_new : (i : ℕ) → Decided (IsNeeded S roots i)
+  needed_if_new i = elim (in_or_out (new_index m i)) [
+    | inr p ↦ inl (needed_of i p.0 p.1)
+    | inl none ↦ inr (λ h. (let p = new_of i h in let e = sym none ∙ p.1 in cc))
+  ]
 
   -- equal types of the listing are one
   pub listed_once : (p q : ℕ) → AreEqual N N p q → p ≡ q
@@ -125,4 +205,26 @@ among_by_listing s t roots others n m w f g i h =
       j.0,
       needed_of t others n w g j.0 p.0 j.1,
       equal_over S N T i p.0 j.0 (f.equal i p.0 p.1) (equal_back T N j.0 p.0 (g.equal j.0 p.0 j.1)),
+    )
+
+-- a listing lists the types of another section, where each needed type of the one is equal to one of
+-- the other
+pub relisting :
+    (s t : Section) (roots others : List ℕ) (n p : Section) (m w : NewIndices) → IsListing s roots n m →
+    IsListing t others p w → AreAmong s roots t others → AreAmong t others s roots →
+    (v : NewIndices) × IsListing t others n v
+relisting s t roots others n p m w f g forth back =
+    let S = index_space s in
+    let T = index_space t in
+    let N = index_space n in
+    let v = new_indices t others n (needed_within t others p w g) (needed_if_new t others p w g) (λ j h.
+    let i = back j h in
+    let q = new_of s roots n m f i.0 i.1 in
+    (q.0, equal_over T S N j i.0 q.0 i.2 (f.equal i.0 q.0 q.1))) in (
+      v.0,
+      listing_of t others n v.0 v.1 (λ q h. (
+          let i = f.onto q h in
+          let j = forth i.0 (needed_of s roots n m f i.0 q i.1) in
+          (j.0, j.1, equal_over T S N j.0 i.0 q (equal_back S T i.0 j.0 j.2) (f.equal i.0 q i.1))))
+          f.apart f.plain f.well_named,
     )

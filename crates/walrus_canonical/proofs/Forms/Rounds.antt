@@ -12,7 +12,7 @@ use Rattle.walrus_canonical.specs.Listing.{IsNeeded, at_root, NewIndices, new_in
 use Rattle.walrus_canonical.specs.Renamed.{new_or_zero}
 use Rattle.walrus_canonical.proofs.Equality.EqualTypes.{equal_itself, equal_back, equal_over}
 use Rattle.walrus_canonical.proofs.Forms.Indices.{contained-map, contained_before, some_of, is_some_at, new_index-map, built_length, built_at, built_within, below_contained, contained_below}
-use Rattle.walrus_canonical.proofs.Forms.Listings.{new_of, needed_of, needed_within, needed_below, listed_once}
+use Rattle.walrus_canonical.proofs.Forms.Listings.{new_of, needed_of, needed_within, needed_below, listed_once, relisting}
 use Rattle.walrus_canonical.proofs.Equality.Renamed.{among_by_roots}
 
 pub all_needed :
@@ -59,71 +59,17 @@ module _ (s n : Section) (roots : List ℕ) (m : NewIndices) (f : IsListing s ro
 
 -- ---- one listing after another
 
-module _ (s n o : Section) (roots others : List ℕ) (m w : NewIndices) (f : IsListing s roots n m)
-    (g : IsListing n others o w)
-    (all : (p : ℕ) → p < (index_space n).count → IsNeeded (index_space n) others p) where
-  abbrev S : IndexSpace
-  S = index_space s
-
-  abbrev N : IndexSpace
-  N = index_space n
-
-  abbrev O : IndexSpace
-  O = index_space o
-
-  abbrev next : Option ℕ → Option ℕ
-  next x = option_and_then (new_index w) x
-
-  pub after : NewIndices
-  after = map next m
-
-  after_at : (i : ℕ) → new_index after i ≡ next (new_index m i)
-  unfolding after
-  after_at i = new_index-map next m i refl
-
-  record Way (i q : ℕ) : Type 0 where
-    pub p : ℕ
-    pub first : new_index m i ≡ Some p
-    pub second : new_index w p ≡ Some q
-
-  way : (i q : ℕ) → new_index after i ≡ Some q → Way i q
-  way i q e = elim (in_or_out (new_index m i)) [
-    | inl none ↦ absurd (
-        let x : None ≡ Some q = sym (ap next none) ∙ (sym (after_at i) ∙ e) in cc)
-    | inr p ↦ record { p = p.0; first = p.1; second = sym (ap next p.1) ∙ (sym (after_at i) ∙ e) }
-  ]
-
-  by_way : (i p q : ℕ) → new_index m i ≡ Some p → new_index w p ≡ Some q → new_index after i ≡ Some q
-  by_way i p q x y = after_at i ∙ (ap next x ∙ y)
-
-  long : length after ≡ length m
-  unfolding after
-  long = length-map m next
-
-  pub listing_after : IsListing s roots o after
-  listing_after = record {
-    one_each = long ∙ f.one_each;
-    needed = λ i. (
-      (λ h. (
-          let q = some_of (new_index after i) h in
-          let v = way i q.0 q.1 in needed_of s roots n m f i v.p v.first)),
-      (λ h. (
-          let p = new_of s roots n m f i h in
-          let q = new_of n others o w g p.0 (all p.0 (f.below i p.0 p.1)) in
-          is_some_at (new_index after i) q.0 (by_way i p.0 q.0 p.1 q.1))),
-    );
-    below = λ i q e. (let v = way i q e in g.below v.p q v.second);
-    onto = λ q h. (
-        let p = g.onto q h in
-        let low = needed_within n others o w g p.0 (needed_of n others o w g p.0 q p.1) in
-        let i = f.onto p.0 low in (i.0, by_way i.0 p.0 q i.1 p.1));
-    equal = λ i q e. (
-        let v = way i q e in
-        equal_over S N O i v.p q (f.equal i v.p v.first) (g.equal v.p q v.second));
-    apart = g.apart;
-    plain = g.plain;
-    well_named = g.well_named;
-  }
+pub listing_after :
+    (s n o : Section) (roots others : List ℕ) (m w : NewIndices) → IsListing s roots n m →
+    IsListing n others o w → ((p : ℕ) → p < (index_space n).count → IsNeeded (index_space n) others p) →
+    (v : NewIndices) × IsListing s roots o v
+listing_after s n o roots others m w f g all =
+    let S = index_space s in
+    let N = index_space n in
+    relisting n s others roots o n w m g f (λ p h. (
+        let i = f.onto p (needed_within n others o w g p h) in
+        (i.0, needed_of s roots n m f i.0 p i.1, equal_back S N i.0 p (f.equal i.0 p i.1)))) (λ i h. (
+        let p = new_of s roots n m f i h in (p.0, all p.0 (f.below i p.0 p.1), f.equal i p.0 p.1)))
 
 -- ---- a listing of itself
 

@@ -80,7 +80,7 @@ module _ (section : Section) (roots : List ℕ) (below : NamesBelowEnds (index_s
         mate_to s i g.0 k own.0 user g.1
             (mate_from s user m.0 k own.0 user m.1 own.1),
       ) in
-      let less : k < user = named_outside section user user k below hu own names not_in in
+      let less : k < user = named_outside section user k below hu (user, own, names, not_in) in
       group_end section i g.0 k user h g.1 less hu not_in
 
   abbrev Uses : ℕ → ℕ → ℕ → Type 0

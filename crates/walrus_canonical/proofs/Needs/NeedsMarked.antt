@@ -17,6 +17,7 @@ use Rattle.walrus_canonical.specs.EqualTypes.{IsMember, IsInGroup}
 use Rattle.walrus_canonical.specs.Listing.{IsNeeded, at_root, by_group, by_name, all_indices, AreIndices}
 use Rattle.walrus_canonical.specs.Roots.{roots_or_all}
 use Rattle.walrus_canonical.specs.Steps.Marks.{AreKnown, IsMarked, Marks, MarkRoots, MarkNeeds}
+use Rattle.walrus_canonical.proofs.Reading.Containing.{contained_at, contained_from}
 use Rattle.walrus_canonical.proofs.Forms.Indices.{below_contained, contained_below}
 use Rattle.walrus_canonical.proofs.Forms.Listings.{needed_below}
 use Rattle.walrus_canonical.proofs.Equality.Members.{mate_from, mate_to, in_group_or_not, named_outside}
@@ -50,13 +51,6 @@ named_by (e ∷ ds) k c = elim (Contains-append_cases (names_of e) (flat_map nam
   | inr there ↦ (let r = named_by ds k there in
       record { t = suc r.t; d = r.d; at = r.at; names = r.names })
 ]
-
--- an item of a list is at a place
-pub contained_at : (xs : List ℕ) (x : ℕ) → Contains xs x → (k : ℕ) × (slice_get xs k ≡ Some x)
-contained_at xs x c = (c.0, slice_get_read xs (length xs) c.0 x refl c.1 (sym c.2))
-
-pub contained_from : (xs : List ℕ) (x k : ℕ) → slice_get xs k ≡ Some x → Contains xs x
-contained_from xs x k at = (k, slice_get_within xs k x at, get_or_from_slice_get xs k x x at)
 
 -- ---- marks
 
@@ -197,8 +191,8 @@ module _ (section : Section) (roots : List ℕ) (below : NamesBelowEnds (index_s
       elim (in_group_or_not S start own.t k own.member) [
         | inl g ↦ (in_range g.0 k g.1).1
         | inr outside ↦
-            let z = named_outside section start u.user k below (omega (arith, filled, inside)) u.member
-            u.names outside in omega (arith, z, filled)
+            let z = named_outside section start k below (omega (arith, filled, inside))
+            (u.user, u.member, u.names, outside) in omega (arith, z, filled)
       ]
 
   module _ (a b c : List Bool) (h : AreMarkedFrom section roots stop a)

@@ -11,9 +11,9 @@ use Rattle.walrus_ty.specs.declared.records.EntryAt.{EntryAt}
 use Rattle.walrus_sections.specs.Section.{IndexSpace, index_space, no_place}
 use Rattle.walrus_canonical.specs.declared.classes.Class.{Class}
 use Rattle.walrus_canonical.specs.declared.waiting.Wait.{Wait}
-use Rattle.walrus_canonical.specs.EqualTypes.{IsMember, IsInGroup}
+use Rattle.walrus_canonical.specs.EqualTypes.{IsMember, IsInGroup, NamesOutside, AreEqual}
 use Rattle.walrus_canonical.specs.Greedy.{StandsFor, IsWrittenAs, CanComeNext, AreLeast}
-use Rattle.walrus_canonical.specs.Steps.Classes.{slot_of, IsOfClass}
+use Rattle.walrus_canonical.specs.Steps.Classes.{slot_of, own_number, IsOfClass}
 use Rattle.walrus_canonical.specs.Steps.Marks.{IsMarked}
 use Rattle.walrus_canonical.specs.Steps.Shown.{own_base, definitions_cmp}
 use Rattle.walrus_canonical.specs.Steps.Waits.{names_in, AreWaits}
@@ -21,14 +21,14 @@ use Rattle.walrus_canonical.specs.Steps.Writing.{Task, IsBegun, IsReadyAs, IsQue
 use Rattle.walrus_canonical.proofs.Waits.ClassWaits.{NamesSlot, waits_for, wait_there}
 use Rattle.walrus_canonical.proofs.Reading.Containing.{contained_cases}
 use Rattle.walrus_canonical.proofs.Equality.Definitions.{named_too, position_of, names_what_stands}
-use Rattle.walrus_canonical.proofs.Equality.EqualTypes.{equal_mates, groups_of}
+use Rattle.walrus_canonical.proofs.Equality.EqualTypes.{equal_itself, equal_mates, equal_over, groups_of}
 use Rattle.walrus_canonical.proofs.Equality.Members.{mate_from}
 use Rattle.walrus_canonical.proofs.Needs.NeedsMarked.{named_by, name_in_all}
 use Rattle.walrus_canonical.proofs.Forms.NextGroups.{Around, around}
 use Rattle.walrus_canonical.proofs.Waits.OpenWaits.{open_zero, nothing_open, false_or_true}
 use Rattle.walrus_canonical.proofs.Output.ReadyGroups.{mark_of_need, mark_of_mate, mark_of_name, marked_low, equal_of_slots, done_if_there, can_come}
 use Rattle.walrus_canonical.proofs.Output.ReadyOrder.{order_kept, not_itself, not_both_less}
-use Rattle.walrus_canonical.proofs.Output.RenamedGroups.{written_of_mate, written_of_equal}
+use Rattle.walrus_canonical.proofs.Equality.Written.{said_anew, of_mate, of_equal, stands_there, name_there, outside_stood}
 use Rattle.walrus_canonical.proofs.Forms.Writing.{written_once}
 
 -- ---- what a class names and what its records name
@@ -47,58 +47,25 @@ module _ (task : Task) (c : ℕ) (class : Class) (at : slice_get task.classes c 
   abbrev own : List Definition
   own = map entry_definition class.entries
 
-  -- where a name of the group stands in its records
-  record Stands (x : ℕ) : Type 0 where
-    pub y : ℕ
-    pub stands : StandsFor S o.head own x y
-
-  stands_there :
-      (k x : ℕ) → IsInGroup S o.head k → Names (S.definition k) x → Stands x
-  stands_there k x g names =
-      let low = o.records.places k g.0 g.1 in
-      let d = get_or own g.0 no_place.definition in
-      let at_d = slice_get-get_or own g.0 no_place.definition low in
-      let at_x = position_of (S.definition k) x names in
-      let y = named_too (S.definition k) d at_x.0 x (o.records.shapes k g.0 d g.1 at_d) at_x.1 in record {
-        y = y.0;
-        stands = record {
-          place = g.0;
-          position = at_x.0;
-          k = k;
-          definition = d;
-          member = g.1;
-          written = at_d;
-          old_name = at_x.1;
-          new_name = y.1;
-        };
-      }
-
   -- what a class names outside of its group it waits for
-  pub names_slot :
-      (k x : ℕ) → IsInGroup S o.head k → Names (S.definition k) x → ¬ (IsInGroup S o.head x) →
-      NamesSlot task.classes c (slot_of task.slots x)
-  names_slot k x g names out =
-      let s = stands_there k x g names in
-      let is = o.records.others x s.y s.stands out in record {
+  pub names_slot : (x : ℕ) → NamesOutside S o.head x → NamesSlot task.classes c (slot_of task.slots x)
+  names_slot x u =
+      let s = stands_there S (own_number (length class.entries)) (λ y z. z ≡ slot_of task.slots y) o.head own
+      o.records u.0 x u.1 u.2 in
+      let is = o.records.others x s.0 s.1 u.3 in record {
         class = class;
         at = at;
         names = subst (λ (u : ℕ). Contains (names_in class.entries) u) is
-            (subst (λ (ns : List ℕ). Contains ns s.y) (all_names class.entries)
-            (name_in_all own s.stands.place s.stands.definition s.y s.stands.written
-            (names_what_stands s.stands.definition s.stands.position s.y s.stands.new_name)));
-        low = o.fits k x g names out;
+            (subst (λ (ns : List ℕ). Contains ns s.0) (all_names class.entries)
+            (name_in_all own s.1.place s.1.definition s.0 s.1.written
+            (names_what_stands s.1.definition s.1.position s.0 s.1.new_name)));
+        low = o.fits x u;
       }
 
   -- and what it waits for it names outside of its group
-  pub record OuterName (slot : ℕ) : Type 0 where
-    pub k : ℕ
-    pub x : ℕ
-    pub inside : IsInGroup S o.head k
-    pub names : Names (S.definition k) x
-    pub outside : ¬ (IsInGroup S o.head x)
-    pub is : slot ≡ slot_of task.slots x
-
-  pub outer_name : (slot : ℕ) → NamesSlot task.classes c slot → OuterName slot
+  pub outer_name :
+      (slot : ℕ) → NamesSlot task.classes c slot → (x : ℕ) × NamesOutside S o.head x
+      × (slot ≡ slot_of task.slots x)
   outer_name slot n =
       let same : n.class ≡ class = same_Some n.class class (sym n.at ∙ at) in
       let names : Contains (names_in class.entries) slot =
@@ -108,45 +75,24 @@ module _ (task : Task) (c : ℕ) (class : Class) (at : slice_get task.classes c 
       let r = named_by own slot (subst (λ (ns : List ℕ). Contains ns slot) (sym (all_names class.entries))
       names)
       in
-      let k = o.records.members r.t (slice_get_within own r.t r.d r.at) in
-      let at_y = position_of r.d slot r.names in
-      let x = named_too r.d (S.definition k.0) at_y.0 slot (sym (o.records.shapes k.0 r.t r.d k.1 r.at))
-      at_y.1
-      in
-      let f : StandsFor S o.head own x.0 slot = record {
-        place = r.t;
-        position = at_y.0;
-        k = k.0;
-        definition = r.d;
-        member = k.1;
-        written = r.at;
-        old_name = x.1;
-        new_name = at_y.1;
-      } in
+      let x = name_there S (own_number (length class.entries)) (λ y z. z ≡ slot_of task.slots y) o.head own
+      o.records r.t slot r.d r.at r.names in
       let outside : IsInGroup S o.head x.0 → ⊥ = λ m. (
-      let is = o.records.own x.0 slot m.0 f m.1 in omega (arith, is, low)) in record {
-        k = k.0;
-        x = x.0;
-        inside = (r.t, k.1);
-        names = names_what_stands (S.definition k.0) at_y.0 x.0 x.1;
-        outside = outside;
-        is = o.records.others x.0 slot f outside;
-      }
+      let is = o.records.own x.0 slot m.0 x.1 m.1 in omega (arith, is, low)) in
+      (x.0, outside_stood x.1 outside, o.records.others x.0 slot x.1 outside)
 
 -- a class that waits for nothing names what is written
 pub outer_written :
     (task : Task) (waits : List Wait) (done after : ℕ → Bool) (at : ℕ) (counts : List ℕ) →
     AreWaits task.classes waits → AreOpen task waits done after at counts →
     ((x : ℕ) → done x ≡ true → after x ≡ true) → (c : ℕ) (class : Class)
-    (is : slice_get task.classes c ≡ Some class) → slice_get counts c ≡ Some 0 → (k x : ℕ) →
-    IsInGroup (index_space task.section) (task.are.of_class c class is).head k →
-    Names ((index_space task.section).definition k) x →
-    ¬ (IsInGroup (index_space task.section) (task.are.of_class c class is).head x) →
+    (is : slice_get task.classes c ≡ Some class) → slice_get counts c ≡ Some 0 → (x : ℕ) →
+    NamesOutside (index_space task.section) (task.are.of_class c class is).head x →
     after (slot_of task.slots x) ≡ true
-outer_written task waits done after at counts are opens more c class is none k x g names out =
+outer_written task waits done after at counts are opens more c class is none x o =
     nothing_open task waits done after at c counts opens (slice_get_within counts c 0 none) none more
     (record { named = slot_of task.slots x; waiting = c })
-    (wait_there task.classes waits are c (slot_of task.slots x) (names_slot task c class is k x g names out))
+    (wait_there task.classes waits are c (slot_of task.slots x) (names_slot task c class is x o))
     refl
 
 -- ---- what can come next is of a class that is ready
@@ -189,13 +135,15 @@ module _ (task : Task) (waits : List Wait) (are : AreWaits task.classes waits) (
     marked_head = mark_of_mate task j a.head marked (0, to_head)
 
     written_head : IsWrittenAs T B a.head others
-    written_head = written_of_mate T B j others 0 a.head to_head can.written
+    written_head = of_mate T (λ p. B.count + p) (AreEqual T B) j others can.written 0 a.head to_head
 
     of_head :
         (head : ℕ) → IsMarked task.marks head → slot_of task.slots a.head ≡ slot_of task.slots head →
         IsWrittenAs T B head others
-    of_head head m e = written_of_equal T B a.head head others
-        (equal_of_slots task a.head head marked_head m e) written_head
+    of_head head m e = said_anew T (λ p. B.count + p) _ head others
+        (of_equal T T head a.head (equal_of_slots task head a.head m marked_head (sym e)) (λ p. B.count + p)
+        (AreEqual T B) others written_head) (λ p. B.count + p) (AreEqual T B) (λ p h. refl)
+        (λ x z o k. equal_over T T B x k.0 z k.2 k.3)
 
     undone : done (slot_of task.slots a.head) ≡ false
     undone = elim (false_or_true (done (slot_of task.slots a.head))) [
@@ -219,25 +167,10 @@ module _ (task : Task) (waits : List Wait) (are : AreWaits task.classes waits) (
         in
         let x = outer_name task k.0 k.1 k.2 w.named n in
         let v = of_head o.head o.marked (sym k.3 ∙ sym o.slot) in
-        let low = v.places x.k x.inside.0 x.inside.1 in
-        let d = get_or others x.inside.0 no_place.definition in
-        let at_d = slice_get-get_or others x.inside.0 no_place.definition low in
-        let at_x = position_of (T.definition x.k) x.x x.names in
-        let y = named_too (T.definition x.k) d at_x.0 x.x (v.shapes x.k x.inside.0 d x.inside.1 at_d) at_x.1
-        in
-        let f : StandsFor T o.head others x.x y.0 = record {
-          place = x.inside.0;
-          position = at_x.0;
-          k = x.k;
-          definition = d;
-          member = x.inside.1;
-          written = at_d;
-          old_name = at_x.1;
-          new_name = y.1;
-        } in
-        ap done x.is
-        ∙ done_if_there task done before new_index next b x.x y.0
-        (mark_of_name task o.head x.k x.x o.marked x.inside x.names) (v.outer x.x y.0 f x.outside)
+        let y = stands_there T (λ p. B.count + p) (AreEqual T B) o.head others v x.1.0 x.0 x.1.1 x.1.2 in
+        ap done x.2
+        ∙ done_if_there task done before new_index next b x.0 y.0
+        (mark_of_name task o.head x.0 o.marked x.1) (v.others x.0 y.0 y.1 x.1.3)
 
     none_open : slice_get counts k.0 ≡ Some 0
     none_open =
@@ -272,7 +205,9 @@ module _ (task : Task) (waits : List Wait) (are : AreWaits task.classes waits) (
         let w = (can_come task done before new_index next b z.0 e.0 p undone_too).written in
         let v = r.written p.head p.marked p.member (p.slot ∙ ap (λ (k : Class). k.first) same) in
         let is : others ≡ map (rename (settled next)) e.0 =
-        written_once T before b.beginning.apart p.head 0 p.member others (map (rename (settled next)) e.0) v w
+        written_once task.section before b.beginning.apart p.head p.head
+        (equal_itself task.section task.well.below_ends p.head (marked_low task p.head p.marked)) others
+        (map (rename (settled next)) e.0) v w
         in
         let lower : definitions_cmp e.0 ds ≡ Less =
         sym (order_kept task done before new_index next b z.0 class e.0 ds p q undone_too undone_class)

@@ -27,8 +27,7 @@ use Rattle.walrus_canonical.specs.Steps.Waits.{AreWaits}
 use Rattle.walrus_canonical.specs.Steps.WrittenIndices.{GivesIndices}
 use Rattle.walrus_canonical.specs.Steps.Writing.{Task, release_of, IsBegun, IsReadyAs, IsQueue, IsReady, AreOpen, CanRelease, IsReleasing, IsWriting, HasWritten, with_slots, settled}
 use Rattle.walrus_canonical.proofs.Reading.Containing.{contained_at, contained_from, contained_first}
-use Rattle.walrus_canonical.proofs.Equality.Definitions.{named_too, position_of}
-use Rattle.walrus_canonical.proofs.Equality.EqualTypes.{groups_of, equal_mates, equal_names}
+use Rattle.walrus_canonical.proofs.Equality.EqualTypes.{groups_of, named_of, named_there}
 use Rattle.walrus_canonical.proofs.Output.LeastReady.{outer_name, least}
 use Rattle.walrus_canonical.proofs.Waits.ClassWaits.{waits_for}
 use Rattle.walrus_canonical.proofs.Waits.OpenWaits.{nothing_open, false_or_true, none_released}
@@ -98,16 +97,10 @@ module _ (task : Task) (waits : List Wait) (are : AreWaits task.classes waits) (
       let o = task.are.of_class w.waiting class at in
       let p = slot_of new_index (slot_of task.slots o.head) in
       let e = b.equal o.head o.marked (ap done o.slot ∙ d) in
-      let g = groups_of T B o.head p e in
-      let l = g.first_places x.k x.inside.0 x.inside.1 in
-      let at_x = position_of (T.definition x.k) x.x x.names in
-      let y = named_too (T.definition x.k) (B.definition l.0) at_x.0 x.x
-      (g.shapes x.k l.0 x.inside.0 x.inside.1 l.1) at_x.1 in
-      let same = equal_names T B x.k l.0 at_x.0 x.x y.0
-      (equal_mates T B o.head p x.inside.0 x.k l.0 e x.inside.1 l.1) at_x.1 y.1 in
-      ap done x.is
-      ∙ done_if_there task done before new_index next b x.x y.0
-      (mark_of_name task o.head x.k x.x o.marked x.inside x.names) same
+      let y = named_there T B o.head p x.1.0 x.0 (groups_of T B o.head p e) x.1.1 x.1.2 in
+      ap done x.2
+      ∙ done_if_there task done before new_index next b x.0 y.0
+      (mark_of_name task o.head x.0 o.marked x.1) (named_of T B o.head p e x.0 y.0 y.1 x.1.3)
 
 -- ---- the least class
 

@@ -1,5 +1,5 @@
 -- Groups of which all that they name outside of them is written: they can come next.
-use Rattle.std.proofs.Common.{◌≡◌, ℕ, Bool, true, false, ◌+◌, ◌-◌, ◌%◌, ◌<◌, ◌≤◌, List, length, map, cond, nat_lt, slice_get, Some, ◌⊎◌, inl, inr, ◌∙◌, refl, sym, ap, arith}
+use Rattle.std.proofs.Common.{◌≡◌, ℕ, Bool, true, false, ◌+◌, ◌-◌, ◌%◌, ◌<◌, ◌≤◌, List, length, map, cond, nat_lt, slice_get, Some, ◌⊎◌, inl, inr, ◌∙◌, refl, sym, ap, subst, arith}
 use Rattle.std.proofs.lemmas.Bool.{cases_lt}
 use Rattle.std.proofs.lemmas.Bool.Decides.{nat_tests}
 use Rattle.std.proofs.lemmas.List.{length-map, get_or_default}
@@ -9,7 +9,7 @@ use Rattle.walrus_ty.specs.Groups.{Section}
 use Rattle.walrus_ty.specs.Records.{entry_definition}
 use Rattle.walrus_sections.specs.Section.{IndexSpace, index_space}
 use Rattle.walrus_canonical.specs.declared.classes.Class.{Class}
-use Rattle.walrus_canonical.specs.EqualTypes.{IsMember, IsInGroup, AreEqual}
+use Rattle.walrus_canonical.specs.EqualTypes.{IsMember, IsInGroup, NamesOutside, AreEqual}
 use Rattle.walrus_canonical.specs.Greedy.{StandsFor, IsWrittenAs, CanComeNext}
 use Rattle.walrus_canonical.specs.Listing.{IsNeeded, by_group, by_name}
 use Rattle.walrus_canonical.specs.Steps.Classes.{slot_of, own_number, IsOfClass}
@@ -18,12 +18,11 @@ use Rattle.walrus_canonical.specs.Steps.Renamings.{renamed}
 use Rattle.walrus_canonical.specs.Steps.Shown.{own_base, shown, shown_definitions}
 use Rattle.walrus_canonical.specs.Steps.Writing.{Task, IsBegun, IsReadyAs, ready_number, settled}
 use Rattle.walrus_canonical.proofs.Forms.Choice.{Rooted, needed_within, found}
-use Rattle.walrus_canonical.proofs.Reading.ClassKeys.{key_moved}
+use Rattle.walrus_canonical.proofs.Equality.Written.{said_anew, numbered_anew, name_there, outside_stood}
 use Rattle.walrus_canonical.proofs.Equality.Definitions.{named_too, position_of, names_what_stands}
 use Rattle.walrus_canonical.proofs.Equality.EqualTypes.{equal_back, equal_over, equal_within}
 use Rattle.walrus_canonical.proofs.Forms.Existence.{next_fits}
 use Rattle.walrus_canonical.proofs.Equality.Members.{in_group_or_not}
-use Rattle.walrus_canonical.proofs.Output.RenamedGroups.{key_renamed, written_by_key}
 use Rattle.walrus_canonical.proofs.Reading.RenamedKeys.{renamed_low, renamed_high}
 use Rattle.walrus_canonical.proofs.Forms.Writing.{as_written, written_so}
 
@@ -48,10 +47,8 @@ module _ (task : Task) where
   pub mark_of_mate : (i k : ℕ) → IsMarked task.marks i → IsInGroup S i k → IsMarked task.marks k
   mark_of_mate i k m g = mark_of_need k (by_group i k (needed_of_mark i m) g)
 
-  pub mark_of_name :
-      (i k x : ℕ) → IsMarked task.marks i → IsInGroup S i k → Names (S.definition k) x →
-      IsMarked task.marks x
-  mark_of_name i k x m g names = mark_of_need x (by_name k x (by_group i k (needed_of_mark i m) g) names)
+  pub mark_of_name : (i x : ℕ) → IsMarked task.marks i → NamesOutside S i x → IsMarked task.marks x
+  mark_of_name i x m o = mark_of_need x (by_name o.0 x (by_group i o.0 (needed_of_mark i m) o.1) o.2)
 
   pub marked_low : (i : ℕ) → IsMarked task.marks i → i < S.count
   marked_low i m = needed_within rooted i (needed_of_mark i m)
@@ -91,25 +88,17 @@ module _ (task : Task) (done : ℕ → Bool) (before : Section) (new_index : Lis
   -- a group of which all that it names outside of it is written
   module _ (head : ℕ) (marked : IsMarked task.marks head)
       (undone : done (slot_of task.slots head) ≡ false)
-      (outer : (k x : ℕ) → IsInGroup T head k → Names (T.definition k) x → ¬ (IsInGroup T head x) →
-      done (slot_of task.slots x) ≡ true) where
+      (outer : (x : ℕ) → NamesOutside T head x → done (slot_of task.slots x) ≡ true) where
     pub same_there :
-        (k x : ℕ) → IsInGroup T head k → Names (T.definition k) x → ¬ (IsInGroup T head x) →
-        AreEqual T B x (slot_of new_index (slot_of task.slots x))
-    same_there k x g names out =
-        b.equal x (mark_of_name task head k x marked g names) (outer k x g names out)
+        (x : ℕ) → NamesOutside T head x → AreEqual T B x (slot_of new_index (slot_of task.slots x))
+    same_there x o = b.equal x (mark_of_name task head x marked o) (outer x o)
 
-    there_low :
-        (k x : ℕ) → IsInGroup T head k → Names (T.definition k) x → ¬ (IsInGroup T head x) →
-        slot_of new_index (slot_of task.slots x) < B.count
-    there_low k x g names out =
-        (equal_within task.section before x (slot_of new_index (slot_of task.slots x))
-        (same_there k x g names out)).1
+    there_low : (x : ℕ) → NamesOutside T head x → slot_of new_index (slot_of task.slots x) < B.count
+    there_low x o =
+        (equal_within task.section before x (slot_of new_index (slot_of task.slots x)) (same_there x o)).1
 
-    listed :
-        (k x : ℕ) → IsInGroup T head k → Names (T.definition k) x → (IsInGroup T head x → ⊥) →
-        (y : ℕ) × AreEqual T B x y
-    listed k x g names out = (slot_of new_index (slot_of task.slots x), same_there k x g names out)
+    listed : (x : ℕ) → NamesOutside T head x → (y : ℕ) × AreEqual T B x y
+    listed x o = (slot_of new_index (slot_of task.slots x), same_there x o)
 
     abbrev low : head < T.count
     low = marked_low task head marked
@@ -159,8 +148,7 @@ module _ (task : Task) (done : ℕ → Bool) (before : Section) (new_index : Lis
     long_too : length (map (rename r) own) ≡ length class.entries
     long_too = length-map own (rename r) ∙ long
 
-    module _ (outer : (k x : ℕ) → IsInGroup T o.head k → Names (T.definition k) x →
-        ¬ (IsInGroup T o.head x) → done (slot_of task.slots x) ≡ true) where
+    module _ (outer : (x : ℕ) → NamesOutside T o.head x → done (slot_of task.slots x) ≡ true) where
       space : B.count + length class.entries ≤ T.count
       space = let z = room o.head o.marked (ap done o.slot ∙ undone) outer own o.records.members in
           let l = long in omega (arith, z, l)
@@ -183,29 +171,27 @@ module _ (task : Task) (done : ℕ → Bool) (before : Section) (new_index : Lis
           ap (λ (u : ℕ). shown u y) same_base
           ∙ ap (λ (u : Bool). cond u y (y - base + 4294967296)) e
 
-      inner_is : (p : ℕ) → p < length (map (rename (shown again)) (map (rename r) own)) →
+      inner_is : (p : ℕ) → p < length (map (rename r) own) →
           shown again (r (own_number (length class.entries) p)) ≡ ready_number p
       inner_is p h =
-          let l = length-map (map (rename r) own) (rename (shown again)) in
-          let m = long_too in
           let s = space in
           let few = task.well.few in
-          let low : p < length class.entries = omega (arith, h, l, m) in
+          let low : p < length class.entries = omega (arith, h, long_too) in
           let is : r (base + p) ≡ base + p = renamed_high base new_index base (base + p) (omega arith)
           (omega (arith, low, s, few)) ∙ omega arith in
           ap (shown again) is ∙ (shown_high (base + p) (omega arith) ∙ omega arith)
 
       outer_is :
-          (k x : ℕ) → IsInGroup T o.head k → Names (T.definition k) x → ¬ (IsInGroup T o.head x) →
+          (x : ℕ) → NamesOutside T o.head x →
           shown again (r (slot_of task.slots x)) ≡ slot_of new_index (slot_of task.slots x)
-      outer_is k x g names out =
+      outer_is x u =
           let y = slot_of task.slots x in
-          let fits = o.fits k x g names out in
-          let within = task.are.within x (mark_of_name task o.head k x o.marked g names) in
+          let fits = o.fits x u in
+          let within = task.are.within x (mark_of_name task o.head x o.marked u) in
           let size = b.one_each in
           let is : r y ≡ slot_of new_index y = renamed_low base new_index base y fits
           ∙ get_or_default new_index y y 0 (omega (arith, within, size)) in
-          let there = there_low o.head o.marked (ap done o.slot ∙ undone) outer k x g names out in
+          let there = there_low o.head o.marked (ap done o.slot ∙ undone) outer x u in
           let s = space in
           let few = task.well.few in
           ap (shown again) is ∙ shown_low (slot_of new_index y) (omega (arith, there, s, few))
@@ -217,15 +203,13 @@ module _ (task : Task) (done : ℕ → Bool) (before : Section) (new_index : Lis
         member = o.member;
         slot = o.slot;
         size = length-map (map (rename r) own) (rename (shown again)) ∙ long_too;
-        key = key_moved T
-            (λ p. shown again (r (own_number (length class.entries) p)))
-            (λ x. shown again (r (slot_of task.slots x))) ready_number
-            (λ x. slot_of new_index (slot_of task.slots x)) o.head
-            (map (rename (shown again)) (map (rename r) own))
-            (key_renamed T (λ p. r (own_number (length class.entries) p)) (λ x. r (slot_of task.slots x))
-            o.head (map (rename r) own) (shown again)
-            (key_renamed T (own_number (length class.entries)) (slot_of task.slots) o.head own r o.records))
-            inner_is outer_is;
+        key = numbered_anew T (λ p. r (own_number (length class.entries) p))
+            (λ x y. y ≡ r (slot_of task.slots x)) o.head (map (rename r) own)
+            (numbered_anew T (own_number (length class.entries)) (λ x y. y ≡ slot_of task.slots x) o.head own
+            o.records r (λ p. r (own_number (length class.entries) p)) (λ x y. y ≡ r (slot_of task.slots x))
+            (λ p h. refl) (λ x y u is. ap r is)) (shown again) ready_number
+            (λ x y. y ≡ slot_of new_index (slot_of task.slots x)) inner_is
+            (λ x y u is. ap (shown again) is ∙ outer_is x u);
         outer = outer;
       }
 
@@ -266,18 +250,13 @@ module _ (task : Task) (done : ℕ → Bool) (before : Section) (new_index : Lis
         let space = ready_room in
         let few = task.well.few in
         let is = b.next_is in
-        let size = length-map ds (rename (settled next)) in
-        written_by_key T B (λ x. slot_of new_index (slot_of task.slots x)) q.head settled_definitions
-        (key_moved T (λ p. settled next (ready_number p))
-        (λ x. settled next (slot_of new_index (slot_of task.slots x))) (λ p. B.count + p)
-        (λ x. slot_of new_index (slot_of task.slots x)) q.head settled_definitions
-        (key_renamed T ready_number (λ x. slot_of new_index (slot_of task.slots x)) q.head ds (settled next)
-        q.key)
-        (λ p h. settled_high p (omega (arith, h, size, space, few, is)))
-        (λ k x g names out. settled_low (slot_of new_index (slot_of task.slots x)) (
-        let z = there_low q.head q.marked undone_head q.outer k x g names out in
-        omega (arith, z, space, few))))
-        (same_there q.head q.marked undone_head q.outer)
+        let index : ℕ → ℕ = λ x. slot_of new_index (slot_of task.slots x) in
+        numbered_anew T ready_number (λ x y. y ≡ index x) q.head ds q.key (settled next) (λ p. B.count + p)
+        (AreEqual T B) (λ p h. settled_high p (omega (arith, h, space, few, is)))
+        (λ x y u e. subst (λ (v : ℕ). AreEqual T B x v)
+        (sym (ap (settled next) e ∙ settled_low (index x) (
+        let z = there_low q.head q.marked undone_head q.outer x u in omega (arith, z, space, few))))
+        (same_there q.head q.marked undone_head q.outer x u))
 
     pub can_come : CanComeNext T task.roots B q.head settled_definitions
     can_come = record {
@@ -294,31 +273,19 @@ module _ (task : Task) (done : ℕ → Bool) (before : Section) (new_index : Lis
     pub number_settled :
         (place : ℕ) (d : Definition) (y : ℕ) → slice_get ds place ≡ Some d → Names d y → AreSettled y
     number_settled place d y at names =
-        let k = q.key.members place (slice_get_within ds place d at) in
-        let at_y = position_of d y names in
-        let x = named_too d (T.definition k.0) at_y.0 y (sym (q.key.shapes k.0 place d k.1 at)) at_y.1 in
-        let f : StandsFor T q.head ds x.0 y = record {
-          place = place;
-          position = at_y.0;
-          k = k.0;
-          definition = d;
-          member = k.1;
-          written = at;
-          old_name = x.1;
-          new_name = at_y.1;
-        } in
+        let x = name_there T ready_number (λ x z. z ≡ slot_of new_index (slot_of task.slots x)) q.head ds q.key
+        place y d at names in
         let space = ready_room in
         let few = task.well.few in
         let is_next = b.next_is in
         elim (in_group_or_not T q.head 0 x.0 q.member) [
           | inl m ↦ inr (
-              let is = q.key.own x.0 y m.0 f m.1 in
+              let is = q.key.own x.0 y m.0 x.1 m.1 in
               let low = q.key.places x.0 m.0 m.1 in
               (m.0, is, ap (settled next) is ∙ settled_high m.0 (omega (arith, low, space, few, is_next))))
           | inr out ↦ inl (
-              let is = q.key.others x.0 y f out in
-              let z = there_low q.head q.marked undone_head q.outer k.0 x.0 (place, k.1)
-              (names_what_stands (T.definition k.0) at_y.0 x.0 x.1) out in
+              let is = q.key.others x.0 y x.1 out in
+              let z = there_low q.head q.marked undone_head q.outer x.0 (outside_stood x.1 out) in
               let low : y < B.count = omega (arith, is, z) in
               (low, settled_low y (omega (arith, low, space, few))))
         ]
@@ -337,10 +304,9 @@ ready_stays task done after new_index newer class ds q more same = record {
   member = q.member;
   slot = q.slot;
   size = q.size;
-  key = key_moved (index_space task.section) ready_number
-      (λ x. slot_of new_index (slot_of task.slots x)) ready_number
-      (λ x. slot_of newer (slot_of task.slots x)) q.head ds q.key (λ p h. refl)
-      (λ k x g names out. same (slot_of task.slots x) (q.outer k x g names out)
-      (task.are.within x (mark_of_name task q.head k x q.marked g names)));
-  outer = λ k x g names out. more (slot_of task.slots x) (q.outer k x g names out);
+  key = said_anew (index_space task.section) ready_number
+      (λ x y. y ≡ slot_of new_index (slot_of task.slots x)) q.head ds q.key ready_number
+      (λ x y. y ≡ slot_of newer (slot_of task.slots x)) (λ p h. refl) (λ x y o is. is
+      ∙ same (slot_of task.slots x) (q.outer x o) (task.are.within x (mark_of_name task q.head x q.marked o)));
+  outer = λ x o. more (slot_of task.slots x) (q.outer x o);
 }

@@ -12,6 +12,7 @@ use Rattle.walrus_ty.specs.Groups.{Section}
 use Rattle.walrus_ty.specs.Records.{entry_definition}
 use Rattle.walrus_sections.specs.Section.{index_space, IsWellNamed}
 use Rattle.walrus_canonical.specs.declared.classes.Class.{Class}
+use Rattle.walrus_canonical.specs.EqualTypes.{IsMember}
 use Rattle.walrus_canonical.specs.Steps.Classes.{Reading, reading, IsReadTo}
 use Rattle.walrus_canonical.specs.Steps.KnownClasses.{are_same, place_of}
 use Rattle.walrus_canonical.specs.Steps.Marks.{IsMarked, MarkNeeds}
@@ -56,12 +57,13 @@ pub read_needed :
     (section : Section) (roots : List ℕ) (well : IsWellNamed section) (marks : List Bool)
     (needs : MarkNeeds section roots marks) (start : ℕ) (ds : List Definition)
     (b : BeginsAt (index_space section) start ds) (old : Reading)
-    (h : IsReadTo (index_space section) marks start old) (marked : IsMarked marks start)
-    (entries : List EntryAt)
+    (h : IsReadTo (index_space section) marks start old)
+    (whole : (i place k : ℕ) → i < start → IsMember (index_space section) i place k → k < start)
+    (marked : IsMarked marks start) (entries : List EntryAt)
     (is : map entry_definition entries ≡ map (rename (renamed start old.slots (own_base (length ds)))) ds)
     (new : Reading) (class first : ℕ) → IsPut (length ds) entries old new class first →
     IsReadTo (index_space section) marks (start + length ds) new
-read_needed section roots well marks needs start ds b old h marked entries is new class first p =
+read_needed section roots well marks needs start ds b old h whole marked entries is new class first p =
     let S = index_space section in
     let room = h.few in
     let inside = b.inside in
@@ -78,7 +80,7 @@ read_needed section roots well marks needs start ds b old h marked entries is ne
           subst (λ (r : Reading). IsReadTo S marks (start + length ds) r)
           (sym (same_reading new _ slots (p.new_count over fits) (p.new_firsts over) refl))
           (read_new section roots well marks needs start ds b old.slots old.slot_count old.firsts old.known h
-          marked entries is new.known (record { fresh = none; places = p.new_known none })))
+          whole marked entries is new.known (record { fresh = none; places = p.new_known none })))
       | inr some ↦ (
           let at : class ≡ some.0 = p.place
           ∙ ap (λ (o : Option ℕ). unwrap_or o (length old.firsts)) some.1 in
@@ -86,7 +88,7 @@ read_needed section roots well marks needs start ds b old h marked entries is ne
           let low : class < length old.firsts = (
           let z = slice_get_within old.firsts some.0 k.0 k.1 in omega (arith, z, at)) in
           let f : first ≡ k.0 = p.old_first k.0 (ap (slice_get old.firsts) at ∙ k.1) in
-          let fit = h.fit entries some.0 k.0 some.1 k.1 in
+          let fit = h.keys.fit entries some.0 k.0 some.1 k.1 in
           let fits : k.0 + length ds < 2 ^ 32 = fits_in start (length ds) S.count old.slot_count k.0
           (length entries) inside few room fit in
           let slots = p.pushed (subst (λ (u : ℕ). u + length ds < 2 ^ 32) (sym f) fits)
@@ -95,8 +97,7 @@ read_needed section roots well marks needs start ds b old h marked entries is ne
           subst (λ (r : Reading). IsReadTo S marks (start + length ds) r)
           (sym (same_reading new _ slots (p.old_count low) (p.old_firsts low) known))
           (read_known section roots well marks needs start ds b old.slots old.slot_count old.firsts old.known
-          h
-          marked entries is k.0 k.2 some.0 some.1 k.1))
+          h whole marked entries is k.0 k.2 some.0 some.1 k.1))
     ]
   where
     apart : (o : Option ℕ) (c : ℕ) → o ≡ Some c → o ≡ None → ⊥

@@ -95,7 +95,7 @@ module _ (section : Section) (roots : List ℕ) (marks : List Bool)
 
   key_is :
       (c : ℕ) (class : Class) → slice_get classes c ≡ Some class → place_of known class.entries ≡ Some c
-  key_is c class e = records c class e (h.key_of c class.first (first_is classes c class e))
+  key_is c class e = records c class e (h.keys.key_of c class.first (first_is classes c class e))
 
   class_of :
       (i : ℕ) → IsMarked marks i → IsMember S i 0 i → (c : ℕ) × (class : Class)
@@ -122,8 +122,8 @@ module _ (section : Section) (roots : List ℕ) (marks : List Bool)
     row = λ i place k m own mem. h.row i place k (member_within section i 0 i own) m own mem;
     class_of = class_of;
     of_class = of_class;
-    fit = λ c class e. h.fit class.entries c class.first (key_is c class e) (first_is classes c class e);
-    apart = λ b c class other less at_b at_c. h.apart b c class.first other.first class.entries less
+    fit = λ c class e. h.keys.fit class.entries c class.first (key_is c class e) (first_is classes c class e);
+    apart = λ b c class other less at_b at_c. h.keys.apart b c class.first other.first class.entries less
         (first_is classes b class at_b) (first_is classes c other at_c) (key_is b class at_b);
   }
 

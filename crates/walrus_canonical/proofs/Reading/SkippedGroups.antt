@@ -16,7 +16,7 @@ use Rattle.walrus_canonical.specs.Listing.{by_group}
 use Rattle.walrus_canonical.specs.Steps.Classes.{reading, slot_of, own_number, IsOfClass, IsReadTo, StandsAt}
 use Rattle.walrus_canonical.specs.Steps.Marks.{IsMarked, MarkNeeds}
 use Rattle.walrus_canonical.proofs.Forms.Beginnings.{member_left, no_fewer}
-use Rattle.walrus_canonical.proofs.Reading.ClassKeys.{key_moved}
+use Rattle.walrus_canonical.proofs.Reading.ToldGroups.{read_more}
 use Rattle.walrus_canonical.proofs.Equality.Members.{mate_from, member_within, named_outside}
 use Rattle.walrus_canonical.proofs.Forms.NextGroups.{BeginsAt}
 use Rattle.walrus_canonical.proofs.Needs.TurnsBack.{filled_begins}
@@ -30,7 +30,7 @@ stands_begins section start g a filled =
     (filled_begins a.before g a.behind filled))
 
 -- a group that begins before `start` is before it
-stands_whole :
+pub stands_whole :
     (section : Section) (start : ℕ) (g : Group) → StandsAt section start g →
     (i place k : ℕ) → i < start → IsMember (index_space section) i place k → k < start
 stands_whole section start g a i place k low m =
@@ -55,62 +55,14 @@ pub read_skipped :
     end ≡ start + length added →
     ((i : ℕ) → start ≤ i → i < end → ¬ (IsMarked marks i)) →
     IsReadTo (index_space section) marks end (reading (slots ++ added) slot_count firsts known)
-read_skipped section well marks start end g a slots added slot_count firsts known h is none = record {
-  one_each = (let x = length-append slots added in let z = h.one_each in omega (arith, x, z, is));
-  few = (let z = h.few in omega (arith, z, is));
-  told = λ i j hi hj mi mj. (
-      let low_i = low i hi mi in
-      let low_j = low j hj mj in
-      let t = h.told i j low_i low_j mi mj in (
-        λ e. t.0 (sym (old i low_i) ∙ (e ∙ old j low_j)),
-        λ e. old i low_i ∙ (t.1 e ∙ sym (old j low_j)),
-      ));
-  within = λ i hi m. (let o = old i (low i hi m) in let z = h.within i (low i hi m) m in omega (arith, o, z));
-  row = λ i place k hi m own mem. (
-      let low_i = low i hi m in
-      old k (stands_whole section start g a i place k low_i mem)
-      ∙ (h.row i place k low_i m own mem ∙ ap (λ (u : ℕ). u + place) (sym (old i low_i))));
-  class_of = λ i hi m own. (
-      let low_i = low i hi m in
-      let c = h.class_of i low_i m own in (c.0, c.1 ∙ ap (λ (u : ℕ). Some u) (sym (old i low_i))));
-  key_of = h.key_of;
-  fit = h.fit;
-  keyed = λ es c at. (let k = h.keyed es c at in (k.0, k.1, kept k.0 es k.2));
-  apart = h.apart;
-}
-  where
-    old : (x : ℕ) → x < start → slot_of (slots ++ added) x ≡ slot_of slots x
-    old x l = let z = h.one_each in get_or_append_left slots added 0 x (omega (arith, l, z))
-
-    low : (i : ℕ) → i < end → IsMarked marks i → i < start
-    low i hi m = elim (cases_lt i start) [
-      | inl less ↦ less
-      | inr over ↦ absurd (none i over hi m)
-    ]
-
-    kept : (f : ℕ) (es : List EntryAt) → IsOfClass (index_space section) marks start slots f es →
-        IsOfClass (index_space section) marks end (slots ++ added) f es
-    kept f es c = record {
-      head = c.head;
-      low = (let z = c.low in omega (arith, z, is));
-      marked = c.marked;
-      member = c.member;
-      slot = old c.head c.low ∙ c.slot;
-      records = key_moved (index_space section) (own_number (length es)) (slot_of slots)
-          (own_number (length es)) (slot_of (slots ++ added)) c.head (map entry_definition es) c.records
-          (λ p z. refl)
-          (λ j x gr names out. (
-          let top = stands_low section start g a in
-          let l = c.low in
-          let z = named_outside section c.head j x well.below_ends (omega (arith, l, top)) gr names out in
-          sym (old x (omega (arith, z, l)))));
-      fits = λ j x gr names out. (
-          let top = stands_low section start g a in
-          let l = c.low in
-          let z = named_outside section c.head j x well.below_ends (omega (arith, l, top)) gr names out in
-          let f = c.fits j x gr names out in
-          let o = old x (omega (arith, z, l)) in omega (arith, f, o));
-    }
+read_skipped section well marks start end g a slots added slot_count firsts known h is none =
+    read_more section well.below_ends marks start end slots added slot_count firsts known h
+    (stands_low section start g a) is (stands_whole section start g a) slot_count firsts known (record {
+      told = λ i j hi over hj mi mj. absurd (none j over hj mj);
+      within = λ i over hi m. absurd (none i over hi m);
+      row = λ i place k over hi own m mem. absurd (none i over hi m);
+      class_of = λ i over hi own m. absurd (none i over hi m);
+    }) (omega arith) (omega (arith, h.few, is)) (λ c f e. e) h.keys (λ es c e. inl e)
 
 -- ---- whether the group is needed
 

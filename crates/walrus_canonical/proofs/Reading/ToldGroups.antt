@@ -1,165 +1,205 @@
--- One more group gets slots, by which its types are told from those before it.
-use Rattle.std.proofs.Common.{◌≡◌, ℕ, Bool, ◌+◌, ◌-◌, ◌<◌, ◌≤◌, List, ◌++◌, length, inl, inr, ◌∙◌, sym, ap, subst, arith}
+-- More indices get slots, by which marked ones are told.
+use Rattle.std.proofs.Common.{◌≡◌, ℕ, Bool, ◌+◌, ◌-◌, ◌<◌, ◌≤◌, List, ◌++◌, length, map, slice_get, Some, ◌⊎◌, inl, inr, ◌∙◌, refl, sym, ap, subst, length-append, arith}
 use Rattle.std.specs.Prelude.{◌↔◌}
 use Rattle.std.specs.List.{range_with_len}
 use Rattle.std.proofs.lemmas.Bool.{cases_lt}
 use Rattle.std.proofs.lemmas.List.{get_or_append_left, get_or-append-add}
-use Rattle.std.proofs.lemmas.List.FromFn.{get_or-range_with_len}
-use Rattle.walrus_ty.specs.Definition.{Definition, Names}
+use Rattle.std.proofs.lemmas.List.FromFn.{get_or-range_with_len, length-range_with_len}
+use Rattle.walrus_ty.specs.declared.records.EntryAt.{EntryAt}
+use Rattle.walrus_ty.specs.Definition.{Definition}
 use Rattle.walrus_ty.specs.Groups.{Section}
+use Rattle.walrus_ty.specs.Records.{entry_definition}
 use Rattle.walrus_sections.specs.Section.{IndexSpace, index_space, NamesBelowEnds}
-use Rattle.walrus_canonical.specs.EqualTypes.{IsInGroup, AreEqual}
-use Rattle.walrus_canonical.specs.Listing.{by_group, by_name}
-use Rattle.walrus_canonical.specs.Steps.Classes.{slot_of, AreToldBySlots}
-use Rattle.walrus_canonical.specs.Steps.Marks.{IsMarked, MarkNeeds}
-use Rattle.walrus_canonical.proofs.Reading.ClassKeys.{NamesHaveSlots}
-use Rattle.walrus_canonical.proofs.Equality.EqualTypes.{groups_of, equal_back, equal_over, equal_itself}
-use Rattle.walrus_canonical.proofs.Equality.Members.{mate_to}
+use Rattle.walrus_canonical.specs.EqualTypes.{IsMember, NamesOutside, AreEqual}
+use Rattle.walrus_canonical.specs.Steps.Classes.{reading, slot_of, own_number, IsOfClass, HaveKeys, IsReadTo}
+use Rattle.walrus_canonical.specs.Steps.KnownClasses.{place_of}
+use Rattle.walrus_canonical.specs.Steps.Marks.{IsMarked}
+use Rattle.walrus_canonical.proofs.Equality.EqualTypes.{groups_of, equal_back, equal_itself}
+use Rattle.walrus_canonical.proofs.Equality.Members.{mate_to, named_outside}
+use Rattle.walrus_canonical.proofs.Equality.Written.{said_anew}
 use Rattle.walrus_canonical.proofs.Forms.NextGroups.{BeginsAt}
 
--- ---- the group at `start` gets the slots from `first` on
-
 module _ (section : Section) (below : NamesBelowEnds (index_space section)) (marks : List Bool)
-    (start : ℕ) (ds : List Definition) (b : BeginsAt (index_space section) start ds) (slots : List ℕ)
-    (first : ℕ) (long : length slots ≡ start)
-    (told : AreToldBySlots (index_space section) marks start slots)
-    (decides : (i t : ℕ) → i < start → IsMarked marks i → t < length ds →
-    (slot_of slots i ≡ first + t) ↔ AreEqual (index_space section) (index_space section) i (start + t)) where
+    (start end : ℕ) (slots added : List ℕ) (slot_count : ℕ) (firsts : List ℕ)
+    (known : List (List EntryAt × ℕ))
+    (h : IsReadTo (index_space section) marks start (reading slots slot_count firsts known))
+    (inside : start ≤ (index_space section).count) (long : end ≡ start + length added)
+    -- a group that begins before is before
+    (whole : (i place k : ℕ) → i < start → IsMember (index_space section) i place k → k < start) where
   abbrev S : IndexSpace
   S = index_space section
 
   abbrev more : List ℕ
-  more = slots ++ range_with_len first (length ds)
+  more = slots ++ added
 
   pub old_slot : (x : ℕ) → x < start → slot_of more x ≡ slot_of slots x
-  old_slot x h =
-      get_or_append_left slots (range_with_len first (length ds)) 0 x (omega (arith, h, long))
+  old_slot x low = get_or_append_left slots added 0 x (omega (arith, low, h.one_each))
 
-  pub new_slot : (t : ℕ) → t < length ds → slot_of more (start + t) ≡ first + t
-  new_slot t h =
-      ap (λ (u : ℕ). slot_of more (u + t)) (sym long)
-      ∙ (get_or-append-add slots (range_with_len first (length ds)) t 0
-      ∙ get_or-range_with_len first (length ds) t 0 h)
+  pub named_before : (i x : ℕ) → i < start → NamesOutside S i x → x < start
+  named_before i x low o =
+      let less = named_outside section i x below (omega (arith, low, inside)) o in omega (arith, less, low)
 
-  -- types of one group are equal only at one place
-  one_place : (t u : ℕ) → t < length ds → u < length ds → AreEqual S S (start + t) (start + u) → t ≡ u
-  one_place t u ht hu e =
-      let like = groups_of S S (start + t) (start + u) e in
-      let at_t = mate_to S start t (start + t) like.own_place (start + t) (b.member t ht) like.first_own in
-      let at_u = mate_to S start u (start + u) like.own_place (start + u) (b.member u hu) like.second_own in
-      let p = b.only like.own_place (start + t) at_t in
-      let q = b.only like.own_place (start + u) at_u in
-      let p1 = p.1 in let q1 = q.1 in omega (arith, p1, q1)
+  pub class_kept :
+      (f : ℕ) (es : List EntryAt) → IsOfClass S marks start slots f es → IsOfClass S marks end more f es
+  class_kept f es c = record {
+    head = c.head;
+    low = omega (arith, c.low, long);
+    marked = c.marked;
+    member = c.member;
+    slot = old_slot c.head c.low ∙ c.slot;
+    records = said_anew S (own_number (length es)) (λ x y. y ≡ slot_of slots x) c.head
+        (map entry_definition es) c.records (own_number (length es)) (λ x y. y ≡ slot_of more x)
+        (λ p z. refl) (λ x y o is. is ∙ sym (old_slot x (named_before c.head x c.low o)));
+    fits = λ x o. omega (arith, c.fits x o, old_slot x (named_before c.head x c.low o));
+  }
 
-  within : (t : ℕ) → t < length ds → start + t < S.count
-  within t h = let z = b.inside in omega (arith, z, h)
+  -- what holds of the marked indices that get slots now
+  pub record AreNew (count : ℕ) (newer : List ℕ) : Type 0 where
+    pub told :
+        (i j : ℕ) → i < end → start ≤ j → j < end → IsMarked marks i → IsMarked marks j →
+        (slot_of more i ≡ slot_of more j) ↔ AreEqual S S i j
+    pub within : (i : ℕ) → start ≤ i → i < end → IsMarked marks i → slot_of more i < count
+    pub row :
+        (i place k : ℕ) → start ≤ i → i < end → IsMember S i 0 i → IsMarked marks i →
+        IsMember S i place k → slot_of more k ≡ slot_of more i + place
+    pub class_of :
+        (i : ℕ) → start ≤ i → i < end → IsMember S i 0 i → IsMarked marks i → (c : ℕ)
+        × (slice_get newer c ≡ Some (slot_of more i))
 
-  pub told_more : AreToldBySlots S marks (start + length ds) more
-  told_more i j hi hj mi mj = elim (cases_lt i start) [
-    | inl low_i ↦ elim (cases_lt j start) [
-      | inl low_j ↦
-          let t = told i j low_i low_j mi mj in (
-            λ e. t.0 (sym (old_slot i low_i) ∙ (e ∙ old_slot j low_j)),
-            λ e. old_slot i low_i ∙ (t.1 e ∙ sym (old_slot j low_j)),
-          )
-      | inr over_j ↦ behind i j low_i mi over_j hj
-    ]
-    | inr over_i ↦ elim (cases_lt j start) [
-      | inl low_j ↦
-          let t = behind j i low_j mj over_i hi in (
-            λ e. equal_back S S j i (t.0 (sym e)),
-            λ e. sym (t.1 (equal_back S S i j e)),
-          )
-      | inr over_j ↦ both i j over_i hi over_j hj
-    ]
-  ]
-    where
-      behind : (i j : ℕ) → i < start → IsMarked marks i → start ≤ j → j < start + length ds →
-          (slot_of more i ≡ slot_of more j) ↔ AreEqual S S i j
-      behind i j low m over h =
-          let t = j - start in
-          let ht : t < length ds = omega (arith, over, h) in
-          let is : start + t ≡ j = omega (arith, over) in
-          let d = decides i t low m ht in
-          let new : slot_of more j ≡ first + t = ap (slot_of more) (sym is) ∙ new_slot t ht in (
-            λ e. subst (λ (u : ℕ). AreEqual S S i u) is (d.0 (sym (old_slot i low) ∙ (e ∙ new))),
-            λ e. old_slot i low
-                ∙ (d.1 (subst (λ (u : ℕ). AreEqual S S i u) (sym is) e) ∙ sym new),
-          )
+  pub read_more :
+      (count : ℕ) (newer : List ℕ) (after : List (List EntryAt × ℕ)) → AreNew count newer →
+      slot_count ≤ count → count ≤ end →
+      ((c f : ℕ) → slice_get firsts c ≡ Some f → slice_get newer c ≡ Some f) → HaveKeys count newer after →
+      ((es : List EntryAt) (c : ℕ) → place_of after es ≡ Some c → (place_of known es ≡ Some c)
+      ⊎ ((f : ℕ) × (slice_get newer c ≡ Some f) × IsOfClass S marks end more f es)) →
+      IsReadTo S marks end (reading more count newer after)
+  read_more count newer after new grows few kept keys keyed = record {
+    one_each = omega (arith, length-append slots added, h.one_each, long);
+    few = few;
+    told = λ i j hi hj mi mj. elim (cases_lt j start) [
+      | inr over ↦ new.told i j hi over hj mi mj
+      | inl low_j ↦ elim (cases_lt i start) [
+        | inl low_i ↦ (let t = h.told i j low_i low_j mi mj in (
+          λ e. t.0 (sym (old_slot i low_i) ∙ (e ∙ old_slot j low_j)),
+          λ e. old_slot i low_i ∙ (t.1 e ∙ sym (old_slot j low_j)),
+        ))
+        | inr over ↦ (let t = new.told j i hj over hi mj mi in
+            (λ e. equal_back S S j i (t.0 (sym e)), λ e. sym (t.1 (equal_back S S i j e))))
+      ]
+    ];
+    within = λ i hi m. elim (cases_lt i start) [
+      | inl low ↦ omega (arith, h.within i low m, old_slot i low, grows)
+      | inr over ↦ new.within i over hi m
+    ];
+    row = λ i place k hi m own mem. elim (cases_lt i start) [
+      | inl low ↦ old_slot k (whole i place k low mem)
+          ∙ (h.row i place k low m own mem ∙ ap (λ (u : ℕ). u + place) (sym (old_slot i low)))
+      | inr over ↦ new.row i place k over hi own m mem
+    ];
+    class_of = λ i hi m own. elim (cases_lt i start) [
+      | inl low ↦ (let c = h.class_of i low m own in
+          (c.0, kept c.0 (slot_of slots i) c.1 ∙ ap (λ (u : ℕ). Some u) (sym (old_slot i low))))
+      | inr over ↦ new.class_of i over hi own m
+    ];
+    keys = keys;
+    keyed = λ es c at. elim (keyed es c at) [
+      | inl old ↦ (let k = h.keyed es c old in (k.0, kept c k.0 k.1, class_kept k.0 es k.2))
+      | inr k ↦ k
+    ];
+  }
 
-      both : (i j : ℕ) → start ≤ i → i < start + length ds → start ≤ j → j < start + length ds →
-          (slot_of more i ≡ slot_of more j) ↔ AreEqual S S i j
-      both i j over_i hi over_j hj =
-          let t = i - start in
-          let u = j - start in
-          let ht : t < length ds = omega (arith, over_i, hi) in
-          let hu : u < length ds = omega (arith, over_j, hj) in
-          let is_i : start + t ≡ i = omega (arith, over_i) in
-          let is_j : start + u ≡ j = omega (arith, over_j) in
-          let new_i : slot_of more i ≡ first + t = ap (slot_of more) (sym is_i) ∙ new_slot t ht in
-          let new_j : slot_of more j ≡ first + u = ap (slot_of more) (sym is_j) ∙ new_slot u hu in (
-            λ e. (let same : i ≡ j = omega (arith, e, new_i, new_j, is_i, is_j) in
-                subst (λ (k : ℕ). AreEqual S S i k) same
-                (subst (λ (k : ℕ). AreEqual S S k k) is_i
-                (equal_itself section below (start + t) (within t ht)))),
-            λ e. (let same = one_place t u ht hu
-                (subst (λ (k : ℕ). AreEqual S S k (start + u)) (sym is_i)
-                (subst (λ (k : ℕ). AreEqual S S i k) (sym is_j) e)) in
-                omega (arith, new_i, new_j, same)),
-          )
+-- ---- the group at `start` gets the slots from `first` on
 
--- ---- the slots of a class that is known: its types have them already
-
-pub known_decides :
-    (section : Section) (marks : List Bool) (start n first : ℕ) (slots : List ℕ) →
-    AreToldBySlots (index_space section) marks start slots →
-    ((t : ℕ) → t < n → (m : ℕ) × (m < start) × IsMarked marks m × (slot_of slots m ≡ first + t)
-    × AreEqual (index_space section) (index_space section) m (start + t)) →
-    (i t : ℕ) → i < start → IsMarked marks i → t < n →
-    (slot_of slots i ≡ first + t) ↔ AreEqual (index_space section) (index_space section) i (start + t)
-known_decides section marks start n first slots told row i t low m h =
-    let S = index_space section in
-    let r = row t h in
-    let d = told i r.0 low r.1 m r.2 in (
-      λ e. equal_over S S S i r.0 (start + t) (d.0 (e ∙ sym r.3)) r.4,
-      λ e. d.1 (equal_over S S S i (start + t) r.0 e (equal_back S S r.0 (start + t) r.4)) ∙ r.3,
-    )
-
--- ---- new slots: no type before is equal to one of the group
-
-pub new_decides :
-    (section : Section) (marks : List Bool) (start n first : ℕ) (slots : List ℕ) →
-    ((i : ℕ) → i < start → IsMarked marks i → slot_of slots i < first) →
-    ((i t : ℕ) → i < start → IsMarked marks i → t < n →
-    ¬ (AreEqual (index_space section) (index_space section) i (start + t))) →
-    (i t : ℕ) → i < start → IsMarked marks i → t < n →
-    (slot_of slots i ≡ first + t) ↔ AreEqual (index_space section) (index_space section) i (start + t)
-new_decides section marks start n first slots low new i t h m ht = (
-  λ e. absurd (let z = low i h m in omega (arith, z, e)),
-  λ e. absurd (new i t h m ht e),
-)
-
--- ---- a needed group before `end` names only what is needed and has a slot
-
-module _ (section : Section) (roots : List ℕ) (below : NamesBelowEnds (index_space section))
-    (marks : List Bool) (needs : MarkNeeds section roots marks) (end count base : ℕ) (slots : List ℕ)
-    (long : length slots ≡ end) (few : count ≤ base)
-    (within_count : (i : ℕ) → i < end → IsMarked marks i → slot_of slots i < count)
-    (i : ℕ) (i_low : i < (index_space section).count) (i_marked : IsMarked marks i)
-    -- what the group names outside of it is before `end`
-    (before : (k x : ℕ) → IsInGroup (index_space section) i k →
-    Names ((index_space section).definition k) x → ¬ (IsInGroup (index_space section) i x) → x < end) where
+module _ (section : Section) (below : NamesBelowEnds (index_space section)) (marks : List Bool) (start : ℕ)
+    (ds : List Definition) (b : BeginsAt (index_space section) start ds) (slots : List ℕ) (slot_count : ℕ)
+    (firsts : List ℕ) (known : List (List EntryAt × ℕ))
+    (h : IsReadTo (index_space section) marks start (reading slots slot_count firsts known))
+    (whole : (i place k : ℕ) → i < start → IsMember (index_space section) i place k → k < start) (first : ℕ)
+    (decides : (i t : ℕ) → i < start → IsMarked marks i → t < length ds →
+    (slot_of slots i ≡ first + t) ↔ AreEqual (index_space section) (index_space section) i (start + t)) where
   abbrev N : IndexSpace
   N = index_space section
 
-  names_needed : (k x : ℕ) → IsInGroup N i k → Names (N.definition k) x → IsMarked marks x
-  names_needed k x g names = (needs.needed x).1
-      (by_name k x (by_group i k ((needs.needed i).0 i_marked) g) names)
+  abbrev added : List ℕ
+  added = range_with_len first (length ds)
 
-  pub names_have_slots : NamesHaveSlots N marks slots base i
-  names_have_slots = record {
-    low = λ k x g names out. (let z = before k x g names out in omega (arith, z, long));
-    marked = λ k x g names out. names_needed k x g names;
-    fits = λ k x g names out. (
-        let z = within_count x (before k x g names out) (names_needed k x g names) in omega (arith, z, few));
+  abbrev grown : List ℕ
+  grown = slots ++ added
+
+  pub grown_long : start + length ds ≡ start + length added
+  grown_long = omega (arith, length-range_with_len first (length ds))
+
+  pub fits_in : start ≤ N.count
+  fits_in = omega (arith, b.inside)
+
+  was : (x : ℕ) → x < start → slot_of grown x ≡ slot_of slots x
+  was = old_slot section below marks start (start + length ds) slots added slot_count firsts known h fits_in
+      grown_long whole
+
+  pub new_slot : (t : ℕ) → t < length ds → slot_of grown (start + t) ≡ first + t
+  new_slot t low =
+      ap (λ (u : ℕ). slot_of grown (u + t)) (sym h.one_each)
+      ∙ (get_or-append-add slots added t 0 ∙ get_or-range_with_len first (length ds) t 0 low)
+
+  -- the place of an index in the group
+  at_place :
+      (i : ℕ) → start ≤ i → i < start + length ds → (t : ℕ) × (t < length ds) × (start + t ≡ i)
+      × (slot_of grown i ≡ first + t)
+  at_place i over hi =
+      let t = i - start in
+      let low : t < length ds = omega (arith, over, hi) in
+      let is : start + t ≡ i = omega (arith, over) in
+      (t, low, is, ap (slot_of grown) (sym is) ∙ new_slot t low)
+
+  -- types of one group are equal only at one place
+  one_place : (t u : ℕ) → t < length ds → u < length ds → AreEqual N N (start + t) (start + u) → t ≡ u
+  one_place t u ht hu e =
+      let like = groups_of N N (start + t) (start + u) e in
+      let at_t = mate_to N start t (start + t) like.own_place (start + t) (b.member t ht) like.first_own in
+      let at_u = mate_to N start u (start + u) like.own_place (start + u) (b.member u hu) like.second_own in
+      omega (arith, (b.only like.own_place (start + t) at_t).1, (b.only like.own_place (start + u) at_u).1)
+
+  new_told :
+      (i j : ℕ) → i < start + length ds → start ≤ j → j < start + length ds → IsMarked marks i →
+      IsMarked marks j → (slot_of grown i ≡ slot_of grown j) ↔ AreEqual N N i j
+  new_told i j hi over hj mi mj =
+      let u = at_place j over hj in
+      elim (cases_lt i start) [
+        | inl low ↦
+            let d = decides i u.0 low mi u.1 in (
+              λ e. subst (λ (k : ℕ). AreEqual N N i k) u.2 (d.0 (sym (was i low) ∙ (e ∙ u.3))),
+              λ e. was i low ∙ (d.1 (subst (λ (k : ℕ). AreEqual N N i k) (sym u.2) e) ∙ sym u.3),
+            )
+        | inr over_i ↦
+            let t = at_place i over_i hi in (
+              λ e. subst (λ (k : ℕ). AreEqual N N i k) (omega (arith, e, t.2, t.3, u.2, u.3))
+                  (equal_itself section below i (omega (arith, hi, b.inside))),
+              λ e. (let same = one_place t.0 u.0 t.1 u.1 (subst (λ (k : ℕ). AreEqual N N k (start + u.0))
+                  (sym t.2) (subst (λ (k : ℕ). AreEqual N N i k) (sym u.2) e)) in
+                  omega (arith, t.3, u.3, same)),
+            )
+      ]
+
+  head_is : (i : ℕ) → start ≤ i → i < start + length ds → IsMember N i 0 i → i ≡ start + 0
+  head_is i over hi own =
+      let t = at_place i over hi in
+      let m = subst (λ (u : ℕ). IsMember N start t.0 u) t.2 (b.member t.0 t.1) in
+      (b.only 0 i (mate_to N start t.0 i 0 i m own)).1
+
+  pub new_group :
+      (count c : ℕ) (newer : List ℕ) → first + length ds ≤ count → slice_get newer c ≡ Some first →
+      AreNew section below marks start (start + length ds) slots added slot_count firsts known h fits_in
+      grown_long whole count newer
+  new_group count c newer fits at = record {
+    told = new_told;
+    within = λ i over hi m. (let t = at_place i over hi in omega (arith, t.3, t.1, fits));
+    row = λ i place k over hi own m mem. (
+        let head = head_is i over hi own in
+        let is : i ≡ start = omega (arith, head) in
+        let at_k = b.only place k (subst (λ (u : ℕ). IsMember N u place k) is mem) in
+        let slot_i = ap (slot_of grown) head ∙ new_slot 0 b.filled in
+        let slot_k = ap (slot_of grown) at_k.1 ∙ new_slot place at_k.0 in omega (arith, slot_i, slot_k));
+    class_of = λ i over hi own m. (
+        let slot_i = ap (slot_of grown) (head_is i over hi own) ∙ new_slot 0 b.filled in
+        (c, at ∙ ap (λ (u : ℕ). Some u) (omega (arith, slot_i))));
   }

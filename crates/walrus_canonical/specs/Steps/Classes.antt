@@ -3,13 +3,12 @@
 use Rattle.std.specs.Prelude.{◌≡◌, ℕ, ◌+◌, ◌<◌, ◌≤◌, ◌↔◌, Bool, List, [], ◌∷◌, ◌++◌, length, map, Some, slice_get, slice_index_or}
 use Rattle.walrus_ty.specs.declared.records.EntryAt.{EntryAt}
 use Rattle.walrus_ty.specs.Records.{entry_definition}
-use Rattle.walrus_ty.specs.Definition.{Names}
 use Rattle.walrus_ty.specs.Groups.{Group, Section}
 use Rattle.walrus_sections.specs.FirstError.{definitions_of}
 use Rattle.walrus_sections.specs.Section.{IndexSpace, index_space, IsWellNamed}
 use Rattle.walrus_canonical.specs.declared.classes.Class.{Class}
 use Rattle.walrus_canonical.specs.declared.classes.Reader.{Reader}
-use Rattle.walrus_canonical.specs.EqualTypes.{IsMember, IsInGroup, AreEqual}
+use Rattle.walrus_canonical.specs.EqualTypes.{IsMember, NamesOutside, AreEqual}
 use Rattle.walrus_canonical.specs.Keys.{IsKey}
 use Rattle.walrus_canonical.specs.Steps.KnownClasses.{place_of}
 use Rattle.walrus_canonical.specs.Steps.Marks.{IsMarked, MarkNeeds}
@@ -49,9 +48,7 @@ pub record IsOfClass (s : IndexSpace) (marks : List Bool) (end : ℕ) (slots : L
   pub slot : slot_of slots head ≡ first
   pub records : AreRecordsOf s slots head entries
   -- what the group names outside of it has slots that are no numbers of places
-  pub fits :
-      (k x : ℕ) → IsInGroup s head k → Names (s.definition k) x → ¬ (IsInGroup s head x) →
-      slot_of slots x < own_base (length entries)
+  pub fits : (x : ℕ) → NamesOutside s head x → slot_of slots x < own_base (length entries)
 
 -- What a reader has: the slots, how many there are, the first slot of each class, and the place of
 -- the class that has these records.
@@ -69,6 +66,19 @@ abbrev pub reading_of : Reader → Reading
 reading_of r =
     reading r.slots.items r.slot_count (map (λ (c : Class). c.first) r.classes.items) r.known.entries
 
+-- the map has one key for each class, and slots of different classes are different
+pub record HaveKeys (slot_count : ℕ) (firsts : List ℕ) (known : List (List EntryAt × ℕ)) : Type 0 where
+  pub key_of :
+      (c first : ℕ) → slice_get firsts c ≡ Some first → (entries : List EntryAt)
+      × (place_of known entries ≡ Some c)
+  pub fit :
+      (entries : List EntryAt) (c first : ℕ) → place_of known entries ≡ Some c →
+      slice_get firsts c ≡ Some first → first + length entries ≤ slot_count
+  pub apart :
+      (b c first next : ℕ) (entries : List EntryAt) → b < c → slice_get firsts b ≡ Some first
+      → slice_get firsts c ≡ Some next → place_of known entries ≡ Some b
+      → first + length entries ≤ next
+
 -- it has this of the groups before `end`
 pub record IsReadTo (s : IndexSpace) (marks : List Bool) (end : ℕ) (r : Reading) : Type 0 where
   pub one_each : length r.slots ≡ end
@@ -82,21 +92,10 @@ pub record IsReadTo (s : IndexSpace) (marks : List Bool) (end : ℕ) (r : Readin
   pub class_of :
       (i : ℕ) → i < end → IsMarked marks i → IsMember s i 0 i → (c : ℕ)
       × (slice_get r.firsts c ≡ Some (slot_of r.slots i))
-  -- the map has one key for each class
-  pub key_of :
-      (c first : ℕ) → slice_get r.firsts c ≡ Some first → (entries : List EntryAt)
-      × (place_of r.known entries ≡ Some c)
-  pub fit :
-      (entries : List EntryAt) (c first : ℕ) → place_of r.known entries ≡ Some c →
-      slice_get r.firsts c ≡ Some first → first + length entries ≤ r.slot_count
+  pub keys : HaveKeys r.slot_count r.firsts r.known
   pub keyed :
       (entries : List EntryAt) (c : ℕ) → place_of r.known entries ≡ Some c → (first : ℕ)
       × (slice_get r.firsts c ≡ Some first) × IsOfClass s marks end r.slots first entries
-  -- and slots of different classes are different
-  pub apart :
-      (b c first next : ℕ) (entries : List EntryAt) → b < c → slice_get r.firsts b ≡ Some first
-      → slice_get r.firsts c ≡ Some next → place_of r.known entries ≡ Some b
-      → first + length entries ≤ next
 
 -- these are the classes of the marked groups of a section, by slots
 pub record AreClasses (section : Section) (marks : List Bool) (slots : List ℕ) (slot_count : ℕ)

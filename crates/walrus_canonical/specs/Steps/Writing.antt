@@ -1,14 +1,14 @@
 -- A section that is written class by class.
 -- Of this crate's own.
 use Rattle.std.specs.Prelude.{◌≡◌, ℕ, ◌+◌, ◌-◌, ◌%◌, ◌<◌, Bool, true, false, cond, nat_eq, nat_lt, List, [], ◌∷◌, length, map, take, drop, Some, slice_get, Contains, ◌⊎◌}
-use Rattle.walrus_ty.specs.Definition.{Definition, Names}
+use Rattle.walrus_ty.specs.Definition.{Definition}
 use Rattle.walrus_ty.specs.Groups.{Section}
 use Rattle.walrus_ty.specs.Records.{group_of}
 use Rattle.walrus_sections.specs.Section.{index_space, IsWellNamed}
 use Rattle.walrus_canonical.specs.declared.classes.Class.{Class}
 use Rattle.walrus_canonical.specs.declared.waiting.Wait.{Wait}
 use Rattle.walrus_canonical.specs.declared.write.Writer.{Writer}
-use Rattle.walrus_canonical.specs.EqualTypes.{IsMember, IsInGroup, AreEqual}
+use Rattle.walrus_canonical.specs.EqualTypes.{IsMember, NamesOutside, AreEqual}
 use Rattle.walrus_canonical.specs.Greedy.{IsBeginning}
 use Rattle.walrus_canonical.specs.Keys.{IsKey}
 use Rattle.walrus_canonical.specs.Listing.{AreIndices, IsCanonical, NewIndices}
@@ -83,9 +83,7 @@ pub record IsReadyAs (task : Task) (done : ℕ → Bool) (new_index : List ℕ) 
       IsKey (index_space task.section) ready_number (λ x. slot_of new_index (slot_of task.slots x)) head
       definitions
   pub outer :
-      (k x : ℕ) → IsInGroup (index_space task.section) head k →
-      Names ((index_space task.section).definition k) x →
-      ¬ (IsInGroup (index_space task.section) head x) → done (slot_of task.slots x) ≡ true
+      (x : ℕ) → NamesOutside (index_space task.section) head x → done (slot_of task.slots x) ≡ true
 
 -- the queue has exactly the classes that are ready, and the others that are not written have their
 -- records

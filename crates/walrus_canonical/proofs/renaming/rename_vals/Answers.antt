@@ -1,8 +1,8 @@
 use Rattle.std.proofs.Common.{ap, ◌∙◌, arith, slice_set}
 use Rattle.walrus_ty.specs.Value.{val_name, rename_val}
 use Rattle.walrus_canonical.specs.Steps.Renamings.{index_map}
-use Rattle.walrus_canonical.proofs.Reading.NamelessValues.{no-name, val-stays}
-use Rattle.walrus_canonical.proofs.Reading.RenamedItems.{item-replaced, item-stays}
+use Rattle.walrus_normal_form.proofs.Reading.NamelessValues.{no-name, val-stays}
+use Rattle.walrus_normal_form.proofs.Reading.RenamedItems.{item-replaced, item-stays}
 use Rattle.walrus_canonical.proofs.renaming.rename_vals.Goals.{then-is_some, else-is_some}
 use Rattle.walrus_canonical.proofs.renaming.rename_vals.Goals as goal
 

@@ -9,7 +9,7 @@ use Rattle.walrus_sections.specs.FirstError.{definitions_of}
 use Rattle.walrus_canonical.specs.declared.classes.Class.{Class}
 use Rattle.walrus_canonical.specs.Steps.Classes.{reading, reading_of, IsReadTo}
 use Rattle.walrus_canonical.specs.Steps.KnownClasses.{are_same, place_of}
-use Rattle.walrus_canonical.proofs.Reading.SkippedGroups.{stands_begins}
+use Rattle.walrus_canonical.proofs.Reading.SkippedGroups.{stands_begins, stands_whole}
 use Rattle.walrus_canonical.proofs.Reading.NeededGroups.{read_needed, first_of_class, firsts_length, put_records, size_of_records}
 use Rattle.walrus_canonical.proofs.classes.Reader.push_needed.Goals as goal
 
@@ -38,7 +38,8 @@ returns c marks marked filled section roots well needs stands h =
     c.own_base.ensures c.len-count.ensures in
     let new = reading c.push_slots.new.slots.items c.first_slot.new.self.slot_count
     (map (λ (k : Class). k.first) c.first_slot.new.self.classes.items) c.first_slot.new.self.known.entries in
-    let r = read_needed section roots well marks needs start ds b (reading_of c.args.self.now) h marked
+    let r = read_needed section roots well marks needs start ds b (reading_of c.args.self.now) h
+    (stands_whole section start (group_of c.args.group) stands) marked
     c.rename_entries.new.entries is new c.in_ok-class.class c.in_ok-first.first (record {
       place = c.in_ok-class.ensures.place
           ∙ ap (unwrap_or (place_of c.args.self.now.known.entries c.rename_entries.new.entries))
