@@ -7,7 +7,7 @@ use Rattle.walrus_sections.specs.Section.{IndexSpace, index_space}
 use Rattle.walrus_canonical.specs.EqualTypes.{IsMember, IsInGroup, AreShapedAlike, NamesAt, NameAtOnce, AreEqual, equal}
 use Rattle.walrus_canonical.specs.Listing.{IsNeeded, at_root, by_group, by_name, NewIndices, new_index, IsListing, AreAmong}
 use Rattle.walrus_canonical.specs.Renamed.{GroupGoesTo, new_or_zero}
-use Rattle.walrus_canonical.proofs.Equality.Definitions.{named_too, names_what_stands, position_of, renamed_shape, renamed_name, same_by_names}
+use Rattle.walrus_canonical.proofs.Equality.Definitions.{named_too, names_what_stands, renamed_shape, renamed_name, same_by_names}
 use Rattle.walrus_canonical.proofs.Equality.EqualTypes.{groups_of, equal_back, equal_over, equal_mates, equal_names, equal_at_once, named_there}
 use Rattle.walrus_canonical.proofs.Equality.Members.{place_once}
 use Rattle.walrus_canonical.proofs.Forms.Listings.{new_of, needed_of, listed_once}

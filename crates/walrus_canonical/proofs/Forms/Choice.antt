@@ -4,18 +4,17 @@ use Rattle.std.proofs.lemmas.Bool.{cases_lt}
 use Rattle.std.proofs.lemmas.Option.{slice_get_within, slice_get-get_or, get_or_from_slice_get}
 use Rattle.std.specs.declared.cmp.Ordering.{Ordering}
 use Rattle.std.specs.declared.cmp.Ordering.TheVariants.{Less, Equal, Greater}
-use Rattle.std.specs.Ordering.{ordering_reverse}
 use Rattle.std.specs.Cmp.{IsTotalOrder}
 use Rattle.std.specs.Cmp.Lexicographic.{slice_cmp}
 use Rattle.std.proofs.lemmas.Cmp.{lists_total}
 use Rattle.walrus_ty.specs.Definition.{Definition, Names, names_of, definition_cmp}
 use Rattle.walrus_ty.specs.Groups.{Section}
 use Rattle.walrus_ty.proofs.Names.Definitions.{definitions_total}
-use Rattle.walrus_sections.specs.Section.{IndexSpace, index_space, no_place, NamesBelowEnds}
+use Rattle.walrus_sections.specs.Section.{IndexSpace, index_space, NamesBelowEnds}
 use Rattle.walrus_canonical.specs.EqualTypes.{IsInGroup, NamesOutside, AreEqual}
 use Rattle.walrus_canonical.specs.Listing.{IsNeeded, by_group, by_name}
-use Rattle.walrus_canonical.specs.Greedy.{StandsFor, IsWrittenAs, CanComeNext}
-use Rattle.walrus_canonical.proofs.Equality.Definitions.{named_too, names_what_stands, position_of}
+use Rattle.walrus_canonical.specs.Greedy.{IsWrittenAs, CanComeNext}
+use Rattle.walrus_canonical.proofs.Equality.Definitions.{names_what_stands, position_of}
 use Rattle.walrus_canonical.proofs.Equality.Members.{in_group_or_not, own_member, named_outside}
 use Rattle.walrus_canonical.proofs.Equality.Decisions.{Decided, some_below, all_below}
 use Rattle.walrus_canonical.proofs.Equality.DecidedTypes.{equal_or_not}
@@ -23,6 +22,7 @@ use Rattle.walrus_canonical.proofs.Equality.Written.{stands_there}
 use Rattle.walrus_canonical.proofs.Equality.EqualTypes.{equal_itself, equal_within}
 use Rattle.walrus_canonical.proofs.Needs.DecidedNeeds.{needed_or_not}
 use Rattle.walrus_canonical.proofs.Forms.Listings.{needed_below}
+use Rattle.walrus_canonical.proofs.Forms.Orders.{not_itself}
 use Rattle.walrus_canonical.proofs.Forms.Writing.{written_once, as_written, written_so}
 
 -- a well-named section with indices of it
@@ -137,15 +137,6 @@ module _ (r : Rooted) (pre : Section)
   definitions_order : IsTotalOrder (slice_cmp definition_cmp)
   definitions_order = lists_total definitions_total
 
-  not_less_itself : (ds : List Definition) → slice_cmp definition_cmp ds ds ≡ Less → ⊥
-  not_less_itself ds e =
-      let z = definitions_order.antisymm ds ds in reversed (slice_cmp definition_cmp ds ds) z e
-    where
-      reversed : (o : Ordering) → o ≡ ordering_reverse o → o ≡ Less → ⊥
-      reversed Less z e = cc
-      reversed Equal z e = cc
-      reversed Greater z e = cc
-
   pub next_once : (i : ℕ) (ds es : List Definition) → Next i ds → Next i es → ds ≡ es
   next_once i ds es x y =
       let same = equal_itself r.section r.below i (needed_within r i x.needed) in
@@ -178,7 +169,7 @@ module _ (r : Rooted) (pre : Section)
     ds = ds;
     next = n;
     least = λ j es low x e. below_or_last bound j low (λ lower. below j es lower x e) (λ is.
-        not_less_itself ds (subst (λ (u : List Definition). slice_cmp definition_cmp u ds ≡ Less)
+        not_itself ds (subst (λ (u : List Definition). slice_cmp definition_cmp u ds ≡ Less)
         (next_once bound es ds (subst (λ (u : ℕ). Next u es) is x) n) e));
   }
 

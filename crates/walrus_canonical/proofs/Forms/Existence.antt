@@ -1,18 +1,15 @@
 -- Each well-named section has a canonical form, for any indices of it as roots: the beginning that
 -- no group can follow.
-use Rattle.std.proofs.Common.{◌≡◌, ℕ, zero, suc, ◌+◌, ◌<◌, ◌≤◌, List, [], ◌∷◌, ◌++◌, length, map, refl, sym, ap, subst, ◌∙◌, inl, inr, Option, Some, None, ◌^◌, arith}
-use Rattle.std.specs.List.{range_with_len}
-use Rattle.std.proofs.lemmas.Option.{same_Some}
+use Rattle.std.proofs.Common.{◌≡◌, ℕ, zero, suc, ◌+◌, ◌<◌, ◌≤◌, List, [], ◌∷◌, ◌++◌, length, sym, subst, inl, inr, ◌^◌, arith}
 use Rattle.walrus_ty.specs.Definition.{Definition}
 use Rattle.walrus_ty.specs.Groups.{Group, Section}
 use Rattle.walrus_sections.specs.Section.{IndexSpace, index_space, IsWellNamed}
 use Rattle.walrus_canonical.specs.EqualTypes.{AreEqual}
-use Rattle.walrus_canonical.specs.Listing.{AreIndices, IsNeeded, NewIndices, new_index, IsListing, IsCanonical}
+use Rattle.walrus_canonical.specs.Listing.{AreIndices, IsNeeded, NewIndices, IsCanonical}
 use Rattle.walrus_canonical.specs.Greedy.{CanComeNext, AreLeast, IsBeginning, AreNewIndices, plain_group}
-use Rattle.walrus_canonical.proofs.Equality.EqualTypes.{equal_back, equal_over, equal_within, one_type}
+use Rattle.walrus_canonical.proofs.Equality.EqualTypes.{equal_back, equal_over, one_type}
 use Rattle.walrus_canonical.proofs.Forms.Counting.{no_more}
 use Rattle.walrus_canonical.proofs.Forms.Listings.{new_indices, listing_of}
-use Rattle.walrus_canonical.proofs.Equality.Decisions.{Decided}
 use Rattle.walrus_canonical.proofs.Needs.DecidedNeeds.{needed_or_not}
 use Rattle.walrus_canonical.proofs.Forms.Greedy.{greedy_is_canonical}
 use Rattle.walrus_canonical.proofs.Forms.Choice.{Rooted, needed_within, choose, all_found}

@@ -7,13 +7,12 @@ use Rattle.walrus_ty.specs.Definition.{Definition, Names, definition_cmp}
 use Rattle.walrus_ty.specs.Groups.{Group, Section}
 use Rattle.walrus_sections.specs.Section.{IndexSpace, index_space, NamesBelowEnds}
 use Rattle.walrus_sections.proofs.Sections.Rows.{laid_out}
-use Rattle.walrus_canonical.specs.EqualTypes.{IsMember, AreShapedAlike, NamesAt, NameAtOnce, AreEqual, equal}
+use Rattle.walrus_canonical.specs.EqualTypes.{IsMember, AreEqual}
 use Rattle.walrus_canonical.specs.Listing.{IsNeeded, by_group, group_definitions}
-use Rattle.walrus_canonical.specs.Greedy.{IsWrittenBy, StandsFor, CanComeNext, AreLeast, IsGreedy, IsBeginning, plain_group}
-use Rattle.walrus_canonical.proofs.Equality.Definitions.{named_too, position_of}
+use Rattle.walrus_canonical.specs.Greedy.{IsWrittenBy, CanComeNext, AreLeast, IsGreedy, IsBeginning, plain_group}
 use Rattle.walrus_canonical.proofs.Equality.EqualTypes.{groups_of, equal_back, equal_over, equal_mates, equal_within}
 use Rattle.walrus_canonical.proofs.Equality.Written.{of_mate, own_written, equal_if_one, name_there}
-use Rattle.walrus_canonical.proofs.Equality.Members.{place_once, in_group_or_not, own_member, mate_from, mate_to, member_end}
+use Rattle.walrus_canonical.proofs.Equality.Members.{place_once, in_group_or_not, own_member, mate_from, member_end}
 use Rattle.walrus_canonical.proofs.Forms.Orders.{plain_definitions, plain_if_filled}
 use Rattle.walrus_canonical.proofs.Forms.Beginnings.{same_definition, same_end, equal_before}
 use Rattle.walrus_canonical.proofs.Forms.NextGroups.{BeginsAt, begins_filled, plain_append, one_group_more}

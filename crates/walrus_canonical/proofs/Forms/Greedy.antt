@@ -1,17 +1,15 @@
 -- A greedy listing is the least one.
-use Rattle.std.proofs.Common.{◌≡◌, ℕ, ◌+◌, ◌<◌, List, [], ◌∷◌, ◌++◌, length, append_assoc, append-nil, refl, sym, ap, subst, ◌∙◌, Some, slice_get, arith}
+use Rattle.std.proofs.Common.{◌≡◌, ℕ, ◌+◌, ◌<◌, List, [], ◌∷◌, ◌++◌, append_assoc, append-nil, refl, sym, ap, subst, ◌∙◌, Some, arith}
 use Rattle.std.specs.declared.cmp.Ordering.{Ordering}
 use Rattle.std.specs.declared.cmp.Ordering.TheVariants.{Less, Equal, Greater}
 use Rattle.std.specs.Ordering.{ordering_then}
-use Rattle.std.proofs.lemmas.Option.{same_Some}
 use Rattle.walrus_ty.specs.Definition.{Definition}
 use Rattle.walrus_ty.specs.Groups.{Group, Section}
 use Rattle.walrus_sections.specs.Section.{IndexSpace, index_space}
-use Rattle.walrus_canonical.specs.EqualTypes.{IsMember, AreShapedAlike, NamesAt, NameAtOnce, AreEqual}
+use Rattle.walrus_canonical.specs.EqualTypes.{AreEqual}
 use Rattle.walrus_canonical.specs.Listing.{NewIndices, new_index, HasPlainGroups, group_definitions, group_cmp, section_cmp, IsListing, IsCanonical, Covers}
-use Rattle.walrus_canonical.specs.Greedy.{StandsFor, IsWrittenAs, CanComeNext, IsGreedy}
-use Rattle.walrus_canonical.proofs.Equality.Definitions.{names_what_stands}
-use Rattle.walrus_canonical.proofs.Equality.EqualTypes.{groups_of, named_of, equal_back, equal_over, equal_within}
+use Rattle.walrus_canonical.specs.Greedy.{IsWrittenAs, CanComeNext, IsGreedy}
+use Rattle.walrus_canonical.proofs.Equality.EqualTypes.{equal_back, equal_over, equal_within}
 use Rattle.walrus_canonical.proofs.Equality.Members.{named_outside}
 use Rattle.walrus_canonical.proofs.Equality.Written.{said_anew, own_written, of_equal}
 use Rattle.walrus_canonical.proofs.Forms.Orders.{plain_once}

@@ -48,7 +48,8 @@ module _ (s : Section) (roots : List ℕ) (n : Section)
   unfolding new_by
   by_sound i p (inl h) e = (
     h,
-    subst (λ (u : ℕ). AreEqual (index_space s) (index_space n) i u) (same_Some (there i h).0 p e) (there i h).1,
+    subst (λ (u : ℕ). AreEqual (index_space s) (index_space n) i u) (same_Some (there i h).0 p e)
+        (there i h).1,
   )
   by_sound i p (inr out) e = absurd cc
 
@@ -62,14 +63,16 @@ module _ (s : Section) (roots : List ℕ) (n : Section)
   pub new_indices : (m : NewIndices) × AreNewIndices s roots n m
   new_indices =
       let new : ℕ → Option ℕ = λ i. new_by i (need i) in
-      let sound : (i p : ℕ) → new_index (map new (range_with_len 0 (index_space s).count)) i ≡ Some p → Is i p =
-      λ i p e. by_sound i p (need i) (built_within new (index_space s).count i p e).1 in (
-        map new (range_with_len 0 (index_space s).count),
+      let m = map new (range_with_len 0 (index_space s).count) in
+      let sound : (i p : ℕ) → new_index m i ≡ Some p → Is i p = λ i p e.
+      by_sound i p (need i) (built_within new (index_space s).count i p e).1 in (
+        m,
         record {
           one_each = built_length new (index_space s).count;
           needed = λ i. (
             λ h. (let p = some_of _ h in (sound i p.0 p.1).0),
-            λ h. subst IsSome (sym (built_at new (index_space s).count i (within i h))) (by_some i (need i) h),
+            λ h. subst IsSome (sym (built_at new (index_space s).count i (within i h)))
+                (by_some i (need i) h),
           );
           equal = λ i p e. (sound i p e).1;
         },

@@ -6,7 +6,7 @@ use Rattle.std.specs.declared.cmp.Ordering.TheVariants.{Less, Equal, Greater}
 use Rattle.std.specs.Ordering.{ordering_reverse}
 use Rattle.std.specs.Cmp.{IsTotalOrder}
 use Rattle.std.specs.Cmp.Lexicographic.{slice_cmp}
-use Rattle.std.proofs.lemmas.Cmp.{on_total, lists_total}
+use Rattle.std.proofs.lemmas.Cmp.{on_total, lists_total, tied_itself}
 use Rattle.walrus_ty.specs.Definition.{Definition, definition_cmp}
 use Rattle.walrus_ty.specs.Groups.{Group, Single, Rec, Section}
 use Rattle.walrus_ty.proofs.Names.Definitions.{definitions_total, definition_exact}
@@ -19,6 +19,10 @@ groups_total = on_total group_definitions (lists_total definitions_total)
 
 pub sections_total : IsTotalOrder section_cmp
 sections_total = lists_total groups_total
+
+-- no list of definitions is less than itself
+pub not_itself : (ds : List Definition) → slice_cmp definition_cmp ds ds ≡ Less → ⊥
+not_itself ds e = let z = sym e ∙ tied_itself (lists_total definitions_total) ds in cc
 
 pub definitions_exact : (ds es : List Definition) → slice_cmp definition_cmp ds es ≡ Equal → ds ≡ es
 definitions_exact [] [] h = refl

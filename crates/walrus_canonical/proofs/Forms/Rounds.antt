@@ -1,17 +1,15 @@
 -- A listing of the types of a listing lists the types of the section; and a listing lists its own
 -- types, each where it is.
-use Rattle.std.proofs.Common.{◌≡◌, ℕ, ◌<◌, List, length, map, refl, sym, ap, subst, ◌∙◌, inl, inr, Option, Some, None, Contains}
-use Rattle.std.specs.Option.{option_and_then, unwrap_or}
-use Rattle.std.proofs.lemmas.List.{length-map}
+use Rattle.std.proofs.Common.{◌≡◌, ℕ, ◌<◌, List, map, sym, ap, subst, ◌∙◌, Option, Some, Contains}
+use Rattle.std.specs.Option.{unwrap_or}
 use Rattle.std.proofs.lemmas.Option.{same_Some}
 use Rattle.walrus_ty.specs.Groups.{Section}
 use Rattle.walrus_sections.specs.Section.{IndexSpace, index_space}
-use Rattle.walrus_sections.proofs.Sections.Lying.{in_or_out}
 use Rattle.walrus_canonical.specs.EqualTypes.{AreEqual}
 use Rattle.walrus_canonical.specs.Listing.{IsNeeded, at_root, NewIndices, new_index, IsListing, all_indices, kept_indices}
 use Rattle.walrus_canonical.specs.Renamed.{new_or_zero}
 use Rattle.walrus_canonical.proofs.Equality.EqualTypes.{equal_itself, equal_back, equal_over}
-use Rattle.walrus_canonical.proofs.Forms.Indices.{contained-map, contained_before, some_of, is_some_at, new_index-map, built_length, built_at, built_within, below_contained, contained_below}
+use Rattle.walrus_canonical.proofs.Forms.Indices.{contained-map, contained_before, some_of, is_some_at, built_length, built_at, built_within, below_contained, contained_below}
 use Rattle.walrus_canonical.proofs.Forms.Listings.{new_of, needed_of, needed_within, needed_below, listed_once, relisting}
 use Rattle.walrus_canonical.proofs.Equality.Renamed.{among_by_roots}
 

@@ -1,10 +1,10 @@
 -- Groups that are checked one by one.
-use Rattle.std.proofs.Common.{◌≡◌, ℕ, zero, suc, ◌+◌, ◌<◌, List, [], ◌∷◌, ◌++◌, length, take, drop, get_or, ap, sym, subst, ◌∙◌, arith}
+use Rattle.std.proofs.Common.{◌≡◌, ℕ, ◌+◌, ◌<◌, List, [], ◌∷◌, ◌++◌, length, take, drop, get_or, ap, sym, subst, ◌∙◌}
 use Rattle.std.specs.Prelude.{Some, None, IfErr}
 use Rattle.std.specs.Result.{IsErrAnd}
 use Rattle.std.specs.declared.result.Result.{Result}
 use Rattle.std.specs.declared.result.Result.TheVariants.{Ok, Err}
-use Rattle.std.proofs.lemmas.List.{map-append, take_more, take-append-drop}
+use Rattle.std.proofs.lemmas.List.{map-append, take_more, drop_more, take-append-drop}
 use Rattle.walrus_ty.specs.declared.records.GroupAt.{GroupAt}
 use Rattle.walrus_ty.specs.Groups.{Section}
 use Rattle.walrus_ty.specs.Records.{group_of, section_of}
@@ -40,21 +40,12 @@ one_checked given at start end g within is so_far fine ends =
           ∙ (sym (follows s (group_of g)).count ∙ ap (λ (t : Section). (index_space t).count) (sym more)));
     }
 
-cut :
-    (gs : List GroupAt) (i : ℕ) (x : GroupAt) → i < length gs → x ≡ get_or gs i x →
-    drop i gs ≡ x ∷ drop (suc i) gs
-cut [] i x h e = absurd (omega (arith, h))
-cut (y ∷ ys) zero x h e = ap (λ z. z ∷ ys) (sym e)
-cut (y ∷ ys) (suc i) x h e = cut ys i x (omega (arith, h)) e
-
 pub split_at :
     (given : List GroupAt) (at : ℕ) (g : GroupAt) → at < length given → g ≡ get_or given at g →
     given ≡ take at given ++ g ∷ drop (at + 1) given
 split_at given at g within is =
-    let next : suc at ≡ at + 1 = omega arith in
-    sym (take-append-drop at given)
-    ∙ (ap (λ gs. take at given ++ gs) (cut given at g within is)
-    ∙ ap (λ n. take at given ++ g ∷ drop n given) next)
+    sym (take-append-drop at given) ∙ ap (λ gs. take at given ++ gs)
+    (drop_more given at g within ∙ ap (λ x. x ∷ drop (at + 1) given) (sym is))
 
 pub first_refused :
     (given : List GroupAt) (at start : ℕ) (g : GroupAt) (e : ReadError) → at < length given →

@@ -1,5 +1,5 @@
 -- Whether roots need an index can be decided.
-use Rattle.std.proofs.Common.{ℕ, zero, suc, ◌+◌, ◌<◌, ◌≤◌, List, inl, inr, Contains, arith}
+use Rattle.std.proofs.Common.{ℕ, zero, suc, ◌+◌, ◌<◌, ◌≤◌, List, ◌⊎◌, inl, inr, Contains, arith}
 use Rattle.std.proofs.lemmas.Bool.{cases_lt}
 use Rattle.walrus_ty.specs.Definition.{Names, names_of}
 use Rattle.walrus_ty.specs.Groups.{Section}
@@ -15,38 +15,37 @@ module _ (section : Section) (roots : List ℕ) (below : NamesBelowEnds (index_s
   abbrev s : IndexSpace
   s = index_space section
 
-  -- k of the group of i is a root, or a needed type of another group names it
-  data IsWanted (i k : ℕ) : Type 0 where
-    as_root : Contains roots k → IsWanted i k
-    by_user :
-        (user : ℕ) → IsNeeded s roots user → Names (s.definition user) k
-        → (IsInGroup s i user → ⊥) → IsWanted i k
+  abbrev Uses : ℕ → ℕ → ℕ → Type 0
+  Uses i k user = IsNeeded s roots user × Names (s.definition user) k × (IsInGroup s i user → ⊥)
 
-  record Reason (i : ℕ) : Type 0 where
-    pub k : ℕ
-    pub member : IsInGroup s i k
-    pub wanted : IsWanted i k
+  -- k of the group of i is a root, or a needed type of another group names it
+  abbrev IsWanted : ℕ → ℕ → Type 0
+  IsWanted i k = Contains roots k ⊎ ((user : ℕ) × Uses i k user)
+
+  abbrev Reason : ℕ → Type 0
+  Reason i = (k : ℕ) × IsInGroup s i k × IsWanted i k
 
   needed_by : (i : ℕ) → i < s.count → Reason i → IsNeeded s roots i
   needed_by i h r =
       let own = own_member s i h in
-      by_group r.k i (from r.wanted) (own.0, mate_from s i r.member.0 r.k own.0 i r.member.1 own.1)
-    where
-      from : IsWanted i r.k → IsNeeded s roots r.k
-      from (as_root c) = at_root r.k c
-      from (by_user user needed names outside) = by_name user r.k needed names
+      let wanted : IsNeeded s roots r.0 = elim r.2 [
+        | inl c ↦ at_root r.0 c
+        | inr u ↦ by_name u.0 r.0 u.1.0 u.1.1
+      ] in
+      by_group r.0 i wanted (own.0, mate_from s i r.1.0 r.0 own.0 i r.1.1 own.1)
 
   moved : (i j : ℕ) → IsInGroup s i j → Reason i → Reason j
-  moved i j g r = record {
-    k = r.k;
-    member = (r.member.0, mate_from s i g.0 j r.member.0 r.k g.1 r.member.1);
-    wanted = by r.wanted;
-  }
-    where
-      by : IsWanted i r.k → IsWanted j r.k
-      by (as_root c) = as_root c
-      by (by_user user needed names outside) = by_user user needed names (λ m.
-          outside (m.0, mate_to s i g.0 j m.0 user g.1 m.1))
+  moved i j g r = (
+    r.0,
+    (r.1.0, mate_from s i g.0 j r.1.0 r.0 g.1 r.1.1),
+    elim r.2 [
+      | inl c ↦ inl c
+      | inr u ↦ inr (
+        u.0,
+        (u.1.0, u.1.1, λ m. u.1.2 (m.0, mate_to s i g.0 j m.0 u.0 g.1 m.1)),
+      )
+    ],
+  )
 
   within : (i : ℕ) → IsNeeded s roots i → i < s.count
   within i h = needed_below section roots below known i h
@@ -55,17 +54,13 @@ module _ (section : Section) (roots : List ℕ) (below : NamesBelowEnds (index_s
   back_to i j h g = let own = own_member s i h in (own.0, mate_from s i g.0 j own.0 i g.1 own.1)
 
   reason_of : (i : ℕ) → IsNeeded s roots i → Reason i
-  reason_of _ (at_root i c) = record {
-    k = i;
-    member = own_member s i (known i c);
-    wanted = as_root c;
-  }
+  reason_of _ (at_root i c) = (i, own_member s i (known i c), inl c)
   reason_of _ (by_group mate i h g) = moved mate i g (reason_of mate h)
   reason_of _ (by_name user i h names) =
       let own = own_member s i (within i (by_name user i h names)) in
       elim (in_group_or_not s i own.0 user own.1) [
         | inl g ↦ moved user i (back_to i user (within i (by_name user i h names)) g) (reason_of user h)
-        | inr outside ↦ record { k = i; member = own; wanted = by_user user h names outside }
+        | inr outside ↦ (i, own, inr (user, (h, names, outside)))
       ]
 
   -- a type of another group that names one of the group is behind the group
@@ -82,9 +77,6 @@ module _ (section : Section) (roots : List ℕ) (below : NamesBelowEnds (index_s
       ) in
       let less : k < user = named_outside section user k below hu (user, own, names, not_in) in
       group_end section i g.0 k user h g.1 less hu not_in
-
-  abbrev Uses : ℕ → ℕ → ℕ → Type 0
-  Uses i k user = IsNeeded s roots user × Names (s.definition user) k × (IsInGroup s i user → ⊥)
 
   needed_from :
       (fuel i : ℕ) → s.count ≤ i + fuel → i < s.count → Decided (IsNeeded s roots i)
@@ -108,26 +100,22 @@ module _ (section : Section) (roots : List ℕ) (below : NamesBelowEnds (index_s
       elim (in_group_or_not s i own.0 k own.1) [
         | inr out ↦ inr (λ x. out x.0)
         | inl g ↦ elim (contained_or_not roots k) [
-          | inl c ↦ inl (g, as_root c)
+          | inl c ↦ inl (g, inl c)
           | inr not_so ↦ elim (some_below s.count (Uses i k) (λ user hu. uses k user g hu)) [
-            | inl u ↦ inl (g, by_user u.0 u.2.0 u.2.1 u.2.2)
-            | inr none ↦ inr (λ x. neither i k not_so none x.1)
+            | inl u ↦ inl (g, inr (u.0, u.2))
+            | inr none ↦ inr (λ x. elim x.1 [
+              | inl c ↦ not_so c
+              | inr u ↦ none u.0 (within u.0 u.1.0) u.1
+            ])
           ]
         ]
       ] in
       elim (some_below s.count (λ k. IsInGroup s i k × IsWanted i k) wants) [
-        | inl x ↦ inl (needed_by i h (record { k = x.0; member = x.2.0; wanted = x.2.1 }))
+        | inl x ↦ inl (needed_by i h (x.0, x.2.0, x.2.1))
         | inr none ↦ inr (λ n. (
             let r = reason_of i n in
-            none r.k (member_within section i r.member.0 r.k r.member.1) (r.member, r.wanted)))
+            none r.0 (member_within section i r.1.0 r.0 r.1.1) (r.1, r.2)))
       ]
-    where
-      neither :
-          (i k : ℕ) → (Contains roots k → ⊥) → ((user : ℕ) → user < s.count → Uses i k user → ⊥) →
-          IsWanted i k → ⊥
-      neither i k not_so none (as_root c) = not_so c
-      neither i k not_so none (by_user user needed names outside) = none user (within user needed)
-          (needed, names, outside)
 
   pub needed_or_not : (i : ℕ) → Decided (IsNeeded s roots i)
   needed_or_not i = elim (cases_lt i s.count) [

@@ -1,5 +1,5 @@
 -- What is written when the queue is empty is the canonical form.
-use Rattle.std.proofs.Common.{◌≡◌, ℕ, Bool, false, ◌<◌, List, [], length, replicate, slice_get, slice_index_or, Some, None, inl, inr, ◌∙◌, refl, sym, ap, subst, arith}
+use Rattle.std.proofs.Common.{◌≡◌, ℕ, Bool, false, ◌<◌, List, [], length, replicate, slice_get, slice_index_or, Some, None, ◌∙◌, refl, sym, ap, subst, arith}
 use Rattle.std.specs.Prelude.{if◌then◌else◌}
 use Rattle.std.proofs.lemmas.List.{length-replicate}
 use Rattle.std.proofs.lemmas.Option.{same_Some, slice_get-get_or, get_or_from_slice_get}
@@ -19,7 +19,7 @@ use Rattle.walrus_canonical.proofs.Forms.Existence.{begins_empty, none_left, end
 use Rattle.walrus_canonical.proofs.Forms.Indices.{some_of, is_some_at, index_within}
 use Rattle.walrus_canonical.proofs.Output.LeastReady.{none_comes}
 use Rattle.walrus_canonical.proofs.Needs.NeedsMarked.{marked_within}
-use Rattle.walrus_canonical.proofs.Waits.OpenWaits.{false_or_true}
+use Rattle.std.proofs.lemmas.Bool.{true_from_ne_false}
 use Rattle.walrus_canonical.proofs.Output.ReadyGroups.{mark_of_need, needed_of_mark, done_if_there}
 
 -- ---- nothing is written
@@ -72,15 +72,11 @@ module _ (task : Task) (done : ℕ → Bool) (before : Section) (by_slot : List 
       ∙ slice_get-get_or by_slot (slot_of task.slots i) 0 (omega (arith, within, size)))
 
   marked_if_some : (i p : ℕ) → new_index indices i ≡ Some p → IsMarked task.marks i
-  marked_if_some i p e = elim (false_or_true (slice_index_or task.marks i false)) [
-    | inr t ↦ t
-    | inl f ↦ absurd (
-        let long = a.long in
-        let low = index_within indices i p e in
-        let none : new_index indices i ≡ None = item i (omega (arith, low, long))
-        ∙ ap (λ (t : Bool). if t then slice_get by_slot (slot_of task.slots i) else None) f in
-        let z : None ≡ Some p = sym none ∙ e in absurd cc)
-  ]
+  marked_if_some i p e = true_from_ne_false (slice_index_or task.marks i false) (λ f. (
+      let low = index_within indices i p e in
+      let none : new_index indices i ≡ None = item i (omega (arith, low, a.long))
+      ∙ ap (λ (t : Bool). if t then slice_get by_slot (slot_of task.slots i) else None) f in
+      let z : None ≡ Some p = sym none ∙ e in cc))
 
   pub are_new : AreNewIndices task.section task.roots before indices
   are_new = record {

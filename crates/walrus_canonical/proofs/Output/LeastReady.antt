@@ -1,33 +1,37 @@
 -- The queue has all groups that can come next, so its least is the least of them.
-use Rattle.std.proofs.Common.{◌≡◌, ℕ, Bool, true, false, ◌+◌, ◌<◌, List, [], ◌∷◌, length, map, get_or, slice_get, Some, inl, inr, ◌∙◌, refl, sym, ap, subst, Contains, arith}
+use Rattle.std.proofs.Common.{◌≡◌, ℕ, Bool, true, false, ◌+◌, ◌<◌, List, [], ◌∷◌, length, map, slice_get, Some, inl, inr, ◌∙◌, refl, sym, ap, subst, Contains, arith}
 use Rattle.std.specs.declared.cmp.Ordering.TheVariants.{Less}
 use Rattle.std.specs.List.{flat_map}
 use Rattle.std.proofs.lemmas.List.Folds.{flat_map-map}
-use Rattle.std.proofs.lemmas.Option.{same_Some, slice_get_within, slice_get-get_or}
-use Rattle.walrus_ty.specs.Definition.{Definition, Names, names_of, rename}
+use Rattle.std.proofs.lemmas.Option.{same_Some, slice_get_within}
+use Rattle.walrus_ty.specs.Definition.{Definition, names_of, rename}
 use Rattle.walrus_ty.specs.Groups.{Section}
 use Rattle.walrus_ty.specs.Records.{entry_definition}
 use Rattle.walrus_ty.specs.declared.records.EntryAt.{EntryAt}
-use Rattle.walrus_sections.specs.Section.{IndexSpace, index_space, no_place}
+use Rattle.walrus_sections.specs.Section.{IndexSpace, index_space}
 use Rattle.walrus_canonical.specs.declared.classes.Class.{Class}
 use Rattle.walrus_canonical.specs.declared.waiting.Wait.{Wait}
 use Rattle.walrus_canonical.specs.EqualTypes.{IsMember, IsInGroup, NamesOutside, AreEqual}
-use Rattle.walrus_canonical.specs.Greedy.{StandsFor, IsWrittenAs, CanComeNext, AreLeast}
+use Rattle.walrus_canonical.specs.Greedy.{IsWrittenAs, CanComeNext, AreLeast}
 use Rattle.walrus_canonical.specs.Steps.Classes.{slot_of, own_number, IsOfClass}
 use Rattle.walrus_canonical.specs.Steps.Marks.{IsMarked}
 use Rattle.walrus_canonical.specs.Steps.Shown.{own_base, definitions_cmp}
-use Rattle.walrus_canonical.specs.Steps.Waits.{names_in, AreWaits}
-use Rattle.walrus_canonical.specs.Steps.Writing.{Task, IsBegun, IsReadyAs, IsQueue, IsReady, AreOpen, open_count, settled}
+use Rattle.walrus_canonical.specs.Steps.Waits.{names_in, AreWaits, open_count}
+use Rattle.walrus_canonical.specs.Steps.Writing.{Task, IsBegun, IsReadyAs, IsQueue, IsReady, AreOpen, settled}
 use Rattle.walrus_canonical.proofs.Waits.ClassWaits.{NamesSlot, waits_for, wait_there}
 use Rattle.walrus_canonical.proofs.Reading.Containing.{contained_cases}
-use Rattle.walrus_canonical.proofs.Equality.Definitions.{named_too, position_of, names_what_stands}
+use Rattle.walrus_canonical.proofs.Equality.Definitions.{names_what_stands}
 use Rattle.walrus_canonical.proofs.Equality.EqualTypes.{equal_itself, equal_mates, equal_over, groups_of}
 use Rattle.walrus_canonical.proofs.Equality.Members.{mate_from}
 use Rattle.walrus_canonical.proofs.Needs.NeedsMarked.{named_by, name_in_all}
 use Rattle.walrus_canonical.proofs.Forms.NextGroups.{Around, around}
-use Rattle.walrus_canonical.proofs.Waits.OpenWaits.{open_zero, nothing_open, false_or_true}
+use Rattle.walrus_canonical.proofs.Waits.OpenWaits.{open_zero, nothing_open}
+use Rattle.std.proofs.lemmas.Bool.{false_from_ne_true}
 use Rattle.walrus_canonical.proofs.Output.ReadyGroups.{mark_of_need, mark_of_mate, mark_of_name, marked_low, equal_of_slots, done_if_there, can_come}
-use Rattle.walrus_canonical.proofs.Output.ReadyOrder.{order_kept, not_itself, not_both_less}
+use Rattle.walrus_canonical.proofs.Output.ReadyOrder.{order_kept}
+use Rattle.walrus_canonical.proofs.Forms.Orders.{not_itself}
+use Rattle.std.proofs.lemmas.Cmp.{lists_total}
+use Rattle.walrus_ty.proofs.Names.Definitions.{definitions_total}
 use Rattle.walrus_canonical.proofs.Equality.Written.{said_anew, of_mate, of_equal, stands_there, name_there, outside_stood}
 use Rattle.walrus_canonical.proofs.Forms.Writing.{written_once}
 
@@ -146,14 +150,11 @@ module _ (task : Task) (waits : List Wait) (are : AreWaits task.classes waits) (
         (λ x z o k. equal_over T T B x k.0 z k.2 k.3)
 
     undone : done (slot_of task.slots a.head) ≡ false
-    undone = elim (false_or_true (done (slot_of task.slots a.head))) [
-      | inl h ↦ h
-      | inr h ↦ absurd (
-          let e = b.equal a.head marked_head h in
-          let p = slot_of new_index (slot_of task.slots a.head) in
-          let l = (groups_of T B a.head p e).first_places j a.place to_j in
-          can.fresh l.0 (equal_mates T B a.head p a.place j l.0 e to_j l.1))
-    ]
+    undone = false_from_ne_true (done (slot_of task.slots a.head)) (λ h. (
+        let e = b.equal a.head marked_head h in
+        let p = slot_of new_index (slot_of task.slots a.head) in
+        let l = (groups_of T B a.head p e).first_places j a.place to_j in
+        can.fresh l.0 (equal_mates T B a.head p a.place j l.0 e to_j l.1)))
 
     abbrev k : (c : ℕ) × (class : Class) × (slice_get task.classes c ≡ Some class)
         × (class.first ≡ slot_of task.slots a.head)
@@ -217,7 +218,8 @@ module _ (task : Task) (waits : List Wait) (are : AreWaits task.classes waits) (
           | inl first ↦ not_itself ds (
               let here : ds ≡ e.0 = ap (λ (x : List Definition × ℕ). x.0) first in
               ap (λ (xs : List Definition). definitions_cmp xs ds) here ∙ lower)
-          | inr later ↦ not_both_less ds e.0 (above e.0 r.c later) lower
+          | inr later ↦ not_itself ds
+              ((lists_total definitions_total).trans ds e.0 ds (above e.0 r.c later) lower)
         ]
 
   -- where the queue is empty nothing can come next

@@ -1,5 +1,5 @@
 -- The least of the queue is written.
-use Rattle.std.proofs.Common.{◌≡◌, ℕ, zero, suc, Bool, true, false, ◌+◌, ◌-◌, ◌%◌, ◌^◌, ◌<◌, ◌≤◌, List, [], ◌∷◌, ◌++◌, length, map, cond, nat_lt, slice_get, slice_index_or, Some, inl, inr, ◌∙◌, refl, sym, ap, subst, Contains, arith}
+use Rattle.std.proofs.Common.{◌≡◌, ℕ, Bool, true, false, ◌+◌, ◌-◌, ◌%◌, ◌^◌, ◌<◌, ◌≤◌, List, [], ◌∷◌, ◌++◌, length, map, cond, nat_lt, slice_get, slice_index_or, Some, inl, inr, ◌∙◌, refl, sym, ap, subst, Contains, arith}
 use Rattle.std.specs.Prelude.{min}
 use Rattle.std.specs.BTreeMap.Range.{IsLtBy}
 use Rattle.std.specs.List.{All}
@@ -26,16 +26,18 @@ use Rattle.walrus_canonical.specs.Steps.Shown.{definitions_cmp, own_base, shown,
 use Rattle.walrus_canonical.specs.Steps.Waits.{AreWaits}
 use Rattle.walrus_canonical.specs.Steps.WrittenIndices.{GivesIndices}
 use Rattle.walrus_canonical.specs.Steps.Writing.{Task, release_of, IsBegun, IsReadyAs, IsQueue, IsReady, AreOpen, CanRelease, IsReleasing, IsWriting, HasWritten, with_slots, settled}
-use Rattle.walrus_canonical.proofs.Reading.Containing.{contained_at, contained_from, contained_first}
+use Rattle.walrus_canonical.proofs.Reading.Containing.{contained_first}
+use Rattle.walrus_canonical.proofs.Forms.Indices.{contained-map}
 use Rattle.walrus_canonical.proofs.Equality.EqualTypes.{groups_of, named_of, named_there}
 use Rattle.walrus_canonical.proofs.Output.LeastReady.{outer_name, least}
 use Rattle.walrus_canonical.proofs.Waits.ClassWaits.{waits_for}
-use Rattle.walrus_canonical.proofs.Waits.OpenWaits.{nothing_open, false_or_true, none_released}
+use Rattle.walrus_canonical.proofs.Waits.OpenWaits.{nothing_open, none_released}
+use Rattle.std.proofs.lemmas.Bool.{false_from_ne_true}
 use Rattle.walrus_canonical.proofs.Output.Queues.{one_written}
 use Rattle.walrus_canonical.proofs.Output.ReadyGroups.{mark_of_name, done_if_there, ready_room}
 use Rattle.walrus_canonical.proofs.Output.ReadyOrder.{filled}
 use Rattle.walrus_canonical.proofs.Output.WrittenClasses.{class_written, count_grows, same_indices}
-use Rattle.walrus_canonical.proofs.Output.WrittenSlots.{still_done, other_class}
+use Rattle.walrus_canonical.proofs.Output.WrittenSlots.{still_done, other_first}
 
 -- ---- the numbers of a group that is written are settled
 
@@ -188,17 +190,8 @@ module _ (task : Task) (waits : List Wait) (are : AreWaits task.classes waits) (
 
   above : (es : List Definition) (d : ℕ) → Contains rest (es, d) → definitions_cmp ds es ≡ Less
   above es d m =
-      let k = contained_at rest (es, d) m in
       All-contains (IsLtBy definitions_cmp ds) (keys_of rest) es greater
-      (contained_from (keys_of rest) es k.0 (key_at rest k.0 es d k.1))
-    where
-      key_at :
-          (es : List (List Definition × ℕ)) (k : ℕ) (x : List Definition) (d : ℕ) →
-          slice_get es k ≡ Some (x, d) → slice_get (keys_of es) k ≡ Some x
-      key_at [] k x d e = absurd cc
-      key_at (y ∷ es) zero x d e =
-          ap (λ (z : List Definition × ℕ). Some z.0) (same_Some y (x, d) e)
-      key_at (y ∷ es) (suc k) x d e = key_at es k x d e
+      (contained-map (λ (x : List Definition × ℕ). x.0) rest (es, d) m)
 
   abbrev final : List Definition
   final = map (rename (settled next)) ds
@@ -269,24 +262,19 @@ module _ (task : Task) (waits : List Wait) (are : AreWaits task.classes waits) (
       waiting :
           (w : Wait) (other : Class) → Contains waits w → slice_get task.classes w.waiting ≡ Some other →
           done w.named ≡ false → own_after other.first ≡ false
-      waiting w other m at_w still = elim (false_or_true (own_after other.first)) [
-        | inl z ↦ z
-        | inr z ↦ absurd (elim (cases_eq w.waiting place) [
-          | inl here ↦ (
-              let low = slice_get_within counts place 0 found.0.3 in
-              let d = nothing_open task waits done done 0 place counts opens low found.0.3 (λ x y. y) w m here
-              in
-              let k : true ≡ false = sym d ∙ still in absurd cc)
-          | inr apart ↦ (
-              let f = filled task w.waiting other at_w in
-              let e : other.first + 0 ≡ other.first = omega arith in
-              let same : own_after other.first ≡ done other.first = ap own_after (sym e)
-              ∙ (other_class task done place class at w.waiting other at_w apart 0 f ∙ ap done e) in
-              let d = names_written task waits are done before new_index next b w other m at_w (sym same ∙ z)
-              in
-              let k : true ≡ false = sym d ∙ still in absurd cc)
-        ])
-      ]
+      waiting w other m at_w still = false_from_ne_true (own_after other.first) (λ z.
+          elim (cases_eq w.waiting place) [
+            | inl here ↦ (
+                let low = slice_get_within counts place 0 found.0.3 in
+                let d = nothing_open task waits done done 0 place counts opens low found.0.3 (λ x y. y) w m
+                here in
+                let k : true ≡ false = sym d ∙ still in cc)
+            | inr apart ↦ (
+                let same = other_first task done place class at w.waiting other at_w apart in
+                let d = names_written task waits are done before new_index next b w other m at_w
+                (sym same ∙ z) in
+                let k : true ≡ false = sym d ∙ still in cc)
+          ])
 
   pub outcome :
       (old mid new : Writer) → ¬ (old.ready ≡ []) → mid.new_index.items ≡ newer →

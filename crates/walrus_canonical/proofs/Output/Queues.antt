@@ -1,5 +1,5 @@
 -- The queue of the groups that are ready: one more, and one less.
-use Rattle.std.proofs.Common.{◌≡◌, ℕ, zero, suc, Bool, true, false, ◌+◌, ◌<◌, List, [], ◌∷◌, ◌++◌, length, map, slice_get, Some, ◌⊎◌, inl, inr, ◌∙◌, refl, sym, ap, subst, Contains, arith}
+use Rattle.std.proofs.Common.{◌≡◌, ℕ, Bool, true, false, ◌+◌, ◌<◌, List, [], ◌∷◌, ◌++◌, length, map, slice_get, Some, ◌⊎◌, inl, inr, ◌∙◌, refl, sym, ap, subst, Contains}
 use Rattle.std.specs.declared.cmp.Ordering.TheVariants.{Less}
 use Rattle.std.proofs.lemmas.List.Elements.{Contains-append_left, Contains-append_right, Contains-append_cases}
 use Rattle.std.proofs.lemmas.Option.{same_Some}
@@ -11,10 +11,11 @@ use Rattle.walrus_canonical.specs.Steps.Queues.{AreApart, HaveSame}
 use Rattle.walrus_canonical.specs.Steps.Shown.{definitions_cmp}
 use Rattle.walrus_canonical.specs.Steps.Writing.{Task, IsBegun, IsReadyAs, IsQueue, IsReady, with_slots}
 use Rattle.walrus_canonical.proofs.Reading.Containing.{contained_first, contained_later, contained_cases, contained_none}
-use Rattle.walrus_canonical.proofs.Reading.NeededGroups.{class_at}
+use Rattle.walrus_canonical.proofs.Reading.NeededGroups.{class_at, first_at}
 use Rattle.walrus_canonical.proofs.Output.ReadyGroups.{ready_stays}
-use Rattle.walrus_canonical.proofs.Output.ReadyOrder.{filled, one_place, same_class, not_itself}
-use Rattle.walrus_canonical.proofs.Output.WrittenSlots.{still_done, was_undone, first_written, other_class}
+use Rattle.walrus_canonical.proofs.Output.ReadyOrder.{one_place, same_class}
+use Rattle.walrus_canonical.proofs.Forms.Orders.{not_itself}
+use Rattle.walrus_canonical.proofs.Output.WrittenSlots.{still_done, was_undone, first_written, other_first}
 
 abbrev Entry : Type 0
 Entry = List Definition × ℕ
@@ -129,15 +130,8 @@ module _ (task : Task) (done : ℕ → Bool) (new_index : List ℕ) (ready : ℕ
   firsts_now d other at_d =
       let z = q.firsts d other at_d in
       let k = class_at after d z.0.first
-      (ap (λ (ns : List ℕ). slice_get ns d) firsts ∙ first_is now d z.0 z.1) in
+      (ap (λ (ns : List ℕ). slice_get ns d) firsts ∙ first_at now d z.0 z.1) in
       (k.0, k.1, k.2 ∙ z.2)
-    where
-      first_is :
-          (cs : List Class) (d : ℕ) (k : Class) → slice_get cs d ≡ Some k →
-          slice_get (map (λ (x : Class). x.first) cs) d ≡ Some k.first
-      first_is [] d k e = absurd cc
-      first_is (x ∷ cs) zero k e = ap (λ (y : Class). Some y.first) (same_Some x k e)
-      first_is (x ∷ cs) (suc d) k e = first_is cs d k e
 
   pub one_queued : IsQueue task done new_index with_this after longer
   one_queued = record {
@@ -184,9 +178,7 @@ module _ (task : Task) (done : ℕ → Bool) (new_index newer counts : List ℕ)
   ready_forth d r apart = (
     r.0,
     r.1,
-    (let f = filled task d r.0 r.1 in
-        let z : r.0.first + 0 ≡ r.0.first = omega arith in
-        ap more (sym z) ∙ (other_class task done c class at d r.0 r.1 apart 0 f ∙ (ap done z ∙ r.2))),
+    other_first task done c class at d r.0 r.1 apart ∙ r.2,
     r.3,
   )
 

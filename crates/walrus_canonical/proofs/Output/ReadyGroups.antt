@@ -3,14 +3,13 @@ use Rattle.std.proofs.Common.{◌≡◌, ℕ, Bool, true, false, ◌+◌, ◌-�
 use Rattle.std.proofs.lemmas.Bool.{cases_lt}
 use Rattle.std.proofs.lemmas.Bool.Decides.{nat_tests}
 use Rattle.std.proofs.lemmas.List.{length-map, get_or_default}
-use Rattle.std.proofs.lemmas.Option.{slice_get_within}
 use Rattle.walrus_ty.specs.Definition.{Definition, Names, rename}
 use Rattle.walrus_ty.specs.Groups.{Section}
 use Rattle.walrus_ty.specs.Records.{entry_definition}
 use Rattle.walrus_sections.specs.Section.{IndexSpace, index_space}
 use Rattle.walrus_canonical.specs.declared.classes.Class.{Class}
 use Rattle.walrus_canonical.specs.EqualTypes.{IsMember, IsInGroup, NamesOutside, AreEqual}
-use Rattle.walrus_canonical.specs.Greedy.{StandsFor, IsWrittenAs, CanComeNext}
+use Rattle.walrus_canonical.specs.Greedy.{IsWrittenAs, CanComeNext}
 use Rattle.walrus_canonical.specs.Listing.{IsNeeded, by_group, by_name}
 use Rattle.walrus_canonical.specs.Steps.Classes.{slot_of, own_number, IsOfClass}
 use Rattle.walrus_canonical.specs.Steps.Marks.{IsMarked}
@@ -19,12 +18,17 @@ use Rattle.walrus_canonical.specs.Steps.Shown.{own_base, shown, shown_definition
 use Rattle.walrus_canonical.specs.Steps.Writing.{Task, IsBegun, IsReadyAs, ready_number, settled}
 use Rattle.walrus_canonical.proofs.Forms.Choice.{Rooted, needed_within, found}
 use Rattle.walrus_canonical.proofs.Equality.Written.{said_anew, numbered_anew, name_there, outside_stood}
-use Rattle.walrus_canonical.proofs.Equality.Definitions.{named_too, position_of, names_what_stands}
 use Rattle.walrus_canonical.proofs.Equality.EqualTypes.{equal_back, equal_over, equal_within}
 use Rattle.walrus_canonical.proofs.Forms.Existence.{next_fits}
 use Rattle.walrus_canonical.proofs.Equality.Members.{in_group_or_not}
 use Rattle.walrus_canonical.proofs.Reading.RenamedKeys.{renamed_low, renamed_high}
 use Rattle.walrus_canonical.proofs.Forms.Writing.{as_written, written_so}
+
+pub shown_below : (base y : ℕ) → y < base → shown base y ≡ y
+shown_below base y low = grind (arith, nat_tests, low)
+
+pub shown_behind : (base y : ℕ) → base ≤ y → shown base y ≡ y - base + 4294967296
+shown_behind base y over = grind (arith, nat_tests, over)
 
 module _ (task : Task) where
   abbrev S : IndexSpace
@@ -161,15 +165,11 @@ module _ (task : Task) (done : ℕ → Bool) (before : Section) (new_index : Lis
 
       shown_low : (y : ℕ) → y < base → shown again y ≡ y
       shown_low y h =
-          let e : nat_lt y base ≡ true = grind (arith, nat_tests, h) in
-          ap (λ (u : ℕ). shown u y) same_base
-          ∙ ap (λ (u : Bool). cond u y (y - base + 4294967296)) e
+          ap (λ (u : ℕ). shown u y) same_base ∙ shown_below base y h
 
       shown_high : (y : ℕ) → base ≤ y → shown again y ≡ y - base + 4294967296
       shown_high y h =
-          let e : nat_lt y base ≡ false = grind (arith, nat_tests, h) in
-          ap (λ (u : ℕ). shown u y) same_base
-          ∙ ap (λ (u : Bool). cond u y (y - base + 4294967296)) e
+          ap (λ (u : ℕ). shown u y) same_base ∙ shown_behind base y h
 
       inner_is : (p : ℕ) → p < length (map (rename r) own) →
           shown again (r (own_number (length class.entries) p)) ≡ ready_number p
@@ -230,8 +230,7 @@ module _ (task : Task) (done : ℕ → Bool) (before : Section) (new_index : Lis
     ready_room = room q.head q.marked undone_head q.outer ds q.key.members
 
     settled_low : (y : ℕ) → y < 4294967296 → settled next y ≡ y
-    settled_low y h = let e : nat_lt y 4294967296 ≡ true = grind (arith, nat_tests, h) in
-        ap (λ (u : Bool). cond u y ((y - 4294967296 + next) % 4294967296)) e
+    settled_low y h = grind (arith, nat_tests, h)
 
     settled_high : (p : ℕ) → p + next < 4294967296 → settled next (ready_number p) ≡ B.count + p
     settled_high p h =
@@ -273,8 +272,8 @@ module _ (task : Task) (done : ℕ → Bool) (before : Section) (new_index : Lis
     pub number_settled :
         (place : ℕ) (d : Definition) (y : ℕ) → slice_get ds place ≡ Some d → Names d y → AreSettled y
     number_settled place d y at names =
-        let x = name_there T ready_number (λ x z. z ≡ slot_of new_index (slot_of task.slots x)) q.head ds q.key
-        place y d at names in
+        let x = name_there T ready_number (λ x z. z ≡ slot_of new_index (slot_of task.slots x)) q.head ds
+        q.key place y d at names in
         let space = ready_room in
         let few = task.well.few in
         let is_next = b.next_is in
@@ -307,6 +306,7 @@ ready_stays task done after new_index newer class ds q more same = record {
   key = said_anew (index_space task.section) ready_number
       (λ x y. y ≡ slot_of new_index (slot_of task.slots x)) q.head ds q.key ready_number
       (λ x y. y ≡ slot_of newer (slot_of task.slots x)) (λ p h. refl) (λ x y o is. is
-      ∙ same (slot_of task.slots x) (q.outer x o) (task.are.within x (mark_of_name task q.head x q.marked o)));
+      ∙ same (slot_of task.slots x) (q.outer x o)
+      (task.are.within x (mark_of_name task q.head x q.marked o)));
   outer = λ x o. more (slot_of task.slots x) (q.outer x o);
 }

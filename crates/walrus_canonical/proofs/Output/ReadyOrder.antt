@@ -1,18 +1,17 @@
 -- The order of groups that are ready is that in which they can be written.
-use Rattle.std.proofs.Common.{◌≡◌, ℕ, suc, ◌+◌, ◌-◌, ◌<◌, ◌≤◌, List, [], ◌∷◌, ◌++◌, length, map, cond, nat_lt, nat_eq, Bool, true, false, slice_get, Some, ◌⊎◌, inl, inr, ◌∙◌, refl, sym, ap, subst, arith}
+use Rattle.std.proofs.Common.{◌≡◌, ℕ, suc, ◌+◌, ◌<◌, List, [], ◌∷◌, ◌++◌, length, map, Bool, false, slice_get, Some, ◌⊎◌, inl, inr, ◌∙◌, refl, sym, ap, subst, arith}
 use Rattle.std.specs.Cmp.Lexicographic.{slice_cmp}
 use Rattle.std.specs.declared.cmp.Ordering.{Ordering}
 use Rattle.std.specs.declared.cmp.Ordering.TheVariants.{Less, Equal, Greater}
-use Rattle.std.specs.Ordering.{nat_cmp, ordering_then, ordering_reverse}
+use Rattle.std.specs.Ordering.{nat_cmp, ordering_then}
 use Rattle.std.proofs.lemmas.Bool.{cases_lt}
 use Rattle.std.proofs.lemmas.Bool.Decides.{nat_tests}
-use Rattle.std.proofs.lemmas.Cmp.{lists_total}
 use Rattle.std.proofs.lemmas.List.{length-map}
 use Rattle.walrus_ty.specs.declared.records.EntryAt.{EntryAt}
 use Rattle.walrus_ty.specs.Definition.{Definition, Names, rename, definition_cmp}
 use Rattle.walrus_ty.specs.Groups.{Section}
 use Rattle.walrus_ty.specs.Records.{entry_definition}
-use Rattle.walrus_ty.proofs.Names.Definitions.{cmp_agree, cmp_same, rename_id, definitions_total}
+use Rattle.walrus_ty.proofs.Names.Definitions.{cmp_agree, cmp_same, rename_id}
 use Rattle.walrus_sections.specs.Section.{IndexSpace, index_space}
 use Rattle.walrus_canonical.specs.declared.classes.Class.{Class}
 use Rattle.walrus_canonical.specs.Greedy.{plain_group, CanComeNext}
@@ -26,22 +25,13 @@ use Rattle.walrus_canonical.proofs.Output.ReadyGroups.{rooted, slots_of_equal, r
 -- ---- numbers that are ordered alike
 
 less_is : (a b : ℕ) → a < b → nat_cmp a b ≡ Less
-less_is a b h = let t : nat_lt a b ≡ true = grind (arith, nat_tests, h) in
-    ap (λ (x : Bool). cond x Less (cond (nat_eq a b) Equal Greater)) t
+less_is a b h = grind (arith, nat_tests, h)
 
 equal_is : (a b : ℕ) → a ≡ b → nat_cmp a b ≡ Equal
-equal_is a b h =
-    let t : nat_lt a b ≡ false = grind (arith, nat_tests, h) in
-    let u : nat_eq a b ≡ true = grind (arith, nat_tests, h) in
-    ap (λ (x : Bool). cond x Less (cond (nat_eq a b) Equal Greater)) t
-    ∙ ap (λ (x : Bool). cond x Equal Greater) u
+equal_is a b h = grind (arith, nat_tests, h)
 
 greater_is : (a b : ℕ) → b < a → nat_cmp a b ≡ Greater
-greater_is a b h =
-    let t : nat_lt a b ≡ false = grind (arith, nat_tests, h) in
-    let u : nat_eq a b ≡ false = grind (arith, nat_tests, h) in
-    ap (λ (x : Bool). cond x Less (cond (nat_eq a b) Equal Greater)) t
-    ∙ ap (λ (x : Bool). cond x Equal Greater) u
+greater_is a b h = grind (arith, nat_tests, h)
 
 cmp_alike :
     (a b c d : ℕ) → (a < b → c < d) → (a ≡ b → c ≡ d) → (b < a → d < c) → nat_cmp c d ≡ nat_cmp a b
@@ -95,35 +85,7 @@ lists_alike f (d ∷ ds) (e ∷ es) h =
 
 -- where the own members of two groups begin at one number, they are behind all others anyway
 shown_alike : (base k l : ℕ) → base < 4294967296 → nat_cmp (shown base k) (shown base l) ≡ nat_cmp k l
-shown_alike base k l small = elim (cases_lt k base) [
-  | inl low ↦ elim (cases_lt l base) [
-    | inl too ↦ cmp_alike k l (shown base k) (shown base l)
-        (λ h. omega (arith, h, below k low, below l too)) (λ h. omega (arith, h, below k low, below l too))
-        (λ h. omega (arith, h, below k low, below l too))
-    | inr over ↦ cmp_alike k l (shown base k) (shown base l)
-        (λ h. omega (arith, low, small, below k low, behind l over))
-        (λ h. omega (arith, h, low, over)) (λ h. omega (arith, h, low, over))
-  ]
-  | inr over ↦ elim (cases_lt l base) [
-    | inl low ↦ cmp_alike k l (shown base k) (shown base l)
-        (λ h. omega (arith, h, low, over)) (λ h. omega (arith, h, low, over))
-        (λ h. omega (arith, low, small, below l low, behind k over))
-    | inr too ↦ cmp_alike k l (shown base k) (shown base l)
-        (λ h. omega (arith, h, over, too, behind k over, behind l too))
-        (λ h. omega (arith, h, over, too, behind k over, behind l too))
-        (λ h. omega (arith, h, over, too, behind k over, behind l too))
-  ]
-]
-  where
-    below : (n : ℕ) → n < base → shown base n ≡ n
-    below n low =
-        let t : nat_lt n base ≡ true = grind (arith, nat_tests, low) in
-        ap (λ (x : Bool). cond x n (n - base + 4294967296)) t
-
-    behind : (n : ℕ) → base ≤ n → shown base n ≡ n - base + 4294967296
-    behind n over =
-        let t : nat_lt n base ≡ false = grind (arith, nat_tests, over) in
-        ap (λ (x : Bool). cond x n (n - base + 4294967296)) t
+shown_alike base k l small = grind (arith, nat_tests, small)
 
 pub records_compared :
     (ds es : List EntryAt) → length ds ≡ length es → slice_cmp entry_cmp ds es ≡
@@ -138,25 +100,6 @@ records_compared ds es same =
     (λ p q d e k l a b x y. shown_alike (own_base m) k l (omega arith)))
     ∙ ap (λ (u : ℕ). definitions_cmp (shown_definitions (map entry_definition ds))
     (map (rename (shown (own_base u))) (map entry_definition es))) (sym one))
-
--- no list of definitions is less than itself, and of two at most one is less
-pub not_itself : (ds : List Definition) → definitions_cmp ds ds ≡ Less → ⊥
-not_itself ds h = go (definitions_cmp ds ds) ((lists_total definitions_total).antisymm ds ds) h
-  where
-    go : (o : Ordering) → o ≡ ordering_reverse o → o ≡ Less → ⊥
-    go Less e h = cc
-    go Equal e h = cc
-    go Greater e h = cc
-
-pub not_both_less :
-    (ds es : List Definition) → definitions_cmp ds es ≡ Less → definitions_cmp es ds ≡ Less → ⊥
-not_both_less ds es h k =
-    go (definitions_cmp ds es) (definitions_cmp es ds) ((lists_total definitions_total).antisymm ds es) h k
-  where
-    go : (o p : Ordering) → o ≡ ordering_reverse p → o ≡ Less → p ≡ Less → ⊥
-    go o Less e h k = let z : Greater ≡ Less = sym e ∙ h in absurd cc
-    go o Equal e h k = absurd cc
-    go o Greater e h k = absurd cc
 
 -- ---- classes are told by their first slots
 

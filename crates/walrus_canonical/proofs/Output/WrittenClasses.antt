@@ -17,7 +17,7 @@ use Rattle.walrus_canonical.proofs.Equality.EqualTypes.{equal_over, equal_within
 use Rattle.walrus_canonical.proofs.Forms.Extension.{longer, count_is, member_equal, old_back}
 use Rattle.walrus_canonical.proofs.Output.ReadyGroups.{rooted, mark_of_mate, equal_of_slots, can_come}
 use Rattle.walrus_canonical.proofs.Output.ReadyOrder.{filled}
-use Rattle.walrus_canonical.proofs.Output.WrittenSlots.{now_written, same_below, same_above, still_done, first_written, other_class}
+use Rattle.walrus_canonical.proofs.Output.WrittenSlots.{now_written, same_below, same_above, still_done, first_written, other_class, other_first}
 
 -- what two lists have at a place
 same_slot :
@@ -176,9 +176,7 @@ module _ (task : Task) (done : ℕ → Bool) (before : Section) (new_index newer
         (omega (arith, first, long, low))
         ∙ sym (ap now first ∙ first_written task done c class at))
     | inr apart ↦ (
-        let z : other.first + 0 ≡ other.first = omega arith in
-        let first : now other.first ≡ done other.first = ap now (sym z)
-        ∙ (other_class task done c class at d other at_d apart 0 (filled task d other at_d) ∙ ap done z) in
+        let first = other_first task done c class at d other at_d apart in
         other_class task done c class at d other at_d apart p low ∙ (b.whole d p other at_d low ∙ sym first))
   ]
 

@@ -1,6 +1,6 @@
 -- The slots of one more class are written.
-use Rattle.std.proofs.Common.{◌≡◌, ℕ, Bool, true, false, ◌+◌, ◌<◌, ◌≤◌, length, cond, nat_lt, slice_get, Some, inl, inr, ◌∙◌, refl, sym, ap, arith}
-use Rattle.std.proofs.lemmas.Bool.{cases_lt}
+use Rattle.std.proofs.Common.{◌≡◌, ℕ, Bool, true, false, ◌+◌, ◌<◌, ◌≤◌, length, slice_get, Some, inl, inr, ◌∙◌, sym, ap, arith}
+use Rattle.std.proofs.lemmas.Bool.{cases_lt, false_from_ne_true}
 use Rattle.std.proofs.lemmas.Bool.Decides.{nat_tests}
 use Rattle.walrus_canonical.specs.declared.classes.Class.{Class}
 use Rattle.walrus_canonical.specs.Steps.Writing.{Task, with_slots}
@@ -10,27 +10,14 @@ module _ (done : ℕ → Bool) (first end : ℕ) where
   abbrev more : ℕ → Bool
   more = with_slots done first end
 
-  is_below : (x : ℕ) → nat_lt x first ≡ true → more x ≡ done x
-  is_below x e = ap (λ (b : Bool). cond b (done x) (cond (nat_lt x end) true (done x))) e
-
-  is_not_below : (x : ℕ) → nat_lt x first ≡ false → more x ≡ cond (nat_lt x end) true (done x)
-  is_not_below x e = ap (λ (b : Bool). cond b (done x) (cond (nat_lt x end) true (done x))) e
-
   pub now_written : (x : ℕ) → first ≤ x → x < end → more x ≡ true
-  now_written x low high =
-      let z : nat_lt x end ≡ true = grind (arith, nat_tests, high) in
-      is_not_below x (grind (arith, nat_tests, low)) ∙ ap (λ (b : Bool). cond b true (done x)) z
+  now_written x low high = grind (arith, nat_tests, low, high)
 
   pub same_below : (x : ℕ) → x < first → more x ≡ done x
-  same_below x low = is_below x (grind (arith, nat_tests, low))
+  same_below x low = grind (arith, nat_tests, low)
 
   pub same_above : (x : ℕ) → end ≤ x → more x ≡ done x
-  same_above x high = elim (cases_lt x first) [
-    | inl low ↦ same_below x low
-    | inr over ↦ (
-        let z : nat_lt x end ≡ false = grind (arith, nat_tests, high) in
-        is_not_below x (grind (arith, nat_tests, over)) ∙ ap (λ (b : Bool). cond b true (done x)) z)
-  ]
+  same_above x high = grind (arith, nat_tests, high)
 
   pub still_done : (x : ℕ) → done x ≡ true → more x ≡ true
   still_done x d = elim (cases_lt x first) [
@@ -42,11 +29,8 @@ module _ (done : ℕ → Bool) (first end : ℕ) where
   ]
 
   pub was_undone : (x : ℕ) → more x ≡ false → done x ≡ false
-  was_undone x u = go (done x) refl
-    where
-      go : (b : Bool) → done x ≡ b → b ≡ false
-      go false e = refl
-      go true e = let z : true ≡ false = sym (still_done x e) ∙ u in absurd cc
+  was_undone x u = false_from_ne_true (done x) (λ d. (
+      let z : true ≡ false = sym (still_done x d) ∙ u in cc))
 
 module _ (task : Task) (done : ℕ → Bool) (c : ℕ) (class : Class) (at : slice_get task.classes c ≡ Some class)
   where
@@ -68,3 +52,10 @@ module _ (task : Task) (done : ℕ → Bool) (c : ℕ) (class : Class) (at : sli
       | inr over ↦ same_above done class.first (class.first + length class.entries) (other.first + p) (
           let z = task.are.apart c d class other (omega (arith, over, apart)) at at_d in omega (arith, z))
     ]
+
+    pub other_first :
+        (d : ℕ) (other : Class) → slice_get task.classes d ≡ Some other → ¬ (d ≡ c) →
+        now other.first ≡ done other.first
+    other_first d other at_d apart =
+        let e : other.first + 0 ≡ other.first = omega arith in
+        ap now (sym e) ∙ (other_class d other at_d apart 0 (filled task d other at_d) ∙ ap done e)

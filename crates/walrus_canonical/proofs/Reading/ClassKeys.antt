@@ -41,5 +41,5 @@ module _ (s : IndexSpace) (marks : List Bool) (slots : List ℕ) (base i j place
       (λ x y z n o u a b. (told_outside x y o u).0 (sym a ∙ b))
 
   pub one_key_if_equal : AreEqual s s i j → ds ≡ es
-  one_key_if_equal e = one_if_equal s s inner inner Outer Outer i j (groups_of s s i j e) ds es v w (λ p h. refl)
-      (λ x y a b n o u p q. p ∙ ((told_outside x y o u).1 (named_of s s i j e x y n o.3) ∙ sym q))
+  one_key_if_equal e = one_if_equal s s inner inner Outer Outer i j (groups_of s s i j e) ds es v w
+      (λ p h. refl) (λ x y a b n o u p q. p ∙ ((told_outside x y o u).1 (named_of s s i j e x y n o.3) ∙ sym q))

@@ -6,7 +6,7 @@ use Rattle.std.specs.Cmp.Lexicographic.{lists_equiv}
 use Rattle.std.proofs.Math.Seq.{map-set_same}
 use Rattle.std.proofs.lemmas.Bool.{cases_eq, cases_lt}
 use Rattle.std.proofs.lemmas.Map.Entries.{place_from_lookup, lookup_from_place}
-use Rattle.std.proofs.lemmas.Option.{slice_get_within, slice_get-get_or, get_or_from_slice_get}
+use Rattle.std.proofs.lemmas.Option.{same_Some, slice_get_within, slice_get-get_or, get_or_from_slice_get}
 use Rattle.walrus_ty.specs.contracts.records.EntryAtEq.TheImpl.Laws.{laws-law}
 use Rattle.walrus_ty.specs.declared.records.EntryAt.{EntryAt}
 use Rattle.walrus_canonical.specs.declared.classes.Class.{Class}
@@ -68,8 +68,8 @@ module _ (known : List (List EntryAt × ℕ)) (classes after : List Class) (es :
   abbrev new : Class
   new = record { first = (class_at_place classes place).first; entries = es }
 
-  same_firsts : firsts after ≡ firsts classes
-  same_firsts = elim (cases_lt place (length classes)) [
+  pub firsts_stay : firsts after ≡ firsts classes
+  firsts_stay = elim (cases_lt place (length classes)) [
     | inl low ↦ ap firsts (put low) ∙ map-set_same (λ (k : Class). k.first) classes place new
         (record { first = 0; entries = [] }) refl
     | inr over ↦ ap firsts (stays over)
@@ -77,15 +77,12 @@ module _ (known : List (List EntryAt × ℕ)) (classes after : List Class) (es :
 
   at_place : (class : Class) → slice_get after place ≡ Some class → class ≡ new
   at_place class is = elim (cases_lt place (length classes)) [
-    | inl low ↦ same_class class new
+    | inl low ↦ same_Some class new
         (sym is ∙ (ap (λ (cs : List Class). slice_get cs place) (put low) ∙ set_there classes place new low))
     | inr over ↦ absurd (
         let z = slice_get_within classes place class
         (ap (λ (cs : List Class). slice_get cs place) (sym (stays over)) ∙ is) in omega (arith, over, z))
   ]
-    where
-      same_class : (c d : Class) → Some c ≡ Some d → c ≡ d
-      same_class c d e = cc
 
   elsewhere : (c : ℕ) → ¬ (c ≡ place) → slice_get after c ≡ slice_get classes c
   elsewhere c other = elim (cases_lt place (length classes)) [
@@ -113,9 +110,6 @@ module _ (known : List (List EntryAt × ℕ)) (classes after : List Class) (es :
       ]
     ];
   }
-
-  pub firsts_stay : firsts after ≡ firsts classes
-  firsts_stay = same_firsts
 
 -- in the end none is left
 pub none_lack :

@@ -1,10 +1,10 @@
 -- A reader reads a needed group: its class is known or new.
 use Rattle.std.proofs.Common.{◌≡◌, ℕ, zero, suc, Bool, ◌+◌, ◌^◌, ◌<◌, ◌≤◌, List, [], ◌∷◌, ◌++◌, length, map, slice_get, Some, None, Option, inl, inr, ◌∙◌, refl, sym, ap, subst, arith}
-use Rattle.std.specs.Prelude.{if◌then◌else◌, ◌≢◌}
+use Rattle.std.specs.Prelude.{option_map, if◌then◌else◌, ◌≢◌}
 use Rattle.std.specs.Option.{unwrap_or}
 use Rattle.std.specs.List.{range_with_len}
 use Rattle.std.proofs.lemmas.List.{length-map}
-use Rattle.std.proofs.lemmas.Option.{slice_get_within}
+use Rattle.std.proofs.lemmas.Option.{slice_get_within, slice_get-map}
 use Rattle.walrus_sections.proofs.Sections.Lying.{in_or_out}
 use Rattle.walrus_ty.specs.declared.records.EntryAt.{EntryAt}
 use Rattle.walrus_ty.specs.Definition.{Definition, rename}
@@ -27,6 +27,12 @@ pub class_at :
 class_at [] c f e = absurd cc
 class_at (k ∷ cs) zero f e = (k, refl, cc)
 class_at (k ∷ cs) (suc c) f e = class_at cs c f e
+
+pub first_at :
+    (cs : List Class) (c : ℕ) (class : Class) → slice_get cs c ≡ Some class →
+    slice_get (map (λ (k : Class). k.first) cs) c ≡ Some class.first
+first_at cs c class e =
+    slice_get-map (λ (k : Class). k.first) cs c ∙ ap (option_map (λ (k : Class). k.first)) e
 
 -- what the calls on the way have given, from one reading to the next
 pub record IsPut (n : ℕ) (entries : List EntryAt) (old new : Reading) (class first : ℕ) : Type 0 where

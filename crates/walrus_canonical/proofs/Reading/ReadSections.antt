@@ -1,5 +1,5 @@
 -- A section is read group by group into its classes.
-use Rattle.std.proofs.Common.{◌≡◌, ℕ, zero, suc, Bool, ◌+◌, List, [], ◌∷◌, ◌++◌, length, map, slice_get, Some, refl, sym, ap, subst, ◌∙◌, append_assoc, arith}
+use Rattle.std.proofs.Common.{◌≡◌, ℕ, Bool, ◌+◌, List, [], ◌∷◌, ◌++◌, length, map, slice_get, Some, refl, sym, ap, subst, ◌∙◌, append_assoc, arith}
 use Rattle.std.proofs.lemmas.List.{append-nil, map-append}
 use Rattle.std.proofs.lemmas.Option.{same_Some}
 use Rattle.walrus_ty.specs.declared.records.EntryAt.{EntryAt}
@@ -15,7 +15,7 @@ use Rattle.walrus_canonical.specs.Steps.Classes.{Reading, reading, reading_of, s
 use Rattle.walrus_canonical.specs.Steps.KnownClasses.{place_of}
 use Rattle.walrus_canonical.specs.Steps.Marks.{IsMarked, MarkNeeds}
 use Rattle.walrus_canonical.proofs.Equality.Members.{member_within}
-use Rattle.walrus_canonical.proofs.Reading.NeededGroups.{class_at, same_reading}
+use Rattle.walrus_canonical.proofs.Reading.NeededGroups.{class_at, first_at, same_reading}
 use Rattle.walrus_canonical.proofs.Needs.NeedsMarked.{marked_within}
 use Rattle.walrus_canonical.proofs.Needs.TurnsBack.{one_more_group}
 
@@ -86,16 +86,9 @@ module _ (section : Section) (roots : List ℕ) (marks : List Bool)
   abbrev firsts : List ℕ
   firsts = map (λ (c : Class). c.first) classes
 
-  first_is :
-      (cs : List Class) (c : ℕ) (class : Class) → slice_get cs c ≡ Some class →
-      slice_get (map (λ (k : Class). k.first) cs) c ≡ Some class.first
-  first_is [] c class e = absurd cc
-  first_is (k ∷ cs) zero class e = let same : k ≡ class = cc in ap (λ (x : Class). Some x.first) same
-  first_is (k ∷ cs) (suc c) class e = first_is cs c class e
-
   key_is :
       (c : ℕ) (class : Class) → slice_get classes c ≡ Some class → place_of known class.entries ≡ Some c
-  key_is c class e = records c class e (h.keys.key_of c class.first (first_is classes c class e))
+  key_is c class e = records c class e (h.keys.key_of c class.first (first_at classes c class e))
 
   class_of :
       (i : ℕ) → IsMarked marks i → IsMember S i 0 i → (c : ℕ) × (class : Class)
@@ -109,7 +102,7 @@ module _ (section : Section) (roots : List ℕ) (marks : List Bool)
       IsOfClass S marks S.count slots class.first class.entries
   of_class c class e =
       let k = h.keyed class.entries c (key_is c class e) in
-      let same : k.0 ≡ class.first = same_Some k.0 class.first (sym k.1 ∙ first_is classes c class e) in
+      let same : k.0 ≡ class.first = same_Some k.0 class.first (sym k.1 ∙ first_at classes c class e) in
       subst (λ (f : ℕ). IsOfClass S marks S.count slots f class.entries) same k.2
 
   pub are_classes : AreClasses section marks slots slot_count classes
@@ -122,9 +115,9 @@ module _ (section : Section) (roots : List ℕ) (marks : List Bool)
     row = λ i place k m own mem. h.row i place k (member_within section i 0 i own) m own mem;
     class_of = class_of;
     of_class = of_class;
-    fit = λ c class e. h.keys.fit class.entries c class.first (key_is c class e) (first_is classes c class e);
+    fit = λ c class e. h.keys.fit class.entries c class.first (key_is c class e) (first_at classes c class e);
     apart = λ b c class other less at_b at_c. h.keys.apart b c class.first other.first class.entries less
-        (first_is classes b class at_b) (first_is classes c other at_c) (key_is b class at_b);
+        (first_at classes b class at_b) (first_at classes c other at_c) (key_is b class at_b);
   }
 
 pub all_read :

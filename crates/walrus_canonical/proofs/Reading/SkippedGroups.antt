@@ -1,23 +1,21 @@
 -- A reader passes over a group that is not needed.
-use Rattle.std.proofs.Common.{◌≡◌, ℕ, Bool, ◌+◌, ◌-◌, ◌<◌, ◌≤◌, List, ◌∷◌, ◌++◌, length, map, Some, inl, inr, ◌∙◌, refl, sym, ap, subst, length-append, arith}
+use Rattle.std.proofs.Common.{◌≡◌, ℕ, Bool, ◌+◌, ◌-◌, ◌<◌, ◌≤◌, List, ◌∷◌, ◌++◌, length, inl, inr, ◌∙◌, sym, ap, subst, length-append, arith}
 use Rattle.std.specs.Prelude.{min, ◌^◌}
 use Rattle.std.specs.List.{range_with_len}
 use Rattle.std.proofs.lemmas.List.FromFn.{length-range_with_len}
 use Rattle.std.proofs.lemmas.Bool.{cases_lt}
-use Rattle.std.proofs.lemmas.List.{get_or_append_left}
 use Rattle.walrus_ty.specs.declared.records.EntryAt.{EntryAt}
 use Rattle.walrus_ty.specs.Definition.{Definition}
 use Rattle.walrus_ty.specs.Groups.{Group, Section}
-use Rattle.walrus_ty.specs.Records.{entry_definition}
 use Rattle.walrus_sections.specs.FirstError.{definitions_of}
 use Rattle.walrus_sections.specs.Section.{index_space, IsWellNamed}
 use Rattle.walrus_canonical.specs.EqualTypes.{IsMember}
 use Rattle.walrus_canonical.specs.Listing.{by_group}
-use Rattle.walrus_canonical.specs.Steps.Classes.{reading, slot_of, own_number, IsOfClass, IsReadTo, StandsAt}
+use Rattle.walrus_canonical.specs.Steps.Classes.{reading, IsReadTo, StandsAt}
 use Rattle.walrus_canonical.specs.Steps.Marks.{IsMarked, MarkNeeds}
 use Rattle.walrus_canonical.proofs.Forms.Beginnings.{member_left, no_fewer}
 use Rattle.walrus_canonical.proofs.Reading.ToldGroups.{read_more}
-use Rattle.walrus_canonical.proofs.Equality.Members.{mate_from, member_within, named_outside}
+use Rattle.walrus_canonical.proofs.Equality.Members.{mate_from, member_within}
 use Rattle.walrus_canonical.proofs.Forms.NextGroups.{BeginsAt}
 use Rattle.walrus_canonical.proofs.Needs.TurnsBack.{filled_begins}
 

@@ -1,17 +1,16 @@
 -- The waits of classes, and how many there are.
-use Rattle.std.proofs.Common.{◌≡◌, ℕ, zero, suc, Bool, true, false, ◌+◌, ◌<◌, ◌≤◌, List, [], ◌∷◌, ◌++◌, length, take, slice_get, Some, inl, inr, ◌∙◌, refl, sym, ap, subst, cond, nat_eq, nat_lt, Contains, append_assoc, arith}
+use Rattle.std.proofs.Common.{◌≡◌, ℕ, zero, suc, Bool, true, false, ◌+◌, ◌<◌, List, [], ◌∷◌, ◌++◌, length, take, slice_get, Some, inl, inr, ◌∙◌, refl, sym, ap, subst, cond, nat_lt, Contains, append_assoc, append-nil, arith}
 use Rattle.std.specs.Prelude.{◌↔◌}
 use Rattle.std.specs.List.Sorted.{IsPartitionPoint}
-use Rattle.std.proofs.lemmas.Bool.{cases_lt, cases_eq}
+use Rattle.std.proofs.lemmas.Bool.{cases_lt}
 use Rattle.std.proofs.lemmas.Bool.Decides.{nat_tests}
-use Rattle.std.proofs.lemmas.List.{take_more}
 use Rattle.std.proofs.lemmas.List.Elements.{Contains-append_left, Contains-append_right, Contains-append_cases}
 use Rattle.std.proofs.lemmas.List.Sorted.{Contains-permutation, IsPermutation-sym}
 use Rattle.std.proofs.lemmas.Option.{same_Some, slice_get_within, get_or_from_slice_get}
 use Rattle.walrus_canonical.specs.declared.classes.Class.{Class}
 use Rattle.walrus_canonical.specs.declared.waiting.Wait.{Wait}
 use Rattle.walrus_canonical.specs.Steps.Shown.{own_base}
-use Rattle.walrus_canonical.specs.Steps.Waits.{wait_at, names_in, class_waits, waits_from, AreWaits, wait_count, AreCounts}
+use Rattle.walrus_canonical.specs.Steps.Waits.{wait_at, names_in, class_waits, waits_from, AreWaits}
 use Rattle.walrus_canonical.proofs.Reading.Containing.{contained_first, contained_cases, contained_none, in_flat, flat_in}
 
 -- ---- one class more
@@ -24,11 +23,7 @@ more_from (c ∷ cs) n zero place class e p =
     let same : c ≡ class = same_Some c class e in
     let here : n ≡ place = omega (arith, p) in
     ap (λ (k : Class). class_waits n k ++ []) same
-    ∙ (append_nil (class_waits n class) ∙ ap (λ (m : ℕ). class_waits m class) here)
-  where
-    append_nil : (ws : List Wait) → ws ++ [] ≡ ws
-    append_nil [] = refl
-    append_nil (w ∷ ws) = ap (λ (vs : List Wait). w ∷ vs) (append_nil ws)
+    ∙ (append-nil (class_waits n class) ∙ ap (λ (m : ℕ). class_waits m class) here)
 more_from (c ∷ cs) n (suc at) place class e p =
     ap (λ (ws : List Wait). class_waits n c ++ ws) (more_from cs (suc n) at place class e (omega (arith, p)))
     ∙ sym (append_assoc (class_waits n c) (waits_from (suc n) (take at cs)) (class_waits place class))
@@ -144,86 +139,6 @@ pub wait_there :
 wait_there classes waits a place slot s =
     Contains-permutation (waits_from 0 classes) waits (record { named = slot; waiting = place }) a.all
     (to_class classes 0 place slot place (omega arith) s)
-
--- ---- counting
-
-few_counted : (ws : List Wait) (place : ℕ) → wait_count ws place ≤ length ws
-few_counted [] place = omega arith
-few_counted (w ∷ ws) place = go (nat_eq w.waiting place) (few_counted ws place)
-  where
-    go : (b : Bool) → wait_count ws place ≤ length ws →
-        cond b 1 0 + wait_count ws place ≤ length (w ∷ ws)
-    go true h = omega (arith, h)
-    go false h = omega (arith, h)
-
-count_last :
-    (ws : List Wait) (w : Wait) (place : ℕ) →
-    wait_count (ws ++ w ∷ []) place ≡ wait_count ws place + cond (nat_eq w.waiting place) 1 0
-count_last [] w place = omega arith
-count_last (v ∷ ws) w place =
-    let z = count_last ws w place in
-    ap (λ (n : ℕ). cond (nat_eq v.waiting place) 1 0 + n) z
-    ∙ add_assoc (cond (nat_eq v.waiting place) 1 0) (wait_count ws place) (cond (nat_eq w.waiting place) 1 0)
-  where
-    add_assoc : (a b c : ℕ) → a + (b + c) ≡ a + b + c
-    add_assoc a b c = omega arith
-
-pub one_counted :
-    (waits : List Wait) (at : ℕ) (w : Wait) (n : ℕ) (old new : List ℕ) → slice_get waits at ≡ Some w →
-    length waits < 18446744073709551616 → AreCounts (take at waits) n old → length new ≡ length old →
-    ((m : ℕ) → slice_get old w.waiting ≡ Some m → m + 1 < 18446744073709551616 →
-    slice_get new w.waiting ≡ Some (m + 1)) →
-    ((other : ℕ) → ¬ (other ≡ w.waiting) → slice_get new other ≡ slice_get old other) →
-    AreCounts (take (at + 1) waits) n new
-one_counted waits at w n old new is bounded a long there others = record {
-  long = long ∙ a.long;
-  each = λ place low. elim (cases_eq place w.waiting) [
-    | inl same ↦ (
-        let was : slice_get old w.waiting ≡ Some (wait_count (take at waits) w.waiting) =
-        a.each w.waiting (omega (arith, low, same)) in
-        let few = few_counted (take at waits) w.waiting in
-        let short = taken_short waits at in
-        let inside = slice_get_within waits at w is in
-        let now = there (wait_count (take at waits) w.waiting) was
-        (omega (arith, few, short, inside, bounded)) in
-        ap (slice_get new) same ∙ (now ∙ ap (λ (m : ℕ). Some m)
-        (sym (counted place w.waiting same ∙ one place same))))
-    | inr other ↦ others place other ∙ (a.each place low ∙ ap (λ (m : ℕ). Some m) (sym (none place other)))
-  ];
-}
-  where
-    taken_short : (ws : List Wait) (k : ℕ) → length (take k ws) ≤ k
-    taken_short [] zero = omega arith
-    taken_short [] (suc k) = omega arith
-    taken_short (v ∷ ws) zero = omega arith
-    taken_short (v ∷ ws) (suc k) = let z = taken_short ws k in omega (arith, z)
-
-    more : take (at + 1) waits ≡ take at waits ++ w ∷ []
-    more = take_more waits at w (slice_get_within waits at w is)
-        ∙ ap (λ (v : Wait). take at waits ++ v ∷ []) (get_or_from_slice_get waits at w w is)
-
-    total : (place : ℕ) → wait_count (take (at + 1) waits) place ≡
-        wait_count (take at waits) place + cond (nat_eq w.waiting place) 1 0
-    total place = ap (λ (ws : List Wait). wait_count ws place) more ∙ count_last (take at waits) w place
-
-    counted : (place u : ℕ) → place ≡ u → wait_count (take (at + 1) waits) place ≡
-        wait_count (take at waits) u + cond (nat_eq w.waiting place) 1 0
-    counted place u same = total place
-        ∙ ap (λ (v : ℕ). wait_count (take at waits) v + cond (nat_eq w.waiting place) 1 0) same
-
-    one : (place : ℕ) → place ≡ w.waiting →
-        wait_count (take at waits) w.waiting + cond (nat_eq w.waiting place) 1 0 ≡
-        wait_count (take at waits) w.waiting + 1
-    one place same =
-        let e : nat_eq w.waiting place ≡ true = grind (arith, nat_tests, same) in
-        ap (λ (b : Bool). wait_count (take at waits) w.waiting + cond b 1 0) e
-
-    none : (place : ℕ) → ¬ (place ≡ w.waiting) →
-        wait_count (take (at + 1) waits) place ≡ wait_count (take at waits) place
-    none place other =
-        let e : nat_eq w.waiting place ≡ false = grind (arith, nat_tests, other) in
-        let z = total place ∙ ap (λ (b : Bool). wait_count (take at waits) place + cond b 1 0) e in
-        omega (arith, z)
 
 -- ---- the waits before a slot
 

@@ -1,13 +1,13 @@
 -- Waits for slots that are not written.
-use Rattle.std.proofs.Common.{◌≡◌, ℕ, zero, suc, Bool, true, false, ◌+◌, ◌<◌, ◌≤◌, List, [], ◌∷◌, ◌++◌, length, take, drop, cond, nat_eq, slice_get, Some, ◌⊎◌, inl, inr, ◌∙◌, refl, sym, ap, subst, Contains, arith}
-use Rattle.std.proofs.lemmas.Bool.{cases_eq}
+use Rattle.std.proofs.Common.{◌≡◌, ℕ, zero, suc, Bool, true, false, ◌+◌, ◌<◌, ◌≤◌, List, [], ◌∷◌, ◌++◌, length, take, drop, get_or, cond, nat_eq, slice_get, Some, inl, inr, ◌∙◌, refl, sym, ap, subst, Contains, arith}
+use Rattle.std.proofs.lemmas.Bool.{cases_eq, cases_Bool}
 use Rattle.std.proofs.lemmas.Bool.Decides.{nat_tests}
-use Rattle.std.proofs.lemmas.List.{take-append-drop}
+use Rattle.std.proofs.lemmas.List.{take_more, take_all, drop_more, drop_all, take-append-drop, length-take-le}
 use Rattle.std.proofs.lemmas.List.Elements.{Contains-append_cases}
-use Rattle.std.proofs.lemmas.Option.{same_Some}
+use Rattle.std.proofs.lemmas.Option.{same_Some, slice_get_within, slice_get-get_or, get_or_from_slice_get}
 use Rattle.walrus_canonical.specs.declared.waiting.Wait.{Wait}
-use Rattle.walrus_canonical.specs.Steps.Waits.{wait_count, AreCounts}
-use Rattle.walrus_canonical.specs.Steps.Writing.{Task, open_count, AreOpen}
+use Rattle.walrus_canonical.specs.Steps.Waits.{open_count, AreCounts}
+use Rattle.walrus_canonical.specs.Steps.Writing.{Task, AreOpen}
 use Rattle.walrus_canonical.proofs.Reading.Containing.{contained_cases, contained_none, contained_first, contained_later}
 
 -- what one pair adds
@@ -35,19 +35,15 @@ part_agrees :
     (done after : ℕ → Bool) (w : Wait) (c : ℕ) → done w.named ≡ after w.named → part done w c ≡ part after w c
 part_agrees done after w c e = ap (λ (b : Bool). cond (nat_eq w.waiting c) (cond b 0 1) 0) e
 
-pub false_or_true : (b : Bool) → (b ≡ false) ⊎ (b ≡ true)
-false_or_true true = inr refl
-false_or_true false = inl refl
-
 -- where none is open, each slot is written
 pub zero_open :
     (done : ℕ → Bool) (ws : List Wait) (c : ℕ) → open_count done ws c ≡ 0 → (w : Wait) → Contains ws w →
     w.waiting ≡ c → done w.named ≡ true
 zero_open done [] c none w m same = absurd (contained_none w m)
 zero_open done (v ∷ ws) c none w m same = elim (contained_cases ws v w m) [
-  | inl is ↦ elim (false_or_true (done w.named)) [
-    | inr d ↦ d
-    | inl opens ↦ absurd (
+  | inl is ↦ elim (cases_Bool (done w.named)) [
+    | inl d ↦ d
+    | inr opens ↦ absurd (
         let one = part_open done w c same opens in
         let here : part done v c ≡ part done w c = ap (λ (u : Wait). part done u c) is in
         omega (arith, none, one, here))
@@ -67,11 +63,6 @@ open_zero done (v ∷ ws) c h =
     ] in
     omega (arith, rest, here)
 
--- at first all are open
-pub all_open : (ws : List Wait) (c : ℕ) → wait_count ws c ≡ open_count (λ x. false) ws c
-all_open [] c = refl
-all_open (w ∷ ws) c = ap (λ (n : ℕ). cond (nat_eq w.waiting c) 1 0 + n) (all_open ws c)
-
 open_last :
     (done : ℕ → Bool) (ws : List Wait) (w : Wait) (c : ℕ) →
     open_count done (ws ++ w ∷ []) c ≡ open_count done ws c + part done w c
@@ -81,24 +72,49 @@ open_last done (v ∷ ws) w c = let z = open_last done ws w c in omega (arith, z
 taken_more :
     (ws : List Wait) (at : ℕ) (w : Wait) → slice_get ws at ≡ Some w →
     take (at + 1) ws ≡ take at ws ++ w ∷ []
-taken_more ws at w is = let z : at + 1 ≡ suc at = omega arith in
-    ap (λ (n : ℕ). take n ws) z ∙ go ws at is
-  where
-    go : (ws : List Wait) (at : ℕ) → slice_get ws at ≡ Some w → take (suc at) ws ≡ take at ws ++ w ∷ []
-    go [] at is = absurd cc
-    go (v ∷ ws) zero is = ap (λ (u : Wait). u ∷ []) (same_Some v w is)
-    go (v ∷ ws) (suc at) is = ap (λ (us : List Wait). v ∷ us) (go ws at is)
+taken_more ws at w is = take_more ws at w (slice_get_within ws at w is)
+    ∙ ap (λ (v : Wait). take at ws ++ v ∷ []) (get_or_from_slice_get ws at w w is)
 
-dropped_more :
-    (ws : List Wait) (at : ℕ) (w : Wait) → slice_get ws at ≡ Some w →
-    drop at ws ≡ w ∷ drop (at + 1) ws
-dropped_more ws at w is = let z : suc at ≡ at + 1 = omega arith in
-    go ws at is ∙ ap (λ (n : ℕ). w ∷ drop n ws) z
+few_counted : (ws : List Wait) (c : ℕ) → open_count (λ x. false) ws c ≤ length ws
+few_counted [] c = omega arith
+few_counted (w ∷ ws) c = go (nat_eq w.waiting c) (few_counted ws c)
   where
-    go : (ws : List Wait) (at : ℕ) → slice_get ws at ≡ Some w → drop at ws ≡ w ∷ drop (suc at) ws
-    go [] at is = absurd cc
-    go (v ∷ ws) zero is = ap (λ (u : Wait). u ∷ ws) (same_Some v w is)
-    go (v ∷ ws) (suc at) is = go ws at is
+    go : (b : Bool) → open_count (λ x. false) ws c ≤ length ws →
+        cond b 1 0 + open_count (λ x. false) ws c ≤ length (w ∷ ws)
+    go true h = omega (arith, h)
+    go false h = omega (arith, h)
+
+pub one_counted :
+    (waits : List Wait) (at : ℕ) (w : Wait) (n : ℕ) (old new : List ℕ) → slice_get waits at ≡ Some w →
+    length waits < 18446744073709551616 → AreCounts (take at waits) n old → length new ≡ length old →
+    ((m : ℕ) → slice_get old w.waiting ≡ Some m → m + 1 < 18446744073709551616 →
+    slice_get new w.waiting ≡ Some (m + 1)) →
+    ((other : ℕ) → ¬ (other ≡ w.waiting) → slice_get new other ≡ slice_get old other) →
+    AreCounts (take (at + 1) waits) n new
+one_counted waits at w n old new is bounded a long there others = record {
+  long = long ∙ a.long;
+  each = λ c low. elim (cases_eq c w.waiting) [
+    | inl same ↦ (
+        let inside = slice_get_within waits at w is in
+        let short : length (take at waits) ≤ at =
+        omega (arith, length-take-le at waits (omega (arith, inside))) in
+        let few = few_counted (take at waits) w.waiting in
+        let now = there (count w.waiting) (a.each w.waiting (omega (arith, low, same)))
+        (omega (arith, few, short, inside, bounded)) in
+        ap (slice_get new) same ∙ (now ∙ (ap (λ (m : ℕ). Some m)
+        (omega (arith, more w.waiting, part_open (λ x. false) w w.waiting refl refl))
+        ∙ ap (λ (u : ℕ). Some (open_count (λ x. false) (take (at + 1) waits) u)) (sym same))))
+    | inr other ↦ others c other ∙ (a.each c low
+        ∙ ap (λ (m : ℕ). Some m) (omega (arith, more c, part_other (λ x. false) w c (λ e. other (sym e)))))
+  ];
+}
+  where
+    count : ℕ → ℕ
+    count c = open_count (λ x. false) (take at waits) c
+
+    more : (c : ℕ) → open_count (λ x. false) (take (at + 1) waits) c ≡ count c + part (λ x. false) w c
+    more c = ap (λ (ws : List Wait). open_count (λ x. false) ws c) (taken_more waits at w is)
+        ∙ open_last (λ x. false) (take at waits) w c
 
 module _ (task : Task) (waits : List Wait) (done after : ℕ → Bool) where
   -- the counts at a place and at the next one
@@ -109,7 +125,8 @@ module _ (task : Task) (waits : List Wait) (done after : ℕ → Bool) where
       (at c : ℕ) (w : Wait) → slice_get waits at ≡ Some w → total at c ≡
       open_count after (take at waits) c + (part done w c + open_count done (drop (at + 1) waits) c)
   total_here at c w is = ap (λ (ws : List Wait). open_count after (take at waits) c + open_count done ws c)
-      (dropped_more waits at w is)
+      (drop_more waits at w (slice_get_within waits at w is)
+      ∙ ap (λ (v : Wait). v ∷ drop (at + 1) waits) (get_or_from_slice_get waits at w w is))
 
   total_next :
       (at c : ℕ) (w : Wait) → slice_get waits at ≡ Some w → total (at + 1) c ≡
@@ -165,11 +182,6 @@ module _ (task : Task) (waits : List Wait) (done after : ℕ → Bool) where
         a.each c low ∙ ap (λ (n : ℕ). Some n) (omega (arith, here, next, same)));
   }
 
-  item : (ws : List Wait) (k : ℕ) → k < length ws → (w : Wait) × (slice_get ws k ≡ Some w)
-  item [] k h = absurd (omega (arith, h))
-  item (w ∷ ws) zero h = (w, refl)
-  item (w ∷ ws) (suc k) h = item ws k (omega (arith, h))
-
   pub many_passed :
       (n at : ℕ) (counts : List ℕ) → at + n ≤ length waits →
       ((k : ℕ) (w : Wait) → at ≤ k → k < at + n → slice_get waits k ≡ Some w →
@@ -180,11 +192,13 @@ module _ (task : Task) (waits : List Wait) (done after : ℕ → Bool) where
       subst (λ (u : ℕ). AreOpen task waits done after u counts) z a
   many_passed (suc n) at counts fits alike a =
       let z : at + 1 + n ≡ at + suc n = omega arith in
-      let w = item waits at (omega (arith, fits)) in
+      let none : Wait = record { named = 0; waiting = 0 } in
+      let w = get_or waits at none in
+      let there = slice_get-get_or waits at none (omega (arith, fits)) in
       subst (λ (u : ℕ). AreOpen task waits done after u counts) z
       (many_passed n (at + 1) counts (omega (arith, fits))
       (λ k v low high is. alike k v (omega (arith, low)) (omega (arith, high)) is)
-      (one_passed at w.0 counts w.1 (alike at w.0 (omega arith) (omega arith) w.1) a))
+      (one_passed at w counts there (alike at w (omega arith) (omega arith) there) a))
 
   -- from none released to all
   pub none_released :
@@ -197,23 +211,12 @@ module _ (task : Task) (waits : List Wait) (done after : ℕ → Bool) where
   all_released at counts all a = record {
     one_each = a.one_each;
     each = λ c low. (
-        let taken = ap (λ (ws : List Wait). open_count after ws c) (take_all waits at all) in
-        let dropped = ap (λ (ws : List Wait). open_count done ws c) (drop_all waits at all) in
+        let taken = ap (λ (ws : List Wait). open_count after ws c) (take_all at waits (omega (arith, all))) in
+        let dropped = ap (λ (ws : List Wait). open_count done ws c)
+        (drop_all at waits (omega (arith, all))) in
         let none : open_count done [] c ≡ 0 = refl in
         a.each c low ∙ ap (λ (n : ℕ). Some n) (omega (arith, taken, dropped, none)));
   }
-    where
-      take_all : (ws : List Wait) (n : ℕ) → n ≡ length ws → take n ws ≡ ws
-      take_all [] zero e = refl
-      take_all [] (suc n) e = refl
-      take_all (w ∷ ws) zero e = absurd (omega (arith, e))
-      take_all (w ∷ ws) (suc n) e = ap (λ (us : List Wait). w ∷ us) (take_all ws n (omega (arith, e)))
-
-      drop_all : (ws : List Wait) (n : ℕ) → n ≡ length ws → drop n ws ≡ []
-      drop_all [] zero e = refl
-      drop_all [] (suc n) e = refl
-      drop_all (w ∷ ws) zero e = absurd (omega (arith, e))
-      drop_all (w ∷ ws) (suc n) e = drop_all ws n (omega (arith, e))
 
   -- a class whose count is 0 waits for nothing that is not written
   pub nothing_open :
@@ -236,7 +239,6 @@ counts_begin task waits n counts is a = record {
   one_each = a.long ∙ is;
   each = λ c low. (
       let long = a.long in
-      let all = all_open waits c in
       let none : open_count (λ x. false) [] c ≡ 0 = refl in
-      a.each c (omega (arith, low, long)) ∙ ap (λ (n : ℕ). Some n) (omega (arith, all, none)));
+      a.each c (omega (arith, low, long)) ∙ ap (λ (n : ℕ). Some n) (omega (arith, none)));
 }

@@ -1,6 +1,6 @@
 -- Which classes wait for which slots.
 -- Of this crate's own.
-use Rattle.std.specs.Prelude.{◌≡◌, ℕ, suc, ◌+◌, ◌<◌, nat_eq, nat_lt, cond, List, [], ◌∷◌, ◌++◌, length, Some, slice_get}
+use Rattle.std.specs.Prelude.{◌≡◌, ℕ, suc, Bool, false, ◌+◌, ◌<◌, nat_eq, nat_lt, cond, List, [], ◌∷◌, ◌++◌, length, Some, slice_get}
 use Rattle.std.specs.List.{flat_map}
 use Rattle.std.specs.List.Sorted.{IsPermutation, IsNonDecreasingBy}
 use Rattle.walrus_ty.specs.Definition.{names_of}
@@ -33,13 +33,14 @@ pub record AreWaits (classes : List Class) (waits : List Wait) : Type 0 where
   pub rising : IsNonDecreasingBy (λ (w : Wait). w.named) waits
   pub all : IsPermutation (waits_from 0 classes) waits
 
--- in how many of the pairs this class waits
-abbrev pub wait_count : List Wait → ℕ → ℕ
-wait_count [] place = 0
-wait_count (w ∷ ws) place = cond (nat_eq w.waiting place) 1 0 + wait_count ws place
+-- in how many of the pairs this class waits for a slot that is not written
+abbrev pub open_count : (ℕ → Bool) → List Wait → ℕ → ℕ
+open_count done [] place = 0
+open_count done (w ∷ ws) place =
+    cond (nat_eq w.waiting place) (cond (done w.named) 0 1) 0 + open_count done ws place
 
 -- the counts of the classes, of which there are so many
 pub record AreCounts (waits : List Wait) (class_count : ℕ) (counts : List ℕ) : Type 0 where
   pub long : length counts ≡ class_count
   pub each :
-      (place : ℕ) → place < class_count → slice_get counts place ≡ Some (wait_count waits place)
+      (place : ℕ) → place < class_count → slice_get counts place ≡ Some (open_count (λ x. false) waits place)

@@ -1,6 +1,6 @@
 -- A section that is written class by class.
 -- Of this crate's own.
-use Rattle.std.specs.Prelude.{◌≡◌, ℕ, ◌+◌, ◌-◌, ◌%◌, ◌<◌, Bool, true, false, cond, nat_eq, nat_lt, List, [], ◌∷◌, length, map, take, drop, Some, slice_get, Contains, ◌⊎◌}
+use Rattle.std.specs.Prelude.{◌≡◌, ℕ, ◌+◌, ◌-◌, ◌%◌, ◌<◌, Bool, true, false, cond, nat_lt, List, [], length, map, take, drop, Some, slice_get, Contains, ◌⊎◌}
 use Rattle.walrus_ty.specs.Definition.{Definition}
 use Rattle.walrus_ty.specs.Groups.{Section}
 use Rattle.walrus_ty.specs.Records.{group_of}
@@ -14,7 +14,7 @@ use Rattle.walrus_canonical.specs.Keys.{IsKey}
 use Rattle.walrus_canonical.specs.Listing.{AreIndices, IsCanonical, NewIndices}
 use Rattle.walrus_canonical.specs.Steps.Classes.{slot_of, AreClasses}
 use Rattle.walrus_canonical.specs.Steps.Marks.{IsMarked, MarkNeeds}
-use Rattle.walrus_canonical.specs.Steps.Waits.{AreWaits}
+use Rattle.walrus_canonical.specs.Steps.Waits.{AreWaits, open_count}
 use Rattle.walrus_canonical.specs.Steps.WrittenIndices.{AreIndicesBySlot}
 
 -- what is to be written: the classes of what some roots of a section need
@@ -34,12 +34,6 @@ pub record Task : Type 0 where
 abbrev pub with_slots : (ℕ → Bool) → ℕ → ℕ → ℕ → Bool
 with_slots done first end slot =
     cond (nat_lt slot first) (done slot) (cond (nat_lt slot end) true (done slot))
-
--- in how many of the pairs this class waits for a slot that is not written
-abbrev pub open_count : (ℕ → Bool) → List Wait → ℕ → ℕ
-open_count done [] place = 0
-open_count done (w ∷ ws) place =
-    cond (nat_eq w.waiting place) (cond (done w.named) 0 1) 0 + open_count done ws place
 
 -- the written slots have the indices of equal types in the section that was written, which begins as
 -- the canonical form does

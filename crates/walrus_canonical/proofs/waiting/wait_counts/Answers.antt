@@ -1,7 +1,7 @@
 use Rattle.std.proofs.Common.{get_or, arith}
 use Rattle.std.proofs.lemmas.Option.{slice_get-get_or}
 use Rattle.walrus_canonical.specs.declared.waiting.Wait.{Wait}
-use Rattle.walrus_canonical.proofs.Waits.ClassWaits.{one_counted}
+use Rattle.walrus_canonical.proofs.Waits.OpenWaits.{one_counted}
 use Rattle.walrus_canonical.proofs.waiting.wait_counts.Goals as goal
 
 pub loop-wait-preserved : goal.loop-wait-preserved
