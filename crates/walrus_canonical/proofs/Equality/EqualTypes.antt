@@ -67,8 +67,12 @@ module _ (section : Section) where
   equal_below below zero i low h = absurd (omega (arith, low))
   equal_below below (suc bound) i low h = equal i i (like_itself i h) (λ x y n outside.
       let is = same_names i x y n in
-      let less = named_outside section i x below h (n.k, (n.place, n.first_member),
-      names_what_stands (s.definition n.k) n.position x n.first_name, outside) in
+      let less = named_outside section i x below h (
+        n.k,
+        (n.place, n.first_member),
+        names_what_stands (s.definition n.k) n.position x n.first_name,
+        outside,
+      ) in
       subst (λ (u : ℕ). AreEqual s s x u) is
       (equal_below below bound x (omega (arith, less, low)) (omega (arith, less, h))))
 

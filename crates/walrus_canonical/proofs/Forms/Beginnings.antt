@@ -128,9 +128,12 @@ module _ (pre more : Section) where
   equal_below below (suc bound) p low h = equal p p (like_before p h) (λ x y n outside.
       let is = same_names p h x y n in
       let m = member_left p n.place n.k h n.first_member in
-      let less = named_outside pre p x below h (n.k, (n.place, m),
-      names_what_stands (P.definition n.k) n.position x (old_name p h x y n),
-      λ g. outside (g.0, member_right p g.0 x g.1)) in
+      let less = named_outside pre p x below h (
+        n.k,
+        (n.place, m),
+        names_what_stands (P.definition n.k) n.position x (old_name p h x y n),
+        λ g. outside (g.0, member_right p g.0 x g.1),
+      ) in
       subst (λ (u : ℕ). AreEqual N P x u) is
       (equal_below below bound x (omega (arith, less, low)) (omega (arith, less, h))))
 

@@ -65,9 +65,9 @@ listing_after s n o roots others m w f g all =
     let S = index_space s in
     let N = index_space n in
     relisting n s others roots o n w m g f (λ p h. (
-        let i = f.onto p (needed_within n others o w g p h) in
-        (i.0, needed_of s roots n m f i.0 p i.1, equal_back S N i.0 p (f.equal i.0 p i.1)))) (λ i h. (
-        let p = new_of s roots n m f i h in (p.0, all p.0 (f.below i p.0 p.1), f.equal i p.0 p.1)))
+    let i = f.onto p (needed_within n others o w g p h) in
+    (i.0, needed_of s roots n m f i.0 p i.1, equal_back S N i.0 p (f.equal i.0 p i.1)))) (λ i h. (
+    let p = new_of s roots n m f i h in (p.0, all p.0 (f.below i p.0 p.1), f.equal i p.0 p.1)))
 
 -- ---- a listing of itself
 
