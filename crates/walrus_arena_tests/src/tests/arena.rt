@@ -119,3 +119,15 @@ fn an_arena_by_a_lent_allocator(rt: HostRuntime) {
     );
     assert_equal(&rt, arena.live_ids().expect(&rt, "memory").len(), 1);
 }
+
+#[test]
+fn live_items_come_from_the_back(rt: HostRuntime) {
+    let mut arena = three_items(rt.alloc()).expect(&rt, "memory");
+    assert!(rt; delete_if_live(&mut arena, 1).expect(&rt, "memory"));
+    arena.alloc(make_tagged(7, 3)).expect(&rt, "memory");
+    let mut digits = 0usize;
+    for (id, _) in arena.iter().rev() {
+        digits = digits.wrapping_mul(10).wrapping_add(id.index());
+    }
+    assert_equal(&rt, digits, 320);
+}

@@ -118,3 +118,14 @@ fn no_id_comes_after_the_last(rt: HostRuntime) {
     assert!(rt; f.finish(Vec::new(alloc), &mut funcs).is_err());
     assert_equal(&rt, funcs.len(), 1);
 }
+
+#[test]
+fn a_function_is_built_further(rt: HostRuntime) {
+    let f = begin(rt.alloc()).expect(&rt, "memory");
+    let mut func = f.local_func(Vec::new(rt.alloc()));
+    let entry = func.entry_block();
+    assert_equal(&rt, func.builder().func_body_id(), entry);
+    let mut body = func.builder_mut().func_body();
+    body.unreachable().expect(&rt, "memory");
+    assert_equal(&rt, func.block(entry).instrs.len(), 1);
+}

@@ -83,3 +83,12 @@ fn many_locals_get_the_next_ids(rt: HostRuntime) {
     );
     assert!(rt; !locals.contains(Id::from_index(3)));
 }
+
+#[test]
+fn locals_are_counted_and_come_from_the_back(rt: HostRuntime) {
+    let locals = two(rt.alloc()).expect(&rt, "memory");
+    let mut left = locals.iter();
+    assert_equal(&rt, left.len(), 2);
+    assert!(rt; left.next_back() == Some(&Local::new(Id::from_index(1), Val::I64)));
+    assert_equal(&rt, left.len(), 1);
+}

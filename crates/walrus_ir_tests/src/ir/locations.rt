@@ -1,5 +1,7 @@
 //! Locations, and new sequences.
 use crate::assertions::assert_equal;
+use std::hash::BuildHasher;
+use walrus_id::HashKeys;
 use walrus_ir::{Id, InstrLocId, InstrSeq, InstrSeqType};
 
 #[test]
@@ -25,4 +27,12 @@ fn a_new_sequence_is_empty(rt: HostRuntime) {
     assert_equal(&rt, seq.id().index(), 3);
     assert!(rt; seq.instrs.is_empty());
     assert!(rt; seq.end.is_default());
+}
+
+#[test]
+fn equal_locations_have_equal_hashes(rt: HostRuntime) {
+    let keys = HashKeys::new(1, 2);
+    let hash = |number: u32| keys.hash_one(InstrLocId::new(number));
+    assert_equal(&rt, hash(3), hash(3));
+    assert!(rt; hash(3) != hash(4));
 }

@@ -225,6 +225,14 @@ fn a_refused_clone_of_a_local_comes_when_it_is_asked_for_again(rt: HostRuntime) 
 }
 
 #[test]
+fn a_refused_clone_of_locals_comes_when_it_is_asked_for_again(rt: HostRuntime) {
+    let mut source = ModuleLocals::new(rt.alloc());
+    add_three_again(&rt, &mut source, 0).expect(&rt, "memory");
+    let copy = clone_again(&source).expect(&rt, "memory");
+    assert!(rt; source.iter().eq(copy.iter()));
+}
+
+#[test]
 fn a_refused_clone_of_an_expression_comes_when_it_is_asked_for_again(rt: HostRuntime) {
     let ops = [ConstOp::GlobalGet(Id::from_index(5)), ConstOp::I32Add];
     let source = ConstExpr::Extended(Listed::from_vec(list(rt.alloc(), &ops).expect(
