@@ -18,7 +18,7 @@ use Rattle.wasm_module.specs.Renaming.{NewIndices, least_width, IsTextOf}
 use Rattle.wasm_module.specs.Steps.Changes.{KeepsPrefix, ChangesPrefix, IsSized}
 use Rattle.wasm_module.specs.Steps.Contents.{BeginsWithBodies}
 use Rattle.wasm_module.specs.Steps.Renaming.{Appends}
-use Rattle.wasm_module.proofs.Changing.{Written, whole_stays, whole_changes, prefix_empty, before}
+use Rattle.wasm_module.proofs.Changing.{whole_stays, whole_changes, prefix_empty, before}
 use Rattle.wasm_module.proofs.Padding.{integer_some}
 use Rattle.wasm_module.proofs.Searching.{integer_short}
 
@@ -149,13 +149,6 @@ pub begins_with : (new_indices : NewIndices) (w : Widths) (count : ℕ) (bytes t
 begins_with new_indices w count bytes text rest new names parts h =
     let a = are_bodies new_indices w count text new names h in
     record { text = text; bodies = a.bodies; parts = parts; are = a.are; many = a.many; named = a.named }
-
-pub written_bodies : (new_indices : NewIndices) (w : Widths) (count : ℕ) (bytes rest unwritten out : List ℕ)
-    (s : Written (RenamesBody new_indices w) count bytes rest unwritten out) →
-    BeginsWithBodies count bytes rest s.names
-written_bodies new_indices w count bytes rest unwritten out s =
-    begins_with new_indices w count bytes (s.text ++ s.kept) rest (out ++ s.kept) s.names
-    (s.parts ∙ ap (λ (u : List ℕ). s.text ++ u) s.later ∙ sym (append_assoc s.text s.kept rest)) s.becomes
 
 -- ---- the whole section
 

@@ -1,7 +1,8 @@
 -- Texts in front of bytes that become others, one after another.
 use Rattle.std.proofs.Common.{◌≡◌, ℕ, zero, suc, ◌+◌, ◌-◌, ◌<◌, List, [], ◌∷◌, ◌++◌, length, take, Option, Some, None, IfSome, IfNone, refl, sym, ap, subst, ◌∙◌, arith, append_assoc, append-nil, length-append, take_at}
+use Rattle.std.proofs.lemmas.List.{append_cancel_right}
 use Rattle.wasm_module.specs.Changes.{Change, Changes, TurnsInto, ChangeAll, none, next, FirstIn, here, behind}
-use Rattle.wasm_module.specs.Steps.Changes.{KeepsPrefix, ChangesPrefix}
+use Rattle.wasm_module.specs.Steps.Changes.{KeepsPrefix, ChangesPrefix, IsChangedUpTo}
 
 -- ---- what an option says
 
@@ -118,107 +119,113 @@ first_behind R F _ _ _ _ (next count a b c d e g h hs) (suc total) rest less f =
 
 -- ---- the loop over several texts
 
--- This many texts were taken. Up to the last one that names types they are written, and `kept` is
--- behind it.
-pub record Written (R : Change) (count : ℕ) (bytes rest unwritten out : List ℕ) : Type 0 where
-  pub text : List ℕ
-  pub kept : List ℕ
-  pub names : List ℕ
-  pub parts : bytes ≡ text ++ unwritten
-  pub later : unwritten ≡ kept ++ rest
-  pub becomes : ChangeAll R count (text ++ kept) (out ++ kept) names
-  pub bare : out ≡ [] → (text ≡ []) × (names ≡ [])
-  pub named : (out ≡ [] → ⊥) → names ≡ [] → ⊥
-
-pub written_none : (R : Change) (bytes out : List ℕ) → out ≡ [] → Written R 0 bytes bytes bytes out
-written_none R bytes out e =
+pub changed_none : (R : Change) (header bytes rest out : List ℕ) → bytes ≡ header ++ rest → out ≡ [] →
+    IsChangedUpTo R 0 header bytes rest bytes out
+changed_none R header bytes rest out e o =
     record {
-      text = [];
-      kept = [];
+      texts = [];
+      new = [];
       names = [];
-      parts = refl;
-      later = refl;
-      becomes = subst (λ (u : List ℕ). ChangeAll R 0 [] (u ++ []) []) (sym e) none;
-      bare = λ h. (refl, refl);
-      named = λ some h. some e;
+      passed = header;
+      so_far = none;
+      parts = e;
+      not_written = e;
+      written = append-nil header ∙ ap (λ (u : List ℕ). u ++ header) (sym o);
+      untouched = λ h. refl;
+      nameless = λ h. refl;
+      naming = λ h. o;
     }
 
-pub written_is : (R : Change) (count : ℕ) (bytes rest unwritten same out written : List ℕ) →
-    unwritten ≡ same → out ≡ written → Written R count bytes rest same written →
-    Written R count bytes rest unwritten out
-written_is R count bytes rest unwritten same out written e f w =
-    subst (λ (u : List ℕ). Written R count bytes rest u out) (sym e)
-    (subst (λ (u : List ℕ). Written R count bytes rest same u) (sym f) w)
+pub changed_is : (R : Change) (count : ℕ) (bytes rest unwritten same out written : List ℕ) →
+    unwritten ≡ same → out ≡ written → IsChangedUpTo R count [] bytes rest same written →
+    IsChangedUpTo R count [] bytes rest unwritten out
+changed_is R count bytes rest unwritten same out written e f w =
+    subst (λ (u : List ℕ). IsChangedUpTo R count [] bytes rest u out) (sym e)
+    (subst (λ (u : List ℕ). IsChangedUpTo R count [] bytes rest same u) (sym f) w)
 
-pub written_passed : (R : Change) (count : ℕ) (bytes rest after unwritten out : List ℕ) →
-    Written R count bytes rest unwritten out → KeepsPrefix R rest after →
-    Written R (count + 1) bytes after unwritten out
-written_passed R count bytes rest after unwritten out w s =
+pub changed_passed : (R : Change) (count : ℕ) (header bytes rest after unwritten out : List ℕ) →
+    IsChangedUpTo R count header bytes rest unwritten out → KeepsPrefix R rest after →
+    IsChangedUpTo R (count + 1) header bytes after unwritten out
+changed_passed R count header bytes rest after unwritten out w s =
     record {
-      text = w.text;
-      kept = w.kept ++ s.text;
-      names = w.names;
+      texts = w.texts ++ s.text;
+      new = w.new ++ s.text;
+      names = w.names ++ [];
+      passed = w.passed ++ s.text;
+      so_far = change_on R count w.texts w.new w.names s.text s.text [] w.so_far s.stays;
+      parts = w.parts ∙ ap (λ (u : List ℕ). header ++ u) (ap (λ (u : List ℕ). w.texts ++ u) s.parts
+          ∙ sym (append_assoc w.texts s.text after));
+      not_written = w.not_written ∙ ap (λ (u : List ℕ). w.passed ++ u) s.parts
+          ∙ sym (append_assoc w.passed s.text after);
+      written = sym (append_assoc header w.new s.text) ∙ ap (λ (u : List ℕ). u ++ s.text) w.written
+          ∙ append_assoc out w.passed s.text;
+      untouched = w.untouched;
+      nameless = λ h. append-nil w.names ∙ w.nameless h;
+      naming = λ h. w.naming (sym (append-nil w.names) ∙ h);
+    }
+
+-- where what was passed and the new text are written
+pub changed_on : (R : Change) (count : ℕ) (header bytes rest after unwritten out new last : List ℕ)
+    (w : IsChangedUpTo R count header bytes rest unwritten out) → ChangesPrefix R rest after new →
+    (new ≡ [] → ⊥) → last ≡ (out ++ w.passed) ++ new → IsChangedUpTo R (count + 1) header bytes after after last
+changed_on R count header bytes rest after unwritten out new last w c some is =
+    let full : last ≡ [] → ⊥ = λ e. some (back_empty (out ++ w.passed) new (sym is ∙ e)) in
+    record {
+      texts = w.texts ++ c.text;
+      new = w.new ++ new;
+      names = w.names ++ c.changes.names;
+      passed = [];
+      so_far = change_on R count w.texts w.new w.names c.text new c.changes.names w.so_far c.changes.becomes;
+      parts = w.parts ∙ ap (λ (u : List ℕ). header ++ u) (ap (λ (u : List ℕ). w.texts ++ u) c.parts
+          ∙ sym (append_assoc w.texts c.text after));
+      not_written = refl;
+      written = sym (append_assoc header w.new new) ∙ ap (λ (u : List ℕ). u ++ new) w.written ∙ sym is
+          ∙ sym (append-nil last);
+      untouched = λ e. absurd (full e);
+      nameless = λ e. absurd (full e);
+      naming = λ e. absurd (c.changes.is_naming (back_empty w.names c.changes.names e));
+    }
+
+-- what is in front of the rest was passed
+pub passed_before : (R : Change) (count : ℕ) (header bytes rest unwritten out mid : List ℕ)
+    (w : IsChangedUpTo R count header bytes rest unwritten out) →
+    mid ≡ out ++ take (length unwritten - length rest) unwritten → mid ≡ out ++ w.passed
+passed_before R count header bytes rest unwritten out mid w e =
+    e ∙ ap (λ (u : List ℕ). out ++ u) (before unwritten w.passed rest w.not_written)
+
+-- nothing is written where no type was named
+pub all_stayed : (R : Change) (count : ℕ) (bytes rest unwritten out : List ℕ) →
+    IsChangedUpTo R count [] bytes rest unwritten out → out ≡ [] → KeepsPrefix (ChangeAll R count) bytes rest
+all_stayed R count bytes rest unwritten out w e =
+    let passed-is : w.passed ≡ w.texts = append_cancel_right w.passed w.texts rest
+    (sym w.not_written ∙ w.untouched e ∙ w.parts) in
+    let new-is : w.new ≡ w.texts = w.written ∙ ap (λ (u : List ℕ). u ++ w.passed) e ∙ passed-is in
+    record {
+      text = w.texts;
       parts = w.parts;
-      later = w.later ∙ ap (λ (u : List ℕ). w.kept ++ u) s.parts ∙ sym (append_assoc w.kept s.text after);
-      becomes =
-          change_is R (count + 1) (count + 1) ((w.text ++ w.kept) ++ s.text) (w.text ++ (w.kept ++ s.text))
-          ((out ++ w.kept) ++ s.text) (out ++ (w.kept ++ s.text)) (w.names ++ []) w.names refl
-          (append_assoc w.text w.kept s.text) (append_assoc out w.kept s.text) (append-nil w.names)
-          (change_on R count (w.text ++ w.kept) (out ++ w.kept) w.names s.text s.text [] w.becomes s.stays);
-      bare = w.bare;
-      named = w.named;
+      stays = subst (λ (u : List ℕ). ChangeAll R count w.texts u []) new-is
+          (subst (λ (u : List ℕ). ChangeAll R count w.texts w.new u) (w.nameless e) w.so_far);
     }
 
-pub written_on : (R : Change) (count : ℕ) (bytes rest after unwritten out mid new last : List ℕ) →
-    Written R count bytes rest unwritten out → ChangesPrefix R rest after new → (new ≡ [] → ⊥)
-    → mid ≡ out ++ take (length unwritten - length rest) unwritten → last ≡ mid ++ new →
-    Written R (count + 1) bytes after after last
-written_on R count bytes rest after unwritten out mid new last w c some mid-is last-is =
-    let names = c.changes.names in
-    let is : last ≡ (out ++ w.kept) ++ new = last-is ∙ ap (λ (u : List ℕ). u ++ new) (mid-is
-    ∙ ap (λ (u : List ℕ). out ++ u) (before unwritten w.kept rest w.later)) in
-    let parts : bytes ≡ w.text ++ (w.kept ++ (c.text ++ after)) = w.parts
-    ∙ ap (λ (u : List ℕ). w.text ++ u) (w.later ∙ ap (λ (u : List ℕ). w.kept ++ u) c.parts) in
-    record {
-      text = (w.text ++ w.kept) ++ c.text;
-      kept = [];
-      names = w.names ++ names;
-      parts = parts ∙ sym (append_assoc w.text w.kept (c.text ++ after))
-          ∙ sym (append_assoc (w.text ++ w.kept) c.text after);
-      later = refl;
-      becomes =
-          change_is R (count + 1) (count + 1) ((w.text ++ w.kept) ++ c.text)
-          (((w.text ++ w.kept) ++ c.text) ++ []) ((out ++ w.kept) ++ new) (last ++ []) (w.names ++ names)
-          (w.names ++ names) refl (sym (append-nil ((w.text ++ w.kept) ++ c.text)))
-          (sym is ∙ sym (append-nil last)) refl
-          (change_on R count (w.text ++ w.kept) (out ++ w.kept) w.names c.text new names w.becomes
-          c.changes.becomes);
-      bare = λ e. absurd (some (back_empty (out ++ w.kept) new (sym is ∙ e)));
-      named = λ h e. c.changes.is_naming (back_empty w.names names e);
-    }
-
-pub written_changes : (R : Change) (count : ℕ) (bytes rest unwritten out last : List ℕ) →
-    Written R count bytes rest unwritten out → (out ≡ [] → ⊥)
+pub all_changed : (R : Change) (count : ℕ) (bytes rest unwritten out last : List ℕ) →
+    IsChangedUpTo R count [] bytes rest unwritten out → (out ≡ [] → ⊥)
     → last ≡ out ++ take (length unwritten - length rest) unwritten →
     ChangesPrefix (ChangeAll R count) bytes rest last
-written_changes R count bytes rest unwritten out last w some last-is =
-    let is : last ≡ out ++ w.kept = last-is ∙ ap (λ (u : List ℕ). out ++ u)
-    (before unwritten w.kept rest w.later) in
+all_changed R count bytes rest unwritten out last w some e =
     record {
-      text = w.text ++ w.kept;
-      parts = w.parts ∙ ap (λ (u : List ℕ). w.text ++ u) w.later ∙ sym (append_assoc w.text w.kept rest);
+      text = w.texts;
+      parts = w.parts;
       changes = record {
         names = w.names;
-        becomes = subst (λ (u : List ℕ). ChangeAll R count (w.text ++ w.kept) u w.names) (sym is) w.becomes;
-        is_naming = w.named some;
+        becomes = subst (λ (u : List ℕ). ChangeAll R count w.texts u w.names) (w.written
+            ∙ sym (passed_before R count [] bytes rest unwritten out last w e)) w.so_far;
+        is_naming = λ h. some (w.naming h);
       };
     }
 
-pub written_first : (R : Change) (F : List ℕ → Type 0) (count taken : ℕ)
-    (bytes rest unwritten out : List ℕ) → Written R taken bytes rest unwritten out → taken < count → F rest
-    → FirstIn R F count bytes
-written_first R F count taken bytes rest unwritten out w less f =
-    let parts : bytes ≡ (w.text ++ w.kept) ++ rest = w.parts ∙ ap (λ (u : List ℕ). w.text ++ u) w.later
-    ∙ sym (append_assoc w.text w.kept rest) in
-    subst (λ (u : List ℕ). FirstIn R F count u) (sym parts)
-    (first_behind R F taken (w.text ++ w.kept) (out ++ w.kept) w.names w.becomes count rest less f)
+pub changed_first : (R : Change) (F : List ℕ → Type 0) (count taken : ℕ)
+    (bytes rest unwritten out : List ℕ) → IsChangedUpTo R taken [] bytes rest unwritten out → taken < count →
+    F rest → FirstIn R F count bytes
+changed_first R F count taken bytes rest unwritten out w less f =
+    subst (λ (u : List ℕ). FirstIn R F count u) (sym w.parts)
+    (first_behind R F taken w.texts w.new w.names w.so_far count rest less f)

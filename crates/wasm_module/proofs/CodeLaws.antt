@@ -10,7 +10,7 @@ use Rattle.wasm_module.specs.SyntaxTrees.{SyntaxTree, bytes_of, names_in, TreeBe
 use Rattle.wasm_module.specs.Renaming.{NewIndices, new_index, type_maps, least_width, Renames, AreRenamed}
 use Rattle.wasm_module.proofs.SyntaxTrees.{one_tree, none_named, becomes_again}
 use Rattle.wasm_module.proofs.TreesOfChanges.{still_bytes}
-use Rattle.wasm_module.proofs.TreesOfTexts.{TextsBy, token_tree, tokens_tree, unnamed_tree, token_names, tokens_bytes, tokens_names, texts_again, found_texts}
+use Rattle.wasm_module.proofs.TreesOfTexts.{TextsBy, token_tree, tokens_tree, unnamed_tree, token_names, tokens_bytes, tokens_names, texts_again, texts_one, texts_written, texts_found}
 use Rattle.wasm_module.proofs.NumberTexts.{text_once, own_width}
 use Rattle.wasm_module.proofs.Tokens.{View, u32_type, s33_type, other, view, token_text}
 
@@ -29,21 +29,22 @@ pub code_once : (m : NewIndices) (w : Widths) (kinds : List Kind) (bytes a b : L
 code_once m w kinds bytes a b h g =
     let x = texts_renamed m w kinds bytes a h in
     let y = texts_renamed m w kinds bytes b g in
-    let f = found_texts [] m w kinds bytes a x.0 x.1 in
-    let k = f.is.to [] m w bytes b y.0 y.1 f.part.text_is in
-    sym f.part.new_is
-    ∙ ap bytes_of (one_tree [] m w f.part.tree f.part.new_tree k.tree f.part.becomes k.becomes) ∙ k.new_is
+    let f = texts_found kinds [] m w bytes a x.0 x.1 in
+    let k = texts_found kinds [] m w bytes b y.0 y.1 in
+    let same : k.tree ≡ f.tree = texts_one kinds k.tree f.tree k.is f.is (k.text_is ∙ sym f.text_is) in
+    sym f.new_is
+    ∙ ap bytes_of (one_tree [] m w f.tree f.new_tree k.new_tree f.becomes
+    (subst (λ (u : SyntaxTree). TreeBecomes [] m w u k.new_tree) same k.becomes)) ∙ k.new_is
 
 pub code_stays : (first again : NewIndices) → AreOwn first again → (w : Widths) (kinds : List Kind)
     (bytes new : List ℕ) → Renames (type_maps first) (least_width w) kinds bytes new →
     Renames (type_maps again) (least_width w) kinds new new
 code_stays first again own w kinds bytes new h =
     let x = texts_renamed first w kinds bytes new h in
-    let f = found_texts [] first w kinds bytes new x.0 x.1 in
-    let p = f.part in
-    let k = f.is_again.from [] again w p.new_tree
-    (becomes_again first again own [] w p.tree p.new_tree p.becomes) in
-    subst (λ (u : List ℕ). Renames (type_maps again) (least_width w) kinds u u) p.new_is k.renames
+    let f = texts_found kinds [] first w bytes new x.0 x.1 in
+    let k = texts_written kinds [] again w f.new_tree f.new_tree f.is_again
+    (becomes_again first again own [] w f.tree f.new_tree f.becomes) in
+    subst (λ (u : List ℕ). Renames (type_maps again) (least_width w) kinds u u) f.new_is k.renames
 
 -- ---- the types that are named
 

@@ -1,16 +1,16 @@
 -- The entries of a map from types: which of them are kept, and their texts.
-use Rattle.std.proofs.Common.{◌≡◌, ℕ, zero, suc, ◌<◌, ◌≤◌, List, [], ◌∷◌, ◌++◌, length, map, Some, ◌⊎◌, inl, inr, refl, sym, ap, subst, ◌∙◌, arith, append_assoc, append-nil}
+use Rattle.std.proofs.Common.{◌≡◌, ℕ, zero, suc, ◌<◌, ◌≤◌, List, [], ◌∷◌, ◌++◌, length, map, Some, ◌⊎◌, inl, inr, refl, sym, ap, subst, ◌∙◌, arith, append_assoc}
 use Rattle.std.specs.List.{AllPairs, Contains}
 use Rattle.std.proofs.lemmas.List.{append_cancel_right}
 use Rattle.std.proofs.lemmas.List.Elements.{All-contains, Contains-append_right, Contains-append_cases}
 use Rattle.std.proofs.lemmas.List.Kept.{AllPairs-from_increasing}
-use Rattle.wasm_binary.specs.Grammar.{AreItems, none, next}
+use Rattle.wasm_binary.specs.Grammar.{AreItems}
 use Rattle.wasm_binary.specs.Leb128.{IsU32}
 use Rattle.wasm_binary.specs.Steps.Reading.{u32_at}
 use Rattle.wasm_module.specs.NameSections.{TypeEntry, type_entry, IsEntry, entry, IsLeast, AreKept}
 use Rattle.wasm_module.specs.Renaming.{NewIndices, new_index}
 use Rattle.wasm_module.proofs.SizedContents.{number_read, same_number}
-use Rattle.wasm_module.proofs.TextItems.{IsPrefixFree}
+use Rattle.wasm_module.proofs.TextItems.{IsPrefixFree, items_once}
 
 -- ---- ascending numbers
 
@@ -204,33 +204,6 @@ entry_once Follows free _ _ _ _ r s (entry text follows index h g) (entry text' 
       behind,
     )
 
-pub entries_once : (Follows : List ℕ → Type 0) → IsPrefixFree Follows →
-    (a b : List ℕ) (es fs : List TypeEntry) (r s : List ℕ) → AreItems (IsEntry Follows) a es →
-    AreItems (IsEntry Follows) b fs → a ++ r ≡ b ++ s →
-    length es ≡ length fs → es ≡ fs
-entries_once Follows free _ _ _ _ r s none none e many = refl
-entries_once Follows free _ _ _ _ r s none (next text others f fs g gs) e many = absurd (omega (arith, many))
-entries_once Follows free _ _ _ _ r s (next text others f fs g gs) none e many = absurd (omega (arith, many))
-entries_once Follows free _ _ _ _ r s (next a b x xs h hs) (next c d y ys k ks) e many =
-    let bytes : a ++ (b ++ r) ≡ c ++ (d ++ s) = sym (append_assoc a b r) ∙ e ∙ append_assoc c d s in
-    let o = entry_once Follows free a c x y (b ++ r) (d ++ s) h k bytes in
-    ap (λ z. z ∷ xs) o.0
-    ∙ ap (λ (u : List TypeEntry). y ∷ u)
-    (entries_once Follows free b d xs ys r s hs ks o.1 (omega (arith, many)))
-
-pub nothing : (es : List TypeEntry) → length es ≡ 0 → es ≡ []
-nothing [] h = refl
-nothing (x ∷ xs) h = absurd (omega (arith, h))
-
--- where the number of entries is none, there are none
-pub no_entries_counted : (count other texts : List ℕ) (es : List TypeEntry) → IsU32 count 0 →
-    IsU32 other (length es) → count ≡ other ++ texts → es ≡ []
-no_entries_counted count other texts es h g e =
-    let n = same_number (u32_at count) 0 (length es) [] texts
-    (number_read count count 0 [] h (sym (append-nil count)))
-    (number_read count other (length es) texts g e) in
-    nothing es (sym n.0)
-
 -- the entries behind their number
 pub entries_counted_once : (Follows : List ℕ → Type 0) → IsPrefixFree Follows →
     (count texts other behind : List ℕ) (es fs : List TypeEntry) → IsU32 count (length es) →
@@ -240,6 +213,7 @@ entries_counted_once Follows free count texts other behind es fs h g are its e =
     let n = same_number (u32_at (count ++ texts)) (length es) (length fs) texts behind
     (number_read (count ++ texts) count (length es) texts h refl)
     (number_read (count ++ texts) other (length fs) behind g e) in (
-      entries_once Follows free texts behind es fs [] [] are its (ap (λ (u : List ℕ). u ++ []) n.1) n.0,
+      items_once (IsEntry Follows) (entry_once Follows free) texts es behind fs [] [] are its
+          (ap (λ (u : List ℕ). u ++ []) n.1) n.0,
       n.1,
     )

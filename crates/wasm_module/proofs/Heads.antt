@@ -1,5 +1,5 @@
 -- The beginnings of texts: what is read is what has the text, and what has a text is read.
-use Rattle.std.proofs.Common.{◌≡◌, ℕ, ◌^◌, nat_lt, nat_le, nat_eq, cond, ◌||◌, true, false, List, [], ◌∷◌, ◌++◌, Option, Some, None, Ok, refl, sym, ap, subst, ◌∙◌, arith, lt-ltb, le-ltb, le-leb, ne_eqb}
+use Rattle.std.proofs.Common.{◌≡◌, ℕ, ◌^◌, nat_lt, nat_le, nat_eq, cond, ◌||◌, Bool, true, false, List, [], ◌∷◌, ◌++◌, Option, Some, None, Ok, refl, sym, ap, subst, ◌∙◌, arith, lt-ltb, le-ltb, le-leb, ne_eqb}
 use Rattle.std.proofs.lemmas.Grind.{common_steps}
 use Rattle.wasm_binary.specs.Leb128.{IsInteger, last, more, IsU32, IsS33}
 use Rattle.wasm_binary.specs.Steps.Reading.{◌>>=◌, u32_at, s33_at}
@@ -130,64 +130,105 @@ either_takes k may (x ∷ bytes) b rest e =
     (λ h q. signed_takes k may (x ∷ bytes) b rest q)
     (λ h q. byte_takes k (x ∷ bytes) b rest q)
 
+-- a byte with which no index begins
+abbrev IsOwn : ℕ → Type 0
+IsOwn x = (nat_lt x 0x40 || nat_le 0x80 x) ≡ false
+
+own_block : (x : ℕ) (kinds : List Kind) → behind_byte kind.BlockType x ≡ Some kinds → IsOwn x
+own_block x kinds e = grind (arith, common_steps)
+
+own_heap : (x : ℕ) (kinds : List Kind) → behind_byte kind.HeapType x ≡ Some kinds → IsOwn x
+own_heap x kinds e = grind (arith, common_steps)
+
 abbrev imported : List Kind
 imported = kind.ByteVec ∷ kind.ExternType ∷ []
 
-pub begin_sound : (k : Kind) → IsSound (IsBeginning k) (begin_at k)
+-- what a text of this kind begins with
+data Start : Kind → Type 0 where
+  with_number :
+      (k : Kind) → ((bytes : List ℕ) → begin_at k bytes ≡ number_at k bytes)
+      → ((x : ℕ) → behind_byte k x ≡ None) → may_be_index k ≡ false → Start k
+  with_byte :
+      (k : Kind) → ((bytes : List ℕ) → begin_at k bytes ≡ byte_at k bytes)
+      → ((n : ℕ) → behind_number k n ≡ None) → may_be_index k ≡ false → Start k
+  with_either :
+      (k : Kind) → ((bytes : List ℕ) → begin_at k bytes ≡ index_or_byte_at k bytes)
+      → ((n : ℕ) → behind_number k n ≡ None) → may_be_index k ≡ true
+      → ((x : ℕ) (kinds : List Kind) → behind_byte k x ≡ Some kinds → IsOwn x) → Start k
+  without :
+      (k : Kind) → IsSound (IsBeginning k) (begin_at k) → ((n : ℕ) → behind_number k n ≡ None)
+      → ((x : ℕ) → behind_byte k x ≡ None) → may_be_index k ≡ false → Start k
+
+start : (k : Kind) → Start k
 unfolding begin_at
-begin_sound (kind.Index s) = index_takes s
-begin_sound kind.U32 = number_takes kind.U32
-begin_sound kind.U64 = plain_takes kind.U64 [] (IsSkipped (2 ^ 64)) (skip_at (2 ^ 64)) (skip_sound (2 ^ 64))
-    (λ t h. offset t h.0 h.1)
-begin_sound kind.S32 = plain_takes kind.S32 [] (IsSignedText (2 ^ 31)) (signed_at (2 ^ 31))
-    (signed_sound (2 ^ 31)) (λ t h. i32 t h)
-begin_sound kind.S64 = plain_takes kind.S64 [] (IsSignedText (2 ^ 63)) (signed_at (2 ^ 63))
-    (signed_sound (2 ^ 63)) (λ t h. i64 t h)
-begin_sound (kind.Bytes n) = plain_takes (kind.Bytes n) [] (IsRaw n) (raw_at n) (raw_sound n) (λ t h.
-    raw t n h.0 h.1)
-begin_sound kind.Zero = byte_takes kind.Zero
-begin_sound kind.CastFlags = byte_takes kind.CastFlags
-begin_sound (kind.MemArg most) = number_takes (kind.MemArg most)
-begin_sound kind.BlockType = either_takes kind.BlockType refl
-begin_sound kind.ValType = byte_takes kind.ValType
-begin_sound kind.HeapType = either_takes kind.HeapType refl
-begin_sound kind.CatchClause = byte_takes kind.CatchClause
-begin_sound kind.Labels = number_takes kind.Labels
-begin_sound kind.ValTypes = number_takes kind.ValTypes
-begin_sound kind.CatchClauses = number_takes kind.CatchClauses
-begin_sound kind.Local = number_takes kind.Local
-begin_sound kind.Locals = number_takes kind.Locals
-begin_sound kind.Aggregate = number_takes kind.Aggregate
-begin_sound kind.Bulk = number_takes kind.Bulk
-begin_sound kind.Vector = number_takes kind.Vector
-begin_sound kind.Atomic = number_takes kind.Atomic
-begin_sound kind.Block = byte_takes kind.Block
-begin_sound kind.Expression = byte_takes kind.Expression
-begin_sound kind.Expressions = number_takes kind.Expressions
-begin_sound kind.ByteVec = plain_takes kind.ByteVec [] IsByteVec byte_vec_at byte_vec_sound (λ t h.
+start (kind.Index s) = without (kind.Index s) (index_takes s) (λ n. refl) (λ x. refl) refl
+start kind.U32 = with_number kind.U32 (λ b. refl) (λ x. refl) refl
+start kind.U64 = without kind.U64
+    (plain_takes kind.U64 [] (IsSkipped (2 ^ 64)) (skip_at (2 ^ 64)) (skip_sound (2 ^ 64)) (λ t h.
+    offset t h.0 h.1)) (λ n. refl) (λ x. refl) refl
+start kind.S32 = without kind.S32
+    (plain_takes kind.S32 [] (IsSignedText (2 ^ 31)) (signed_at (2 ^ 31))
+    (signed_sound (2 ^ 31)) i32) (λ n. refl) (λ x. refl) refl
+start kind.S64 = without kind.S64
+    (plain_takes kind.S64 [] (IsSignedText (2 ^ 63)) (signed_at (2 ^ 63))
+    (signed_sound (2 ^ 63)) i64) (λ n. refl) (λ x. refl) refl
+start (kind.Bytes n) = without (kind.Bytes n)
+    (plain_takes (kind.Bytes n) [] (IsRaw n) (raw_at n) (raw_sound n) (λ t h. raw t n h.0 h.1))
+    (λ n. refl) (λ x. refl) refl
+start kind.Zero = with_byte kind.Zero (λ b. refl) (λ n. refl) refl
+start kind.CastFlags = with_byte kind.CastFlags (λ b. refl) (λ n. refl) refl
+start (kind.MemArg most) = with_number (kind.MemArg most) (λ b. refl) (λ x. refl) refl
+start kind.BlockType = with_either kind.BlockType (λ b. refl) (λ n. refl) refl own_block
+start kind.ValType = with_byte kind.ValType (λ b. refl) (λ n. refl) refl
+start kind.HeapType = with_either kind.HeapType (λ b. refl) (λ n. refl) refl own_heap
+start kind.CatchClause = with_byte kind.CatchClause (λ b. refl) (λ n. refl) refl
+start kind.Labels = with_number kind.Labels (λ b. refl) (λ x. refl) refl
+start kind.ValTypes = with_number kind.ValTypes (λ b. refl) (λ x. refl) refl
+start kind.CatchClauses = with_number kind.CatchClauses (λ b. refl) (λ x. refl) refl
+start kind.Local = with_number kind.Local (λ b. refl) (λ x. refl) refl
+start kind.Locals = with_number kind.Locals (λ b. refl) (λ x. refl) refl
+start kind.Aggregate = with_number kind.Aggregate (λ b. refl) (λ x. refl) refl
+start kind.Bulk = with_number kind.Bulk (λ b. refl) (λ x. refl) refl
+start kind.Vector = with_number kind.Vector (λ b. refl) (λ x. refl) refl
+start kind.Atomic = with_number kind.Atomic (λ b. refl) (λ x. refl) refl
+start kind.Block = with_byte kind.Block (λ b. refl) (λ n. refl) refl
+start kind.Expression = with_byte kind.Expression (λ b. refl) (λ n. refl) refl
+start kind.Expressions = with_number kind.Expressions (λ b. refl) (λ x. refl) refl
+start kind.ByteVec = without kind.ByteVec
+    (plain_takes kind.ByteVec [] IsByteVec byte_vec_at byte_vec_sound (λ t h.
     subst (λ (u : List ℕ). Begins kind.ByteVec u (plain u) []) (sym h.parts)
-    (byte_vec h.count h.bytes h.counted))
-begin_sound kind.RefType = byte_takes kind.RefType
-begin_sound kind.Mutability = byte_takes kind.Mutability
-begin_sound kind.TagType = byte_takes kind.TagType
-begin_sound kind.TableLimits = byte_takes kind.TableLimits
-begin_sound kind.MemoryLimits = byte_takes kind.MemoryLimits
-begin_sound kind.ExternType = byte_takes kind.ExternType
-begin_sound kind.Import = plain_takes kind.Import imported IsByteVec byte_vec_at byte_vec_sound (λ t h.
+    (byte_vec h.count h.bytes h.counted))) (λ n. refl) (λ x. refl) refl
+start kind.RefType = with_byte kind.RefType (λ b. refl) (λ n. refl) refl
+start kind.Mutability = with_byte kind.Mutability (λ b. refl) (λ n. refl) refl
+start kind.TagType = with_byte kind.TagType (λ b. refl) (λ n. refl) refl
+start kind.TableLimits = with_byte kind.TableLimits (λ b. refl) (λ n. refl) refl
+start kind.MemoryLimits = with_byte kind.MemoryLimits (λ b. refl) (λ n. refl) refl
+start kind.ExternType = with_byte kind.ExternType (λ b. refl) (λ n. refl) refl
+start kind.Import = without kind.Import
+    (plain_takes kind.Import imported IsByteVec byte_vec_at byte_vec_sound (λ t h.
     subst (λ (u : List ℕ). Begins kind.Import u (plain u) imported) (sym h.parts)
-    (import h.count h.bytes h.counted))
-begin_sound kind.Imports = number_takes kind.Imports
-begin_sound kind.TypeIndices = number_takes kind.TypeIndices
-begin_sound kind.FunctionIndices = number_takes kind.FunctionIndices
-begin_sound kind.Table = byte_takes kind.Table
-begin_sound kind.Tables = number_takes kind.Tables
-begin_sound kind.Global = byte_takes kind.Global
-begin_sound kind.Globals = number_takes kind.Globals
-begin_sound kind.ElementSegment = number_takes kind.ElementSegment
-begin_sound kind.ElementSegments = number_takes kind.ElementSegments
-begin_sound kind.DataSegment = number_takes kind.DataSegment
-begin_sound kind.DataSegments = number_takes kind.DataSegments
-begin_sound kind.Tags = number_takes kind.Tags
+    (import h.count h.bytes h.counted))) (λ n. refl) (λ x. refl) refl
+start kind.Imports = with_number kind.Imports (λ b. refl) (λ x. refl) refl
+start kind.TypeIndices = with_number kind.TypeIndices (λ b. refl) (λ x. refl) refl
+start kind.FunctionIndices = with_number kind.FunctionIndices (λ b. refl) (λ x. refl) refl
+start kind.Table = with_byte kind.Table (λ b. refl) (λ n. refl) refl
+start kind.Tables = with_number kind.Tables (λ b. refl) (λ x. refl) refl
+start kind.Global = with_byte kind.Global (λ b. refl) (λ n. refl) refl
+start kind.Globals = with_number kind.Globals (λ b. refl) (λ x. refl) refl
+start kind.ElementSegment = with_number kind.ElementSegment (λ b. refl) (λ x. refl) refl
+start kind.ElementSegments = with_number kind.ElementSegments (λ b. refl) (λ x. refl) refl
+start kind.DataSegment = with_number kind.DataSegment (λ b. refl) (λ x. refl) refl
+start kind.DataSegments = with_number kind.DataSegments (λ b. refl) (λ x. refl) refl
+start kind.Tags = with_number kind.Tags (λ b. refl) (λ x. refl) refl
+
+start_sound : (k : Kind) → Start k → IsSound (IsBeginning k) (begin_at k)
+start_sound _ (with_number k is _ _) bytes b rest e = number_takes k bytes b rest (sym (is bytes) ∙ e)
+start_sound _ (with_byte k is _ _) bytes b rest e = byte_takes k bytes b rest (sym (is bytes) ∙ e)
+start_sound _ (with_either k is _ may _) bytes b rest e = either_takes k may bytes b rest (sym (is bytes) ∙ e)
+start_sound _ (without k sound _ _ _) bytes b rest e = sound bytes b rest e
+
+pub begin_sound : (k : Kind) → IsSound (IsBeginning k) (begin_at k)
+begin_sound k = start_sound k (start k)
 
 -- ---- what is chosen by an opcode
 
@@ -220,121 +261,36 @@ byte_reads : (k : Kind) (x : ℕ) (kinds : List Kind) (rest : List ℕ) → behi
 unfolding byte_at
 byte_reads k x kinds rest e = rw e refl
 
--- a byte with which no index begins
-abbrev IsOwn : ℕ → Type 0
-IsOwn x = (nat_lt x 0x40 || nat_le 0x80 x) ≡ false
-
 own_reads : (k : Kind) (x : ℕ) (kinds : List Kind) (rest : List ℕ) → IsOwn x → behind_byte k x ≡ Some kinds →
     index_or_byte_at k (x ∷ rest) ≡ Ok (beginning None kinds, rest)
 unfolding index_or_byte_at
 own_reads k x kinds rest own e = rw own (byte_reads k x kinds rest e)
 
-number_again : (k : Kind) (text : List ℕ) (n : ℕ) (kinds : List Kind) (rest : List ℕ) → IsU32 text n →
-    behind_number k n ≡ Some kinds → begin_at k (text ++ rest) ≡ Ok (beginning None kinds, rest)
-unfolding begin_at
-number_again (kind.Index s) text n kinds rest h e = absurd cc
-number_again kind.U32 text n kinds rest h e = number_reads kind.U32 text n kinds rest h e
-number_again kind.U64 text n kinds rest h e = absurd cc
-number_again kind.S32 text n kinds rest h e = absurd cc
-number_again kind.S64 text n kinds rest h e = absurd cc
-number_again (kind.Bytes m) text n kinds rest h e = absurd cc
-number_again kind.Zero text n kinds rest h e = absurd cc
-number_again kind.CastFlags text n kinds rest h e = absurd cc
-number_again (kind.MemArg most) text n kinds rest h e = number_reads (kind.MemArg most) text n kinds rest h e
-number_again kind.BlockType text n kinds rest h e = absurd cc
-number_again kind.ValType text n kinds rest h e = absurd cc
-number_again kind.HeapType text n kinds rest h e = absurd cc
-number_again kind.CatchClause text n kinds rest h e = absurd cc
-number_again kind.Labels text n kinds rest h e = number_reads kind.Labels text n kinds rest h e
-number_again kind.ValTypes text n kinds rest h e = number_reads kind.ValTypes text n kinds rest h e
-number_again kind.CatchClauses text n kinds rest h e = number_reads kind.CatchClauses text n kinds rest h e
-number_again kind.Local text n kinds rest h e = number_reads kind.Local text n kinds rest h e
-number_again kind.Locals text n kinds rest h e = number_reads kind.Locals text n kinds rest h e
-number_again kind.Aggregate text n kinds rest h e = number_reads kind.Aggregate text n kinds rest h e
-number_again kind.Bulk text n kinds rest h e = number_reads kind.Bulk text n kinds rest h e
-number_again kind.Vector text n kinds rest h e = number_reads kind.Vector text n kinds rest h e
-number_again kind.Atomic text n kinds rest h e = number_reads kind.Atomic text n kinds rest h e
-number_again kind.Block text n kinds rest h e = absurd cc
-number_again kind.Expression text n kinds rest h e = absurd cc
-number_again kind.Expressions text n kinds rest h e = number_reads kind.Expressions text n kinds rest h e
-number_again kind.ByteVec text n kinds rest h e = absurd cc
-number_again kind.RefType text n kinds rest h e = absurd cc
-number_again kind.Mutability text n kinds rest h e = absurd cc
-number_again kind.TagType text n kinds rest h e = absurd cc
-number_again kind.TableLimits text n kinds rest h e = absurd cc
-number_again kind.MemoryLimits text n kinds rest h e = absurd cc
-number_again kind.ExternType text n kinds rest h e = absurd cc
-number_again kind.Import text n kinds rest h e = absurd cc
-number_again kind.Imports text n kinds rest h e = number_reads kind.Imports text n kinds rest h e
-number_again kind.TypeIndices text n kinds rest h e = number_reads kind.TypeIndices text n kinds rest h e
-number_again kind.FunctionIndices text n kinds rest h e =
-    number_reads kind.FunctionIndices text n kinds rest h e
-number_again kind.Table text n kinds rest h e = absurd cc
-number_again kind.Tables text n kinds rest h e = number_reads kind.Tables text n kinds rest h e
-number_again kind.Global text n kinds rest h e = absurd cc
-number_again kind.Globals text n kinds rest h e = number_reads kind.Globals text n kinds rest h e
-number_again kind.ElementSegment text n kinds rest h e =
-    number_reads kind.ElementSegment text n kinds rest h e
-number_again kind.ElementSegments text n kinds rest h e =
-    number_reads kind.ElementSegments text n kinds rest h e
-number_again kind.DataSegment text n kinds rest h e = number_reads kind.DataSegment text n kinds rest h e
-number_again kind.DataSegments text n kinds rest h e = number_reads kind.DataSegments text n kinds rest h e
-number_again kind.Tags text n kinds rest h e = number_reads kind.Tags text n kinds rest h e
+no_kinds : (o : Option (List Kind)) (kinds : List Kind) → o ≡ None → o ≡ Some kinds → ⊥
+no_kinds o kinds none e = absurd cc
 
-own_block : (x : ℕ) (kinds : List Kind) → behind_byte kind.BlockType x ≡ Some kinds → IsOwn x
-own_block x kinds e = grind (arith, common_steps)
+number_again : (k : Kind) (text : List ℕ) (n : ℕ) (kinds : List Kind) (rest : List ℕ) → Start k →
+    IsU32 text n → behind_number k n ≡ Some kinds → begin_at k (text ++ rest) ≡ Ok (beginning None kinds, rest)
+number_again _ text n kinds rest (with_number k is _ _) h e =
+    is (text ++ rest) ∙ number_reads k text n kinds rest h e
+number_again _ text n kinds rest (with_byte k _ none _) h e =
+    absurd (no_kinds (behind_number k n) kinds (none n) e)
+number_again _ text n kinds rest (with_either k _ none _ _) h e =
+    absurd (no_kinds (behind_number k n) kinds (none n) e)
+number_again _ text n kinds rest (without k _ none _ _) h e =
+    absurd (no_kinds (behind_number k n) kinds (none n) e)
 
-own_heap : (x : ℕ) (kinds : List Kind) → behind_byte kind.HeapType x ≡ Some kinds → IsOwn x
-own_heap x kinds e = grind (arith, common_steps)
+byte_once : (k : Kind) (x : ℕ) (kinds : List Kind) (rest : List ℕ) → Start k → behind_byte k x ≡ Some kinds →
+    begin_at k (x ∷ rest) ≡ Ok (beginning None kinds, rest)
+byte_once _ x kinds rest (with_number k _ none _) e = absurd (no_kinds (behind_byte k x) kinds (none x) e)
+byte_once _ x kinds rest (with_byte k is _ _) e = is (x ∷ rest) ∙ byte_reads k x kinds rest e
+byte_once _ x kinds rest (with_either k is _ _ own) e =
+    is (x ∷ rest) ∙ own_reads k x kinds rest (own x kinds e) e
+byte_once _ x kinds rest (without k _ _ none _) e = absurd (no_kinds (behind_byte k x) kinds (none x) e)
 
 pub byte_again : (k : Kind) (x : ℕ) (kinds : List Kind) (rest : List ℕ) → behind_byte k x ≡ Some kinds →
     begin_at k (x ∷ rest) ≡ Ok (beginning None kinds, rest)
-unfolding begin_at
-byte_again (kind.Index s) x kinds rest e = absurd cc
-byte_again kind.U32 x kinds rest e = absurd cc
-byte_again kind.U64 x kinds rest e = absurd cc
-byte_again kind.S32 x kinds rest e = absurd cc
-byte_again kind.S64 x kinds rest e = absurd cc
-byte_again (kind.Bytes n) x kinds rest e = absurd cc
-byte_again kind.Zero x kinds rest e = byte_reads kind.Zero x kinds rest e
-byte_again kind.CastFlags x kinds rest e = byte_reads kind.CastFlags x kinds rest e
-byte_again (kind.MemArg most) x kinds rest e = absurd cc
-byte_again kind.BlockType x kinds rest e = own_reads kind.BlockType x kinds rest (own_block x kinds e) e
-byte_again kind.ValType x kinds rest e = byte_reads kind.ValType x kinds rest e
-byte_again kind.HeapType x kinds rest e = own_reads kind.HeapType x kinds rest (own_heap x kinds e) e
-byte_again kind.CatchClause x kinds rest e = byte_reads kind.CatchClause x kinds rest e
-byte_again kind.Labels x kinds rest e = absurd cc
-byte_again kind.ValTypes x kinds rest e = absurd cc
-byte_again kind.CatchClauses x kinds rest e = absurd cc
-byte_again kind.Local x kinds rest e = absurd cc
-byte_again kind.Locals x kinds rest e = absurd cc
-byte_again kind.Aggregate x kinds rest e = absurd cc
-byte_again kind.Bulk x kinds rest e = absurd cc
-byte_again kind.Vector x kinds rest e = absurd cc
-byte_again kind.Atomic x kinds rest e = absurd cc
-byte_again kind.Block x kinds rest e = byte_reads kind.Block x kinds rest e
-byte_again kind.Expression x kinds rest e = byte_reads kind.Expression x kinds rest e
-byte_again kind.Expressions x kinds rest e = absurd cc
-byte_again kind.ByteVec x kinds rest e = absurd cc
-byte_again kind.RefType x kinds rest e = byte_reads kind.RefType x kinds rest e
-byte_again kind.Mutability x kinds rest e = byte_reads kind.Mutability x kinds rest e
-byte_again kind.TagType x kinds rest e = byte_reads kind.TagType x kinds rest e
-byte_again kind.TableLimits x kinds rest e = byte_reads kind.TableLimits x kinds rest e
-byte_again kind.MemoryLimits x kinds rest e = byte_reads kind.MemoryLimits x kinds rest e
-byte_again kind.ExternType x kinds rest e = byte_reads kind.ExternType x kinds rest e
-byte_again kind.Import x kinds rest e = absurd cc
-byte_again kind.Imports x kinds rest e = absurd cc
-byte_again kind.TypeIndices x kinds rest e = absurd cc
-byte_again kind.FunctionIndices x kinds rest e = absurd cc
-byte_again kind.Table x kinds rest e = byte_reads kind.Table x kinds rest e
-byte_again kind.Tables x kinds rest e = absurd cc
-byte_again kind.Global x kinds rest e = byte_reads kind.Global x kinds rest e
-byte_again kind.Globals x kinds rest e = absurd cc
-byte_again kind.ElementSegment x kinds rest e = absurd cc
-byte_again kind.ElementSegments x kinds rest e = absurd cc
-byte_again kind.DataSegment x kinds rest e = absurd cc
-byte_again kind.DataSegments x kinds rest e = absurd cc
-byte_again kind.Tags x kinds rest e = absurd cc
+byte_again k x kinds rest e = byte_once k x kinds rest (start k) e
 
 signed_reads : (k : Kind) (x : ℕ) (bytes : List ℕ) (n : ℕ) (rest : List ℕ) →
     (nat_lt x 0x40 || nat_le 0x80 x) ≡ true → s33_at (x ∷ bytes) ≡ Ok (n, rest) →
@@ -351,56 +307,16 @@ signed_is_first end _ k _ _ rest at-end (more limit b high bytes big is wide tex
     signed_reads k b (bytes ++ rest) _ rest (rw (le-ltb b 0x40 (omega (arith, big)), le-leb 0x80 b big) refl)
     e
 
-signed_again_at : (k : Kind) (text : List ℕ) (n : ℕ) (rest : List ℕ) → may_be_index k ≡ true → IsS33 text n →
-    begin_at k (text ++ rest) ≡ Ok (beginning (Some n) [], rest)
-unfolding begin_at
-signed_again_at (kind.Index s) text n rest may h = absurd cc
-signed_again_at kind.U32 text n rest may h = absurd cc
-signed_again_at kind.U64 text n rest may h = absurd cc
-signed_again_at kind.S32 text n rest may h = absurd cc
-signed_again_at kind.S64 text n rest may h = absurd cc
-signed_again_at (kind.Bytes m) text n rest may h = absurd cc
-signed_again_at kind.Zero text n rest may h = absurd cc
-signed_again_at kind.CastFlags text n rest may h = absurd cc
-signed_again_at (kind.MemArg most) text n rest may h = absurd cc
-signed_again_at kind.BlockType text n rest may h =
-    signed_is_first 0x40 (2 ^ 32) kind.BlockType text n rest refl h (s33_complete text n rest h)
-signed_again_at kind.ValType text n rest may h = absurd cc
-signed_again_at kind.HeapType text n rest may h =
-    signed_is_first 0x40 (2 ^ 32) kind.HeapType text n rest refl h (s33_complete text n rest h)
-signed_again_at kind.CatchClause text n rest may h = absurd cc
-signed_again_at kind.Labels text n rest may h = absurd cc
-signed_again_at kind.ValTypes text n rest may h = absurd cc
-signed_again_at kind.CatchClauses text n rest may h = absurd cc
-signed_again_at kind.Local text n rest may h = absurd cc
-signed_again_at kind.Locals text n rest may h = absurd cc
-signed_again_at kind.Aggregate text n rest may h = absurd cc
-signed_again_at kind.Bulk text n rest may h = absurd cc
-signed_again_at kind.Vector text n rest may h = absurd cc
-signed_again_at kind.Atomic text n rest may h = absurd cc
-signed_again_at kind.Block text n rest may h = absurd cc
-signed_again_at kind.Expression text n rest may h = absurd cc
-signed_again_at kind.Expressions text n rest may h = absurd cc
-signed_again_at kind.ByteVec text n rest may h = absurd cc
-signed_again_at kind.RefType text n rest may h = absurd cc
-signed_again_at kind.Mutability text n rest may h = absurd cc
-signed_again_at kind.TagType text n rest may h = absurd cc
-signed_again_at kind.TableLimits text n rest may h = absurd cc
-signed_again_at kind.MemoryLimits text n rest may h = absurd cc
-signed_again_at kind.ExternType text n rest may h = absurd cc
-signed_again_at kind.Import text n rest may h = absurd cc
-signed_again_at kind.Imports text n rest may h = absurd cc
-signed_again_at kind.TypeIndices text n rest may h = absurd cc
-signed_again_at kind.FunctionIndices text n rest may h = absurd cc
-signed_again_at kind.Table text n rest may h = absurd cc
-signed_again_at kind.Tables text n rest may h = absurd cc
-signed_again_at kind.Global text n rest may h = absurd cc
-signed_again_at kind.Globals text n rest may h = absurd cc
-signed_again_at kind.ElementSegment text n rest may h = absurd cc
-signed_again_at kind.ElementSegments text n rest may h = absurd cc
-signed_again_at kind.DataSegment text n rest may h = absurd cc
-signed_again_at kind.DataSegments text n rest may h = absurd cc
-signed_again_at kind.Tags text n rest may h = absurd cc
+not_both : (b : Bool) → b ≡ false → b ≡ true → ⊥
+not_both b fails holds = absurd cc
+
+signed_again_at : (k : Kind) (text : List ℕ) (n : ℕ) (rest : List ℕ) → Start k → may_be_index k ≡ true →
+    IsS33 text n → begin_at k (text ++ rest) ≡ Ok (beginning (Some n) [], rest)
+signed_again_at _ text n rest (with_number k _ _ never) may h = absurd (not_both (may_be_index k) never may)
+signed_again_at _ text n rest (with_byte k _ _ never) may h = absurd (not_both (may_be_index k) never may)
+signed_again_at _ text n rest (with_either k is _ _ _) may h =
+    is (text ++ rest) ∙ signed_is_first 0x40 (2 ^ 32) k text n rest refl h (s33_complete text n rest h)
+signed_again_at _ text n rest (without k _ _ _ never) may h = absurd (not_both (may_be_index k) never may)
 
 index_again : (s : Space) (text : List ℕ) (k : ℕ) (rest : List ℕ) → IsU32 text k →
     begin_at (kind.Index s) (text ++ rest) ≡ Ok (beginning (name_in s k) [], rest)
@@ -411,8 +327,8 @@ pub begin_again : (k : Kind) (text : List ℕ) (token : Token) (kinds : List Kin
     Begins k text token kinds → begin_at k (text ++ rest) ≡ Ok (beginning (type_name token) kinds, rest)
 unfolding begin_at
 begin_again _ _ _ _ rest (index s text k h) = rw (space_name s text k) (index_again s text k rest h)
-begin_again _ _ _ _ rest (signed_index k text n may h) = signed_again_at k text n rest may h
-begin_again _ _ _ _ rest (number k text n kinds h e) = number_again k text n kinds rest h e
+begin_again _ _ _ _ rest (signed_index k text n may h) = signed_again_at k text n rest (start k) may h
+begin_again _ _ _ _ rest (number k text n kinds h e) = number_again k text n kinds rest (start k) h e
 begin_again _ _ _ _ rest (byte k x kinds e) = byte_again k x kinds rest e
 begin_again _ _ _ _ rest (offset text n h) = rw (skip_complete (2 ^ 64) text tt rest (n, h)) refl
 begin_again _ _ _ _ rest (i32 text h) = rw (signed_complete (2 ^ 31) text tt rest h) refl

@@ -52,5 +52,4 @@ pub mod AlikeTrees
 pub mod AlikeModules
 pub mod StrippedOnce
 pub mod StrippedRenamed
-pub mod StrippedBefore
 pub mod RenamedNames

@@ -5,54 +5,14 @@ use Rattle.wasm_binary.specs.Grammar.{AreItems, none, next}
 use Rattle.wasm_binary.specs.Modules.{Section, section, ids, IsSection, sized, AreInOrder, header, IsModule, framed}
 use Rattle.wasm_binary.proofs.Modules.Faulting.{module_parts}
 use Rattle.wasm_module.specs.declared.renaming.Widths.{Widths}
-use Rattle.wasm_module.specs.Changes.{ChangesSized, stays, resized, ChangeAll}
+use Rattle.wasm_module.specs.Changes.{ChangeAll}
 use Rattle.wasm_module.specs.Changes.ChangeAll.{none as no_change, next as next_change}
-use Rattle.wasm_module.specs.RenamedModules.{RenamesAny, RenamesSection, RenamesModule, HaveSameIds}
-use Rattle.wasm_module.specs.RenamedModules.RenamesSection.{type_section, other}
+use Rattle.wasm_module.specs.RenamedModules.{RenamesSection, RenamesModule, HaveSameIds}
 use Rattle.wasm_module.specs.Renaming.{NewIndices}
-use Rattle.wasm_module.proofs.RenamedModules.{AsSection, sections_same}
+use Rattle.wasm_module.proofs.RenamedModules.{pair, same_section}
 use Rattle.wasm_module.proofs.RenamedSections.{whole}
 
 -- ---- the sections before and after
-
-pub record ArePair (text new : List ℕ) : Type 0 where
-  pub id : ℕ
-  pub content : List ℕ
-  pub new_content : List ℕ
-  pub before : IsSection text (section id content)
-  pub after : IsSection new (section id new_content)
-
-sized_pair : (id : ℕ) (new_indices : NewIndices) (w : Widths) (text new names : List ℕ) →
-    ChangesSized w (RenamesAny id new_indices w) text new names → ArePair (id ∷ text) (id ∷ new)
-sized_pair id new_indices w _ _ _ (stays size content h r) =
-    record {
-      id = id;
-      content = content;
-      new_content = content;
-      before = sized id size content h;
-      after = sized id size content h;
-    }
-sized_pair id new_indices w _ _ _ (resized size content new_size new names h r some is) =
-    record {
-      id = id;
-      content = content;
-      new_content = new;
-      before = sized id size content h;
-      after = sized id new_size new is.is_text;
-    }
-
-pub pair : (types : List ℕ) (new_indices : NewIndices) (w : Widths) (text new names : List ℕ) →
-    RenamesSection types new_indices w text new names → ArePair text new
-pair types new_indices w _ _ _ (type_section size content new_size h is) =
-    record {
-      id = 1;
-      content = content;
-      new_content = types;
-      before = sized 1 size content h;
-      after = sized 1 new_size types is.is_text;
-    }
-pair types new_indices w _ _ _ (other id text new names some c) =
-    sized_pair id new_indices w text new names c
 
 pub record ArePairs (texts new : List ℕ) : Type 0 where
   pub sections : List Section
@@ -61,8 +21,9 @@ pub record ArePairs (texts new : List ℕ) : Type 0 where
   pub after : AreItems IsSection new new_sections
   pub same : ids new_sections ≡ ids sections
 
-pub pairs : (types : List ℕ) (new_indices : NewIndices) (w : Widths) (count : ℕ) (texts new names : List ℕ) →
-    ChangeAll (RenamesSection types new_indices w) count texts new names → ArePairs texts new
+unfoldable pub pairs : (types : List ℕ) (new_indices : NewIndices) (w : Widths) (count : ℕ)
+    (texts new names : List ℕ) → ChangeAll (RenamesSection types new_indices w) count texts new names →
+    ArePairs texts new
 pairs types new_indices w _ _ _ _ no_change =
     record { sections = []; new_sections = []; before = none; after = none; same = refl }
 pairs types new_indices w _ _ _ _ (next_change count text others new new_others names more r rs) =
@@ -78,11 +39,6 @@ pairs types new_indices w _ _ _ _ (next_change count text others new new_others 
 
 -- ---- the same bytes have one list of ids
 
-abbrev pub as_section : (text : List ℕ) (s : Section) → IsSection text s → AsSection text
-as_section text s h =
-    let k = whole text s h in
-    record { id = s.id; size = k.size; content = s.content; is_size = k.is_size; parts = k.parts }
-
 pub not_empty : (text others : List ℕ) (s : Section) → IsSection text s → [] ≡ text ++ others → ⊥
 not_empty _ others _ (sized id size content h) e = absurd cc
 
@@ -92,9 +48,9 @@ same_ids _ _ _ _ none none e = refl
 same_ids _ _ _ _ none (next text others s sections h hs) e = absurd (not_empty text others s h e)
 same_ids _ _ _ _ (next text others s sections h hs) none e = absurd (not_empty text others s h (sym e))
 same_ids _ _ _ _ (next text others s sections h hs) (next whole after t more k ks) e =
-    let same = sections_same text others whole after (as_section text s h) (as_section whole t k) e in
-    ap (λ n. n ∷ ids sections) same.id
-    ∙ ap (λ (u : List ℕ). t.id ∷ u) (same_ids others after sections more hs ks same.behind)
+    let same = same_section text others whole after s t h k e in
+    ap (λ (u : Section). u.id ∷ ids sections) same.0
+    ∙ ap (λ (u : List ℕ). t.id ∷ u) (same_ids others after sections more hs ks same.1)
 
 pub have_same_ids : (types : List ℕ) (new_indices : NewIndices) (widths : Widths) (bytes new : List ℕ) →
     RenamesModule types new_indices widths bytes new → HaveSameIds bytes new

@@ -1,6 +1,5 @@
 -- Names, and maps from indices to names, from the front of bytes.
-use Rattle.std.proofs.Common.{◌≡◌, ℕ, ◌+◌, ◌-◌, ◌<◌, ◌≤◌, List, [], ◌∷◌, ◌++◌, length, Option, Some, None, Result, Ok, Err, refl, sym, ap, subst, ◌∙◌, arith, append_assoc, length-append}
-use Rattle.std.specs.Prelude.{IfSome, IfNone}
+use Rattle.std.proofs.Common.{◌≡◌, ℕ, ◌+◌, ◌-◌, ◌<◌, ◌≤◌, List, [], ◌∷◌, ◌++◌, length, Option, Result, Ok, Err, refl, sym, ap, subst, ◌∙◌, arith, append_assoc, length-append}
 use Rattle.wasm_binary.specs.Steps.Reading.{u32_at}
 use Rattle.wasm_binary.proofs.Integers.{u32_sound}
 use Rattle.wasm_module.specs.declared.renaming.RenameError.{RenameError}
@@ -13,17 +12,6 @@ use Rattle.wasm_module.specs.Steps.Heads.{fault}
 use Rattle.wasm_module.specs.Steps.NameSections.{Takes, BeginsNone, TakesSized, BeginsUnsized, IsFollowing, IsAny, TakesItems, TakesEntry}
 use Rattle.wasm_module.proofs.SizedContents.{no_number, same_number, number_read, same_content}
 use Rattle.wasm_module.proofs.TextItems.{IsPrefixFree, no_items, items_on, items_cut_off, vec_free, vec_taken, vec_countless, vec_items}
-
--- ---- what one call says of another
-
-pub if_some : {A : Type 0} {P Q : A → Type 0} → ((x : A) → P x → Q x) → (o : Option A) → IfSome o P → IfSome o
-    Q
-if_some f (Some x) h = f x h
-if_some f None h = tt
-
-pub if_none : {A : Type 0} {P Q : Type 0} → (P → Q) → (o : Option A) → IfNone o P → IfNone o Q
-if_none f (Some x) h = tt
-if_none f None h = f h
 
 -- ---- names
 

@@ -1,15 +1,17 @@
 -- Custom sections with other indices of types.
-use Rattle.std.proofs.Common.{◌≡◌, ℕ, zero, Bool, true, false, not, List, [], ◌++◌, length, refl, sym, ap, subst, ◌∙◌, append_assoc, append-nil}
+use Rattle.std.proofs.Common.{◌≡◌, ℕ, Bool, true, false, not, List, [], ◌++◌, length, refl, sym, ap, subst, ◌∙◌, append_assoc, append-nil}
 use Rattle.std.specs.Bool.{Decides}
 use Rattle.std.specs.Str.{bytes_eq}
 use Rattle.std.proofs.lemmas.Slice.Eq.{bytes_eq-Decides}
 use Rattle.wasm_binary.specs.Leb128.{IsU32}
 use Rattle.wasm_module.specs.declared.renaming.Widths.{Widths}
-use Rattle.wasm_module.specs.Changes.{Changes, ChangeAll, none, IsMalformed}
+use Rattle.wasm_module.specs.Changes.{Changes, ChangeAll, IsMalformed}
 use Rattle.wasm_module.specs.NameSections.{RenamesSubsection, name_bytes, RenamesCustom, name_section, other, FirstSubsectionIn, in_subsection}
-use Rattle.wasm_module.specs.Steps.NameSections.{BeginsNone, TakesSized, BeginsUnsized, IsRenamedUpTo, IsSomeSubsection, BeginsSubsectionIn, begins}
+use Rattle.wasm_module.specs.Steps.NameSections.{BeginsNone, TakesSized, BeginsUnsized, IsSomeSubsection, BeginsSubsectionIn, begins}
+use Rattle.wasm_module.specs.Steps.Changes.{IsChangedUpTo}
 use Rattle.wasm_module.specs.Renaming.{NewIndices}
 use Rattle.wasm_module.proofs.SizedContents.{same_content}
+use Rattle.wasm_module.proofs.Changing.{changed_none}
 use Rattle.wasm_module.proofs.Subsections.{next_subsection}
 
 -- ---- their names
@@ -35,32 +37,21 @@ pub record IsSectionUpTo (new_indices : NewIndices) (widths : Widths) (content u
     Type 0 where
   pub size : List ℕ
   pub is_size : IsU32 size (length name_bytes)
-  pub so_far : IsRenamedUpTo new_indices widths (size ++ name_bytes) content unwritten rest out
+  pub count : ℕ
+  pub so_far : IsChangedUpTo (RenamesSubsection new_indices widths) count (size ++ name_bytes) content rest
+      unwritten out
 
 pub section_begun : (new_indices : NewIndices) (widths : Widths) (content name rest out : List ℕ) →
     TakesSized name content rest → name ≡ name_bytes → out ≡ [] →
     IsSectionUpTo new_indices widths content content rest out
 section_begun new_indices widths content name rest out t e o =
-    let parts : content ≡ (t.size ++ name_bytes) ++ rest = t.parts
-    ∙ ap (λ (u : List ℕ). t.size ++ (u ++ rest)) e ∙ sym (append_assoc t.size name_bytes rest) in
     record {
       size = t.size;
       is_size = subst (λ (u : List ℕ). IsU32 t.size (length u)) e t.is_size;
-      so_far = record {
-        count = zero;
-        texts = [];
-        new = [];
-        names = [];
-        passed = t.size ++ name_bytes;
-        so_far = none;
-        parts = parts;
-        not_written = parts;
-        written = append-nil (t.size ++ name_bytes) ∙ ap (λ (u : List ℕ). u ++ (t.size ++ name_bytes))
-            (sym o);
-        untouched = λ h. refl;
-        nameless = λ h. refl;
-        naming = λ h. o;
-      };
+      count = 0;
+      so_far = changed_none (RenamesSubsection new_indices widths) (t.size ++ name_bytes) content rest out
+          (t.parts ∙ ap (λ (u : List ℕ). t.size ++ (u ++ rest)) e ∙ sym
+          (append_assoc t.size name_bytes rest)) o;
     }
 
 -- ---- what the whole says
@@ -78,7 +69,7 @@ section_is new_indices widths content unwritten rest out s e =
     let u = s.so_far in
     subst (λ (x : List ℕ). RenamesCustom new_indices widths x (s.size ++ (name_bytes ++ u.new)) u.names)
     (sym (whole_again s.size content rest u.texts e u.parts))
-    (name_section u.count s.size u.texts u.new u.names s.is_size u.so_far)
+    (name_section s.count s.size u.texts u.new u.names s.is_size u.so_far)
 
 pub section_stays : (new_indices : NewIndices) (widths : Widths) (content unwritten rest out : List ℕ) →
     IsSectionUpTo new_indices widths content unwritten rest out → rest ≡ [] → out ≡ [] →
@@ -121,7 +112,7 @@ section_first new_indices widths F content unwritten rest out s b =
     first : (rest : List ℕ) → BeginsSubsectionIn F rest →
         FirstSubsectionIn new_indices widths F (s.size ++ (name_bytes ++ (s.so_far.texts ++ rest)))
     first _ (begins id behind i) =
-        in_subsection s.so_far.count s.size s.so_far.texts behind s.so_far.new s.so_far.names id s.is_size
+        in_subsection s.count s.size s.so_far.texts behind s.so_far.new s.so_far.names id s.is_size
         s.so_far.so_far i
 
 -- a name, and what follows it
@@ -174,7 +165,7 @@ section_malformed old_indices old_widths content unwritten rest out s some h new
     } in
     let same = same_content content name_bytes (u.texts ++ rest) n.name n.follows it n.takes in
     let a = n.are (sym same.0) in
-    let k = next_subsection old_indices new_indices old_widths widths u.count a.0 u.texts u.new u.names
+    let k = next_subsection old_indices new_indices old_widths widths s.count a.0 u.texts u.new u.names
     n.follows a.1
     names rest u.so_far a.2 same.1 some in
     h k.0 k.1

@@ -1,71 +1,64 @@
 -- Texts, contents of sections and modules have one list of lengths.
-use Rattle.std.proofs.Common.{◌≡◌, ℕ, ◌+◌, ◌-◌, List, [], ◌∷◌, ◌++◌, length, drop, Option, Some, None, refl, sym, ap, subst, ◌∙◌, arith, append_assoc}
+use Rattle.std.proofs.Common.{◌≡◌, ℕ, ◌+◌, ◌-◌, List, [], ◌∷◌, ◌++◌, length, drop, Option, Some, None, refl, sym, ap, subst, ◌∙◌, arith}
 use Rattle.std.specs.List.{All, Contains, concat}
-use Rattle.std.proofs.lemmas.List.{append_cancel_right}
 use Rattle.std.proofs.lemmas.List.Elements.{All-contains, All-head, All-tail, Contains-append_right}
-use Rattle.wasm_binary.specs.Grammar.{AreItems, none, next}
 use Rattle.wasm_binary.specs.Modules.{header}
 use Rattle.wasm_binary.specs.Steps.Reading.{u32_at}
-use Rattle.wasm_binary.proofs.Basics.{done, value_is}
 use Rattle.wasm_module.specs.declared.kind.Kind.{Kind}
 use Rattle.wasm_module.specs.Bodies.{body}
 use Rattle.wasm_module.specs.Contents.{section_kinds}
 use Rattle.wasm_module.specs.Customs.{HasSections}
-use Rattle.wasm_module.specs.Immediates.{Token, type_name, stop, step, AreTexts}
+use Rattle.wasm_module.specs.Immediates.{Token, type_name, AreTexts}
+use Rattle.wasm_module.specs.SyntaxTrees.{SyntaxTree, still, index, joined, mapped, types}
+use Rattle.wasm_module.specs.SyntaxTrees.SyntaxTree.{sized as sized_tree}
 use Rattle.wasm_module.specs.Lengths.{length_of, type_lengths, HasTypeLengths, HasBodyLengths, sized, HasCodeLengths, counted, HasContentLengths, texts, code, nameless, HaveLengths, IsNot, HasContent, present, absent, HasLengthsInCode, in_code, HasLengthsToCodeEnd, to_code_end}
 use Rattle.wasm_module.specs.Lengths.HaveLengths.{none as no_sections, next as next_section}
 use Rattle.wasm_module.specs.Lengths.HasLengthsInCode.{no_code as none_in_code}
 use Rattle.wasm_module.specs.Lengths.HasLengthsToCodeEnd.{no_code as none_to_code_end}
 use Rattle.wasm_module.specs.NamedTypes.{code_id}
-use Rattle.wasm_module.specs.Renaming.{text_of}
 use Rattle.wasm_module.specs.Sections.{PlacedSection, placed, ArePlaced}
 use Rattle.wasm_module.specs.Sections.ArePlaced.{none as nothing, next as placed_next}
-use Rattle.wasm_module.specs.Steps.Heads.{beginning, begin_at}
-use Rattle.wasm_module.specs.Steps.NameSections.{TakesSized}
-use Rattle.wasm_module.proofs.Heads.{begin_again}
-use Rattle.wasm_module.proofs.Tokens.{token_text}
-use Rattle.wasm_module.proofs.SameTexts.{same_kinds, no_texts_of_code}
-use Rattle.wasm_module.proofs.Scanning.{same_step}
+use Rattle.wasm_module.proofs.Tokens.{View, u32_type, s33_type, other, view}
+use Rattle.wasm_module.proofs.TreesOfTexts.{token_tree, tokens_tree, unnamed_tree, one_text}
+use Rattle.wasm_module.proofs.SameTexts.{taken, same_sizes, named, same_kinds, no_texts_of_code}
+use Rattle.wasm_module.proofs.TextItems.{items_once}
+use Rattle.wasm_module.proofs.NumberTexts.{cancel}
 use Rattle.wasm_module.proofs.SizedContents.{number_read, same_number, same_content}
 
 -- ---- texts
 
-length_same : (p q : Token) (o : Option ℕ) → text_of p ≡ text_of q → length_of p o ≡ length_of q o
-length_same p q (Some k) e = ap (λ (u : List ℕ). length u ∷ []) e
-length_same p q None e = refl
+-- how many bytes the indices of types in a tree of tokens have
+abbrev lengths_in : SyntaxTree → List ℕ
+lengths_in (still text) = []
+lengths_in (index end text k) = length text ∷ []
+lengths_in (sized_tree size p) = []
+lengths_in (joined p q) = lengths_in p ++ lengths_in q
+lengths_in (mapped count bytes entries) = []
+lengths_in (types size content) = []
+
+token_lengths : (p : Token) → View p → lengths_in (token_tree p) ≡ length_of p (type_name p)
+token_lengths _ (u32_type text k) = refl
+token_lengths _ (s33_type text k) = refl
+token_lengths _ (other p unnamed maps) =
+    ap lengths_in (unnamed_tree p unnamed) ∙ sym (ap (length_of p) unnamed)
+
+tokens_lengths : (ps : List Token) → lengths_in (tokens_tree ps) ≡ type_lengths ps
+tokens_lengths [] = refl
+tokens_lengths (p ∷ ps) =
+    ap (λ (u : List ℕ). u ++ lengths_in (tokens_tree ps)) (token_lengths p (view p))
+    ∙ ap (λ (u : List ℕ). length_of p (type_name p) ++ u) (tokens_lengths ps)
 
 tokens_once : (kinds : List Kind) (t : List ℕ) (ps : List Token) (t' : List ℕ) (qs : List Token)
     (r r' : List ℕ) → AreTexts kinds t ps → AreTexts kinds t' qs → t ++ r ≡ t' ++ r' →
     type_lengths ps ≡ type_lengths qs
-tokens_once _ _ _ _ _ r r' (stop _) (stop _) e = refl
-tokens_once _ _ _ _ _ r r' (step k more kinds _ text others p ps h runs)
-    (step _ inner _ _ text' others' q qs g runs') e =
-    let bytes : text ++ (others ++ r) ≡ text' ++ (others' ++ r') =
-    sym (append_assoc text others r) ∙ e ∙ append_assoc text' others' r' in
-    let s = same_step k text text' p q more inner (others ++ r) (others' ++ r') h g bytes in
-    let read : done (beginning (type_name p) more) (others ++ r) ≡
-    done (beginning (type_name q) inner) (others' ++ r') =
-    sym (begin_again k text p more (others ++ r) h) ∙ ap (begin_at k) bytes
-    ∙ begin_again k text' q inner (others' ++ r') g in
-    let named : type_name p ≡ type_name q =
-    ap (λ u. u.named) (value_is (beginning (type_name p) more) (beginning (type_name q) inner)
-    (others ++ r) (others' ++ r') read) in
-    let prefix : text ≡ text' = append_cancel_right text text' (others ++ r)
-    (bytes ∙ ap (λ (u : List ℕ). text' ++ u) (sym s.1)) in
-    let same : text_of p ≡ text_of q = sym (token_text k text p more h) ∙ prefix
-    ∙ token_text k text' q inner g in
-    let later : type_lengths ps ≡ type_lengths qs =
-    tokens_once (more ++ kinds) others ps others' qs r r' runs
-    (subst (λ (u : List Kind). AreTexts (u ++ kinds) others' qs) (sym s.0) runs') s.1 in
-    ap (λ o. length_of p o ++ type_lengths ps) named
-    ∙ ap (λ (u : List ℕ). u ++ type_lengths ps) (length_same p q (type_name q) same)
-    ∙ ap (λ (u : List ℕ). length_of q (type_name q) ++ u) later
+tokens_once kinds t ps t' qs r r' h g e =
+    sym (tokens_lengths ps) ∙ ap lengths_in (one_text kinds t ps t' qs r r' h g e) ∙ tokens_lengths qs
 
 text_once : (kinds : List Kind) (text other a b : List ℕ) → text ≡ other → HasTypeLengths kinds text a →
     HasTypeLengths kinds other b → a ≡ b
-text_once kinds text other a b e h g =
+text_once kinds text its a b e h g =
     h.long
-    ∙ tokens_once kinds text h.tokens other g.tokens [] [] h.are g.are (ap (λ (u : List ℕ). u ++ []) e)
+    ∙ tokens_once kinds text h.tokens its g.tokens [] [] h.are g.are (ap (λ (u : List ℕ). u ++ []) e)
     ∙ sym g.long
 
 -- ---- contents of sections
@@ -73,33 +66,13 @@ text_once kinds text other a b e h g =
 body_once : (text other a b r s : List ℕ) → HasBodyLengths text a → HasBodyLengths other b →
     text ++ r ≡ other ++ s → (a ≡ b) × (r ≡ s)
 body_once _ _ _ _ r s (sized size content lengths h l) (sized size' content' lengths' h' l') e =
-    let bytes : size ++ (content ++ r) ≡ size' ++ (content' ++ s) =
-    sym (append_assoc size content r) ∙ e ∙ append_assoc size' content' s in
-    let t : TakesSized content (size ++ (content ++ r)) r =
-    record { size = size; is_size = h; parts = refl } in
-    let u : TakesSized content' (size ++ (content ++ r)) s =
-    record { size = size'; is_size = h'; parts = bytes } in
-    let c = same_content (size ++ (content ++ r)) content r content' s t u in
-    let prefix : size ≡ size' = append_cancel_right size size' (content ++ r)
-    (bytes ∙ ap (λ (x : List ℕ). size' ++ (x ++ s)) (sym c.0)
-    ∙ ap (λ (x : List ℕ). size' ++ (content ++ x)) (sym c.1)) in (
+    let c = same_content ((size ++ content) ++ r) content r content' s (taken size content r _ h refl)
+    (taken size' content' s _ h' e) in
+    let prefix : size ≡ size' = same_sizes size content r size' content' s c.0 c.1 e in (
       ap (λ (x : List ℕ). length x ∷ lengths) prefix
           ∙ ap (λ (x : List ℕ). length size' ∷ x) (text_once body content content' lengths lengths' c.0 l l'),
       c.1,
     )
-
-bodies_once : (text : List ℕ) (xs : List (List ℕ)) (other : List ℕ) (ys : List (List ℕ)) (r s : List ℕ) →
-    AreItems HasBodyLengths text xs → AreItems HasBodyLengths other ys → text ++ r ≡ other ++ s →
-    length xs ≡ length ys → xs ≡ ys
-bodies_once _ _ _ _ r s none none e many = refl
-bodies_once _ _ _ _ r s none (next text others b ys h hs) e many = absurd (omega (arith, many))
-bodies_once _ _ _ _ r s (next text others a xs h hs) none e many = absurd (omega (arith, many))
-bodies_once _ _ _ _ r s (next text others a xs h hs) (next text' others' b ys g gs) e many =
-    let bytes : text ++ (others ++ r) ≡ text' ++ (others' ++ s) =
-    sym (append_assoc text others r) ∙ e ∙ append_assoc text' others' s in
-    let o = body_once text text' a b (others ++ r) (others' ++ s) h g bytes in
-    ap (λ (x : List ℕ). x ∷ xs) o.0
-    ∙ ap (λ (x : List (List ℕ)). b ∷ x) (bodies_once others xs others' ys r s hs gs o.1 (omega (arith, many)))
 
 code_once : (content other a b : List ℕ) → content ≡ other → HasCodeLengths content a →
     HasCodeLengths other b → a ≡ b
@@ -108,7 +81,8 @@ code_once _ _ _ _ e (counted count prefix xs h hs) (counted count' prefix' ys h'
     (number_read (count ++ prefix) count (length xs) prefix h refl)
     (number_read (count ++ prefix) count' (length ys) prefix' h' e) in
     ap (λ (x : List (List ℕ)). concat x)
-    (bodies_once prefix xs prefix' ys [] [] hs hs' (ap (λ (x : List ℕ). x ++ []) n.1) n.0)
+    (items_once HasBodyLengths body_once prefix xs prefix' ys [] [] hs hs' (ap (λ (x : List ℕ). x ++ []) n.1)
+    n.0)
 
 pub content_once : (id : ℕ) (content a b : List ℕ) → HasContentLengths id content a →
     HasContentLengths id content b → a ≡ b
@@ -117,13 +91,13 @@ content_once id _ _ _ (texts kinds content a e h) (texts kinds' _ b e' g) =
     (subst (λ (u : List Kind). HasTypeLengths u content b)
     (same_kinds (section_kinds id) kinds' kinds e' e) g)
 content_once id _ _ _ (texts kinds content a e h) (code _ b is g) = absurd (no_texts_of_code id kinds e is)
-content_once id _ _ _ (texts kinds content a e h) (nameless _ lacking other) = absurd cc
+content_once id _ _ _ (texts kinds content a e h) (nameless _ lacking fails) = absurd cc
 content_once id _ _ _ (code content a is h) (texts kinds _ b e g) = absurd (no_texts_of_code id kinds e is)
 content_once id _ _ _ (code content a is h) (code _ b is' g) = code_once content content a b refl h g
-content_once id _ _ _ (code content a is h) (nameless _ lacking other) = absurd (other is)
-content_once id _ _ _ (nameless content lacking other) (texts kinds _ b e g) = absurd cc
-content_once id _ _ _ (nameless content lacking other) (code _ b is g) = absurd (other is)
-content_once id _ _ _ (nameless content lacking other) (nameless _ missing different) = refl
+content_once id _ _ _ (code content a is h) (nameless _ lacking fails) = absurd (fails is)
+content_once id _ _ _ (nameless content lacking fails) (texts kinds _ b e g) = absurd cc
+content_once id _ _ _ (nameless content lacking fails) (code _ b is g) = absurd (fails is)
+content_once id _ _ _ (nameless content lacking fails) (nameless _ missing different) = refl
 
 -- ---- the sections of a module
 
@@ -136,14 +110,10 @@ placed_once offset _ _ _ _ (placed_next _ id size content others sections h hs)
     (placed_next _ id' size' content' others' sections' h' hs') e =
     let first : id ≡ id' = cc in
     let bytes : size ++ (content ++ others) ≡ size' ++ (content' ++ others') = cc in
-    let t : TakesSized content (size ++ (content ++ others)) others =
-    record { size = size; is_size = h; parts = refl } in
-    let u : TakesSized content' (size ++ (content ++ others)) others' =
-    record { size = size'; is_size = h'; parts = bytes } in
-    let c = same_content (size ++ (content ++ others)) content others content' others' t u in
-    let prefix : size ≡ size' = append_cancel_right size size' (content ++ others)
-    (bytes ∙ ap (λ (x : List ℕ). size' ++ (x ++ others')) (sym c.0)
-    ∙ ap (λ (x : List ℕ). size' ++ (content ++ x)) (sym c.1)) in
+    let c = same_content (size ++ (content ++ others)) content others content' others'
+    (named size content others _ h refl) (named size' content' others' _ h' bytes) in
+    let prefix : size ≡ size' = cancel size size' (content ++ others) (content' ++ others') bytes
+    (ap (λ (x : List ℕ). x ++ others) c.0 ∙ ap (λ (x : List ℕ). content' ++ x) c.1) in
     let behind : ArePlaced (offset + 1 + length size + length content) others' sections' =
     subst (λ k. ArePlaced k others' sections')
     (sym (ap (λ (x : List ℕ). offset + 1 + length x + length content)

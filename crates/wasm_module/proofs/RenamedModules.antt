@@ -3,8 +3,7 @@ use Rattle.std.proofs.Common.{◌≡◌, ℕ, ◌+◌, ◌-◌, ◌≤◌, List,
 use Rattle.std.proofs.lemmas.List.{append_cancel_left}
 use Rattle.std.specs.Prelude.{slice_range}
 use Rattle.wasm_binary.specs.Leb128.{IsU32}
-use Rattle.wasm_binary.specs.Modules.{Section, IsSection, sized, header, IsModule}
-use Rattle.wasm_binary.specs.Steps.Reading.{u32_at}
+use Rattle.wasm_binary.specs.Modules.{Section, section, IsSection, sized, header, IsModule}
 use Rattle.wasm_binary.proofs.Modules.Faulting.{module_parts}
 use Rattle.wasm_binary.proofs.Modules.Uniqueness.{one_module}
 use Rattle.wasm_module.specs.declared.renaming.Widths.{Widths}
@@ -17,39 +16,52 @@ use Rattle.wasm_module.specs.Sections.ArePlaced.{none as nothing, next as placed
 use Rattle.wasm_module.specs.Steps.RenamedModules.{IsMalformedSection, SectionNamesUnknown}
 use Rattle.wasm_module.specs.Steps.Renaming.{Appends}
 use Rattle.wasm_module.specs.Renaming.{NewIndices}
-use Rattle.wasm_module.proofs.SizedContents.{same_number, number_read}
+use Rattle.wasm_module.proofs.SizedContents.{same_content}
 use Rattle.wasm_module.proofs.Changing.{change_on, first_behind}
 use Rattle.wasm_module.proofs.ChangedTexts.{EndsAlike, Changed, changed_behind}
 
--- ---- where a section ends
+-- ---- the section before and after
 
--- the text of a section
-pub record AsSection (text : List ℕ) : Type 0 where
+pub record ArePair (text new : List ℕ) : Type 0 where
   pub id : ℕ
-  pub size : List ℕ
   pub content : List ℕ
-  pub is_size : IsU32 size (length content)
-  pub parts : text ≡ id ∷ (size ++ content)
+  pub new_content : List ℕ
+  pub before : IsSection text (section id content)
+  pub after : IsSection new (section id new_content)
 
-as_sized : (types : List ℕ) (new_indices : NewIndices) (widths : Widths) (id : ℕ) (text new names : List ℕ) →
-    ChangesSized widths (RenamesAny id new_indices widths) text new names → AsSection (id ∷ text)
-as_sized types new_indices widths id _ _ _ (stays size content h r) =
-    record { id = id; size = size; content = content; is_size = h; parts = refl }
-as_sized types new_indices widths id _ _ _ (resized size content new_size new names h r some is) =
-    record { id = id; size = size; content = content; is_size = h; parts = refl }
+unfoldable pub sized_pair : (id : ℕ) (new_indices : NewIndices) (w : Widths) (text new names : List ℕ) →
+    ChangesSized w (RenamesAny id new_indices w) text new names → ArePair (id ∷ text) (id ∷ new)
+sized_pair id new_indices w _ _ _ (stays size content h r) =
+    record {
+      id = id;
+      content = content;
+      new_content = content;
+      before = sized id size content h;
+      after = sized id size content h;
+    }
+sized_pair id new_indices w _ _ _ (resized size content new_size new names h r some is) =
+    record {
+      id = id;
+      content = content;
+      new_content = new;
+      before = sized id size content h;
+      after = sized id new_size new is.is_text;
+    }
 
-as_section : (types : List ℕ) (new_indices : NewIndices) (widths : Widths) (text new names : List ℕ) →
-    RenamesSection types new_indices widths text new names → AsSection text
-as_section types new_indices widths _ _ _ (type_section size content new_size h is) =
-    record { id = 1; size = size; content = content; is_size = h; parts = refl }
-as_section types new_indices widths _ _ _ (other id text new names not-types c) =
-    as_sized types new_indices widths id text new names c
+unfoldable pub pair : (types : List ℕ) (new_indices : NewIndices) (w : Widths) (text new names : List ℕ) →
+    RenamesSection types new_indices w text new names → ArePair text new
+pair types new_indices w _ _ _ (type_section size content new_size h is) =
+    record {
+      id = 1;
+      content = content;
+      new_content = types;
+      before = sized 1 size content h;
+      after = sized 1 new_size types is.is_text;
+    }
+pair types new_indices w _ _ _ (other id text new names some c) =
+    sized_pair id new_indices w text new names c
 
-section_start : (text rest : List ℕ) (s : AsSection text) →
-    text ++ rest ≡ s.id ∷ (s.size ++ (s.content ++ rest))
-section_start text rest s =
-    ap (λ (u : List ℕ). u ++ rest) s.parts
-    ∙ ap (λ (u : List ℕ). s.id ∷ u) (append_assoc s.size s.content rest)
+-- ---- where a section ends
 
 same_first : (a b : ℕ) (x y : List ℕ) → a ∷ x ≡ b ∷ y → a ≡ b
 same_first a b x y e = cc
@@ -57,68 +69,48 @@ same_first a b x y e = cc
 same_others : (a b : ℕ) (x y : List ℕ) → a ∷ x ≡ b ∷ y → x ≡ y
 same_others a b x y e = cc
 
--- what two sections that begin the same bytes have in common
-pub record AreSame (text rest whole after : List ℕ) (s : AsSection text) (t : AsSection whole) :
-    Type 0 where
-  pub id : s.id ≡ t.id
-  pub content : s.content ≡ t.content
-  pub behind : rest ≡ after
-
-pub sections_same : (text rest whole after : List ℕ) (s : AsSection text) (t : AsSection whole) →
-    text ++ rest ≡ whole ++ after → AreSame text rest whole after s t
-sections_same text rest whole after s t e =
-    let starts = sym (section_start text rest s) ∙ e ∙ section_start whole after t in
-    let x : List ℕ = s.size ++ (s.content ++ rest) in
-    let y : List ℕ = t.size ++ (t.content ++ after) in
-    let behind-id : x ≡ y = same_others s.id t.id x y starts in
-    let read = same_number (u32_at x) (length s.content) (length t.content) (s.content ++ rest)
-    (t.content ++ after) (number_read x s.size (length s.content) (s.content ++ rest) s.is_size refl)
-    (number_read x t.size (length t.content) (t.content ++ after) t.is_size behind-id) in
-    let n = length s.content in
-    let long : n ≡ length t.content = read.0 in
-    let bytes-are : s.content ++ rest ≡ t.content ++ after = read.1 in
-    record {
-      id = same_first s.id t.id x y starts;
-      content =
-          sym (take_at s.content rest n refl) ∙ ap (take n) bytes-are
-          ∙ take_at t.content after n (sym long);
-      behind =
-          sym (drop_at s.content rest n refl) ∙ ap (drop n) bytes-are
-          ∙ drop_at t.content after n (sym long);
-    }
+-- two sections that begin the same bytes
+pub same_section : (text rest whole after : List ℕ) (s t : Section) → IsSection text s → IsSection whole t →
+    text ++ rest ≡ whole ++ after → (s ≡ t) × (rest ≡ after)
+same_section _ rest _ after _ _ (sized id size content h) (sized its_id its_size its_content k) e =
+    let behind = same_others id its_id _ _ e in
+    let same = same_content ((size ++ content) ++ rest) content rest its_content after
+    (record { size = size; is_size = h; parts = append_assoc size content rest })
+    (record { size = its_size; is_size = k; parts = behind ∙ append_assoc its_size its_content after }) in (
+      ap (λ n. section n content) (same_first id its_id _ _ e)
+          ∙ ap (λ (u : List ℕ). section its_id u) same.0,
+      same.1,
+    )
 
 -- sized contents that begin the same bytes
-same_content : (a x b y rest after : List ℕ) → IsU32 a (length x) → IsU32 b (length y) →
+same_sized : (a x b y rest after : List ℕ) → IsU32 a (length x) → IsU32 b (length y) →
     (a ++ x) ++ rest ≡ b ++ (y ++ after) → x ≡ y
-same_content a x b y rest after h k e =
-    let s : AsSection (0 ∷ (a ++ x)) = record { id = 0; size = a; content = x; is_size = h; parts = refl } in
-    let t : AsSection (0 ∷ (b ++ y)) = record { id = 0; size = b; content = y; is_size = k; parts = refl } in
-    let same : 0 ∷ ((a ++ x) ++ rest) ≡ 0 ∷ ((b ++ y) ++ after) = ap (λ (u : List ℕ). 0 ∷ u)
-    (e ∙ sym (append_assoc b y after)) in
-    let is = sections_same (0 ∷ (a ++ x)) rest (0 ∷ (b ++ y)) after s t same in is.content
+same_sized a x b y rest after h k e =
+    (same_content (b ++ (y ++ after)) x rest y after
+    (record { size = a; is_size = h; parts = sym e ∙ append_assoc a x rest })
+    (record { size = b; is_size = k; parts = refl })).0
 
 ends_alike : (types : List ℕ) (new_indices : NewIndices) (widths : Widths) (others : List ℕ)
     (indices : NewIndices) (w : Widths) →
     EndsAlike (RenamesSection types new_indices widths) (RenamesSection others indices w)
 ends_alike types new_indices widths others indices w x rest y after new_x names_x new_y names_y r q e =
-    let same = sections_same x rest y after (as_section types new_indices widths x new_x names_x r)
-    (as_section others indices w y new_y names_y q) e in
-    same.behind
+    let p = pair types new_indices widths x new_x names_x r in
+    let o = pair others indices w y new_y names_y q in
+    (same_section x rest y after (section p.id p.content) (section o.id o.content) p.before o.before e).1
 
 -- ---- the loop over the sections
 
--- what was written of a module, and the sections that are left
-pub record IsBegun (types : List ℕ) (new_indices : NewIndices) (widths : Widths) (bytes : List ℕ)
-    (all left : List PlacedSection) (out : List ℕ) : Type 0 where
-  pub count : ℕ
+abbrev pub Passing : Type 1
+Passing = List ℕ → List ℕ → List PlacedSection → Type 0
+
+-- what was passed of a module, what it became, and the sections that are left
+pub record Walks (Done : Passing) (bytes : List ℕ) (left : List PlacedSection) (out : List ℕ) : Type 0 where
   pub texts : List ℕ
   pub rest : List ℕ
   pub new : List ℕ
-  pub names : List ℕ
   pub parts : bytes ≡ header ++ (texts ++ rest)
-  pub many : length all ≡ count + length left
   pub places : ArePlaced (length header + length texts) rest left
-  pub renames : ChangeAll (RenamesSection types new_indices widths) count texts new names
+  pub done : Done texts new left
   pub written : out ≡ header ++ new
 
 -- the first of the sections that are left
@@ -214,52 +206,84 @@ is_placed bytes texts rest s left e n =
       cut = next_whole s n.size n.others bytes s.offset behind refl n.content_begins;
     }
 
-abbrev pub next_text : (types : List ℕ) (new_indices : NewIndices) (widths : Widths) (bytes : List ℕ)
-    (all old left : List PlacedSection) (out : List ℕ) (s : PlacedSection)
-    → IsBegun types new_indices widths bytes all old out → old ≡ s ∷ left → List ℕ
-next_text types new_indices widths bytes all old left out s w e =
+abbrev pub next_text : (Done : Passing) (bytes : List ℕ) (old left : List PlacedSection) (out : List ℕ)
+    (s : PlacedSection) → Walks Done bytes old out → old ≡ s ∷ left → List ℕ
+next_text Done bytes old left out s w e =
     let n = placed_first bytes w.texts w.rest (length header + length w.texts) old left s refl w.places e in
     s.framed.id ∷ (n.size ++ s.framed.content)
 
-pub section_placed : (types : List ℕ) (new_indices : NewIndices) (widths : Widths) (bytes : List ℕ)
-    (all old left : List PlacedSection) (out : List ℕ) (s : PlacedSection)
-    (w : IsBegun types new_indices widths bytes all old out) (e : old ≡ s ∷ left) →
-    IsPlaced bytes s (next_text types new_indices widths bytes all old left out s w e)
-section_placed types new_indices widths bytes all old left out s w e =
+pub section_placed : (Done : Passing) (bytes : List ℕ) (old left : List PlacedSection) (out : List ℕ)
+    (s : PlacedSection) (w : Walks Done bytes old out) (e : old ≡ s ∷ left) →
+    IsPlaced bytes s (next_text Done bytes old left out s w e)
+section_placed Done bytes old left out s w e =
     is_placed bytes w.texts w.rest s left w.parts
     (placed_first bytes w.texts w.rest (length header + length w.texts) old left s refl w.places e)
 
-pub section_whole : (types : List ℕ) (new_indices : NewIndices) (widths : Widths) (bytes : List ℕ)
-    (all old left : List PlacedSection) (out : List ℕ) (s : PlacedSection) (text : List ℕ)
-    → IsBegun types new_indices widths bytes all old out → old ≡ s ∷ left
+pub section_whole : (Done : Passing) (bytes : List ℕ) (old left : List PlacedSection) (out : List ℕ)
+    (s : PlacedSection) (text : List ℕ) → Walks Done bytes old out → old ≡ s ∷ left
     → text ≡ slice_range bytes s.offset (s.content_offset + length s.framed.content)
     → IsSection text s.framed
-section_whole types new_indices widths bytes all old left out s text w e cut =
-    let p = section_placed types new_indices widths bytes all old left out s w e in
+section_whole Done bytes old left out s text w e cut =
+    let p = section_placed Done bytes old left out s w e in
     subst (λ (u : List ℕ). IsSection u s.framed) (sym (cut ∙ p.cut)) p.whole
 
 -- ---- from section to section
 
-pub module_begun : (types : List ℕ) (new_indices : NewIndices) (widths : Widths) (bytes : List ℕ)
-    (all : List PlacedSection)
-    (out : List ℕ) → IsModule bytes (framing all) → ArePlaced (length header) (drop (length header) bytes) all
-    → out ≡ take (length header) bytes → IsBegun types new_indices widths bytes all all out
-module_begun types new_indices widths bytes all out m places e =
+pub walk_begun : (Done : Passing) (bytes : List ℕ) (all : List PlacedSection) (out : List ℕ) →
+    IsModule bytes (framing all) → ArePlaced (length header) (drop (length header) bytes) all
+    → out ≡ take (length header) bytes → Done [] [] all → Walks Done bytes all out
+walk_begun Done bytes all out m places e done =
     let p = module_parts bytes (framing all) m in
     let behind : drop (length header) bytes ≡ p.0 = ap (drop (length header)) p.1
     ∙ drop_at header p.0 (length header) refl in
     record {
-      count = 0;
       texts = [];
       rest = p.0;
       new = [];
-      names = [];
       parts = p.1;
-      many = omega arith;
       places = subst (λ (u : List ℕ). ArePlaced (length header) u all) behind places;
-      renames = none;
+      done = done;
       written = e ∙ ap (take (length header)) p.1 ∙ take_at header p.0 (length header) refl;
     }
+
+pub walk_on : (Done : Passing) (bytes : List ℕ) (old left : List PlacedSection) (out new_out more : List ℕ)
+    (s : PlacedSection) (text : List ℕ) (w : Walks Done bytes old out) → old ≡ s ∷ left
+    → text ≡ slice_range bytes s.offset (s.content_offset + length s.framed.content)
+    → new_out ≡ out ++ more → Done (w.texts ++ text) (w.new ++ more) left → Walks Done bytes left new_out
+walk_on Done bytes old left out new_out more s text w e cut is done =
+    let n = placed_first bytes w.texts w.rest (length header + length w.texts) old left s refl w.places e in
+    let whole : List ℕ = s.framed.id ∷ (n.size ++ s.framed.content) in
+    let same : text ≡ whole = cut ∙ (is_placed bytes w.texts w.rest s left w.parts n).cut in
+    record {
+      texts = w.texts ++ whole;
+      rest = n.others;
+      new = w.new ++ more;
+      parts =
+          w.parts ∙ ap (λ (u : List ℕ). header ++ (w.texts ++ u)) n.parts
+          ∙ ap (λ (u : List ℕ). header ++ u) (sym (append_assoc w.texts whole n.others));
+      places = n.places;
+      done = subst (λ (u : List ℕ). Done (w.texts ++ u) (w.new ++ more) left) same done;
+      written = is ∙ ap (λ (u : List ℕ). u ++ more) w.written ∙ append_assoc header w.new more;
+    }
+
+-- ---- sections that are renamed
+
+pub record Renamed (types : List ℕ) (new_indices : NewIndices) (widths : Widths) (all : List PlacedSection)
+    (texts new : List ℕ) (left : List PlacedSection) : Type 0 where
+  pub count : ℕ
+  pub names : List ℕ
+  pub many : length all ≡ count + length left
+  pub renames : ChangeAll (RenamesSection types new_indices widths) count texts new names
+
+abbrev pub IsBegun : (types : List ℕ) (new_indices : NewIndices) (widths : Widths) (bytes : List ℕ)
+    (all left : List PlacedSection) (out : List ℕ) → Type 0
+IsBegun types new_indices widths bytes all left out =
+    Walks (Renamed types new_indices widths all) bytes left out
+
+pub none_renamed : (types : List ℕ) (new_indices : NewIndices) (widths : Widths) (all : List PlacedSection) →
+    Renamed types new_indices widths all [] [] all
+none_renamed types new_indices widths all =
+    record { count = 0; names = []; many = omega arith; renames = none }
 
 pub module_on : (types : List ℕ) (new_indices : NewIndices) (widths : Widths) (bytes : List ℕ)
     (all old left : List PlacedSection) (out new_out : List ℕ) (s : PlacedSection) (text : List ℕ)
@@ -268,30 +292,16 @@ pub module_on : (types : List ℕ) (new_indices : NewIndices) (widths : Widths) 
     → Appends (λ new. TurnsInto (RenamesSection types new_indices widths) text new) out new_out
     → IsBegun types new_indices widths bytes all left new_out
 module_on types new_indices widths bytes all old left out new_out s text w e cut a =
-    let n = placed_first bytes w.texts w.rest (length header + length w.texts) old left s refl w.places e in
-    let whole : List ℕ = s.framed.id ∷ (n.size ++ s.framed.content) in
-    let same : text ≡ whole = cut ∙ (is_placed bytes w.texts w.rest s left w.parts n).cut in
-    let r : RenamesSection types new_indices widths whole a.text a.is_text.names =
-    subst (λ (u : List ℕ). RenamesSection types new_indices widths u a.text a.is_text.names) same
-    a.is_text.becomes in
     let long : length old ≡ suc (length left) = ap (λ (u : List PlacedSection). length u) e in
-    record {
-      count = w.count + 1;
-      texts = w.texts ++ whole;
-      rest = n.others;
-      new = w.new ++ a.text;
-      names = w.names ++ a.is_text.names;
-      parts =
-          w.parts ∙ ap (λ (u : List ℕ). header ++ (w.texts ++ u)) n.parts
-          ∙ ap (λ (u : List ℕ). header ++ u) (sym (append_assoc w.texts whole n.others));
-      many = omega (arith, w.many, long);
-      places = n.places;
+    walk_on (Renamed types new_indices widths all) bytes old left out new_out a.text s text w e cut a.parts
+    (record {
+      count = w.done.count + 1;
+      names = w.done.names ++ a.is_text.names;
+      many = omega (arith, w.done.many, long);
       renames =
-          change_on (RenamesSection types new_indices widths) w.count w.texts w.new w.names whole a.text
-          a.is_text.names w.renames r;
-      written =
-          a.parts ∙ ap (λ (u : List ℕ). u ++ a.text) w.written ∙ append_assoc header w.new a.text;
-    }
+          change_on (RenamesSection types new_indices widths) w.done.count w.texts w.new w.done.names text
+          a.text a.is_text.names w.done.renames a.is_text.becomes;
+    })
 
 -- how many sections there are
 many_sections : (all : List PlacedSection) → length (framing all) ≡ length all
@@ -305,21 +315,21 @@ pub module_renamed : (types : List ℕ) (new_indices : NewIndices) (widths : Wid
 module_renamed types new_indices widths bytes all left out m w e =
     let p = module_parts bytes (framing all) m in
     let none-left : length left ≡ 0 = ap (λ (u : List PlacedSection). length u) e in
-    let many : w.count ≡ length (framing all) = omega (arith, many_sections all, w.many, none-left) in
+    let many : w.done.count ≡ length (framing all) = omega (arith, many_sections all, w.done.many, none-left) in
     let rest-is : w.rest ≡ [] = nothing_left (length header + length w.texts) w.rest left w.places e in
     record {
       sections = framing all;
       is_module = m;
       texts = w.texts;
       new_texts = w.new;
-      names = w.names;
+      names = w.done.names;
       parts =
           w.parts ∙ ap (λ (u : List ℕ). header ++ (w.texts ++ u)) rest-is
           ∙ ap (λ (u : List ℕ). header ++ u) (append-nil w.texts);
       new_parts = w.written;
       renames =
-          subst (λ (k : ℕ). ChangeAll (RenamesSection types new_indices widths) k w.texts w.new w.names) many
-          w.renames;
+          subst (λ (k : ℕ). ChangeAll (RenamesSection types new_indices widths) k w.texts w.new w.done.names) many
+          w.done.renames;
     }
   where
     nothing_left : (offset : ℕ) (rest : List ℕ) (sections : List PlacedSection) →
@@ -335,12 +345,12 @@ malformed_sized : (id : ℕ) (indices : NewIndices) (w : Widths) (text new names
     → (rest others : List ℕ) → text ++ rest ≡ size ++ (content ++ others)
     → IsMalformed (RenamesAny id) content → ⊥
 malformed_sized id indices w _ _ _ content size h (stays old old_content k r) rest others e bad =
-    let same = same_content old old_content size content rest others k h e in
+    let same = same_sized old old_content size content rest others k h e in
     bad indices w old_content []
     (subst (λ (u : List ℕ). RenamesAny id indices w u old_content []) same r)
 malformed_sized id indices w _ _ _ content size h (resized old old_content new_size new names k r some is)
     rest others e bad =
-    let same = same_content old old_content size content rest others k h e in
+    let same = same_sized old old_content size content rest others k h e in
     bad indices w new names (subst (λ (u : List ℕ). RenamesAny id indices w u new names) same r)
 
 malformed_section : (others : List ℕ) (indices : NewIndices) (w : Widths) (text new names : List ℕ) (id : ℕ)
@@ -382,18 +392,18 @@ module_malformed types new_indices widths bytes all old left out s m w e bad oth
     let sections : r.sections ≡ framing all = one_module bytes r.sections (framing all) r.is_module m in
     let many : length r.sections ≡ length (framing all) = ap (λ (u : List Section). length u) sections in
     let long : length old ≡ suc (length left) = ap (λ (u : List PlacedSection). length u) e in
-    let total : length r.sections ≡ w.count + suc (length left) = omega (
+    let total : length r.sections ≡ w.done.count + suc (length left) = omega (
       arith,
       many,
       many_sections all,
-      w.many,
+      w.done.many,
       long,
     ) in
     let texts-are : r.texts ≡ w.texts ++ w.rest = append_cancel_left header r.texts (w.texts ++ w.rest)
     (sym r.parts ∙ w.parts) in
     let c = changed_behind (RenamesSection types new_indices widths) (RenamesSection others indices v)
-    (ends_alike types new_indices widths others indices v) w.count (suc (length left)) (length r.sections)
-    w.texts w.rest r.texts w.new w.names r.new_texts r.names total texts-are w.renames r.renames in
+    (ends_alike types new_indices widths others indices v) w.done.count (suc (length left)) (length r.sections)
+    w.texts w.rest r.texts w.new w.done.names r.new_texts r.names total texts-are w.done.renames r.renames in
     malformed_next others indices v (length left) s.framed.id n.size s.framed.content n.others n.is_size bad
     (subst (λ (u : List ℕ). Changed (RenamesSection others indices v) (suc (length left)) u) n.parts c)
 
@@ -404,10 +414,10 @@ pub first_section : (types : List ℕ) (new_indices : NewIndices) (widths : Widt
     → FirstSectionIn types new_indices widths F bytes
 first_section types new_indices widths F bytes all old left out s m w e found =
     let long : length old ≡ suc (length left) = ap (λ (u : List PlacedSection). length u) e in
-    let total : length (framing all) ≡ w.count + suc (length left) = omega (
+    let total : length (framing all) ≡ w.done.count + suc (length left) = omega (
       arith,
       many_sections all,
-      w.many,
+      w.done.many,
       long,
     ) in
     record {
@@ -416,7 +426,7 @@ first_section types new_indices widths F bytes all old left out s m w e found =
       texts = w.texts ++ w.rest;
       parts = w.parts;
       first =
-          first_behind (RenamesSection types new_indices widths) F w.count w.texts w.new w.names w.renames
+          first_behind (RenamesSection types new_indices widths) F w.done.count w.texts w.new w.done.names w.done.renames
           (length (framing all)) w.rest (omega (arith, total)) found;
     }
 

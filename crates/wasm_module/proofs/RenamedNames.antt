@@ -1,14 +1,15 @@
 -- A module that was renamed names the new types.
-use Rattle.std.proofs.Common.{◌≡◌, ℕ, suc, List, [], ◌∷◌, ◌++◌, length, map, Option, Some, refl, sym, ap, subst, ◌∙◌}
+use Rattle.std.proofs.Common.{◌≡◌, ℕ, suc, List, [], ◌∷◌, ◌++◌, length, map, Option, Some, None, refl, sym, ap, subst, ◌∙◌}
 use Rattle.std.specs.List.{concat}
 use Rattle.std.proofs.lemmas.List.{map-append}
 use Rattle.wasm_binary.specs.Grammar.{AreItems, counted}
 use Rattle.wasm_binary.specs.Grammar.AreItems.{none as no_items, next as next_item}
 use Rattle.wasm_binary.specs.Leb128.{IsU32}
-use Rattle.wasm_binary.specs.Modules.{Section, section, IsSection, sized}
+use Rattle.wasm_binary.specs.Modules.{Section, section}
 use Rattle.wasm_module.specs.declared.renaming.Widths.{Widths}
 use Rattle.wasm_module.specs.Bodies.{body}
-use Rattle.wasm_module.specs.Changes.{ChangesSized, stays, resized, ChangeAll}
+use Rattle.wasm_module.specs.Contents.{section_kinds}
+use Rattle.wasm_module.specs.Changes.{stays, resized, ChangeAll}
 use Rattle.wasm_module.specs.Changes.ChangeAll.{none as no_change, next as next_change}
 use Rattle.wasm_module.specs.NamedTypes.{IsSizedBody, IsContent, AreContents, code_id}
 use Rattle.wasm_module.specs.NamedTypes.IsSizedBody.{sized as sized_body}
@@ -22,7 +23,8 @@ use Rattle.wasm_module.specs.RenamedSections.{RenamesBody, RenamesCode, RenamesC
 use Rattle.wasm_module.specs.RenamedSections.RenamesCode.{counted as counted_code}
 use Rattle.wasm_module.specs.RenamedSections.RenamesContent.{texts as texts_content, code as code_content, nameless}
 use Rattle.wasm_module.specs.Renaming.{NewIndices, new_index}
-use Rattle.wasm_module.proofs.ModuleLaws.{have_same_ids}
+use Rattle.wasm_module.proofs.RenamedModules.{sized_pair, pair}
+use Rattle.wasm_module.proofs.ModuleLaws.{pairs, have_same_ids}
 use Rattle.wasm_module.proofs.CodeLaws.{names_follow}
 use Rattle.wasm_module.proofs.StrippedOnce.{module_of}
 
@@ -134,6 +136,17 @@ module _ (m : NewIndices) (w : Widths) where
         follow = b.follow;
       }
 
+  without_names : (id : ℕ) (content new : List ℕ) → section_kinds id ≡ None → (id ≡ code_id → ⊥) →
+      Contents id content new
+  without_names id content new nothing fails =
+      record {
+        names = [];
+        new_names = [];
+        before = is_nameless id content nothing fails;
+        after = is_nameless id new nothing fails;
+        follow = refl;
+      }
+
   content_follows : (id : ℕ) (content new names : List ℕ) → RenamesContent id m w content new names →
       Contents id content new
   content_follows id _ _ _ (texts_content kinds content new names e h) =
@@ -147,144 +160,71 @@ module _ (m : NewIndices) (w : Widths) where
       }
   content_follows id _ _ _ (code_content content new names is h) =
       subst (λ n. Contents n content new) (sym is) (code_follows content new names h)
-  content_follows id _ _ _ (nameless content nothing fails) =
-      record {
-        names = [];
-        new_names = [];
-        before = is_nameless id content nothing fails;
-        after = is_nameless id content nothing fails;
-        follow = refl;
-      }
-
-  nameless_contents : (content new : List ℕ) → Contents 0 content new
-  nameless_contents content new =
-      record {
-        names = [];
-        new_names = [];
-        before = is_nameless 0 content refl (λ e. absurd cc);
-        after = is_nameless 0 new refl (λ e. absurd cc);
-        follow = refl;
-      }
-
-  type_contents : (content new : List ℕ) → Contents 1 content new
-  type_contents content new =
-      record {
-        names = [];
-        new_names = [];
-        before = is_nameless 1 content refl (λ e. absurd cc);
-        after = is_nameless 1 new refl (λ e. absurd cc);
-        follow = refl;
-      }
+  content_follows id _ _ _ (nameless content nothing fails) = without_names id content content nothing fails
 
   any_follows : (id : ℕ) (content new names : List ℕ) → RenamesAny id m w content new names →
       Contents id content new
   any_follows id _ _ _ (custom content new names is h) =
-      subst (λ n. Contents n content new) (sym is) (nameless_contents content new)
+      subst (λ n. Contents n content new) (sym is) (without_names 0 content new refl (λ e. absurd cc))
   any_follows id _ _ _ (other_content content new names fails h) = content_follows id content new names h
 
   -- ---- sections
 
-  record SectionFollows (text new : List ℕ) : Type 0 where
-    id : ℕ
-    content : List ℕ
-    new_content : List ℕ
-    before : IsSection text (section id content)
-    after : IsSection new (section id new_content)
-    contents : Contents id content new_content
-
-  sized_follows : (id : ℕ) (text new names : List ℕ) →
-      ChangesSized w (RenamesAny id m w) text new names → SectionFollows (id ∷ text) (id ∷ new)
-  sized_follows id _ _ _ (stays size content h r) =
-      record {
-        id = id;
-        content = content;
-        new_content = content;
-        before = sized id size content h;
-        after = sized id size content h;
-        contents = any_follows id content content [] r;
-      }
-  sized_follows id _ _ _ (resized size content new_size new names h r some t) =
-      record {
-        id = id;
-        content = content;
-        new_content = new;
-        before = sized id size content h;
-        after = sized id new_size new t.is_text;
-        contents = any_follows id content new names r;
-      }
-
-  section_follows : (types text new names : List ℕ) → RenamesSection types m w text new names →
-      SectionFollows text new
+  section_follows : (types text new names : List ℕ) (r : RenamesSection types m w text new names) →
+      let p = pair types m w text new names r in Contents p.id p.content p.new_content
+  unfolding pair sized_pair
   section_follows types _ _ _ (type_section size content new_size h t) =
-      record {
-        id = 1;
-        content = content;
-        new_content = types;
-        before = sized 1 size content h;
-        after = sized 1 new_size types t.is_text;
-        contents = type_contents content types;
-      }
-  section_follows types _ _ _ (other_section id text new names some c) = sized_follows id text new names c
+      without_names 1 content types refl (λ e. absurd cc)
+  section_follows types _ _ _ (other_section id _ _ _ some (stays size content h r)) =
+      any_follows id content content [] r
+  section_follows types _ _ _
+      (other_section id _ _ _ some (resized size content new_size new names h r naming t)) =
+      any_follows id content new names r
 
-  record Sections (texts new : List ℕ) : Type 0 where
-    sections : List Section
-    new_sections : List Section
+  record Sections (sections new_sections : List Section) : Type 0 where
     names : List ℕ
     new_names : List ℕ
-    before : AreItems IsSection texts sections
-    after : AreItems IsSection new new_sections
     are : AreContents sections names
     new_are : AreContents new_sections new_names
     follow : Follow names new_names
 
-  sections_follow : (types : List ℕ) (count : ℕ) (texts new names : List ℕ) →
-      ChangeAll (RenamesSection types m w) count texts new names → Sections texts new
+  sections_follow : (types : List ℕ) (count : ℕ) (texts new names : List ℕ)
+      (r : ChangeAll (RenamesSection types m w) count texts new names) →
+      let p = pairs types m w count texts new names r in Sections p.sections p.new_sections
+  unfolding pairs
   sections_follow types _ _ _ _ no_change =
-      record {
-        sections = [];
-        new_sections = [];
-        names = [];
-        new_names = [];
-        before = no_items;
-        after = no_items;
-        are = no_contents;
-        new_are = no_contents;
-        follow = refl;
-      }
+      record { names = []; new_names = []; are = no_contents; new_are = no_contents; follow = refl }
   sections_follow types _ _ _ _ (next_change count text texts new news names more r rs) =
-      let s = section_follows types text new names r in
-      let c = s.contents in
+      let p = pair types m w text new names r in
+      let ps = pairs types m w count texts news more rs in
+      let c = section_follows types text new names r in
       let ss = sections_follow types count texts news more rs in
-      let first : Section = section s.id s.content in
-      let first_new : Section = section s.id s.new_content in
       record {
-        sections = first ∷ ss.sections;
-        new_sections = first_new ∷ ss.new_sections;
         names = c.names ++ ss.names;
         new_names = c.new_names ++ ss.new_names;
-        before = next_item text texts first ss.sections s.before ss.before;
-        after = next_item new news first_new ss.new_sections s.after ss.after;
-        are = next_content first ss.sections c.names ss.names c.before ss.are;
-        new_are = next_content first_new ss.new_sections c.new_names ss.new_names c.after ss.new_are;
+        are = next_content (section p.id p.content) ps.sections c.names ss.names c.before ss.are;
+        new_are = next_content (section p.id p.new_content) ps.new_sections c.new_names ss.new_names c.after
+            ss.new_are;
         follow = follow_on c.names ss.names c.new_names ss.new_names c.follow ss.follow;
       }
 
   pub module_follows : (types bytes new : List ℕ) → RenamesModule types m w bytes new →
       NamesFollow m bytes new
   module_follows types bytes new r =
+      let p = pairs types m w (length r.sections) r.texts r.new_texts r.names r.renames in
       let s = sections_follow types (length r.sections) r.texts r.new_texts r.names r.renames in
       let h = have_same_ids types m w bytes new r in
       record {
         names = s.names;
         new_names = s.new_names;
         before = record {
-          sections = s.sections;
-          is_module = module_of bytes r.texts r.sections s.sections r.is_module r.parts s.before;
+          sections = p.sections;
+          is_module = module_of bytes r.texts r.sections p.sections r.is_module r.parts p.before;
           are = s.are;
         };
         after = record {
-          sections = s.new_sections;
-          is_module = module_of new r.new_texts h.new_sections s.new_sections h.after r.new_parts s.after;
+          sections = p.new_sections;
+          is_module = module_of new r.new_texts h.new_sections p.new_sections h.after r.new_parts p.after;
           are = s.new_are;
         };
         mapped = s.follow;

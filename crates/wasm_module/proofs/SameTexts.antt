@@ -1,38 +1,20 @@
 -- Texts that begin the same bytes name the same types, and have the same sizes.
-use Rattle.std.proofs.Common.{◌≡◌, ℕ, List, ◌∷◌, ◌++◌, length, Option, Some, None, refl, sym, ap, subst, ◌∙◌, append_assoc}
+use Rattle.std.proofs.Common.{◌≡◌, ℕ, List, ◌∷◌, ◌++◌, length, Option, Some, None, sym, ap, ◌∙◌, append_assoc}
 use Rattle.std.proofs.lemmas.List.{append_cancel_right}
 use Rattle.wasm_binary.specs.Leb128.{IsU32}
-use Rattle.wasm_binary.proofs.Basics.{done, value_is}
 use Rattle.wasm_module.specs.declared.kind.Kind.{Kind}
 use Rattle.wasm_module.specs.Contents.{section_kinds}
-use Rattle.wasm_module.specs.Immediates.{Token, type_name, stop, step, AreTexts, names_of, type_names}
+use Rattle.wasm_module.specs.Immediates.{Token, AreTexts, type_names}
 use Rattle.wasm_module.specs.NamedTypes.{code_id}
-use Rattle.wasm_module.specs.Steps.Heads.{beginning, begin_at}
 use Rattle.wasm_module.specs.Steps.NameSections.{TakesSized}
-use Rattle.wasm_module.proofs.Heads.{begin_again}
-use Rattle.wasm_module.proofs.Scanning.{same_step}
+use Rattle.wasm_module.specs.SyntaxTrees.{names_in}
+use Rattle.wasm_module.proofs.TreesOfTexts.{tokens_names, one_text}
 
 pub same_names : (kinds : List Kind) (t : List ℕ) (ps : List Token) (t' : List ℕ) (qs : List Token)
     (r r' : List ℕ) → AreTexts kinds t ps → AreTexts kinds t' qs → t ++ r ≡ t' ++ r' →
     type_names ps ≡ type_names qs
-same_names _ _ _ _ _ r r' (stop _) (stop _) e = refl
-same_names _ _ _ _ _ r r' (step k more kinds _ text others p ps h runs)
-    (step _ inner _ _ text' others' q qs g runs') e =
-    let bytes : text ++ (others ++ r) ≡ text' ++ (others' ++ r') =
-    sym (append_assoc text others r) ∙ e ∙ append_assoc text' others' r' in
-    let s = same_step k text text' p q more inner (others ++ r) (others' ++ r') h g bytes in
-    let read : done (beginning (type_name p) more) (others ++ r) ≡
-    done (beginning (type_name q) inner) (others' ++ r') =
-    sym (begin_again k text p more (others ++ r) h) ∙ ap (begin_at k) bytes
-    ∙ begin_again k text' q inner (others' ++ r') g in
-    let named : type_name p ≡ type_name q =
-    ap (λ u. u.named) (value_is (beginning (type_name p) more) (beginning (type_name q) inner)
-    (others ++ r) (others' ++ r') read) in
-    let later : type_names ps ≡ type_names qs =
-    same_names (more ++ kinds) others ps others' qs r r' runs
-    (subst (λ (u : List Kind). AreTexts (u ++ kinds) others' qs) (sym s.0) runs') s.1 in
-    ap (λ o. names_of o ++ type_names ps) named
-    ∙ ap (λ (u : List ℕ). names_of (type_name q) ++ u) later
+same_names kinds t ps t' qs r r' h g e =
+    sym (tokens_names ps) ∙ ap names_in (one_text kinds t ps t' qs r r' h g e) ∙ tokens_names qs
 
 -- ---- sizes
 

@@ -3,15 +3,17 @@
 use Rattle.std.proofs.Common.{◌≡◌, ℕ, List, [], ◌∷◌, ◌++◌, length, refl, sym, ap, subst, ◌∙◌, arith}
 use Rattle.std.specs.List.{All}
 use Rattle.std.proofs.lemmas.List.{append_cancel_left}
-use Rattle.std.proofs.lemmas.List.Elements.{All-cons, All-head, All-tail}
+use Rattle.std.proofs.lemmas.List.Elements.{All-nil, All-cons, All-head, All-tail}
 use Rattle.wasm_binary.specs.Grammar.{AreItems}
 use Rattle.wasm_binary.specs.Grammar.AreItems.{none as no_items, next as next_item}
 use Rattle.wasm_binary.specs.Leb128.{IsU32}
-use Rattle.wasm_binary.specs.Modules.{Section, section, ids, IsSection, sized, AreInOrder, header, IsModule, framed, IsOther, HasNoTypeSection}
+use Rattle.wasm_binary.specs.Modules.{Section, section, ids, IsSection, AreInOrder, header, IsModule, framed, IsOther, HasNoTypeSection}
+use Rattle.wasm_binary.specs.Steps.Framing.{place_after}
 use Rattle.wasm_binary.proofs.Modules.Faulting.{module_parts}
+use Rattle.wasm_binary.proofs.Modules.Orders.{order_on, order_parts}
 use Rattle.wasm_binary.proofs.Modules.Uniqueness.{one_module}
 use Rattle.wasm_module.specs.declared.renaming.Widths.{Widths}
-use Rattle.wasm_module.specs.Changes.{ChangesSized, stays, resized, ChangeAll}
+use Rattle.wasm_module.specs.Changes.{stays, resized, ChangeAll}
 use Rattle.wasm_module.specs.Changes.ChangeAll.{none as no_change, next as next_change}
 use Rattle.wasm_module.specs.Customs.{IsDescriptionName, external_debug_info, linking, signature, source_mapping_url, debug, code_metadata, relocations, IsDescription, IsStrippedSection, left_out, kept, AreStripped, none, next, IsStripped}
 use Rattle.wasm_module.specs.NameSections.{name_bytes, RenamesCustom, name_section}
@@ -20,22 +22,13 @@ use Rattle.wasm_module.specs.RenamedModules.{RenamesAny, RenamesSection, Renames
 use Rattle.wasm_module.specs.RenamedModules.RenamesAny.{custom, other as other_content}
 use Rattle.wasm_module.specs.RenamedModules.RenamesSection.{type_section, other as other_section}
 use Rattle.wasm_module.specs.Renaming.{NewIndices}
-use Rattle.wasm_module.proofs.ModuleLaws.{as_section, not_empty, same_ids, have_same_ids}
-use Rattle.wasm_module.proofs.RenamedModules.{sections_same}
+use Rattle.wasm_module.proofs.ModuleLaws.{pairs, not_empty, same_ids, have_same_ids}
+use Rattle.wasm_module.proofs.RenamedModules.{sized_pair, pair, same_section}
 use Rattle.wasm_module.proofs.NumberTexts.{cancel}
 use Rattle.wasm_module.proofs.SizedContents.{same_content}
 use Rattle.wasm_module.proofs.SameTexts.{named}
 
 -- ---- one result
-
--- two sections that begin the same bytes
-pub same_section : (text rest whole after : List ℕ) (s t : Section) → IsSection text s → IsSection whole t →
-    text ++ rest ≡ whole ++ after → (s ≡ t) × (rest ≡ after)
-same_section text rest whole after s t h k e =
-    let same = sections_same text rest whole after (as_section text s h) (as_section whole t k) e in (
-      ap (λ n. section n s.content) same.id ∙ ap (λ (u : List ℕ). section t.id u) same.content,
-      same.behind,
-    )
 
 -- the section that a text is, before it is stripped
 stripped_section : (text new : List ℕ) → IsStrippedSection text new → (s : Section) × IsSection text s
@@ -75,39 +68,6 @@ stripped_once bytes a b h k =
     (sections_once h.texts h.new_texts k.texts k.new_texts h.are k.are texts-are)
     ∙ sym k.new_parts
 
--- ---- what is left has no type section only if the module has none
-
-record Unstripped (texts new : List ℕ) : Type 0 where
-  all : List Section
-  left : List Section
-  before : AreItems IsSection texts all
-  after : AreItems IsSection new left
-  others : All IsOther left → All IsOther all
-
-unstripped : (texts new : List ℕ) → AreStripped texts new → Unstripped texts new
-unstripped _ _ none = record { all = []; left = []; before = no_items; after = no_items; others = λ h. h }
-unstripped _ _ (next _ _ texts news (left_out text s h d) hs) =
-    let r = unstripped texts news hs in
-    let is-other : IsOther s = λ one. let zero-is : 0 ≡ 1 = sym d.is_custom ∙ one in
-    omega (arith, zero-is) in
-    record {
-      all = s ∷ r.all;
-      left = r.left;
-      before = next_item text texts s r.all h r.before;
-      after = r.after;
-      others = λ k. All-cons IsOther s r.all is-other (r.others k);
-    }
-unstripped _ _ (next _ _ texts news (kept text s h d) hs) =
-    let r = unstripped texts news hs in
-    record {
-      all = s ∷ r.all;
-      left = s ∷ r.left;
-      before = next_item text texts s r.all h r.before;
-      after = next_item text news s r.left h r.after;
-      others = λ k. All-cons IsOther s r.all (All-head IsOther s r.left k)
-          (r.others (All-tail IsOther s r.left k));
-    }
-
 -- the sections of a module are those of its texts
 pub module_of : (bytes texts : List ℕ) (sections found : List Section) → IsModule bytes sections →
     bytes ≡ header ++ texts → AreItems IsSection texts found → IsModule bytes found
@@ -118,47 +78,95 @@ module_of bytes texts sections found is parts are =
     let order : AreInOrder 0 (ids found) = subst (λ (u : List ℕ). AreInOrder 0 u) ids-are m.2.1 in
     subst (λ (u : List ℕ). IsModule u found) (sym parts) (framed texts found are order)
 
+-- ---- what is left
+
+-- it does not describe other bytes
+abbrev pub DescribesNothing : Section → Type 0
+DescribesNothing s = IsDescription s → ⊥
+
+-- the sections of these texts, and those of them that are left
+pub record AreLeft (texts new : List ℕ) : Type 0 where
+  pub all : List Section
+  pub others : List Section
+  pub before : AreItems IsSection texts all
+  pub after : AreItems IsSection new others
+  pub order : (last : ℕ) → AreInOrder last (ids all) → AreInOrder last (ids others)
+  pub types : All IsOther others → All IsOther all
+  pub undescribed : All DescribesNothing others
+
+one_left : (text new texts new_texts : List ℕ) → IsStrippedSection text new → AreLeft texts new_texts →
+    AreLeft (text ++ texts) (new ++ new_texts)
+one_left _ _ texts new_texts (left_out text s is d) l =
+    let is-other : IsOther s = λ one. let zero-is : 0 ≡ 1 = sym d.is_custom ∙ one in
+    omega (arith, zero-is) in
+    record {
+      all = s ∷ l.all;
+      others = l.others;
+      before = next_item text texts s l.all is l.before;
+      after = l.after;
+      order = λ last h. l.order last (subst (λ k. AreInOrder (place_after last k) (ids l.all)) d.is_custom
+          (order_parts last (s.id ∷ ids l.all) h).1);
+      types = λ k. All-cons IsOther s l.all is-other (l.types k);
+      undescribed = l.undescribed;
+    }
+one_left _ _ texts new_texts (kept text s is fails) l =
+    record {
+      all = s ∷ l.all;
+      others = s ∷ l.others;
+      before = next_item text texts s l.all is l.before;
+      after = next_item text new_texts s l.others is l.after;
+      order = λ last h. (let parts = order_parts last (s.id ∷ ids l.all) h in
+          order_on last s.id (ids l.others) parts.0 (l.order (place_after last s.id) parts.1));
+      types = λ k. All-cons IsOther s l.all (All-head IsOther s l.others k)
+          (l.types (All-tail IsOther s l.others k));
+      undescribed = All-cons DescribesNothing s l.others fails l.undescribed;
+    }
+
+pub are_left : (texts new : List ℕ) → AreStripped texts new → AreLeft texts new
+are_left _ _ none =
+    record {
+      all = [];
+      others = [];
+      before = no_items;
+      after = no_items;
+      order = λ last h. h;
+      types = λ h. h;
+      undescribed = All-nil DescribesNothing;
+    }
+are_left _ _ (next text new texts new_texts h hs) =
+    one_left text new texts new_texts h (are_left texts new_texts hs)
+
+-- both are modules
+pub left_modules : (bytes new : List ℕ) (r : IsStripped bytes new) (l : AreLeft r.texts r.new_texts) →
+    IsModule bytes l.all × IsModule new l.others
+left_modules bytes new r l =
+    let whole = module_of bytes r.texts r.sections l.all r.is_module r.parts l.before in (
+      whole,
+      subst (λ (u : List ℕ). IsModule u l.others) (sym r.new_parts)
+          (framed r.new_texts l.others l.after (l.order 0 (module_parts bytes l.all whole).2.1)),
+    )
+
+-- what is left has no type section only if the module has none
 pub no_types_before : (bytes left : List ℕ) → IsStripped bytes left → HasNoTypeSection left →
     HasNoTypeSection bytes
 no_types_before bytes left r n =
-    let u = unstripped r.texts r.new_texts r.are in
-    let m = module_parts left n.sections n.is_module in
-    let texts-are : m.0 ≡ r.new_texts =
-    append_cancel_left header m.0 r.new_texts (sym m.1 ∙ r.new_parts) in
-    let is-left = module_of left r.new_texts n.sections u.left n.is_module r.new_parts u.after in
-    let same : n.sections ≡ u.left = one_module left n.sections u.left n.is_module is-left in
+    let l = are_left r.texts r.new_texts r.are in
+    let both = left_modules bytes left r l in
+    let same : n.sections ≡ l.others = one_module left n.sections l.others n.is_module both.1 in
     record {
-      sections = u.all;
-      is_module = module_of bytes r.texts r.sections u.all r.is_module r.parts u.before;
-      others = u.others (subst (λ (s : List Section). All IsOther s) same n.others);
+      sections = l.all;
+      is_module = both.0;
+      others = l.types (subst (λ (s : List Section). All IsOther s) same n.others);
     }
 
 -- ---- what was renamed has no more such sections
 
--- the text of a section that describes no other bytes
-record IsUndescribed (text : List ℕ) (s : Section) : Type 0 where
-  is : IsSection text s
-  fails : IsDescription s → ⊥
-
-record AreUndescribed (texts : List ℕ) : Type 0 where
-  sections : List Section
-  are : AreItems IsUndescribed texts sections
-
-stripped_are : (texts new : List ℕ) → AreStripped texts new → AreUndescribed new
-stripped_are _ _ none = record { sections = []; are = no_items }
-stripped_are _ _ (next _ _ texts news (left_out text s h d) hs) = stripped_are texts news hs
-stripped_are _ _ (next _ _ texts news (kept text s h d) hs) =
-    let r = stripped_are texts news hs in
-    record {
-      sections = s ∷ r.sections;
-      are = next_item text news s r.sections (record { is = h; fails = d }) r.are;
-    }
-
-are_stripped : (texts : List ℕ) (sections : List Section) → AreItems IsUndescribed texts sections →
-    AreStripped texts texts
-are_stripped _ _ no_items = none
-are_stripped _ _ (next_item text texts s sections h hs) =
-    next text text texts texts (kept text s h.is h.fails) (are_stripped texts sections hs)
+undescribed_stay : (texts : List ℕ) (sections : List Section) → AreItems IsSection texts sections →
+    All DescribesNothing sections → AreStripped texts texts
+undescribed_stay _ _ no_items fails = none
+undescribed_stay _ _ (next_item text texts s sections h hs) fails =
+    next text text texts texts (kept text s h (All-head DescribesNothing s sections fails))
+    (undescribed_stay texts sections hs (All-tail DescribesNothing s sections fails))
 
 no_such_name : IsDescriptionName name_bytes → ⊥
 no_such_name d = absurd (names_fail name_bytes d refl)
@@ -198,78 +206,48 @@ any_alike m w id _ _ _ (custom content new names is h) = custom_alike m w id con
 any_alike m w id _ _ _ (other_content content new names fails h) =
     ((λ d. absurd (fails d.is_custom)), (λ d. absurd (fails d.is_custom)))
 
--- a section before and after
-pub record SectionPair (text new : List ℕ) : Type 0 where
-  pub before : Section
-  pub after : Section
-  pub is : IsSection text before
-  pub is_new : IsSection new after
-  pub alike : DescribeAlike before after
-
-sized_pair : (m : NewIndices) (w : Widths) (id : ℕ) (text new names : List ℕ) →
-    ChangesSized w (RenamesAny id m w) text new names → SectionPair (id ∷ text) (id ∷ new)
-sized_pair m w id _ _ _ (stays size content h r) =
-    record {
-      before = section id content;
-      after = section id content;
-      is = sized id size content h;
-      is_new = sized id size content h;
-      alike = ((λ d. d), (λ d. d));
-    }
-sized_pair m w id _ _ _ (resized size content new_size new names h r some t) =
-    record {
-      before = section id content;
-      after = section id new;
-      is = sized id size content h;
-      is_new = sized id new_size new t.is_text;
-      alike = any_alike m w id content new names r;
-    }
-
 types_describe_nothing : (content : List ℕ) → IsDescription (section 1 content) → ⊥
 types_describe_nothing content d = let e : 1 ≡ 0 = d.is_custom in omega (arith, e)
 
-pub section_pair : (types : List ℕ) (m : NewIndices) (w : Widths) (text new names : List ℕ) →
-    RenamesSection types m w text new names → SectionPair text new
-section_pair types m w _ _ _ (type_section size content new_size h t) =
-    record {
-      before = section 1 content;
-      after = section 1 types;
-      is = sized 1 size content h;
-      is_new = sized 1 new_size types t.is_text;
-      alike = (
-        (λ d. absurd (types_describe_nothing content d)),
-        (λ d. absurd (types_describe_nothing types d)),
-      );
-    }
-section_pair types m w _ _ _ (other_section id text new names some c) = sized_pair m w id text new names c
+-- so do a section and what it becomes
+pub pair_alike : (types : List ℕ) (m : NewIndices) (w : Widths) (text new names : List ℕ)
+    (r : RenamesSection types m w text new names) →
+    DescribeAlike
+    (section (pair types m w text new names r).id (pair types m w text new names r).content)
+    (section (pair types m w text new names r).id (pair types m w text new names r).new_content)
+unfolding pair sized_pair
+pair_alike types m w _ _ _ (type_section size content new_size h t) = (
+  (λ d. absurd (types_describe_nothing content d)),
+  (λ d. absurd (types_describe_nothing types d)),
+)
+pair_alike types m w _ _ _ (other_section id _ _ _ some (stays size content h r)) = ((λ d. d), (λ d. d))
+pair_alike types m w _ _ _ (other_section id _ _ _ some (resized size content new_size new names h r naming t))
+    = any_alike m w id content new names r
 
-renamed_are : (types : List ℕ) (m : NewIndices) (w : Widths) (count : ℕ) (texts new names whole : List ℕ)
-    (sections : List Section) → ChangeAll (RenamesSection types m w) count texts new names →
-    AreItems IsUndescribed whole sections → texts ≡ whole → AreUndescribed new
-renamed_are types m w _ _ _ _ _ _ no_change hs e = record { sections = []; are = no_items }
-renamed_are types m w _ _ _ _ _ _ (next_change count text texts new news names more r rs) no_items e =
-    absurd (let p = section_pair types m w text new names r in not_empty text texts p.before p.is (sym e))
-renamed_are types m w _ _ _ _ _ _ (next_change count text texts new news names more r rs)
-    (next_item whole wholes s sections h hs) e =
-    let p = section_pair types m w text new names r in
-    let same = same_section text texts whole wholes p.before s p.is h.is e in
-    let k = renamed_are types m w count texts news more wholes sections rs hs same.1 in
-    let undescribed : IsDescription p.after → ⊥ =
-    λ d. subst (λ (u : Section). IsDescription u → ⊥) (sym same.0) h.fails (p.alike.1 d) in
-    record {
-      sections = p.after ∷ k.sections;
-      are =
-          next_item new news p.after k.sections (record { is = p.is_new; fails = undescribed }) k.are;
-    }
+pairs_alike : (types : List ℕ) (m : NewIndices) (w : Widths) (count : ℕ) (texts new names : List ℕ)
+    (r : ChangeAll (RenamesSection types m w) count texts new names) →
+    All DescribesNothing (pairs types m w count texts new names r).sections →
+    All DescribesNothing (pairs types m w count texts new names r).new_sections
+unfolding pairs
+pairs_alike types m w _ _ _ _ no_change fail = All-nil DescribesNothing
+pairs_alike types m w _ _ _ _ (next_change count text others new news names more r rs) fail =
+    let p = pair types m w text new names r in
+    let ps = pairs types m w count others news more rs in
+    let first : Section = section p.id p.content in
+    All-cons DescribesNothing (section p.id p.new_content) ps.new_sections
+    (λ d. All-head DescribesNothing first ps.sections fail ((pair_alike types m w text new names r).1 d))
+    (pairs_alike types m w count others news more rs (All-tail DescribesNothing first ps.sections fail))
 
 pub renamed_is_stripped : (types : List ℕ) (m : NewIndices) (w : Widths) (bytes left new : List ℕ) →
     IsStripped bytes left → RenamesModule types m w left new → IsStripped new new
 renamed_is_stripped types m w bytes left new s r =
-    let u = stripped_are s.texts s.new_texts s.are in
-    let texts-are : r.texts ≡ s.new_texts =
-    append_cancel_left header r.texts s.new_texts (sym r.parts ∙ s.new_parts) in
-    let k = renamed_are types m w (length r.sections) r.texts r.new_texts r.names s.new_texts u.sections
-    r.renames u.are texts-are in
+    let l = are_left s.texts s.new_texts s.are in
+    let is = pairs types m w (length r.sections) r.texts r.new_texts r.names r.renames in
+    let same : l.others ≡ is.sections =
+    one_module left l.others is.sections (left_modules bytes left s l).1
+    (module_of left r.texts r.sections is.sections r.is_module r.parts is.before) in
+    let fail = pairs_alike types m w (length r.sections) r.texts r.new_texts r.names r.renames
+    (subst (λ (u : List Section). All DescribesNothing u) same l.undescribed) in
     let h = have_same_ids types m w left new r in
     record {
       sections = h.new_sections;
@@ -278,5 +256,5 @@ renamed_is_stripped types m w bytes left new s r =
       new_texts = r.new_texts;
       parts = r.new_parts;
       new_parts = r.new_parts;
-      are = are_stripped r.new_texts k.sections k.are;
+      are = undescribed_stay r.new_texts is.new_sections is.after fail;
     }

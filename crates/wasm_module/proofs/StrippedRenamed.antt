@@ -1,122 +1,191 @@
 -- Sections that describe other bytes can be left out before or after indices are written again.
-use Rattle.std.proofs.Common.{◌≡◌, ℕ, List, [], ◌∷◌, ◌++◌, length, sym, subst, ◌∙◌}
+use Rattle.std.proofs.Common.{◌≡◌, ℕ, List, [], ◌∷◌, ◌++◌, length, ◌⊎◌, inl, inr, refl, sym, subst, ◌∙◌}
 use Rattle.std.proofs.lemmas.List.{append_cancel_left}
 use Rattle.wasm_binary.specs.Grammar.{AreItems}
 use Rattle.wasm_binary.specs.Grammar.AreItems.{none as no_items, next as next_item}
-use Rattle.wasm_binary.specs.Modules.{Section, IsSection, header}
+use Rattle.wasm_binary.specs.Modules.{Section, section, IsSection, header}
 use Rattle.wasm_module.specs.declared.renaming.Widths.{Widths}
 use Rattle.wasm_module.specs.Changes.{ChangeAll}
 use Rattle.wasm_module.specs.Changes.ChangeAll.{none as no_change, next as next_change}
 use Rattle.wasm_module.specs.Customs.{IsDescription, IsStrippedSection, left_out, kept, AreStripped, none, next, IsStripped}
 use Rattle.wasm_module.specs.RenamedModules.{RenamesSection, RenamesModule}
 use Rattle.wasm_module.specs.Renaming.{NewIndices}
-use Rattle.wasm_module.specs.Sections.{framing}
-use Rattle.wasm_module.proofs.ModuleLaws.{not_empty}
-use Rattle.wasm_module.proofs.NumberTexts.{cancel}
-use Rattle.wasm_module.proofs.StrippedModules.{stripped_has_none}
-use Rattle.wasm_module.proofs.StrippedOnce.{same_section, module_of, section_pair}
+use Rattle.wasm_module.proofs.RenamedModules.{pair, same_section}
+use Rattle.wasm_module.proofs.ModuleLaws.{not_empty, have_same_ids}
+use Rattle.wasm_module.proofs.StrippedOnce.{DescribesNothing, stripped_once, module_of, are_left, left_modules, pair_alike}
+
+abbrev IsDecided : Section → Type 0
+IsDecided s = IsDescription s ⊎ DescribesNothing s
+
+-- what is left of a section says whether it describes other bytes
+decided : (text rest other left after : List ℕ) (s : Section) → IsSection text s →
+    IsStrippedSection other left → text ++ rest ≡ other ++ after → IsDecided s × (rest ≡ after)
+decided text rest _ _ after s h (left_out other t k d) e =
+    let same = same_section text rest other after s t h k e in
+    (inl (subst IsDescription (sym same.0) d), same.1)
+decided text rest _ _ after s h (kept other t k fails) e =
+    let same = same_section text rest other after s t h k e in
+    (inr (λ d. fails (subst IsDescription same.0 d)), same.1)
 
 module _ (types : List ℕ) (m : NewIndices) (w : Widths) where
-  -- the sections that are left become those that are left of the others
-  record LeftBecomes (left new : List ℕ) : Type 0 where
+  -- what is left of both, the one of which becomes the other one
+  record BothLeft (texts new : List ℕ) : Type 0 where
+    left : List ℕ
+    new_left : List ℕ
+    are : AreStripped texts left
+    new_are : AreStripped new new_left
     sections : List Section
+    items : AreItems IsSection left sections
     names : List ℕ
-    are : AreItems IsSection left sections
-    becomes : ChangeAll (RenamesSection types m w) (length sections) left new names
+    becomes : ChangeAll (RenamesSection types m w) (length sections) left new_left names
 
-  left_next : (text new names rest after text' left other new_left left_rest new_rest : List ℕ) →
-      RenamesSection types m w text new names → IsStrippedSection text' left →
-      IsStrippedSection other new_left → text ++ rest ≡ text' ++ after → (others : List ℕ) (behind : List ℕ) →
-      new ++ others ≡ other ++ behind → LeftBecomes left_rest new_rest →
-      (rest ≡ after) × (others ≡ behind) × LeftBecomes (left ++ left_rest) (new_left ++ new_rest)
-  left_next text new names rest after _ _ _ _ left_rest new_rest r (left_out text' s h d) (left_out other t k
-      f) e
-      others behind q l =
-      let p = section_pair types m w text new names r in
-      let a = same_section text rest text' after p.before s p.is h e in
-      let b = same_section new others other behind p.after t p.is_new k q in
-      (a.1, b.1, l)
-  left_next text new names rest after _ _ _ _ left_rest new_rest r (left_out text' s h d) (kept other t k f) e
-      others behind q l =
-      let p = section_pair types m w text new names r in
-      let a = same_section text rest text' after p.before s p.is h e in
-      let b = same_section new others other behind p.after t p.is_new k q in
-      absurd (f (subst (λ (u : Section). IsDescription u) b.0
-      (p.alike.0 (subst (λ (u : Section). IsDescription u) (sym a.0) d))))
-  left_next text new names rest after _ _ _ _ left_rest new_rest r (kept text' s h d) (left_out other t k f) e
-      others behind q l =
-      let p = section_pair types m w text new names r in
-      let a = same_section text rest text' after p.before s p.is h e in
-      let b = same_section new others other behind p.after t p.is_new k q in
-      absurd (d (subst (λ (u : Section). IsDescription u) a.0
-      (p.alike.1 (subst (λ (u : Section). IsDescription u) (sym b.0) f))))
-  left_next text new names rest after _ _ _ _ left_rest new_rest r (kept text' s h d) (kept other t k f) e
-      others behind q l =
-      let p = section_pair types m w text new names r in
-      let a = same_section text rest text' after p.before s p.is h e in
-      let b = same_section new others other behind p.after t p.is_new k q in
-      let text-is : text ≡ text' = cancel text text' rest after e a.1 in
-      let new-is : new ≡ other = cancel new other others behind q b.1 in
-      let first : RenamesSection types m w text' other names =
-      subst (λ (u : List ℕ). RenamesSection types m w u other names) text-is
-      (subst (λ (u : List ℕ). RenamesSection types m w text u names) new-is r) in (
-        a.1,
-        b.1,
-        record {
-          sections = s ∷ l.sections;
-          names = names ++ l.names;
-          are = next_item text' left_rest s l.sections h l.are;
-          becomes =
-              next_change (length l.sections) text' left_rest other new_rest names l.names first l.becomes;
-        },
-      )
+  both_next : (text new names texts news : List ℕ) (r : RenamesSection types m w text new names) →
+      IsDecided (section (pair types m w text new names r).id (pair types m w text new names r).content) →
+      BothLeft texts news → BothLeft (text ++ texts) (new ++ news)
+  both_next text new names texts news r (inl d) b =
+      let p = pair types m w text new names r in
+      let alike = pair_alike types m w text new names r in
+      record {
+        left = b.left;
+        new_left = b.new_left;
+        are = next text [] texts b.left (left_out text (section p.id p.content) p.before d) b.are;
+        new_are = next new [] news b.new_left
+            (left_out new (section p.id p.new_content) p.after (alike.0 d)) b.new_are;
+        sections = b.sections;
+        items = b.items;
+        names = b.names;
+        becomes = b.becomes;
+      }
+  both_next text new names texts news r (inr fails) b =
+      let p = pair types m w text new names r in
+      let alike = pair_alike types m w text new names r in
+      let s : Section = section p.id p.content in
+      record {
+        left = text ++ b.left;
+        new_left = new ++ b.new_left;
+        are = next text text texts b.left (kept text s p.before fails) b.are;
+        new_are = next new new news b.new_left
+            (kept new (section p.id p.new_content) p.after (λ d. fails (alike.1 d))) b.new_are;
+        sections = s ∷ b.sections;
+        items = next_item text b.left s b.sections p.before b.items;
+        names = names ++ b.names;
+        becomes = next_change (length b.sections) text b.left new b.new_left names b.names r b.becomes;
+      }
 
-  some_text : (text new : List ℕ) (h : IsStrippedSection text new) → (s : Section) × IsSection text s
-  some_text _ _ (left_out text s h d) = (s, h)
-  some_text _ _ (kept text s h d) = (s, h)
+  none_left : BothLeft [] []
+  none_left =
+      record {
+        left = [];
+        new_left = [];
+        are = none;
+        new_are = none;
+        sections = [];
+        items = no_items;
+        names = [];
+        becomes = no_change;
+      }
 
-  left_become : (count : ℕ) (texts new names whole left others new_left : List ℕ) →
-      ChangeAll (RenamesSection types m w) count texts new names → AreStripped whole left →
-      AreStripped others new_left → texts ≡ whole → new ≡ others → LeftBecomes left new_left
-  left_become _ _ _ _ _ _ _ _ no_change none none e f =
-      record { sections = []; names = []; are = no_items; becomes = no_change }
-  left_become _ _ _ _ _ _ _ _ no_change (next text kept-text texts left h hs) ks e f =
-      absurd (let s = some_text text kept-text h in not_empty text texts s.0 s.1 e)
-  left_become _ _ _ _ _ _ _ _ no_change none (next text kept-text texts left h hs) e f =
-      absurd (let s = some_text text kept-text h in not_empty text texts s.0 s.1 f)
-  left_become _ _ _ _ _ _ _ _ (next_change count text texts new news names more r rs) none ks e f =
-      absurd (let p = section_pair types m w text new names r in not_empty text texts p.before p.is (sym e))
-  left_become _ _ _ _ _ _ _ _ (next_change count text texts new news names more r rs)
-      (next text' left texts' lefts h hs) none e f =
-      absurd (let p = section_pair types m w text new names r in not_empty new news p.after p.is_new (sym f))
-  left_become _ _ _ _ _ _ _ _ (next_change count text texts new news names more r rs)
-      (next text' left texts' lefts h hs) (next other new_left others new_lefts k ks) e f =
-      let p = section_pair types m w text new names r in
-      let s = some_text text' left h in
-      let t = some_text other new_left k in
-      let a = same_section text texts text' texts' p.before s.0 p.is s.1 e in
-      let b = same_section new news other others p.after t.0 p.is_new t.1 f in
-      let l = left_become count texts news more texts' lefts others new_lefts rs hs ks a.1 b.1 in
-      (left_next text new names texts texts' text' left other new_left lefts new_lefts r h k e news others f
-      l).2
+  by_first : (count : ℕ) (texts new names whole left : List ℕ) →
+      ChangeAll (RenamesSection types m w) count texts new names → AreStripped whole left → texts ≡ whole →
+      BothLeft texts new
+  by_first _ _ _ _ _ _ no_change hs e = none_left
+  by_first _ _ _ _ _ _ (next_change count text texts new news names more r rs) none e =
+      let p = pair types m w text new names r in
+      absurd (not_empty text texts (section p.id p.content) p.before (sym e))
+  by_first _ _ _ _ _ _ (next_change count text texts new news names more r rs)
+      (next other left others lefts h hs) e =
+      let p = pair types m w text new names r in
+      let d = decided text texts other left others (section p.id p.content) p.before h e in
+      both_next text new names texts news r d.0 (by_first count texts news more others lefts rs hs d.1)
+
+  by_second : (count : ℕ) (texts new names whole left : List ℕ) →
+      ChangeAll (RenamesSection types m w) count texts new names → AreStripped whole left → new ≡ whole →
+      BothLeft texts new
+  by_second _ _ _ _ _ _ no_change hs e = none_left
+  by_second _ _ _ _ _ _ (next_change count text texts new news names more r rs) none e =
+      let p = pair types m w text new names r in
+      absurd (not_empty new news (section p.id p.new_content) p.after (sym e))
+  by_second _ _ _ _ _ _ (next_change count text texts new news names more r rs)
+      (next other left others lefts h hs) e =
+      let p = pair types m w text new names r in
+      let alike = pair_alike types m w text new names r in
+      let d = decided new news other left others (section p.id p.new_content) p.after h e in
+      let first : IsDecided (section p.id p.content) = elim d.0 [
+        | inl is ↦ inl (alike.1 is)
+        | inr fails ↦ inr (λ k. fails (alike.0 k))
+      ] in
+      both_next text new names texts news r first (by_second count texts news more others lefts rs hs d.1)
+
+  -- ---- modules
+
+  record ModulesLeft (bytes new : List ℕ) : Type 0 where
+    left : List ℕ
+    new_left : List ℕ
+    is : IsStripped bytes left
+    new_is : IsStripped new new_left
+    becomes : RenamesModule types m w left new_left
+
+  modules_left : (bytes new : List ℕ) (r : RenamesModule types m w bytes new) →
+      BothLeft r.texts r.new_texts → ModulesLeft bytes new
+  modules_left bytes new r b =
+      let h = have_same_ids types m w bytes new r in
+      let left : List ℕ = header ++ b.left in
+      let is : IsStripped bytes left = record {
+        sections = r.sections;
+        is_module = r.is_module;
+        texts = r.texts;
+        new_texts = b.left;
+        parts = r.parts;
+        new_parts = refl;
+        are = b.are;
+      } in
+      let l = are_left r.texts b.left b.are in
+      record {
+        left = left;
+        new_left = header ++ b.new_left;
+        is = is;
+        new_is = record {
+          sections = h.new_sections;
+          is_module = h.after;
+          texts = r.new_texts;
+          new_texts = b.new_left;
+          parts = r.new_parts;
+          new_parts = refl;
+          are = b.new_are;
+        };
+        becomes = record {
+          sections = b.sections;
+          is_module = module_of left b.left l.others b.sections (left_modules bytes left is l).1 refl b.items;
+          texts = b.left;
+          new_texts = b.new_left;
+          names = b.names;
+          parts = refl;
+          new_parts = refl;
+          renames = b.becomes;
+        };
+      }
+
+  pub stripped_before : (bytes new new_left : List ℕ) → RenamesModule types m w bytes new →
+      IsStripped new new_left →
+      (left : List ℕ) × IsStripped bytes left × RenamesModule types m w left new_left
+  stripped_before bytes new new_left r t =
+      let b = modules_left bytes new r (by_second (length r.sections) r.texts r.new_texts r.names t.texts
+      t.new_texts r.renames t.are
+      (append_cancel_left header r.new_texts t.texts (sym r.new_parts ∙ t.parts))) in
+      let same : b.new_left ≡ new_left = stripped_once new b.new_left new_left b.new_is t in
+      (b.left, b.is, subst (λ (u : List ℕ). RenamesModule types m w b.left u) same b.becomes)
+
+  pub stripped_after : (bytes new left : List ℕ) → RenamesModule types m w bytes new →
+      IsStripped bytes left →
+      (new_left : List ℕ) × IsStripped new new_left × RenamesModule types m w left new_left
+  stripped_after bytes new left r s =
+      let b = modules_left bytes new r (by_first (length r.sections) r.texts r.new_texts r.names s.texts
+      s.new_texts r.renames s.are (append_cancel_left header r.texts s.texts (sym r.parts ∙ s.parts))) in
+      let same : b.left ≡ left = stripped_once bytes b.left left b.is s in
+      (b.new_left, b.new_is, subst (λ (u : List ℕ). RenamesModule types m w u b.new_left) same b.becomes)
 
   pub stripped_renamed : (bytes new left new_left : List ℕ) → RenamesModule types m w bytes new →
       IsStripped bytes left → IsStripped new new_left → RenamesModule types m w left new_left
   stripped_renamed bytes new left new_left r s t =
-      let texts-are : r.texts ≡ s.texts = append_cancel_left header r.texts s.texts (sym r.parts ∙ s.parts) in
-      let new-are : r.new_texts ≡ t.texts =
-      append_cancel_left header r.new_texts t.texts (sym r.new_parts ∙ t.parts) in
-      let l = left_become (length r.sections) r.texts r.new_texts r.names s.texts s.new_texts t.texts
-      t.new_texts r.renames s.are t.are texts-are new-are in
-      let h = stripped_has_none bytes left s in
-      record {
-        sections = l.sections;
-        is_module =
-            module_of left s.new_texts (framing h.sections) l.sections h.has.is_module s.new_parts l.are;
-        texts = s.new_texts;
-        new_texts = t.new_texts;
-        names = l.names;
-        parts = s.new_parts;
-        new_parts = t.new_parts;
-        renames = l.becomes;
-      }
+      let a = stripped_after bytes new left r s in
+      subst (λ (u : List ℕ). RenamesModule types m w left u) (stripped_once new a.0 new_left a.1 t) a.2

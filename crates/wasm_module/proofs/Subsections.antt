@@ -1,26 +1,20 @@
 -- Subsections of a name section, one after another, with other indices of types.
-use Rattle.std.proofs.Common.{◌≡◌, ℕ, zero, suc, ◌+◌, ◌-◌, ◌<◌, ◌≤◌, ◌^◌, List, [], ◌∷◌, ◌++◌, length, take, drop, get_or, Option, Some, None, Result, Ok, Err, refl, sym, ap, subst, ◌∙◌, arith, append_assoc, append-nil, length-append, take_at}
+use Rattle.std.proofs.Common.{◌≡◌, ℕ, ◌+◌, ◌-◌, ◌<◌, ◌≤◌, ◌^◌, List, [], ◌∷◌, ◌++◌, length, take, drop, get_or, Option, Some, None, Result, Ok, Err, sym, ap, subst, ◌∙◌, arith, append_assoc, length-append}
 use Rattle.std.specs.Prelude.{IfSome, IfNone, IfOk}
 use Rattle.wasm_module.specs.declared.renaming.Widths.{Widths}
-use Rattle.wasm_module.specs.Changes.{Change, Changes, ChangesSized, stays, resized, ChangeAll, none, next, IsMalformed, BecomesTooLong, InSized, in_content}
+use Rattle.wasm_module.specs.Changes.{Changes, ChangesSized, stays, resized, ChangeAll, none, next, IsMalformed, BecomesTooLong, InSized, in_content}
 use Rattle.wasm_module.specs.Renaming.{NewIndices, least_width, IsTextOf}
 use Rattle.wasm_module.specs.NameSections.{IsName, IsNameMap, RenamesMap, RenamesNames, RenamesSubsection, subsection}
 use Rattle.wasm_module.specs.NameSections.RenamesNames.{type_names, field_names}
+use Rattle.wasm_module.specs.Steps.Changes.{IsChangedUpTo}
 use Rattle.wasm_module.specs.Steps.Renaming.{Appends}
-use Rattle.wasm_module.specs.Steps.NameSections.{Takes, BeginsNone, TakesSized, BeginsUnsized, IsRenamedUpTo, IsSomeSubsection, BeginsSubsectionIn, begins}
+use Rattle.wasm_module.specs.Steps.NameSections.{Takes, BeginsNone, TakesSized, BeginsUnsized, IsSomeSubsection, BeginsSubsectionIn, begins}
 use Rattle.wasm_module.proofs.SizedContents.{same_content}
 use Rattle.wasm_module.proofs.TextItems.{IsPrefixFree}
-use Rattle.wasm_module.proofs.NameMaps.{if_some, if_none}
+use Rattle.wasm_module.proofs.Changing.{none_weaker, some_weaker, before, changed_passed, changed_on}
 use Rattle.wasm_module.proofs.Searching.{integer_short}
 
 -- ---- what one call says of another
-
-some_same : {A : Type 0} (x y : A) → ◌≡◌ {A = Option A} (Some x) (Some y) → x ≡ y
-some_same x y e = cc
-
-pub some_holds : {A : Type 0} (P : A → Type 0) (o : Option A) (x : A) → o ≡ Some x → IfSome o P → P x
-some_holds P (Some y) x e h = subst P (some_same y x e) h
-some_holds P None x e h = absurd cc
 
 pub none_holds : {A P : Type 0} (o : Option A) → o ≡ None → IfNone o P → P
 none_holds (Some y) e h = absurd cc
@@ -28,12 +22,12 @@ none_holds None e h = h
 
 pub ok_none : {A E P Q : Type 0} → (P → Q) → (r : Result (Option A) E) → IfOk r (λ o. IfNone o P) →
     IfOk r (λ o. IfNone o Q)
-ok_none f (Ok o) h = if_none f o h
+ok_none f (Ok o) h = none_weaker o _ _ f h
 ok_none f (Err e) h = tt
 
 pub ok_some : {A E : Type 0} {P Q : A → Type 0} → ((x : A) → P x → Q x) → (r : Result (Option A) E) →
     IfOk r (λ o. IfSome o P) → IfOk r (λ o. IfSome o Q)
-ok_some f (Ok o) h = if_some f o h
+ok_some f (Ok o) h = some_weaker o _ _ f h
 ok_some f (Err e) h = tt
 
 -- ---- the content of one, by its id
@@ -148,25 +142,6 @@ subsection_free a b rest after h k e = first a (h.new) (h.names) h.renames e
 
 -- ---- several subsections
 
-change_on : (R : Change) (count : ℕ) (texts new names text its_new its_names : List ℕ) →
-    ChangeAll R count texts new names → R text its_new its_names →
-    ChangeAll R (suc count) (texts ++ text) (new ++ its_new) (names ++ its_names)
-change_on R _ _ _ _ text its_new its_names none h =
-    subst (λ (u : List ℕ). ChangeAll R 1 u its_new its_names) (append-nil text)
-    (subst (λ (u : List ℕ). ChangeAll R 1 (text ++ []) u its_names) (append-nil its_new)
-    (subst (λ (u : List ℕ). ChangeAll R 1 (text ++ []) (its_new ++ []) u) (append-nil its_names)
-    (next zero text [] its_new [] its_names [] h none)))
-change_on R _ _ _ _ text its_new its_names (next count a texts n new m names r rs) h =
-    subst (λ (u : List ℕ). ChangeAll R (suc (suc count)) u ((n ++ new) ++ its_new)
-    ((m ++ names) ++ its_names))
-    (sym (append_assoc a texts text))
-    (subst (λ (u : List ℕ). ChangeAll R (suc (suc count)) (a ++ (texts ++ text)) u
-    ((m ++ names) ++ its_names)) (sym (append_assoc n new its_new))
-    (subst (λ (u : List ℕ). ChangeAll R (suc (suc count)) (a ++ (texts ++ text)) (n ++ (new ++ its_new)) u)
-    (sym (append_assoc m names its_names))
-    (next (suc count) a (texts ++ text) n (new ++ its_new) m (names ++ its_names) r
-    (change_on R count texts new names text its_new its_names rs h))))
-
 some_subsection : (new_indices : NewIndices) (widths : Widths) (text new names : List ℕ) →
     RenamesSubsection new_indices widths text new names → IsSomeSubsection text
 some_subsection new_indices widths text new names r =
@@ -195,107 +170,36 @@ next_subsection a b v w _ _ _ _ _ _ _ _ rest (next count text texts new news nam
 -- ---- what becomes of one
 
 -- the subsection stays
-pub subsection_stays : (new_indices : NewIndices) (widths : Widths)
-    (header whole unwritten bytes out : List ℕ)
-    (id : ℕ) (behind content after : List ℕ) → bytes ≡ id ∷ behind → TakesSized content behind after →
+pub subsection_stays : (new_indices : NewIndices) (widths : Widths) (count : ℕ)
+    (header whole unwritten bytes out : List ℕ) (id : ℕ) (behind content after : List ℕ) →
+    bytes ≡ id ∷ behind → TakesSized content behind after →
     RenamesNames id new_indices widths content content [] →
-    IsRenamedUpTo new_indices widths header whole unwritten bytes out →
-    IsRenamedUpTo new_indices widths header whole unwritten after out
-subsection_stays new_indices widths header whole unwritten bytes out id behind content after e s r u =
-    let text : List ℕ = id ∷ (s.size ++ content) in
-    let bytes-is : bytes ≡ text ++ after = e ∙ ap (λ (x : List ℕ). id ∷ x) (s.parts
-    ∙ sym (append_assoc s.size content after)) in
-    record {
-      count = suc u.count;
-      texts = u.texts ++ text;
-      new = u.new ++ text;
-      names = u.names ++ [];
-      passed = u.passed ++ text;
-      so_far = change_on (RenamesSubsection new_indices widths) u.count u.texts u.new u.names text text []
-          u.so_far
-          (subsection id (s.size ++ content) (s.size ++ content) [] (stays s.size content s.is_size r));
-      parts = u.parts ∙ ap (λ (x : List ℕ). header ++ x) (ap (λ (x : List ℕ). u.texts ++ x) bytes-is
-          ∙ sym (append_assoc u.texts text after));
-      not_written = u.not_written ∙ ap (λ (x : List ℕ). u.passed ++ x) bytes-is
-          ∙ sym (append_assoc u.passed text after);
-      written = sym (append_assoc header u.new text) ∙ ap (λ (x : List ℕ). x ++ text) u.written
-          ∙ append_assoc out u.passed text;
-      untouched = u.untouched;
-      nameless = λ h. append-nil u.names ∙ u.nameless h;
-      naming = λ h. u.naming (sym (append-nil u.names) ∙ h);
-    }
+    IsChangedUpTo (RenamesSubsection new_indices widths) count header whole bytes unwritten out →
+    IsChangedUpTo (RenamesSubsection new_indices widths) (count + 1) header whole after unwritten out
+subsection_stays new_indices widths count header whole unwritten bytes out id behind content after e s r u =
+    changed_passed (RenamesSubsection new_indices widths) count header whole bytes after unwritten out u
+    (record {
+      text = id ∷ (s.size ++ content);
+      parts = e ∙ ap (λ (x : List ℕ). id ∷ x) (s.parts ∙ sym (append_assoc s.size content after));
+      stays = subsection id (s.size ++ content) (s.size ++ content) [] (stays s.size content s.is_size r);
+    })
 
-end_some : (a b : List ℕ) (x : ℕ) → a ++ x ∷ b ≡ [] → ⊥
-end_some [] b x e = absurd cc
-end_some (y ∷ a) b x e = absurd cc
+id_some : (id : ℕ) (text : List ℕ) → id ∷ text ≡ [] → ⊥
+id_some id text e = absurd cc
 
-end_none : (a b : List ℕ) → a ++ b ≡ [] → b ≡ []
-end_none [] b e = e
-end_none (y ∷ a) b e = absurd cc
-
--- the subsection becomes another
-pub subsection_changes : (new_indices : NewIndices) (widths : Widths)
-    (header whole unwritten bytes out : List ℕ)
-    (id : ℕ) (behind content after new new_size prefix final : List ℕ) (width : ℕ) → bytes ≡ id ∷ behind →
-    TakesSized content behind after → Changes (RenamesNames id new_indices widths) content new →
-    width ≡ length behind - length after - length content →
-    IsTextOf 0x80 (least_width widths width) new_size (length new) →
-    prefix ≡ take (length unwritten - length behind) unwritten → final ≡ out ++ (prefix ++ (new_size ++ new)) →
-    IsRenamedUpTo new_indices widths header whole unwritten bytes out →
-    IsRenamedUpTo new_indices widths header whole after after final
-subsection_changes new_indices widths header whole unwritten bytes out id behind content after new new_size
-    prefix
-    final width e s c wide is_size prefix-is final-is u =
-    let text : List ℕ = id ∷ (s.size ++ content) in
-    let its_new : List ℕ = id ∷ (new_size ++ new) in
-    let bytes-is : bytes ≡ text ++ after = e ∙ ap (λ (x : List ℕ). id ∷ x) (s.parts
-    ∙ sym (append_assoc s.size content after)) in
+size_long : (behind content after : List ℕ) (s : TakesSized content behind after) →
+    length behind - length after - length content ≡ length s.size
+size_long behind content after s =
     let long : length behind ≡ length s.size + (length content + length after) =
     ap (λ (x : List ℕ). length x) s.parts ∙ length-append s.size (content ++ after)
     ∙ ap (λ n. length s.size + n) (length-append content after) in
-    let width-is : width ≡ length s.size = omega (arith, wide, long) in
-    let cut : unwritten ≡ (u.passed ++ id ∷ []) ++ behind = u.not_written
-    ∙ ap (λ (x : List ℕ). u.passed ++ x) e ∙ sym (append_assoc u.passed (id ∷ []) behind) in
-    let cut_long : length unwritten ≡ length (u.passed ++ id ∷ []) + length behind =
-    ap (λ (x : List ℕ). length x) cut ∙ length-append (u.passed ++ id ∷ []) behind in
-    let count : length (u.passed ++ id ∷ []) ≡ length unwritten - length behind = omega (arith, cut_long) in
-    let whole_prefix : prefix ≡ u.passed ++ id ∷ [] = prefix-is
-    ∙ ap (take (length unwritten - length behind)) cut
-    ∙ take_at (u.passed ++ id ∷ []) behind (length unwritten - length behind) count in
-    let whole_final : final ≡ (out ++ u.passed) ++ its_new = final-is
-    ∙ ap (λ (x : List ℕ). out ++ (x ++ (new_size ++ new))) whole_prefix
-    ∙ ap (λ (x : List ℕ). out ++ x) (append_assoc u.passed (id ∷ []) (new_size ++ new))
-    ∙ sym (append_assoc out u.passed its_new) in
-    record {
-      count = suc u.count;
-      texts = u.texts ++ text;
-      new = u.new ++ its_new;
-      names = u.names ++ c.names;
-      passed = [];
-      so_far = change_on (RenamesSubsection new_indices widths) u.count u.texts u.new u.names text its_new
-          c.names
-          u.so_far
-          (subsection id (s.size ++ content) (new_size ++ new) c.names
-          (resized s.size content new_size new c.names s.is_size c.becomes c.is_naming
-          (subst (λ n. IsTextOf 0x80 (least_width widths n) new_size (length new)) width-is is_size)));
-      parts = u.parts ∙ ap (λ (x : List ℕ). header ++ x) (ap (λ (x : List ℕ). u.texts ++ x) bytes-is
-          ∙ sym (append_assoc u.texts text after));
-      not_written = refl;
-      written = sym (append_assoc header u.new its_new) ∙ ap (λ (x : List ℕ). x ++ its_new) u.written
-          ∙ sym whole_final ∙ sym (append-nil final);
-      untouched = λ h. absurd (end_some (out ++ u.passed) (new_size ++ new) id (sym whole_final ∙ h));
-      nameless = λ h. absurd (end_some (out ++ u.passed) (new_size ++ new) id (sym whole_final ∙ h));
-      naming = λ h. absurd (c.is_naming (end_none u.names c.names h));
-    }
+    omega (arith, long)
 
 pub size_short : (behind content after : List ℕ) → TakesSized content behind after →
     length behind - length after - length content ≤ 5
 size_short behind content after s =
-    let long : length behind ≡ length s.size + (length content + length after) =
-    ap (λ (x : List ℕ). length x) s.parts ∙ length-append s.size (content ++ after)
-    ∙ ap (λ n. length s.size + n) (length-append content after) in
     let short = integer_short 0x80 s.size (length content) s.is_size in
-    omega (arith, long, short)
+    omega (arith, size_long behind content after s, short)
 
 pub subsection_too_long : (id : ℕ) (new_indices : NewIndices) (widths : Widths) (content new : List ℕ) →
     Changes (RenamesNames id new_indices widths) content new → 2 ^ 32 ≤ length new →
@@ -304,26 +208,40 @@ subsection_too_long id new_indices widths content new c long =
     record { new = new; names = c.names; becomes = c.becomes; long = long }
 
 -- the subsection is written
-pub subsection_written : (new_indices : NewIndices) (widths : Widths)
-    (header whole unwritten bytes out : List ℕ)
-    (id : ℕ) (behind content after new mid sized final : List ℕ) (least n : ℕ) → bytes ≡ id ∷ behind →
+pub subsection_written : (new_indices : NewIndices) (widths : Widths) (count : ℕ)
+    (header whole unwritten bytes out : List ℕ) (id : ℕ)
+    (behind content after new mid sized final : List ℕ) (least n : ℕ) → bytes ≡ id ∷ behind →
     TakesSized content behind after → Changes (RenamesNames id new_indices widths) content new →
     least ≡ least_width widths (length behind - length after - length content) → n ≡ length new →
     mid ≡ out ++ take (length unwritten - length behind) unwritten →
     Appends (λ text. IsTextOf 0x80 least text n) mid sized → final ≡ sized ++ new →
-    IsRenamedUpTo new_indices widths header whole unwritten bytes out →
-    IsRenamedUpTo new_indices widths header whole after after final
-subsection_written new_indices widths header whole unwritten bytes out id behind content after new mid sized
-    final
-    least n e s c least-is n-is mid-is a final-is u =
-    let prefix : List ℕ = take (length unwritten - length behind) unwritten in
-    let width : ℕ = length behind - length after - length content in
-    let all : final ≡ out ++ (prefix ++ (a.text ++ new)) = final-is
-    ∙ ap (λ (x : List ℕ). x ++ new) (a.parts ∙ ap (λ (x : List ℕ). x ++ a.text) mid-is)
-    ∙ append_assoc (out ++ prefix) a.text new ∙ append_assoc out prefix (a.text ++ new) in
-    let is_size : IsTextOf 0x80 (least_width widths width) a.text (length new) =
-    subst (λ m. IsTextOf 0x80 m a.text (length new)) least-is
-    (subst (λ m. IsTextOf 0x80 least a.text m) n-is a.is_text) in
-    subsection_changes new_indices widths header whole unwritten bytes out id behind content after new a.text
-    prefix
-    final width e s c refl is_size refl all u
+    IsChangedUpTo (RenamesSubsection new_indices widths) count header whole bytes unwritten out →
+    IsChangedUpTo (RenamesSubsection new_indices widths) (count + 1) header whole after after final
+subsection_written new_indices widths count header whole unwritten bytes out id behind content after new mid
+    sized final least n e s c least-is n-is mid-is a final-is u =
+    let its_new : List ℕ = a.text ++ new in
+    let cut : unwritten ≡ (u.passed ++ id ∷ []) ++ behind = u.not_written
+    ∙ ap (λ (x : List ℕ). u.passed ++ x) e ∙ sym (append_assoc u.passed (id ∷ []) behind) in
+    let mid_whole : mid ≡ (out ++ u.passed) ++ id ∷ [] = mid-is
+    ∙ ap (λ (x : List ℕ). out ++ x) (before unwritten (u.passed ++ id ∷ []) behind cut)
+    ∙ sym (append_assoc out u.passed (id ∷ [])) in
+    let whole_final : final ≡ (out ++ u.passed) ++ (id ∷ its_new) = final-is
+    ∙ ap (λ (x : List ℕ). x ++ new) (a.parts ∙ ap (λ (x : List ℕ). x ++ a.text) mid_whole)
+    ∙ append_assoc ((out ++ u.passed) ++ id ∷ []) a.text new ∙ append_assoc (out ++ u.passed) (id ∷ []) its_new
+    in
+    let is_size : IsTextOf 0x80 (least_width widths (length s.size)) a.text (length new) =
+    subst (λ m. IsTextOf 0x80 (least_width widths m) a.text (length new)) (size_long behind content after s)
+    (subst (λ m. IsTextOf 0x80 m a.text (length new)) least-is
+    (subst (λ m. IsTextOf 0x80 least a.text m) n-is a.is_text)) in
+    changed_on (RenamesSubsection new_indices widths) count header whole bytes after unwritten out
+    (id ∷ its_new) final u
+    (record {
+      text = id ∷ (s.size ++ content);
+      parts = e ∙ ap (λ (x : List ℕ). id ∷ x) (s.parts ∙ sym (append_assoc s.size content after));
+      changes = record {
+        names = c.names;
+        becomes = subsection id (s.size ++ content) its_new c.names
+            (resized s.size content a.text new c.names s.is_size c.becomes c.is_naming is_size);
+        is_naming = c.is_naming;
+      };
+    }) (id_some id its_new) whole_final

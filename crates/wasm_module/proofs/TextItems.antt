@@ -54,6 +54,19 @@ module _ {A : Type 0} (IsText : List ℕ → A → Type 0) where
       same)
       (omega (arith, many))
 
+  -- as many texts of items that are each determined are those of the same items
+  pub items_once : ((a b : List ℕ) (x y : A) (r s : List ℕ) → IsText a x → IsText b y → a ++ r ≡ b ++ s →
+      (x ≡ y) × (r ≡ s)) → (a : List ℕ) (xs : List A) (b : List ℕ) (ys : List A) (r s : List ℕ) →
+      AreItems IsText a xs → AreItems IsText b ys → a ++ r ≡ b ++ s → length xs ≡ length ys → xs ≡ ys
+  items_once once _ _ _ _ r s none none e many = refl
+  items_once once _ _ _ _ r s none (next text others y ys h hs) e many = absurd (omega (arith, many))
+  items_once once _ _ _ _ r s (next text others x xs h hs) none e many = absurd (omega (arith, many))
+  items_once once _ _ _ _ r s (next a b x xs h hs) (next c d y ys k ks) e many =
+      let same : a ++ (b ++ r) ≡ c ++ (d ++ s) = sym (append_assoc a b r) ∙ e ∙ append_assoc c d s in
+      let o = once a c x y (b ++ r) (d ++ s) h k same in
+      ap (λ z. z ∷ xs) o.0
+      ∙ ap (λ (u : List A). y ∷ u) (items_once once b xs d ys r s hs ks o.1 (omega (arith, many)))
+
   pub item_on : (text : List ℕ) (xs : List A) (last : List ℕ) (x : A) → AreItems IsText text xs →
       IsText last x → AreItems IsText (text ++ last) (xs ++ x ∷ [])
   item_on _ _ last x none h =

@@ -1,18 +1,18 @@
 -- The syntax trees of maps from types.
 use Rattle.std.proofs.Common.{◌≡◌, ℕ, List, [], ◌∷◌, ◌++◌, length, refl, sym, ap, subst, ◌∙◌, append-nil}
 use Rattle.std.specs.List.{Contains}
-use Rattle.std.proofs.lemmas.List.{append_cancel_right}
 use Rattle.wasm_binary.specs.Grammar.{AreItems, none, next}
 use Rattle.wasm_binary.specs.Leb128.{IsU32}
 use Rattle.wasm_module.specs.declared.renaming.Widths.{Widths}
-use Rattle.wasm_module.specs.NameSections.{TypeEntry, type_entry, IsEntry, entry, AreKept, IsNewEntry, renumbered, RenamesMap, empty, entries}
-use Rattle.wasm_module.specs.SyntaxTrees.{SyntaxTree, mapped, AreWritten, TreeBecomes, unmapped, remaps}
+use Rattle.wasm_module.specs.NameSections.{TypeEntry, type_entry, IsEntry, entry, IsNewEntry, renumbered, RenamesMap, empty, entries}
+use Rattle.wasm_module.specs.SyntaxTrees.{SyntaxTree, mapped, AreWritten, unmapped, remaps}
 use Rattle.wasm_module.specs.SyntaxTrees.AreWritten.{none as none_written, next as next_written}
-use Rattle.wasm_module.specs.Renaming.{NewIndices, least_width, IsTextOf}
+use Rattle.wasm_module.specs.Renaming.{NewIndices}
+use Rattle.wasm_module.proofs.NumberTexts.{cancel}
 use Rattle.wasm_module.proofs.SyntaxTrees.{written_indices}
 use Rattle.wasm_module.proofs.TextItems.{IsPrefixFree}
-use Rattle.wasm_module.proofs.Entries.{Kept, least_in, first_in, later_in, no_entries_counted, entries_counted_once}
-use Rattle.wasm_module.proofs.TreesOfChanges.{Changing, Writes, Reads, IsRead, ReadsBack, IsWhole, Finds}
+use Rattle.wasm_module.proofs.Entries.{Kept, least_in, first_in, later_in, entries_counted_once}
+use Rattle.wasm_module.proofs.TreesOfChanges.{Changing, Writes, Finds, AreOne}
 use Rattle.wasm_module.proofs.OwnEntries.{indices_of, found_long, follows_in}
 
 -- ---- entries
@@ -55,112 +55,49 @@ module _ (Follows : List ℕ → Type 0) where
       subst (λ (u : List ℕ). RenamesMap Follows m w u u []) (sym (append-nil count)) (empty count h)
   empty_map m w count _ _ h (next text others x xs k ks) e = absurd cc
 
-  module _ (free : IsPrefixFree Follows) where
-    module _ (count texts : List ℕ) (es : List TypeEntry) (h : IsU32 count (length es))
-        (are : AreItems (IsEntry Follows) texts es) where
-      map_to : Reads MapBy (mapped count texts es)
-      map_to t m w _ _ _ (empty count' h') e =
-          let nothing : es ≡ [] = no_entries_counted count' count texts es h' h (sym e) in
-          record {
-            tree = mapped count texts es;
-            becomes = unmapped count texts es nothing;
-            new_is = e;
-            names_are = sym (ap indices_of nothing);
-          }
-      map_to t m w _ _ _ (entries count' texts' new_count news es' kept h' are' some is n written) e =
-          let c = entries_counted_once Follows free count texts count' texts' es es' h h' are are' e in
-          let one : count ≡ count' = append_cancel_right count count' texts
-          (e ∙ ap (λ (u : List ℕ). count' ++ u) (sym c.1)) in
-          let a = as_written w news kept written in
-          record {
-            tree = mapped new_count news a.0;
-            becomes =
-                remaps count texts new_count news es a.0 kept (λ u. some (sym c.0 ∙ u))
-                (subst (λ (u : List TypeEntry). AreKept m u kept) (sym c.0) is)
-                (subst (λ (u : List ℕ). IsTextOf 0x80 (least_width w (length u)) new_count (length kept))
-                (sym one) n) a.1;
-            new_is = refl;
-            names_are = ap indices_of (sym c.0);
-          }
+  pub data MapTree : SyntaxTree → Type 0 where
+    map_tree :
+        (count texts : List ℕ) (es : List TypeEntry) → IsU32 count (length es)
+        → AreItems (IsEntry Follows) texts es → MapTree (mapped count texts es)
 
-      map_from : Writes MapBy (mapped count texts es)
-      map_from t m w _ (unmapped _ _ _ nothing) = empty_map m w count texts es h are nothing
-      map_from t m w _ (remaps _ _ new_count news _ fs kept some is n a) =
-          entries count texts new_count news es kept h are some is n (as_items w kept news fs a)
+  pub maps_one : IsPrefixFree Follows → AreOne MapTree
+  maps_one free _ _ (map_tree count texts es h are) (map_tree count' texts' fs g its) e =
+      let c = entries_counted_once Follows free count texts count' texts' es fs h g are its e in
+      let one : count ≡ count' = cancel count count' texts texts' e c.1 in
+      ap (λ (u : List ℕ). mapped u texts es) one ∙ ap (λ (u : List ℕ). mapped count' u es) c.1
+      ∙ ap (λ (u : List TypeEntry). mapped count' texts' u) c.0
 
-      read_map : IsRead MapBy (mapped count texts es)
-      read_map = record { to = map_to; from = map_from }
+  pub maps_written : Writes MapBy MapTree
+  maps_written t m w _ _ (map_tree count texts es h are) (unmapped _ _ _ nothing) =
+      empty_map m w count texts es h are nothing
+  maps_written t m w _ _ (map_tree count texts es h are) (remaps _ _ new_count news _ fs kept some is n a) =
+      entries count texts new_count news es kept h are some is n (as_items w kept news fs a)
 
-    module _ (count texts : List ℕ) (es : List TypeEntry) (h : IsU32 count (length es))
-        (are : AreItems (IsEntry Follows) texts es) where
-      map_back : ReadsBack MapBy (mapped count texts es)
-      map_back t m w _ _ _ (empty count' h') e =
-          let nothing : es ≡ [] = no_entries_counted count' count texts es h' h (sym e) in
-          record {
-            tree = mapped count texts es;
-            becomes = unmapped count texts es nothing;
-            text_is = e;
-            is = read_map count texts es h are;
-          }
-      map_back t m w _ _ _ (entries count' texts' new_count news es' kept h' are' some is n written) e =
-          let a = as_written w news kept written in
-          let long : length kept ≡ length a.0 =
-          sym (found_long a.0 kept (written_indices w kept news a.0 a.1)) in
-          let items : AreItems (IsEntry Follows) news a.0 = as_entries w kept news a.0 a.1
-          (λ k e there. follows_in Follows texts' es' are' e (least_in m es' e (is.are_least k e there).1)) in
-          let c = entries_counted_once Follows free count texts new_count news es a.0 h
-          (subst (λ k. IsU32 new_count k) long n.is_text) are items e in
-          let one : count ≡ new_count = append_cancel_right count new_count texts
-          (e ∙ ap (λ (u : List ℕ). new_count ++ u) (sym c.1)) in
-          let same_tree : mapped new_count news a.0 ≡ mapped count texts es =
-          ap (λ (u : List ℕ). mapped u news a.0) (sym one)
-          ∙ (ap (λ (u : List ℕ). mapped count u a.0) (sym c.1)
-          ∙ ap (λ (u : List TypeEntry). mapped count texts u) (sym c.0)) in
-          record {
-            tree = mapped count' texts' es';
-            becomes = subst (λ (u : SyntaxTree). TreeBecomes t m w (mapped count' texts' es') u) same_tree
-                (remaps count' texts' new_count news es' a.0 kept some is n a.1);
-            text_is = refl;
-            is = read_map count' texts' es' h' are';
-          }
-
-      whole_map : IsWhole MapBy (mapped count texts es)
-      whole_map =
-          record {
-            to = map_to count texts es h are;
-            from = map_from count texts es h are;
-            back = map_back;
-          }
-
-    pub found_map : (t : List ℕ) (m : NewIndices) (w : Widths) → Finds (IsWhole MapBy) MapBy t m w
-    found_map t m w _ _ _ (empty count h) =
-        record {
-          part = record {
-            tree = mapped count [] [];
-            new_tree = mapped count [] [];
-            becomes = unmapped count [] [] refl;
-            text_is = append-nil count;
-            new_is = append-nil count;
-            names_are = refl;
-          };
-          is = whole_map count [] [] h none;
-          is_again = whole_map count [] [] h none;
-        }
-    found_map t m w _ _ _ (entries count texts new_count news es kept h are some is n written) =
-        let a = as_written w news kept written in
-        let long : length kept ≡ length a.0 =
-        sym (found_long a.0 kept (written_indices w kept news a.0 a.1)) in
-        record {
-          part = record {
-            tree = mapped count texts es;
-            new_tree = mapped new_count news a.0;
-            becomes = remaps count texts new_count news es a.0 kept some is n a.1;
-            text_is = refl;
-            new_is = refl;
-            names_are = refl;
-          };
-          is = whole_map count texts es h are;
-          is_again = whole_map new_count news a.0 (subst (λ k. IsU32 new_count k) long n.is_text)
-              (as_entries w kept news a.0 a.1
-              (λ k e there. follows_in Follows texts es are e (least_in m es e (is.are_least k e there).1)));
-        }
+  pub maps_found : Finds MapBy MapTree
+  maps_found t m w _ _ _ (empty count h) =
+      record {
+        tree = mapped count [] [];
+        new_tree = mapped count [] [];
+        is = map_tree count [] [] h none;
+        is_again = map_tree count [] [] h none;
+        becomes = unmapped count [] [] refl;
+        text_is = append-nil count;
+        new_is = append-nil count;
+        names_are = refl;
+      }
+  maps_found t m w _ _ _ (entries count texts new_count news es kept h are some is n written) =
+      let a = as_written w news kept written in
+      let long : length kept ≡ length a.0 =
+      sym (found_long a.0 kept (written_indices w kept news a.0 a.1)) in
+      record {
+        tree = mapped count texts es;
+        new_tree = mapped new_count news a.0;
+        is = map_tree count texts es h are;
+        is_again = map_tree new_count news a.0 (subst (λ k. IsU32 new_count k) long n.is_text)
+            (as_entries w kept news a.0 a.1
+            (λ k e there. follows_in Follows texts es are e (least_in m es e (is.are_least k e there).1)));
+        becomes = remaps count texts new_count news es a.0 kept some is n a.1;
+        text_is = refl;
+        new_is = refl;
+        names_are = refl;
+      }

@@ -1,25 +1,23 @@
 -- The syntax trees of texts, by their tokens.
-use Rattle.std.proofs.Common.{◌≡◌, ℕ, List, [], ◌∷◌, ◌++◌, length, Option, Some, None, refl, sym, ap, subst, ◌∙◌, append_assoc}
+use Rattle.std.proofs.Common.{◌≡◌, ℕ, List, [], ◌∷◌, ◌++◌, Option, Some, None, refl, sym, ap, subst, ◌∙◌, append_assoc}
 use Rattle.wasm_binary.specs.Grammar.{none, next}
 use Rattle.wasm_binary.proofs.Basics.{done, value_is}
 use Rattle.wasm_module.specs.declared.kind.Kind.{Kind}
 use Rattle.wasm_module.specs.declared.kind.Space.TheVariants as space
 use Rattle.wasm_module.specs.declared.renaming.Widths.{Widths}
-use Rattle.wasm_module.specs.Bodies.{Names}
 use Rattle.wasm_module.specs.Immediates.{Token, unsigned, signed, plain, type_name, Begins, index as index_begins, signed_index, Runs, stop, step, AreTexts, names_of, type_names}
 use Rattle.wasm_module.specs.SyntaxTrees.{SyntaxTree, still, index, joined, bytes_of, names_in, TreeBecomes, unchanged, renumbers, joins}
 use Rattle.wasm_module.specs.RenamedSections.{RenamesTexts}
-use Rattle.wasm_module.specs.Renaming.{NewIndices, new_index, type_maps, least_width, IsTextOf, text_of, Becomes, IsRenamed}
+use Rattle.wasm_module.specs.Renaming.{NewIndices, new_index, type_maps, least_width, text_of, Becomes, IsRenamed}
 use Rattle.wasm_module.specs.Renaming.Becomes.{stays as token_stays, u32, s33}
 use Rattle.wasm_module.specs.Steps.Heads.{beginning}
 use Rattle.wasm_module.proofs.Heads.{begin_again}
 use Rattle.wasm_module.proofs.NumberTexts.{cancel}
 use Rattle.wasm_module.proofs.Rewriting.{same_map}
-use Rattle.wasm_module.proofs.SameTexts.{same_names}
 use Rattle.wasm_module.proofs.Scanning.{same_step}
 use Rattle.wasm_module.proofs.Searching.{token_is}
 use Rattle.wasm_module.proofs.Tokens.{View, u32_type, s33_type, other, view, token_text}
-use Rattle.wasm_module.proofs.TreesOfChanges.{Changing, Writes, Reads, IsRead, ReadsBack, IsWhole, Finds, still_bytes}
+use Rattle.wasm_module.proofs.TreesOfChanges.{Changing, Writes, Finds, AreOne, still_bytes}
 
 -- ---- tokens
 
@@ -91,7 +89,7 @@ one_token k text p _ more inner (other q unnamed maps) h g =
     ∙ (ap (λ (u : List ℕ). still u) (sym (token_text k text p more h) ∙ token_text k text q inner g)
     ∙ sym (unnamed_tree q unnamed))
 
-one_text : (kinds : List Kind) (a : List ℕ) (ps : List Token) (b : List ℕ) (qs : List Token)
+pub one_text : (kinds : List Kind) (a : List ℕ) (ps : List Token) (b : List ℕ) (qs : List Token)
     (r s : List ℕ) → AreTexts kinds a ps → AreTexts kinds b qs → a ++ r ≡ b ++ s →
     tokens_tree ps ≡ tokens_tree qs
 one_text _ _ _ _ _ r s (stop _) (stop _) e = refl
@@ -107,82 +105,9 @@ one_text _ _ _ _ _ r s (step k more kinds _ text others p ps h runs)
     (subst (λ (u : List Kind). AreTexts (u ++ kinds) others' qs) (sym same.0) runs') same.1 in
     ap (λ u. joined u (tokens_tree ps)) one ∙ ap (λ u. joined (token_tree q) u) rest
 
-unnamed_same : (new_indices : NewIndices) (least : ℕ → ℕ) (p : Token) (new : List ℕ) → View p →
-    type_name p ≡ None →
-    Becomes (type_maps new_indices) least new p → new ≡ text_of p
-unnamed_same new_indices least _ new (u32_type text k) e b = absurd cc
-unnamed_same new_indices least _ new (s33_type text k) e b = absurd cc
-unnamed_same new_indices least _ _ (other _ unnamed maps) e (token_stays _ h) = refl
-unnamed_same new_indices least _ _ (other _ unnamed maps) e (u32 s m text new k n ms mk t) =
-    let kept = maps new_indices in absurd cc
-unnamed_same new_indices least _ _ (other _ unnamed maps) e (s33 s m text new k n ms mk t) =
-    let kept = maps new_indices in absurd cc
-
 module _ (t : List ℕ) (m : NewIndices) (w : Widths) where
   abbrev Renamed : List ℕ → Token → Type 0
   Renamed new p = Becomes (type_maps m) (least_width w) new p
-
-  -- what a tree becomes
-  record FitsText (p : SyntaxTree) (new : List ℕ) : Type 0 where
-    tree : SyntaxTree
-    becomes : TreeBecomes t m w p tree
-    new_is : bytes_of tree ≡ new
-
-  index_to : (p q : Token) (end k n : ℕ) (text new : List ℕ) → q ≡ p → token_tree q ≡ index end text k →
-      new_index m k ≡ Some n → IsTextOf end (least_width w (length text)) new n → FitsText (token_tree p) new
-  index_to p q end k n text new same is to h =
-      record {
-        tree = index end new n;
-        becomes =
-            subst (λ (u : SyntaxTree). TreeBecomes t m w u (index end new n)) (sym is ∙ ap token_tree same)
-            (renumbers end k n text new to h);
-        new_is = refl;
-      }
-
-  token_to : (k : Kind) (text : List ℕ) (p q : Token) (more inner : List Kind) (new : List ℕ) → View q →
-      Begins k text p more → Begins k text q inner → Renamed new q → FitsText (token_tree p) new
-  token_to k text p _ more inner _ (u32_type _ _) h g (token_stays _ e) = absurd cc
-  token_to k text p _ more inner _ (s33_type _ _) h g (token_stays _ e) = absurd cc
-  token_to k text p _ more inner _ (u32_type _ _) h g (u32 s f before new j n ms mk is) =
-      let q : Token = unsigned space.Type before j in
-      let same : q ≡ p = sym (same_index k text q p inner more j refl g h) in
-      index_to p q 0x80 j n before new same refl (ap (λ f. f j) (same_map (new_index m) f ms) ∙ mk) is
-  token_to k text p _ more inner _ (s33_type _ _) h g (s33 s f before new j n ms mk is) =
-      let q : Token = signed space.Type before j in
-      let same : q ≡ p = sym (same_index k text q p inner more j refl g h) in
-      index_to p q 0x40 j n before new same refl (ap (λ f. f j) (same_map (new_index m) f ms) ∙ mk) is
-  token_to k text p _ more inner new (other q unnamed maps) h g b =
-      let none : type_name p ≡ None = same_type_name k text p q more inner h g ∙ unnamed in
-      record {
-        tree = still (text_of p);
-        becomes =
-            subst (λ (u : SyntaxTree). TreeBecomes t m w u (still (text_of p))) (sym (unnamed_tree p none))
-            (unchanged (text_of p));
-        new_is =
-            sym (token_text k text p more h) ∙ token_text k text q inner g
-            ∙ sym (unnamed_same m (least_width w) q new (view q) unnamed b);
-      }
-
-  tokens_to : (kinds : List Kind) (a : List ℕ) (ps : List Token) (b : List ℕ) (qs : List Token)
-      (r s new : List ℕ) → AreTexts kinds a ps → AreTexts kinds b qs → a ++ r ≡ b ++ s →
-      IsRenamed (type_maps m) (least_width w) qs new → FitsText (tokens_tree ps) new
-  tokens_to _ _ _ _ _ r s _ (stop _) (stop _) e none =
-      record { tree = still []; becomes = unchanged []; new_is = refl }
-  tokens_to _ _ _ _ _ r s _ (step k more kinds _ text others p ps h runs)
-      (step _ inner _ _ text' others' q qs g runs') e (next x xs _ _ b bs) =
-      let bytes : text ++ (others ++ r) ≡ text' ++ (others' ++ s) =
-      sym (append_assoc text others r) ∙ e ∙ append_assoc text' others' s in
-      let same = same_step k text text' p q more inner (others ++ r) (others' ++ s) h g bytes in
-      let begins : text ≡ text' = cancel text text' (others ++ r) (others' ++ s) bytes same.1 in
-      let f = token_to k text p q more inner x (view q) h
-      (subst (λ (u : List ℕ). Begins k u q inner) (sym begins) g) b in
-      let fs = tokens_to (more ++ kinds) others ps others' qs r s xs runs
-      (subst (λ (u : List Kind). AreTexts (u ++ kinds) others' qs) (sym same.0) runs') same.1 bs in
-      record {
-        tree = joined f.tree fs.tree;
-        becomes = joins (token_tree p) (tokens_tree ps) f.tree fs.tree f.becomes fs.becomes;
-        new_is = ap (λ (u : List ℕ). u ++ bytes_of fs.tree) f.new_is ∙ ap (λ (u : List ℕ). x ++ u) fs.new_is;
-      }
 
   token_from : (p : Token) (q : SyntaxTree) → View p → TreeBecomes t m w (token_tree p) q →
       Renamed (bytes_of q) p
@@ -264,73 +189,39 @@ module _ (t : List ℕ) (m : NewIndices) (w : Widths) where
 abbrev pub TextsBy : List Kind → Changing
 TextsBy kinds t m w = RenamesTexts m w kinds
 
-module _ (kinds : List Kind) (text : List ℕ) (ps : List Token) (are : AreTexts kinds text ps) where
-  bytes_are : bytes_of (tokens_tree ps) ≡ text
-  bytes_are = tokens_bytes kinds text ps [] are
+pub data TextTree (kinds : List Kind) : SyntaxTree → Type 0 where
+  text_tree :
+      (text : List ℕ) (ps : List Token) → AreTexts kinds text ps → TextTree kinds (tokens_tree ps)
 
-  texts_names : (whole names : List ℕ) → Names kinds whole names → text ≡ whole →
-      names ≡ names_in (tokens_tree ps)
-  texts_names whole names h e =
-      h.named ∙ same_names kinds whole h.tokens text ps [] [] h.are are (ap (λ (u : List ℕ). u ++ []) (sym e))
-      ∙ sym (tokens_names ps)
+pub texts_one : (kinds : List Kind) → AreOne (TextTree kinds)
+texts_one kinds _ _ (text_tree text ps are) (text_tree text' qs its) e =
+    one_text kinds text ps text' qs [] [] are its
+    (ap (λ (u : List ℕ). u ++ [])
+    (sym (tokens_bytes kinds text ps [] are) ∙ e ∙ tokens_bytes kinds text' qs [] its))
 
-  texts_to : Reads (TextsBy kinds) (tokens_tree ps)
-  texts_to t m w whole new names h e =
-      let same : text ≡ whole = sym bytes_are ∙ e in
-      let f = tokens_to t m w kinds text ps whole h.renames.tokens [] [] new are h.renames.are
-      (ap (λ (u : List ℕ). u ++ []) same) h.renames.renamed in
-      record {
-        tree = f.tree;
-        becomes = f.becomes;
-        new_is = f.new_is;
-        names_are = texts_names whole names h.naming same;
-      }
+pub texts_written : (kinds : List Kind) → Writes (TextsBy kinds) (TextTree kinds)
+texts_written kinds t m w _ q (text_tree text ps are) h =
+    let here : AreTexts kinds (bytes_of (tokens_tree ps)) ps =
+    subst (λ (u : List ℕ). AreTexts kinds u ps) (sym (tokens_bytes kinds text ps [] are)) are in
+    record {
+      naming = record { tokens = ps; are = here; named = tokens_names ps };
+      renames = record { tokens = ps; are = here; renamed = tokens_from t m w ps q h };
+    }
 
-  texts_from : Writes (TextsBy kinds) (tokens_tree ps)
-  texts_from t m w q h =
-      let here : AreTexts kinds (bytes_of (tokens_tree ps)) ps =
-      subst (λ (u : List ℕ). AreTexts kinds u ps) (sym bytes_are) are in
-      record {
-        naming = record { tokens = ps; are = here; named = tokens_names ps };
-        renames = record { tokens = ps; are = here; renamed = tokens_from t m w ps q h };
-      }
-
-  read_texts : IsRead (TextsBy kinds) (tokens_tree ps)
-  read_texts = record { to = texts_to; from = texts_from }
-
-module _ (kinds : List Kind) (text : List ℕ) (ps : List Token) (are : AreTexts kinds text ps) where
-  texts_back : ReadsBack (TextsBy kinds) (tokens_tree ps)
-  texts_back t m w before new names h e =
-      let r = texts_again t m w kinds before h.renames.tokens [] new h.renames.are h.renames.renamed in
-      let same : tokens_tree r.tokens ≡ tokens_tree ps = one_text kinds new r.tokens text ps [] [] r.runs are
-      (ap (λ (u : List ℕ). u ++ []) (sym e ∙ bytes_are kinds text ps are)) in
-      record {
-        tree = tokens_tree h.renames.tokens;
-        becomes =
-            subst (λ (u : SyntaxTree). TreeBecomes t m w (tokens_tree h.renames.tokens) u) same r.becomes;
-        text_is = tokens_bytes kinds before h.renames.tokens [] h.renames.are;
-        is = read_texts kinds before h.renames.tokens h.renames.are;
-      }
-
-  whole_texts : IsWhole (TextsBy kinds) (tokens_tree ps)
-  whole_texts =
-      record { to = texts_to kinds text ps are; from = texts_from kinds text ps are; back = texts_back }
-
-pub found_texts : (t : List ℕ) (m : NewIndices) (w : Widths) (kinds : List Kind) →
-    Finds (IsWhole (TextsBy kinds)) (TextsBy kinds) t m w
-found_texts t m w kinds text new names h =
+pub texts_found : (kinds : List Kind) → Finds (TextsBy kinds) (TextTree kinds)
+texts_found kinds t m w text new names h =
     let ps = h.renames.tokens in
     let are = h.renames.are in
     let r = texts_again t m w kinds text ps [] new are h.renames.renamed in
     record {
-      part = record {
-        tree = tokens_tree ps;
-        new_tree = tokens_tree r.tokens;
-        becomes = r.becomes;
-        text_is = tokens_bytes kinds text ps [] are;
-        new_is = tokens_bytes kinds new r.tokens [] r.runs;
-        names_are = texts_names kinds text ps are text names h.naming refl;
-      };
-      is = whole_texts kinds text ps are;
-      is_again = whole_texts kinds new r.tokens r.runs;
+      tree = tokens_tree ps;
+      new_tree = tokens_tree r.tokens;
+      is = text_tree text ps are;
+      is_again = text_tree new r.tokens r.runs;
+      becomes = r.becomes;
+      text_is = tokens_bytes kinds text ps [] are;
+      new_is = tokens_bytes kinds new r.tokens [] r.runs;
+      names_are =
+          h.naming.named ∙ sym (tokens_names h.naming.tokens)
+          ∙ ap names_in (one_text kinds text h.naming.tokens text ps [] [] h.naming.are are refl);
     }

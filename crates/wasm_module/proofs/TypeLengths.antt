@@ -2,7 +2,7 @@
 use Rattle.std.proofs.Common.{◌≡◌, ℕ, ◌+◌, ◌-◌, ◌≤◌, Bool, true, false, List, [], ◌∷◌, ◌++◌, length, take, drop, Ok, Option, Some, None, refl, sym, ap, subst, ◌∙◌, arith, append_assoc, append-nil, length-append, cond}
 use Rattle.std.specs.List.{concat}
 use Rattle.std.proofs.lemmas.Grind.{flat_map-append}
-use Rattle.wasm_binary.specs.Grammar.{AreItems, none, next}
+use Rattle.wasm_binary.specs.Grammar.{none}
 use Rattle.wasm_binary.specs.Leb128.{IsU32}
 use Rattle.wasm_binary.specs.Steps.Reading.{u32_at}
 use Rattle.wasm_binary.proofs.Integers.{u32_sound}
@@ -18,9 +18,11 @@ use Rattle.wasm_module.specs.Steps.Heads.{kinds_or_none}
 use Rattle.wasm_module.specs.Steps.Lengths.{TakesBody, TakesBodies}
 use Rattle.wasm_module.specs.Steps.Renaming.{Appends}
 use Rattle.wasm_module.specs.Steps.Scans.{Reads, token_of, PassesType, PassesNone}
+use Rattle.wasm_module.proofs.CodeSections.{concat_on}
 use Rattle.wasm_module.proofs.NamedTypes.{some_kinds}
 use Rattle.wasm_module.proofs.Searching.{reads_join}
 use Rattle.wasm_module.proofs.SizedContents.{number_read, same_number, sized_taken}
+use Rattle.wasm_module.proofs.TextItems.{item_on}
 
 -- ---- tokens
 
@@ -136,22 +138,6 @@ body_measured bytes n behind content rest old mid new k kinds e fits prefix back
       };
     }
 
-items_on : (text : List ℕ) (bodies : List (List ℕ)) (last lengths : List ℕ) →
-    AreItems HasBodyLengths text bodies → HasBodyLengths last lengths →
-    AreItems HasBodyLengths (text ++ last) (bodies ++ lengths ∷ [])
-items_on _ _ last lengths none h =
-    subst (λ (u : List ℕ). AreItems HasBodyLengths u (lengths ∷ [])) (append-nil last)
-    (next last [] lengths [] h none)
-items_on _ _ last lengths (next text others first bodies k ks) h =
-    subst (λ (u : List ℕ). AreItems HasBodyLengths u (first ∷ (bodies ++ lengths ∷ [])))
-    (sym (append_assoc text others last))
-    (next text (others ++ last) first (bodies ++ lengths ∷ []) k (items_on others bodies last lengths ks h))
-
-concat_on : (lists : List (List ℕ)) (last : List ℕ) → concat (lists ++ last ∷ []) ≡ concat lists ++ last
-concat_on [] last = append-nil last
-concat_on (xs ∷ lists) last =
-    ap (λ (u : List ℕ). xs ++ u) (concat_on lists last) ∙ sym (append_assoc xs (concat lists) last)
-
 pub no_bodies : (bytes old : List ℕ) → TakesBodies 0 bytes bytes old old
 no_bodies bytes old =
     record { text = []; bodies = []; parts = refl; are = none; many = refl; long = sym (append-nil old) }
@@ -164,7 +150,7 @@ bodies_on count bytes rest after old lengths new s b =
       text = s.text ++ b.text;
       bodies = s.bodies ++ b.long.text ∷ [];
       parts = s.parts ∙ ap (λ (u : List ℕ). s.text ++ u) b.parts ∙ sym (append_assoc s.text b.text after);
-      are = items_on s.text s.bodies b.text b.long.text s.are b.long.is_text;
+      are = item_on HasBodyLengths s.text s.bodies b.text b.long.text s.are b.long.is_text;
       many = length-append s.bodies (b.long.text ∷ []) ∙ omega (arith, s.many);
       long = b.long.parts ∙ ap (λ (u : List ℕ). u ++ b.long.text) s.long
           ∙ append_assoc old (concat s.bodies) b.long.text

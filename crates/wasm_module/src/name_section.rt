@@ -1,10 +1,11 @@
 //! Custom sections with other indices of types.
 //!
 //! WebAssembly core specification, "Custom Sections" and "Name Section".
-ghost use Rattle.std.specs.Prelude.{◌≡◌, ◌<◌, ℕ, List, [], ◌++◌, length, IfOk, IfSome, IfNone, OnOk, IsErrOf};
+ghost use Rattle.std.specs.Prelude.{◌≡◌, ◌+◌, ◌<◌, ℕ, List, [], ◌++◌, length, IfOk, IfSome, IfNone, OnOk, IsErrOf};
 ghost use Rattle.wasm_module.specs.Changes.{Changes, TurnsInto, IsMalformed, BecomesTooLong};
-ghost use Rattle.wasm_module.specs.NameSections.{RenamesNames, RenamesCustom, SubsectionNamesUnknown, CustomNamesUnknown, CustomBecomesTooLong};
-ghost use Rattle.wasm_module.specs.Steps.NameSections.{BeginsNone, IsRenamedUpTo, IsSomeSubsection, BeginsSubsectionIn};
+ghost use Rattle.wasm_module.specs.NameSections.{RenamesNames, RenamesSubsection, RenamesCustom, SubsectionNamesUnknown, CustomNamesUnknown, CustomBecomesTooLong};
+ghost use Rattle.wasm_module.specs.Steps.NameSections.{BeginsNone, IsSomeSubsection, BeginsSubsectionIn};
+ghost use Rattle.wasm_module.specs.Steps.Changes.{IsChangedUpTo};
 ghost use Rattle.wasm_module.specs.declared.renaming.RenameError.TheVariants.{Malformed, UnknownType, TooLong};
 
 use crate::leb128::push_u32;
@@ -140,10 +141,11 @@ fn rename_subsection<'a>(
     out: &mut Vec<u8>,
 ) -> Result<(), RenameError>
     requires { (passed : List ℕ) × (unwritten.old.now ≡ passed ++ rest.old.now) }
-    ensures renamed { OnOk result ((header content : List ℕ) →
-        IsRenamedUpTo new_indices.now widths header content unwritten.old.now rest.old.now
-        out.old.items → IsRenamedUpTo new_indices.now widths header content unwritten.new.now
-        rest.new.now out.new.items) }
+    ensures renamed { OnOk result ((count : ℕ) (header content : List ℕ) →
+        IsChangedUpTo (RenamesSubsection new_indices.now widths) count header content
+        rest.old.now unwritten.old.now out.old.items →
+        IsChangedUpTo (RenamesSubsection new_indices.now widths) (count + 1) header content
+        rest.new.now unwritten.new.now out.new.items) }
     ensures shorter { OnOk result (length rest.new.now < length rest.old.now) }
     ensures malformed { (place : ℕ) → IsErrOf result (Malformed place) → BeginsNone IsSomeSubsection rest.old.now }
     ensures unknown { (k place : ℕ) → IsErrOf result (UnknownType k place) → BeginsSubsectionIn

@@ -15,7 +15,8 @@ use Rattle.wasm_module.specs.Changes.{ChangeAll}
 use Rattle.wasm_module.specs.Changes.ChangeAll.{none as no_change, next as next_change}
 use Rattle.wasm_module.specs.Renaming.{NewIndices}
 use Rattle.wasm_module.specs.RenamedModules.{RenamesSection, RenamesModule, type_section, other}
-use Rattle.wasm_module.proofs.ModuleLaws.{same_ids, pair, pairs, have_same_ids}
+use Rattle.wasm_module.proofs.RenamedModules.{pair}
+use Rattle.wasm_module.proofs.ModuleLaws.{same_ids, pairs, have_same_ids}
 use Rattle.wasm_module.proofs.StrippedOnce.{module_of}
 
 -- a type section of this content among others

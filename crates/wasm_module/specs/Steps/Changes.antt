@@ -1,6 +1,6 @@
 -- Texts in front of bytes that become others, and sizes that are written again.
 use Rattle.std.specs.Prelude.{◌≡◌, ℕ, List, [], ◌++◌, length}
-use Rattle.wasm_module.specs.Changes.{Change, Changes}
+use Rattle.wasm_module.specs.Changes.{Change, Changes, ChangeAll}
 use Rattle.wasm_module.specs.Renaming.{IsTextOf}
 
 -- a text that names no type was taken from the front of bytes, and it stays
@@ -20,3 +20,19 @@ pub record IsSized (least : ℕ) (content text : List ℕ) : Type 0 where
   pub size : List ℕ
   pub is_size : IsTextOf 0x80 least size (length content)
   pub parts : text ≡ size ++ content
+
+-- The bytes begin with a header and this many texts, up to `rest`, that become others. What they
+-- become is the end of `out` and the beginning of `unwritten`. Nothing is in `out` while no type was
+-- named.
+pub record IsChangedUpTo (R : Change) (count : ℕ) (header bytes rest unwritten out : List ℕ) : Type 0 where
+  pub texts : List ℕ
+  pub new : List ℕ
+  pub names : List ℕ
+  pub passed : List ℕ
+  pub so_far : ChangeAll R count texts new names
+  pub parts : bytes ≡ header ++ (texts ++ rest)
+  pub not_written : unwritten ≡ passed ++ rest
+  pub written : header ++ new ≡ out ++ passed
+  pub untouched : out ≡ [] → unwritten ≡ bytes
+  pub nameless : out ≡ [] → names ≡ []
+  pub naming : names ≡ [] → out ≡ []

@@ -5,7 +5,7 @@ use Rattle.wasm_binary.specs.Grammar.{AreItems}
 use Rattle.wasm_module.specs.declared.renaming.Widths.{Widths}
 use Rattle.wasm_module.specs.declared.name_maps.Follows.{Follows}
 use Rattle.wasm_module.specs.declared.name_maps.Follows.TheVariants as follows
-use Rattle.wasm_module.specs.Changes.{ChangeAll, InSized}
+use Rattle.wasm_module.specs.Changes.{InSized}
 use Rattle.wasm_module.specs.Renaming.{NewIndices, new_index, IsTextOf}
 use Rattle.wasm_module.specs.NameSections.{IsName, IsNameMap, TypeEntry, IsEntry, AreKept, IsNewEntry, RenamesSubsection}
 
@@ -88,23 +88,6 @@ pub record IsNewMap (widths : Widths) (least : ℕ) (kept : List (ℕ × TypeEnt
   pub are : AreItems (IsNewEntry widths) texts kept
 
 -- ---- subsections
-
--- The content begins with subsections, up to `rest`, that become others. What they become is the
--- end of `out` and the beginning of `unwritten`. Nothing is in `out` while no type was named.
-pub record IsRenamedUpTo (new_indices : NewIndices) (widths : Widths)
-    (header content unwritten rest out : List ℕ) : Type 0 where
-  pub count : ℕ
-  pub texts : List ℕ
-  pub new : List ℕ
-  pub names : List ℕ
-  pub passed : List ℕ
-  pub so_far : ChangeAll (RenamesSubsection new_indices widths) count texts new names
-  pub parts : content ≡ header ++ (texts ++ rest)
-  pub not_written : unwritten ≡ passed ++ rest
-  pub written : header ++ new ≡ out ++ passed
-  pub untouched : out ≡ [] → unwritten ≡ content
-  pub nameless : out ≡ [] → names ≡ []
-  pub naming : names ≡ [] → out ≡ []
 
 -- some subsection
 pub record IsSomeSubsection (text : List ℕ) : Type 0 where

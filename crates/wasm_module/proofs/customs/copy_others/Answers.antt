@@ -1,20 +1,23 @@
 use Rattle.std.proofs.Common.{rules}
+use Rattle.wasm_module.specs.Customs.{none}
 use Rattle.wasm_module.specs.Sections.{placed}
-use Rattle.wasm_module.proofs.Descriptions.{strip_begun, first_placed, first_whole, strip_on}
+use Rattle.wasm_module.proofs.RenamedModules.{section_placed, section_whole, walk_begun, walk_on}
+use Rattle.wasm_module.proofs.Descriptions.{Stripped, stripped_push}
 use Rattle.wasm_module.proofs.customs.copy_others.Goals as goal
 
 pub loop-section-init : goal.loop-section-init
 loop-section-init c = (
   tt,
   tt,
-  strip_begun c.args.bytes.now c.args.found c.extend_from_slice.new.self.items c.requires
-      (search (rules, c.in_ok-extend_from_slice.ensures.items, c.new-out.ensures.items)),
+  walk_begun Stripped c.args.bytes.now c.args.found c.extend_from_slice.new.self.items
+      c.requires.is_module c.requires.places
+      (search (rules, c.in_ok-extend_from_slice.ensures.items, c.new-out.ensures.items)) none,
 )
 
 pub section_text-text-requires-clause-ordered : goal.section_text-text-requires-clause-ordered
 section_text-text-requires-clause-ordered c =
     let s = c.in-Some.section in
-    let p = first_placed c.args.bytes.now c.loop-section.left c.next.new.self c.loop-section.out.items
+    let p = section_placed Stripped c.args.bytes.now c.loop-section.left c.next.new.self c.loop-section.out.items
     (placed s.offset s.content_offset s.id s.content.now) c.loop-section.invariant.2 c.in-Some.ensures.steps
     in
     p.ordered
@@ -22,7 +25,7 @@ section_text-text-requires-clause-ordered c =
 pub section_text-text-requires-clause-fits : goal.section_text-text-requires-clause-fits
 section_text-text-requires-clause-fits c =
     let s = c.in-Some.section in
-    let p = first_placed c.args.bytes.now c.loop-section.left c.next.new.self c.loop-section.out.items
+    let p = section_placed Stripped c.args.bytes.now c.loop-section.left c.next.new.self c.loop-section.out.items
     (placed s.offset s.content_offset s.id s.content.now) c.loop-section.invariant.2 c.in-Some.ensures.steps
     in
     p.fits
@@ -30,17 +33,19 @@ section_text-text-requires-clause-fits c =
 pub copy_other-requires : goal.copy_other-requires
 copy_other-requires c =
     let s = c.in-Some.section in
-    first_whole c.args.bytes.now c.loop-section.left c.next.new.self c.loop-section.out.items
+    section_whole Stripped c.args.bytes.now c.loop-section.left c.next.new.self c.loop-section.out.items
     (placed s.offset s.content_offset s.id s.content.now) c.section_text-text.result.now
     c.loop-section.invariant.2 c.in-Some.ensures.steps c.section_text-text.ensures
 
 pub loop-section-preserved : goal.loop-section-preserved
 loop-section-preserved c =
-    let s = c.in-Some.section in (
+    let s = c.in-Some.section in
+    let w = c.loop-section.invariant.2 in
+    let written = c.in_ok-copy_other.ensures in (
       tt,
       tt,
-      strip_on c.args.bytes.now c.loop-section.left c.next.new.self c.loop-section.out.items
-          c.copy_other.new.out.items (placed s.offset s.content_offset s.id s.content.now)
-          c.section_text-text.result.now c.loop-section.invariant.2 c.in-Some.ensures.steps
-          c.section_text-text.ensures c.in_ok-copy_other.ensures,
+      walk_on Stripped c.args.bytes.now c.loop-section.left c.next.new.self c.loop-section.out.items
+          c.copy_other.new.out.items written.text (placed s.offset s.content_offset s.id s.content.now)
+          c.section_text-text.result.now w c.in-Some.ensures.steps c.section_text-text.ensures written.parts
+          (stripped_push w.texts w.new c.section_text-text.result.now written.text w.done written.is_text),
     )

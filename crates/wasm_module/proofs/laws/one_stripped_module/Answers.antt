@@ -1,6 +1,5 @@
-use Rattle.wasm_module.proofs.StrippedBefore.{stripped_before, stripped_after}
 use Rattle.wasm_module.proofs.StrippedOnce.{stripped_once, renamed_is_stripped, no_types_before}
-use Rattle.wasm_module.proofs.StrippedRenamed.{stripped_renamed}
+use Rattle.wasm_module.proofs.StrippedRenamed.{stripped_renamed, stripped_before, stripped_after}
 use Rattle.wasm_module.proofs.laws.one_stripped_module.Goals as goal
 
 pub returns-clause-determined : goal.returns-clause-determined

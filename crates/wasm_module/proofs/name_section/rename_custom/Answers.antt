@@ -1,4 +1,4 @@
-use Rattle.std.proofs.Common.{◌≡◌, ◌∙◌, nat_eq, true, false, not, Err, length, sym, ap, subst}
+use Rattle.std.proofs.Common.{◌≡◌, ◌∙◌, ◌+◌, ◌++◌, nat_eq, true, false, not, Err, length, sym, ap, subst}
 use Rattle.std.specs.Str.{bytes_eq}
 use Rattle.std.proofs.lemmas.Result.{err_from_is_err_and}
 use Rattle.wasm_module.specs.declared.renaming.RenameError.TheVariants as rename
@@ -25,6 +25,17 @@ loop-rest-init c =
     (same_bytes c.in-Some.name.now name_bytes
     (subst (λ u. false ≡ not (bytes_eq c.in-Some.name.now u)) c.as_slice.ensures c.if-ne.ensures))
     c.new-out.ensures.items
+
+pub loop-rest-preserved : goal.loop-rest-preserved
+loop-rest-preserved c =
+    let s = c.loop-rest.invariant in
+    record {
+      size = s.size;
+      is_size = s.is_size;
+      count = s.count + 1;
+      so_far = c.in_ok-rename_subsection.ensures.renamed s.count (s.size ++ name_bytes) c.args.content.now
+          s.so_far;
+    }
 
 pub returns-in_err-rename_subsection-clause-malformed : goal.returns-in_err-rename_subsection-clause-malformed
 returns-in_err-rename_subsection-clause-malformed c =

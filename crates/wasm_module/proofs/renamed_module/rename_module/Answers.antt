@@ -3,23 +3,25 @@ use Rattle.std.proofs.lemmas.Result.{err_from_is_err_and}
 use Rattle.wasm_module.specs.declared.renaming.RenameError.TheVariants as rename
 use Rattle.wasm_module.specs.Sections.{placed}
 use Rattle.wasm_module.proofs.Rewriting.{same_failure}
-use Rattle.wasm_module.proofs.RenamedModules.{section_placed, section_whole, module_begun, module_on, module_renamed, module_malformed, module_unknown, module_too_long}
+use Rattle.wasm_module.proofs.RenamedModules.{Renamed, section_placed, section_whole, walk_begun, none_renamed, module_on, module_renamed, module_malformed, module_unknown, module_too_long}
 use Rattle.wasm_module.proofs.renamed_module.rename_module.Goals as goal
 
 pub loop-section-init : goal.loop-section-init
 loop-section-init c = (
   tt,
   tt,
-  module_begun c.args.types.now c.args.new_indices.now c.args.widths c.args.bytes.now c.in-Ok.found
-      c.extend_from_slice.new.self.items c.in-Ok.ensures.module c.in-Ok.ensures.placed
-      (search (rules, c.in_ok-extend_from_slice.ensures.items, c.new-out.ensures.items)),
+  walk_begun (Renamed c.args.types.now c.args.new_indices.now c.args.widths c.in-Ok.found)
+      c.args.bytes.now c.in-Ok.found c.extend_from_slice.new.self.items c.in-Ok.ensures.module
+      c.in-Ok.ensures.placed
+      (search (rules, c.in_ok-extend_from_slice.ensures.items, c.new-out.ensures.items))
+      (none_renamed c.args.types.now c.args.new_indices.now c.args.widths c.in-Ok.found),
 )
 
 pub section_text-text-requires-clause-ordered : goal.section_text-text-requires-clause-ordered
 section_text-text-requires-clause-ordered c =
     let s = c.in-Some.section in
-    let p = section_placed c.args.types.now c.args.new_indices.now c.args.widths c.args.bytes.now
-    c.in-Ok.found c.loop-section.left c.next.new.self c.loop-section.out.items
+    let p = section_placed (Renamed c.args.types.now c.args.new_indices.now c.args.widths c.in-Ok.found)
+    c.args.bytes.now c.loop-section.left c.next.new.self c.loop-section.out.items
     (placed s.offset s.content_offset s.id s.content.now) c.loop-section.invariant.2
     c.in-Some.ensures.steps in
     p.ordered
@@ -27,8 +29,8 @@ section_text-text-requires-clause-ordered c =
 pub section_text-text-requires-clause-fits : goal.section_text-text-requires-clause-fits
 section_text-text-requires-clause-fits c =
     let s = c.in-Some.section in
-    let p = section_placed c.args.types.now c.args.new_indices.now c.args.widths c.args.bytes.now
-    c.in-Ok.found c.loop-section.left c.next.new.self c.loop-section.out.items
+    let p = section_placed (Renamed c.args.types.now c.args.new_indices.now c.args.widths c.in-Ok.found)
+    c.args.bytes.now c.loop-section.left c.next.new.self c.loop-section.out.items
     (placed s.offset s.content_offset s.id s.content.now) c.loop-section.invariant.2
     c.in-Some.ensures.steps in
     p.fits
@@ -36,8 +38,8 @@ section_text-text-requires-clause-fits c =
 pub write_section-requires : goal.write_section-requires
 write_section-requires c =
     let s = c.in-Some.section in
-    section_whole c.args.types.now c.args.new_indices.now c.args.widths c.args.bytes.now c.in-Ok.found
-    c.loop-section.left c.next.new.self c.loop-section.out.items
+    section_whole (Renamed c.args.types.now c.args.new_indices.now c.args.widths c.in-Ok.found)
+    c.args.bytes.now c.loop-section.left c.next.new.self c.loop-section.out.items
     (placed s.offset s.content_offset s.id s.content.now) c.section_text-text.result.now
     c.loop-section.invariant.2 c.in-Some.ensures.steps c.section_text-text.ensures
 
