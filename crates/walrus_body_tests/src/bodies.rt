@@ -3,11 +3,16 @@ ghost use Rattle.std.specs.Prelude.{◌↔◌, IfOk};
 ghost use Rattle.walrus_body.specs.Nesting.{IsNested};
 ghost use Rattle.walrus_body.specs.Certificates.{SaysNested};
 
+use crate::lists::list;
 use std::alloc::{AllocError, Global};
 use std::process::Abort;
 use walrus_arena::Id;
 use walrus_body::{BuildError, FunctionBuilder, LocalFunction, Nesting, check_nesting};
-use walrus_ir::{Block, Const, Instr, InstrLocId, InstrSeqId, InstrSeqType, Loop, Value};
+use walrus_ir::{
+    Block, Br, Const, IfElse, Instr, InstrLocId, InstrSeqId, InstrSeqType, LegacyCatch, Loop, Try,
+    TryTable, TryTableCatch, Value,
+};
+use walrus_types::Listed;
 
 pub(crate) const NOTHING: InstrSeqType = InstrSeqType::Simple(None);
 
@@ -75,52 +80,82 @@ pub(crate) fn instrs_of(func: &LocalFunction, index: usize) -> Option<&[(Instr, 
     }
 }
 
-/// Adds a sequence of this function type with a block of each of these sequences, or a loop.
-pub(crate) fn add_blocks(
-    alloc: Global,
-    f: &mut FunctionBuilder,
-    ty: usize,
-    children: &[usize],
-    are_loops: bool,
-) -> Result<(), BuildError> {
+fn id_at<T>(words: &str, place: usize) -> Id<T> {
+    let word = words.split_whitespace().nth(place).unwrap_or("");
+    id(word.parse().ok().unwrap_or(0))
+}
+
+// A `try` of a sequence, with two handlers.
+fn attempt(alloc: Global, words: &str) -> Result<Instr, AllocError> {
+    let caught = LegacyCatch::Catch {
+        tag: id(0),
+        handler: id_at(words, 2),
+    };
+    let delegated = LegacyCatch::Delegate { relative_depth: 0 };
+    let all = LegacyCatch::CatchAll {
+        handler: id_at(words, 3),
+    };
+    Ok(Instr::Try(Try {
+        seq: id_at(words, 1),
+        catches: Listed::from_vec(list(alloc, &[caught, delegated, all])?),
+    }))
+}
+
+// A `try_table` of a sequence, which branches to another.
+fn table_of_catches(alloc: Global, words: &str) -> Result<Instr, AllocError> {
+    let all = TryTableCatch::CatchAll {
+        label: id_at(words, 2),
+    };
+    Ok(Instr::TryTable(TryTable {
+        seq: id_at(words, 1),
+        catches: Listed::from_vec(list(alloc, &[all])?),
+    }))
+}
+
+fn instr(alloc: Global, words: &str, are_loops: bool) -> Result<Instr, AllocError> {
+    let first = id_at(words, 1);
+    match words.split_whitespace().next().unwrap_or("") {
+        "if" => Ok(Instr::IfElse(IfElse {
+            consequent: first,
+            alternative: id_at(words, 2),
+        })),
+        "br" => Ok(Instr::Br(Br { block: first })),
+        "try" => attempt(alloc, words),
+        "try_table" => table_of_catches(alloc, words),
+        _ if are_loops => Ok(Instr::Loop(Loop { seq: first })),
+        _ => Ok(Instr::Block(Block { seq: first })),
+    }
+}
+
+fn instrs(alloc: Global, text: &str, are_loops: bool) -> Result<Vec<Instr>, AllocError> {
     let mut instrs = Vec::new(alloc);
-    for child in children {
-        instrs.push(child_of(*child, are_loops))?;
+    for words in text.split(',') {
+        if !words.trim().is_empty() {
+            instrs.push(instr(alloc, words, are_loops)?)?;
+        }
     }
-    add(alloc, f, InstrSeqType::MultiValue(id(ty)), instrs)?;
-    Ok(())
+    Ok(instrs)
 }
 
-fn child_of(index: usize, is_loop: bool) -> Instr {
-    if is_loop {
-        return Instr::Loop(Loop { seq: id(index) });
-    }
-    block(index)
-}
-
-/// A function with these sequences: each is said by the sequences that its blocks or loops name, and
-/// has the function type of its own number.
+/// The function of this text: its sequences with a `;` between two, each with the function type of its
+/// own number, and their instructions with a `,`. An instruction is `block`, `if`, `br`, `try` or
+/// `try_table`, and numbers of sequences. In place of blocks there may be loops.
 pub(crate) fn body(
     alloc: Global,
-    sequences: &[&[usize]],
+    text: &str,
     are_loops: bool,
 ) -> Result<LocalFunction, BuildError> {
     let mut f = empty(alloc);
-    for (index, children) in sequences.iter().enumerate() {
-        add_blocks(alloc, &mut f, index, children, are_loops)?;
+    for (index, sequence) in text.split(';').enumerate() {
+        let instrs = instrs(alloc, sequence, are_loops)?;
+        add(alloc, &mut f, InstrSeqType::MultiValue(id(index)), instrs)?;
     }
     Ok(f.local_func(Vec::new(alloc)))
 }
 
 /// The same with blocks. It is built again after a refusal.
-pub(crate) fn body_again(
-    alloc: Global,
-    sequences: &[&[usize]],
-) -> Result<LocalFunction, BuildError> {
-    match body(alloc, sequences, false) {
-        Ok(func) => Ok(func),
-        Err(_) => body(alloc, sequences, false),
-    }
+pub(crate) fn body_again(alloc: Global, text: &str) -> Result<LocalFunction, BuildError> {
+    body(alloc, text, false).or_else(|_| body(alloc, text, false))
 }
 
 /// The body is nested, from the sequence 0 on.

@@ -11,3 +11,8 @@ pub(crate) fn assert_equal<T: PartialEq + Debug + Drop>(rt: &impl Abort, left: T
 {
     assert_eq!(rt; left, right);
 }
+
+// The row of this name is right.
+pub(crate) fn is_right(rt: &impl Abort, name: &str, holds: bool) {
+    assert!(rt; holds, "{name}");
+}

@@ -1,33 +1,33 @@
 //! The first place where two sections differ.
-use crate::assertions::assert_equal;
-use crate::fixtures::section;
+use crate::assertions::{assert_equal, is_right};
+use crate::fixtures::{columns, section};
 use std::alloc::Global;
 use std::process::Abort;
 use walrus_types::{HashKeys, entries_before, first_difference, normalise};
 
-// The sections differ first at this place, in either order.
-fn differ(rt: &impl Abort, alloc: Global, a: &str, b: &str, place: Option<usize>) {
+// A name, two sections, and the place where they differ first, `-` for none.
+const ROWS: &str = "\
+equal sections differ nowhere      | f si   | f si       | -
+another group is told              | f si f | f ( si ) f | 1
+the end of the shorter one is told | f si   | f          | 1
+also where it is empty             |        | f          | 0
+";
+
+// The sections of the row differ first at its place, in either order.
+fn differ(rt: &impl Abort, alloc: Global, row: &str) {
+    let [name, a, b, place, _] = columns(row);
     let first = section(alloc, a).expect(rt, "memory");
     let second = section(alloc, b).expect(rt, "memory");
-    let (first, second) = (first.as_slice(), second.as_slice());
-    assert_equal(rt, first_difference(first, second), place);
-    assert_equal(rt, first_difference(second, first), place);
+    let (first, second, place) = (first.as_slice(), second.as_slice(), place.parse().ok());
+    is_right(rt, name, first_difference(first, second) == place);
+    is_right(rt, name, first_difference(second, first) == place);
 }
 
 #[test]
-fn equal_sections_differ_nowhere(rt: HostRuntime) {
-    differ(&rt, rt.alloc(), "f si", "f si", None);
-}
-
-#[test]
-fn another_group_is_told(rt: HostRuntime) {
-    differ(&rt, rt.alloc(), "f si f", "f ( si ) f", Some(1));
-}
-
-#[test]
-fn the_end_of_the_shorter_one_is_told(rt: HostRuntime) {
-    differ(&rt, rt.alloc(), "f si", "f", Some(1));
-    differ(&rt, rt.alloc(), "", "f", Some(0));
+fn sections_differ_first_at_a_place(rt: HostRuntime) {
+    for row in ROWS.lines() {
+        differ(&rt, rt.alloc(), row);
+    }
 }
 
 #[test]

@@ -1,10 +1,11 @@
 //! Small sections as texts, for tests.
 //!
-//! A text has a word for each entry. A function begins with `f`, a struct with `s`, a struct that is
-//! not final with `o`, and an array of `i8` with `b`. Then come parameters or fields: `i` is an `i32`
-//! and `l` an `i64`; a digit is a nullable reference to the type at this index, `m` one to the type
-//! at the greatest index, `x` one to exactly the type at 0, and `y` at 1. The entries between `(` and
-//! `)`, which are words too, are those of a `Rec`. The others are lone types.
+//! A text has a word for each entry. A function begins with `f`, one that is not final with `g`, a
+//! struct with `s`, one that is not final with `o`, and an array of `i8` with `b`. Then come
+//! parameters or fields: `i` is an `i32` and `l` an `i64`; a digit is a nullable reference to the type
+//! at this index, `m` one to the type at the greatest index, `x` one to exactly the type at 0, and `y`
+//! at 1. The entries between `(` and `)`, which are words too, are those of a `Rec`. The others are
+//! lone types.
 use std::alloc::{AllocError, Global};
 use walrus_types::{CompAt, EntryAt, FieldAt, GroupAt, HeapAt, Listed, RefAt, StorageAt, ValAt};
 
@@ -54,7 +55,7 @@ fn structure(alloc: Global, letters: &[u8]) -> Result<CompAt, AllocError> {
 /// The entry of this word.
 pub(crate) fn entry(alloc: Global, word: &str) -> Result<EntryAt, AllocError> {
     let comp = match word.as_bytes() {
-        [b'f', letters @ ..] => function(alloc, letters)?,
+        [b'f' | b'g', letters @ ..] => function(alloc, letters)?,
         [b's' | b'o', letters @ ..] => structure(alloc, letters)?,
         _ => CompAt::Array {
             field: field(StorageAt::I8),
@@ -62,7 +63,7 @@ pub(crate) fn entry(alloc: Global, word: &str) -> Result<EntryAt, AllocError> {
     };
     Ok(EntryAt {
         comp,
-        is_final: !word.starts_with('o'),
+        is_final: !word.starts_with('o') && !word.starts_with('g'),
         supertype: None,
     })
 }
@@ -107,4 +108,33 @@ pub(crate) fn section(alloc: Global, text: &str) -> Result<Vec<GroupAt>, AllocEr
 /// The section of this text. It is made again after a refusal.
 pub(crate) fn section_again(alloc: Global, text: &str) -> Result<Vec<GroupAt>, AllocError> {
     section(alloc, text).or_else(|_| section(alloc, text))
+}
+
+fn numbers(alloc: Global, text: &str) -> Result<Vec<u32>, AllocError> {
+    let mut numbers = Vec::new(alloc);
+    for word in text.split_whitespace() {
+        if let Ok(number) = word.parse() {
+            numbers.push(number)?;
+        }
+    }
+    Ok(numbers)
+}
+
+/// The numbers of this text. They are read again after a refusal.
+pub(crate) fn numbers_again(alloc: Global, text: &str) -> Result<Vec<u32>, AllocError> {
+    numbers(alloc, text).or_else(|_| numbers(alloc, text))
+}
+
+fn first_column(line: &str) -> (&str, &str) {
+    let (first, rest) = line.split_once('|').unwrap_or((line, ""));
+    (first.trim(), rest)
+}
+
+/// The columns of a row, with `|` between them.
+pub(crate) fn columns(row: &str) -> [&str; 5] {
+    let (first, rest) = first_column(row);
+    let (second, rest) = first_column(rest);
+    let (third, rest) = first_column(rest);
+    let (fourth, rest) = first_column(rest);
+    [first, second, third, fourth, rest.trim()]
 }

@@ -1,8 +1,8 @@
 //! Sections that moves join, and sections that differ.
 mod refusals;
 
-use crate::assertions::assert_equal;
-use crate::fixtures::section;
+use crate::assertions::{assert_equal, is_right};
+use crate::fixtures::{columns, section};
 use std::alloc::Global;
 use std::process::Abort;
 use walrus_types::{GroupAt, HashKeys, ReadError, same_up_to_moves};
@@ -18,52 +18,40 @@ fn are_same(alloc: Global, a: &str, b: &str) -> Result<bool, ReadError> {
     )
 }
 
-fn same(rt: &impl Abort, alloc: Global, a: &str, b: &str) {
-    assert!(rt; are_same(alloc, a, b).expect(rt, "memory"));
-    assert!(rt; are_same(alloc, b, a).expect(rt, "memory"));
-}
+// A name, and two sections.
+const SAME: &str = "\
+empty recs go                                 | ( ) f   | f
+repeats go                                    | f f s1  | f s0
+neighbours that name themselves change places | si0 sl1 | sl0 si1
+exact references come after others            | sx s1   | s0 sy
+";
 
-fn differ(rt: &impl Abort, alloc: Global, a: &str, b: &str) {
-    assert!(rt; !are_same(alloc, a, b).expect(rt, "memory"));
-    assert!(rt; !are_same(alloc, b, a).expect(rt, "memory"));
-}
+const DIFFERENT: &str = "\
+neighbours whose order hangs on their places stay | s0 s1i   | s0i s1
+a single is no member                             | ( f ) f  | ( f )
+a single does not go past a member                | si ( f ) | ( f ) si
+a name                                            | f si s0  | f si s1
+a cut                                             | ( f si ) | ( f ) ( si )
+finality                                          | si       | oi
+";
 
-#[test]
-fn empty_recs_go(rt: HostRuntime) {
-    same(&rt, rt.alloc(), "( ) f", "f");
-}
-
-#[test]
-fn repeats_go(rt: HostRuntime) {
-    same(&rt, rt.alloc(), "f f s1", "f s0");
-}
-
-#[test]
-fn neighbours_that_name_themselves_change_places(rt: HostRuntime) {
-    same(&rt, rt.alloc(), "si0 sl1", "sl0 si1");
-}
-
-#[test]
-fn neighbours_whose_order_hangs_on_their_places_stay(rt: HostRuntime) {
-    differ(&rt, rt.alloc(), "s0 s1i", "s0i s1");
+// Whether the two sections of each row are the same, in either order.
+fn are_all(rt: &impl Abort, alloc: Global, rows: &str, same: bool) {
+    for row in rows.lines() {
+        let [name, a, b, ..] = columns(row);
+        is_right(rt, name, are_same(alloc, a, b) == Ok(same));
+        is_right(rt, name, are_same(alloc, b, a) == Ok(same));
+    }
 }
 
 #[test]
-fn exact_references_come_after_others(rt: HostRuntime) {
-    same(&rt, rt.alloc(), "sx s1", "s0 sy");
+fn sections_that_moves_join(rt: HostRuntime) {
+    are_all(&rt, rt.alloc(), SAME, true);
 }
 
 #[test]
-fn a_single_is_no_member(rt: HostRuntime) {
-    differ(&rt, rt.alloc(), "( f ) f", "( f )");
-    differ(&rt, rt.alloc(), "si ( f )", "( f ) si");
-}
-
-#[test]
-fn sections_that_differ_in_a_name_a_cut_or_finality(rt: HostRuntime) {
-    differ(&rt, rt.alloc(), "f si s0", "f si s1");
-    differ(&rt, rt.alloc(), "( f si )", "( f ) ( si )");
-    differ(&rt, rt.alloc(), "si", "oi");
+fn sections_that_differ(rt: HostRuntime) {
+    are_all(&rt, rt.alloc(), DIFFERENT, false);
 }
 
 #[test]

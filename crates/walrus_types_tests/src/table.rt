@@ -10,6 +10,7 @@ use walrus_types::{
 };
 
 mod adding;
+pub(crate) mod calls;
 mod deleting;
 mod finding;
 mod grouping;
@@ -32,16 +33,6 @@ pub(crate) fn reference(index: usize) -> ValType {
     })
 }
 
-pub(crate) fn structure(alloc: Global, vals: &[ValType]) -> Result<CompositeType, AllocError> {
-    let mut fields = Vec::new(alloc);
-    for val in vals {
-        fields.push(field(*val))?;
-    }
-    Ok(CompositeType::Struct(StructType {
-        fields: Listed::from_vec(fields),
-    }))
-}
-
 // The function type without parameters and results.
 fn function(alloc: Global) -> CompositeType {
     CompositeType::Function(FunctionType::new(Vec::new(alloc), Vec::new(alloc)))
@@ -56,26 +47,9 @@ pub(crate) fn are(ids: &[TypeId], indices: &[usize]) -> bool {
             .all(|(id, index)| id.index() == *index)
 }
 
-// Whether the group at this place has these ids.
-fn has_ids(types: &ModuleTypes, place: usize, indices: &[usize]) -> bool {
-    match types.rec_groups().get(place) {
-        Some(group) => are(group.types.as_slice(), indices),
-        None => false,
-    }
-}
-
 // A final type of a group, without supertype.
 fn member(kind: CompositeType) -> (CompositeType, bool, Option<TypeId>) {
     (kind, true, None)
-}
-
-// A group of one struct type with one field of this type.
-fn add_alone(
-    alloc: Global,
-    types: &mut ModuleTypes,
-    of: ValType,
-) -> Result<Vec<TypeId>, AddRecGroupError> {
-    types.add_rec_group(1, |_| Ok(vec![in alloc; member(structure(alloc, &[of])?)]?))
 }
 
 // A final function type whose one parameter names the type with this id.
@@ -108,37 +82,4 @@ pub(crate) fn add_pair(
     ensures err { OnErr result (types.new ≡ types.old) }
 {
     types.add_rec_group(count, |ids| two_namers(alloc, ids))
-}
-
-// Makes a live type something else.
-pub(crate) fn rewrite(rt: &impl Abort, types: &mut ModuleTypes, index: usize, kind: CompositeType) {
-    let id = TypeId::from_index(index);
-    assert!(rt; types.contains(id));
-    *types.get_mut(id).kind_mut() = kind;
-}
-
-pub(crate) fn delete(
-    rt: &impl Abort,
-    types: &mut ModuleTypes,
-    index: usize,
-) -> Result<(), AllocError> {
-    let id = TypeId::from_index(index);
-    assert!(rt; types.contains(id));
-    types.delete(id)
-}
-
-fn try_delete(rt: &impl Abort, types: &mut ModuleTypes, index: usize) -> Result<bool, AllocError> {
-    let id = TypeId::from_index(index);
-    assert!(rt; types.contains(id));
-    types.try_delete(id)
-}
-
-// A clone of the type of one id is written over the type of another.
-pub(crate) fn copy_over(rt: &impl Abort, types: &mut ModuleTypes, from: usize, to: usize) {
-    let from = TypeId::from_index(from);
-    let to = TypeId::from_index(to);
-    assert!(rt; types.contains(from));
-    assert!(rt; types.contains(to));
-    let copy = types.get(from).clone().expect(rt, "memory");
-    *types.get_mut(to) = copy;
 }

@@ -6,10 +6,24 @@ use crate::assertions::assert_equal;
 use std::cell::Cell;
 use std::rc::Rc;
 
-// An item that counts the calls of its `on_delete`.
+// A value that counts the calls of its `on_delete`, in a cell that its clones share.
 #[derive(Drop)]
+#[derive_where(PartialEq, Eq, Hash)]
 struct Told {
+    key: u32,
+    #[derive_where(skip)]
     count: Rc<Cell<u32>>,
+}
+
+impl Clone for Told {
+    ghost is_clone = { λ source copy. copy.key ≡ source.key };
+
+    fn clone(&self) -> Result<Told, AllocError> {
+        Ok(Told {
+            key: self.key,
+            count: self.count.clone()?,
+        })
+    }
 }
 
 impl Tombstone for Told {
@@ -18,22 +32,24 @@ impl Tombstone for Told {
     }
 }
 
-// An arena of two items that count in one cell.
-fn two_items(alloc: Global, count: &Rc<Cell<u32>>) -> Result<TombstoneArena<Told>, AllocError> {
+fn make_told(rt: &impl Abort, key: u32, count: &Rc<Cell<u32>>) -> Told {
+    let count = count.clone().expect(rt, "memory");
+    Told { key, count }
+}
+
+// An arena of two values that count in one cell.
+fn two_items(rt: &impl Abort, alloc: Global, count: &Rc<Cell<u32>>) -> TombstoneArena<Told> {
     let mut arena = TombstoneArena::new(alloc);
-    arena.alloc(Told {
-        count: count.clone()?,
-    })?;
-    arena.alloc(Told {
-        count: count.clone()?,
-    })?;
-    Ok(arena)
+    for key in 0..2 {
+        arena.alloc(make_told(rt, key, count)).expect(rt, "memory");
+    }
+    arena
 }
 
 #[test]
 fn delete_tells_its_item_once(rt: HostRuntime) {
     let count = Rc::new(rt.alloc(), Cell::new(0)).expect(&rt, "memory");
-    let mut arena = two_items(rt.alloc(), &count).expect(&rt, "memory");
+    let mut arena = two_items(&rt, rt.alloc(), &count);
     assert_equal(&rt, count.get(), 0);
     assert!(rt; arena.contains(Id::from_index(1)));
     arena.delete(Id::from_index(1)).expect(&rt, "memory");
@@ -72,75 +88,41 @@ fn can_delete(rt: HostRuntime) {
 
 #[test]
 #[tactic(auto, using(walrus_arena::proofs::ArenaLemmas::distinct_pair))]
-fn delete_all_tells_each_item_once(rt: HostRuntime) -> Result<(), Fail> {
-    let count = Rc::new(rt.alloc(), Cell::new(0))?;
-    let mut arena = two_items(rt.alloc(), &count)?;
+fn delete_all_tells_each_item_once(rt: HostRuntime) {
+    let count = Rc::new(rt.alloc(), Cell::new(0)).expect(&rt, "memory");
+    let mut arena = two_items(&rt, rt.alloc(), &count);
     let ids: [Id<Told>; 2] = [Id::from_index(1), Id::from_index(0)];
     assert!(rt; arena.contains(ids[0]));
     assert!(rt; arena.contains(ids[1]));
-    arena.delete_all(ids.as_slice())?;
+    arena.delete_all(ids.as_slice()).expect(&rt, "memory");
     assert_equal(&rt, count.get(), 2);
     assert!(rt; arena.is_empty());
-    Ok(())
 }
 
 #[test]
 #[tactic(auto, using(walrus_arena::proofs::ArenaLemmas::distinct_none))]
-fn no_ids_delete_nothing(rt: HostRuntime) -> Result<(), Fail> {
-    let count = Rc::new(rt.alloc(), Cell::new(0))?;
-    let mut arena = two_items(rt.alloc(), &count)?;
+fn no_ids_delete_nothing(rt: HostRuntime) {
+    let count = Rc::new(rt.alloc(), Cell::new(0)).expect(&rt, "memory");
+    let mut arena = two_items(&rt, rt.alloc(), &count);
     let ids: [Id<Told>; 0] = [];
-    arena.delete_all(ids.as_slice())?;
+    arena.delete_all(ids.as_slice()).expect(&rt, "memory");
     assert_equal(&rt, count.get(), 0);
     assert_equal(&rt, arena.len(), 2);
-    Ok(())
-}
-
-// A value of a set that counts the calls of its `on_delete`, in a cell that its clones share.
-#[derive(Drop)]
-#[derive_where(PartialEq, Eq, Hash)]
-struct ToldKey {
-    key: u32,
-    #[derive_where(skip)]
-    count: Rc<Cell<u32>>,
-}
-
-impl Clone for ToldKey {
-    ghost is_clone = { λ source copy. copy.key ≡ source.key };
-
-    fn clone(&self) -> Result<ToldKey, AllocError> {
-        Ok(ToldKey {
-            key: self.key,
-            count: self.count.clone()?,
-        })
-    }
-}
-
-impl Tombstone for ToldKey {
-    fn on_delete(&mut self) {
-        self.count.set(self.count.get().wrapping_add(1));
-    }
-}
-
-fn make_told(key: u32, count: &Rc<Cell<u32>>) -> Result<ToldKey, AllocError> {
-    Ok(ToldKey {
-        key,
-        count: count.clone()?,
-    })
 }
 
 // A set of two values that count in one cell.
-fn two_values(alloc: Global, count: &Rc<Cell<u32>>) -> Result<ArenaSet<ToldKey>, AllocError> {
+fn two_values(rt: &impl Abort, alloc: Global, count: &Rc<Cell<u32>>) -> ArenaSet<Told> {
     let mut set = ArenaSet::new(alloc);
-    set.insert(make_told(1, count)?)?;
-    set.insert(make_told(2, count)?)?;
-    Ok(set)
+    for key in 0..2 {
+        set.insert(make_told(rt, key, count)).expect(rt, "memory");
+    }
+    set
 }
 
 #[test]
 fn remove_tells_its_item_once(rt: HostRuntime) {
     let count = Rc::new(rt.alloc(), Cell::new(0)).expect(&rt, "memory");
-    let mut set = two_values(rt.alloc(), &count).expect(&rt, "memory");
+    let mut set = two_values(&rt, rt.alloc(), &count);
     assert!(rt; set.contains(Id::from_index(1)));
     assert_equal(&rt, count.get(), 0);
     set.remove(Id::from_index(1)).expect(&rt, "memory");
@@ -151,25 +133,24 @@ fn remove_tells_its_item_once(rt: HostRuntime) {
 
 #[test]
 #[tactic(auto, using(walrus_arena::proofs::ArenaLemmas::distinct_pair))]
-fn remove_all_tells_each_item_once(rt: HostRuntime) -> Result<(), Fail> {
-    let count = Rc::new(rt.alloc(), Cell::new(0))?;
-    let mut set = two_values(rt.alloc(), &count)?;
-    let ids: [Id<ToldKey>; 2] = [Id::from_index(1), Id::from_index(0)];
+fn remove_all_tells_each_item_once(rt: HostRuntime) {
+    let count = Rc::new(rt.alloc(), Cell::new(0)).expect(&rt, "memory");
+    let mut set = two_values(&rt, rt.alloc(), &count);
+    let ids: [Id<Told>; 2] = [Id::from_index(1), Id::from_index(0)];
     assert!(rt; set.contains(ids[0]));
     assert!(rt; set.contains(ids[1]));
-    set.remove_all(ids.as_slice())?;
+    set.remove_all(ids.as_slice()).expect(&rt, "memory");
     assert_equal(&rt, count.get(), 2);
     drop(set);
     assert_equal(&rt, count.get(), 2);
-    Ok(())
 }
 
 #[test]
 fn a_value_of_a_dead_slot_is_told_once(rt: HostRuntime) {
     let count = Rc::new(rt.alloc(), Cell::new(0)).expect(&rt, "memory");
-    let mut set = two_values(rt.alloc(), &count).expect(&rt, "memory");
+    let mut set = two_values(&rt, rt.alloc(), &count);
     let dead = set
-        .alloc_dead(make_told(3, &count).expect(&rt, "memory"))
+        .alloc_dead(make_told(&rt, 3, &count))
         .expect(&rt, "memory");
     assert_equal(&rt, dead.index(), 2);
     assert_equal(&rt, count.get(), 1);

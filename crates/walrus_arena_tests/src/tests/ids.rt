@@ -16,10 +16,10 @@ fn ids_go_by_their_index(rt: HostRuntime) {
 }
 
 #[test]
-fn an_id_prints_its_index(rt: HostRuntime) -> Result<(), Fail> {
+fn an_id_prints_its_index(rt: HostRuntime) {
     let three: Id<Tagged> = Id::from_index(3);
-    assert_equal(&rt, format!(in rt.alloc(); "{three:?}")?.as_str(), "Id(3)");
-    Ok(())
+    let printed = format!(in rt.alloc(); "{three:?}").expect(&rt, "memory");
+    assert_equal(&rt, printed.as_str(), "Id(3)");
 }
 
 #[test]
@@ -34,8 +34,9 @@ fn a_map_by_ids(rt: HostRuntime) -> Result<(), Fail> {
 #[test]
 fn a_set_of_ids(rt: HostRuntime) -> Result<(), Fail> {
     let mut seen: IdHashSet<Tagged> = HashSet::new(rt.alloc());
-    assert!(rt; seen.insert(Id::from_index(2))?);
-    assert!(rt; !seen.insert(Id::from_index(2))?);
+    for is_new in [true, false] {
+        assert_equal(&rt, seen.insert(Id::from_index(2))?, is_new);
+    }
     assert!(rt; !seen.contains(&Id::from_index(3)));
     Ok(())
 }

@@ -14,23 +14,24 @@ fn all_keys() -> [HashKeys; 4] {
 }
 
 // Keys 0 to 39 were inserted twice, and then every third item was deleted, from 2 on.
-fn filled(rt: &impl Abort, alloc: Global, keys: HashKeys) -> Result<ArenaSet<Tagged>, AllocError> {
+fn filled(rt: &impl Abort, alloc: Global, keys: HashKeys) -> ArenaSet<Tagged> {
     let mut set = ArenaSet::with_hash_keys(alloc, keys);
     for note in 0..80 {
-        set.insert(make_tagged(note % 40, note))?;
+        set.insert(make_tagged(note % 40, note))
+            .expect(rt, "memory");
     }
     for third in 0..13 {
         let at = 3 * third + 2;
         assert!(rt; set.contains(Id::from_index(at)));
-        set.remove(Id::from_index(at))?;
+        set.remove(Id::from_index(at)).expect(rt, "memory");
     }
-    Ok(set)
+    set
 }
 
 #[test]
 fn answers_do_not_hang_on_the_keys(rt: HostRuntime) {
     for keys in all_keys() {
-        let set = filled(&rt, rt.alloc(), keys).expect(&rt, "memory");
+        let set = filled(&rt, rt.alloc(), keys);
         assert_equal(&rt, set.next_id().index(), 40);
         for key in 0..41 {
             let at = key as usize;

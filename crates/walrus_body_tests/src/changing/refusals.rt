@@ -27,8 +27,7 @@ fn walked_types(func: &LocalFunction) -> [Option<usize>; 4] {
 
 // Sequence 0 has blocks of 1 and 2, and 1 has a block of 3.
 fn tree(alloc: Global) -> Result<LocalFunction, BuildError> {
-    let sequences: [&[usize]; 4] = [&[1, 2], &[3], &[], &[]];
-    body_again(alloc, &sequences)
+    body_again(alloc, "block 1, block 2; block 3; ;")
 }
 
 // A visitor that sends the types 0 to 3 to these.

@@ -14,8 +14,7 @@ const IN_ORDER: [usize; 7] = [0, 1, 3, 4, 2, 3, 4];
 
 // Sequence 0 has blocks of 1 and 2, both have a block of 3, and that of 4.
 fn shared(alloc: Global) -> Result<LocalFunction, BuildError> {
-    let sequences: [&[usize]; 5] = [&[1, 2], &[3], &[3], &[4], &[]];
-    body_again(alloc, &sequences)
+    body_again(alloc, "block 1, block 2; block 3; block 3; block 4;")
 }
 
 // Whether these are collected by the first hook calls of the walk: a block's sequence comes just
@@ -79,8 +78,8 @@ fn a_refused_list_of_names_comes_when_it_is_asked_for_again(rt: HostRuntime) {
         Some(ids) => assert!(rt; are_all(&ids)),
         None => panic!(rt; "not nested"),
     }
-    let unknown: [&[usize]; 3] = [&[1, 2], &[2], &[3]];
-    let func = body_again(rt.alloc(), &unknown).expect(&rt, "memory");
+    let unknown = "block 1, block 2; block 2; block 3";
+    let func = body_again(rt.alloc(), unknown).expect(&rt, "memory");
     assert!(rt;
         used_again(rt.alloc(), &func)
             .expect(&rt, "memory")

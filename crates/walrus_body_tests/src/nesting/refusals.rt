@@ -1,4 +1,5 @@
 //! Answers of the check, nested and not, and stacks of children.
+use super::said;
 use crate::assertions::assert_equal;
 use crate::bodies::{body_again, check_again};
 use crate::lists::{are, list};
@@ -9,41 +10,48 @@ use walrus_ir::{Instr, InstrSeqId, LegacyCatch, Try};
 use walrus_types::{Id, Listed};
 
 // The answer for a function with these sequences.
-fn answer(rt: &impl Abort, alloc: Global, sequences: &[&[usize]]) -> Nesting {
-    let func = body_again(alloc, sequences).expect(rt, "memory");
+fn answer(rt: &impl Abort, alloc: Global, text: &str) -> Nesting {
+    let func = body_again(alloc, text).expect(rt, "memory");
     check_again(alloc, &func).expect(rt, "memory")
+}
+
+// The answer has this text, which is made again after a refusal.
+fn says(rt: &impl Abort, alloc: Global, answer: &Nesting, wanted: &str) {
+    let text = said(alloc, answer).or_else(|_| said(alloc, answer));
+    assert_equal(rt, text.expect(rt, "memory").as_str(), wanted);
 }
 
 #[test]
 fn a_refused_check_of_a_nested_body_is_made_again(rt: HostRuntime) {
-    let sequences: [&[usize]; 6] = [&[1], &[2, 2], &[3], &[4, 5], &[5], &[]];
-    match answer(&rt, rt.alloc(), &sequences) {
-        Nesting::Nested(order) => {
-            assert!(rt; are(order.as_slice(), &[5, 4, 3, 2, 1, 0]));
-        }
-        _ => panic!(rt; "not nested"),
-    }
+    let text = "block 1; block 2, block 2; block 3; block 4, block 5; block 5;";
+    says(
+        &rt,
+        rt.alloc(),
+        &answer(&rt, rt.alloc(), text),
+        "nested 5 4 3 2 1 0",
+    );
 }
 
 #[test]
 fn a_refused_check_of_a_cycle_is_made_again(rt: HostRuntime) {
-    let sequences: [&[usize]; 4] = [&[1], &[3, 2], &[3, 1], &[]];
-    match answer(&rt, rt.alloc(), &sequences) {
-        Nesting::Cycle { path, back_to } => {
-            assert!(rt; are(path.as_slice(), &[0, 1, 2]));
-            assert_equal(&rt, back_to, 1);
-        }
-        _ => panic!(rt; "no cycle"),
-    }
+    let text = "block 1; block 3, block 2; block 3, block 1;";
+    says(
+        &rt,
+        rt.alloc(),
+        &answer(&rt, rt.alloc(), text),
+        "cycle 0 1 2 back to 1",
+    );
 }
 
 #[test]
 fn a_refused_check_of_an_unknown_sequence_is_made_again(rt: HostRuntime) {
-    let sequences: [&[usize]; 4] = [&[3, 1], &[2], &[3, 9], &[]];
-    match answer(&rt, rt.alloc(), &sequences) {
-        Nesting::Unknown(path) => assert!(rt; are(path.as_slice(), &[0, 1, 2, 9])),
-        _ => panic!(rt; "no unknown sequence"),
-    }
+    let text = "block 3, block 1; block 2; block 3, block 9;";
+    says(
+        &rt,
+        rt.alloc(),
+        &answer(&rt, rt.alloc(), text),
+        "unknown 0 1 2 9",
+    );
 }
 
 // A clone of the answer. It is cloned again after a refusal.
@@ -56,15 +64,9 @@ fn clone_again(source: &Nesting) -> Result<Nesting, AllocError> {
 
 #[test]
 fn a_refused_clone_of_an_answer_comes_when_it_is_asked_for_again(rt: HostRuntime) {
-    let sequences: [&[usize]; 3] = [&[1], &[2], &[1]];
-    let source = answer(&rt, rt.alloc(), &sequences);
-    match clone_again(&source).expect(&rt, "memory") {
-        Nesting::Cycle { path, back_to } => {
-            assert!(rt; are(path.as_slice(), &[0, 1, 2]));
-            assert_equal(&rt, back_to, 1);
-        }
-        _ => panic!(rt; "no cycle"),
-    }
+    let source = answer(&rt, rt.alloc(), "block 1; block 2; block 1");
+    let copy = clone_again(&source).expect(&rt, "memory");
+    says(&rt, rt.alloc(), &copy, "cycle 0 1 2 back to 1");
 }
 
 // A `try` of the sequence 1, with the handlers 2 and 3.

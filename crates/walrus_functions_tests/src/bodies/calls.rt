@@ -102,52 +102,34 @@ fn add_another(
 // Calls with the instructions that they add.
 pub(super) type Rows = &'static [(PlainCall, &'static str)];
 
-pub(super) const CONSTANTS: Rows = &[
+pub(super) const ROWS: Rows = &[
     (PlainCall::I32Const, "i32 -1"),
     (PlainCall::I64Const, "i64 -2"),
     (PlainCall::F32Const, "f32 3"),
     (PlainCall::F64Const, "f64 4"),
     (PlainCall::Const, "v128 5"),
-];
-
-pub(super) const VARIABLES: Rows = &[
     (PlainCall::LocalGet, "local.get 7"),
     (PlainCall::LocalSet, "local.set 7"),
     (PlainCall::LocalTee, "local.tee 7"),
     (PlainCall::GlobalGet, "global.get 7"),
     (PlainCall::GlobalSet, "global.set 7"),
-];
-
-pub(super) const CALLS: Rows = &[
     (PlainCall::Call, "call 7"),
     (PlainCall::CallIndirect, "call_indirect 7 8"),
     (PlainCall::RefFunc, "ref.func 7"),
     (PlainCall::Throw, "throw 7"),
     (PlainCall::Return, "return"),
-];
-
-pub(super) const BRANCHES: Rows = &[
     (PlainCall::Br, "br 7"),
     (PlainCall::BrIf, "br_if 7"),
     (PlainCall::BrTable, "br_table 5 7"),
     (PlainCall::Unreachable, "unreachable"),
-];
-
-pub(super) const MEMORIES: Rows = &[
     (PlainCall::MemorySize, "memory.size 7"),
     (PlainCall::MemoryGrow, "memory.grow 7"),
     (PlainCall::Load, "f32.load 7"),
     (PlainCall::Store, "f64.store 7"),
-];
-
-pub(super) const OPERATORS: Rows = &[
     (PlainCall::Unop, "i32.eqz"),
     (PlainCall::Binop, "i32.add"),
     (PlainCall::Select, "select"),
     (PlainCall::Drop, "drop"),
-];
-
-pub(super) const REFERENCES: Rows = &[
     (PlainCall::RefNull, "ref.null any"),
     (PlainCall::StructNew, "struct.new 7"),
     (PlainCall::ArrayNew, "array.new 7"),
@@ -170,36 +152,6 @@ fn add_each(rt: &impl Abort, alloc: Global, rows: Rows) {
 }
 
 #[test]
-fn constants(rt: HostRuntime) {
-    add_each(&rt, rt.alloc(), CONSTANTS);
-}
-
-#[test]
-fn variables(rt: HostRuntime) {
-    add_each(&rt, rt.alloc(), VARIABLES);
-}
-
-#[test]
-fn calls(rt: HostRuntime) {
-    add_each(&rt, rt.alloc(), CALLS);
-}
-
-#[test]
-fn branches(rt: HostRuntime) {
-    add_each(&rt, rt.alloc(), BRANCHES);
-}
-
-#[test]
-fn memories(rt: HostRuntime) {
-    add_each(&rt, rt.alloc(), MEMORIES);
-}
-
-#[test]
-fn operators(rt: HostRuntime) {
-    add_each(&rt, rt.alloc(), OPERATORS);
-}
-
-#[test]
-fn references(rt: HostRuntime) {
-    add_each(&rt, rt.alloc(), REFERENCES);
+fn each_call_adds_its_instruction(rt: HostRuntime) {
+    add_each(&rt, rt.alloc(), ROWS);
 }

@@ -242,32 +242,16 @@ fn nests_nine(rt: &impl Abort, alloc: Global, call: NestedCall) {
 }
 
 #[test]
-fn a_refused_block_keeps_its_sequence(rt: HostRuntime) {
+fn a_refused_nested_call_keeps_its_sequences(rt: HostRuntime) {
     nests_nine(&rt, rt.alloc(), NestedCall::Block);
-}
-
-#[test]
-fn a_refused_loop_keeps_its_sequence(rt: HostRuntime) {
     nests_nine(&rt, rt.alloc(), NestedCall::Loop);
-}
-
-#[test]
-fn a_refused_if_keeps_its_sequences(rt: HostRuntime) {
     nests_nine(&rt, rt.alloc(), NestedCall::IfElse);
 }
 
 #[test]
-fn a_refused_block_before_others_keeps_its_sequence(rt: HostRuntime) {
+fn a_refused_nested_call_before_others_keeps_its_sequences(rt: HostRuntime) {
     nests_nine(&rt, rt.alloc(), NestedCall::BlockAt);
-}
-
-#[test]
-fn a_refused_loop_before_others_keeps_its_sequence(rt: HostRuntime) {
     nests_nine(&rt, rt.alloc(), NestedCall::LoopAt);
-}
-
-#[test]
-fn a_refused_if_before_others_keeps_its_sequences(rt: HostRuntime) {
     nests_nine(&rt, rt.alloc(), NestedCall::IfElseAt);
 }
 

@@ -1,27 +1,18 @@
 //! Canonical forms where memory is refused.
 use super::*;
 
+const SECTION: &str = "one section | si f ( f ) s0 s4 | f si s1 s3 | 1 0 0 2 3";
+
+const OF_A_ROOT: &str = "one root | 3 | f ( f si ) s1 | ( f si ) s0 | - 0 1 2";
+
 #[test]
 fn a_refused_canonical_form_comes_when_it_is_asked_for_again(rt: HostRuntime) {
-    gives(
-        &rt,
-        rt.alloc(),
-        "si f ( f ) s0 s4",
-        "f si s1 s3",
-        &[1, 0, 0, 2, 3],
-    );
+    give(&rt, rt.alloc(), SECTION);
 }
 
 #[test]
 fn a_refused_canonical_form_has_what_the_roots_need(rt: HostRuntime) {
-    needs(
-        &rt,
-        rt.alloc(),
-        "f ( f si ) s1",
-        &[3],
-        "( f si ) s0",
-        &[None, Some(0), Some(1), Some(2)],
-    );
+    are_needed(&rt, rt.alloc(), OF_A_ROOT);
 }
 
 #[test]

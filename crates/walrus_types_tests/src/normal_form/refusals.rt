@@ -3,12 +3,16 @@ use super::*;
 
 #[test]
 fn a_refused_normal_form_comes_when_it_is_asked_for_again(rt: HostRuntime) {
-    gives(&rt, rt.alloc(), "si f s0", "f si s1", &[1, 0, 2]);
+    gives(
+        &rt,
+        rt.alloc(),
+        "two that change places | si f s0 | f si s1 | 1 0 2",
+    );
 }
 
 #[test]
 fn a_refused_normal_form_has_each_single_once(rt: HostRuntime) {
-    gives(&rt, rt.alloc(), "f f s0 s1", "f s0", &[0, 0, 1, 1]);
+    gives(&rt, rt.alloc(), "repeats | f f s0 s1 | f s0 | 0 0 1 1");
 }
 
 #[test]

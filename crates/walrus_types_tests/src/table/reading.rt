@@ -1,14 +1,26 @@
 //! What is read of a table and of its types.
+use super::calls::make_all;
 use super::*;
 use crate::assertions::assert_equal;
 
+const TABLES: &str = "\
+a new table has no types
+    live_ids =
+    iter =
+    rec_groups =
+    find func = none
+iter goes over the live types
+    add func = 0
+    add func i = 1
+    add func l = 2
+    iter = 0 1 2
+    delete 1
+    iter = 0 2
+";
+
 #[test]
-fn a_new_table_has_no_types(rt: HostRuntime) {
-    let types = ModuleTypes::new(rt.alloc());
-    assert!(rt; !types.contains(TypeId::from_index(0)));
-    assert!(rt; types.iter().next().is_none());
-    assert!(rt; types.rec_groups().is_empty());
-    assert_equal(&rt, types.find(&[], &[]), None);
+fn tables_are_read(rt: HostRuntime) {
+    make_all(&rt, rt.alloc(), TABLES);
 }
 
 // Two parameters and one result.
@@ -44,24 +56,4 @@ fn a_new_type_has_no_name(rt: HostRuntime) {
     assert_equal(&rt, ty.supertype, Some(TypeId::from_index(7)));
     assert!(rt; ty.name.is_none());
     assert!(rt; !ty.is_for_function_entry());
-}
-
-// The sum of the ids, each times ten for each type before it.
-fn ids_in_order(types: &ModuleTypes) -> usize {
-    let mut all = 0usize;
-    for ty in types.iter() {
-        all = all.wrapping_mul(10).wrapping_add(ty.id().index());
-    }
-    all
-}
-
-#[test]
-fn iter_goes_over_the_live_types(rt: HostRuntime) {
-    let mut types = ModuleTypes::new(rt.alloc());
-    types.add(&[], &[]).expect(&rt, "memory");
-    types.add(&[Val::I32], &[]).expect(&rt, "memory");
-    types.add(&[Val::I64], &[]).expect(&rt, "memory");
-    assert_equal(&rt, ids_in_order(&types), 12);
-    delete(&rt, &mut types, 1).expect(&rt, "memory");
-    assert_equal(&rt, ids_in_order(&types), 2);
 }

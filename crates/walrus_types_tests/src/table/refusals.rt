@@ -1,5 +1,4 @@
 //! Calls that add types alone, the list of live ids, and deletions, where memory is refused.
-use super::deleting::delete_group;
 use super::*;
 use crate::assertions::assert_equal;
 
@@ -190,6 +189,24 @@ fn live(types: &ModuleTypes) -> [bool; 8] {
 // How many types the groups have.
 fn group_sizes(types: &ModuleTypes) -> [Option<usize>; 7] {
     [0, 1, 2, 3, 4, 5, 6].map(|at| Some(types.rec_groups().get(at)?.types.len()))
+}
+
+fn delete(rt: &impl Abort, types: &mut ModuleTypes, index: usize) -> Result<(), AllocError> {
+    let id = TypeId::from_index(index);
+    assert!(rt; types.contains(id));
+    types.delete(id)
+}
+
+fn try_delete(rt: &impl Abort, types: &mut ModuleTypes, index: usize) -> Result<bool, AllocError> {
+    let id = TypeId::from_index(index);
+    assert!(rt; types.contains(id));
+    types.try_delete(id)
+}
+
+fn delete_group(rt: &impl Abort, types: &mut ModuleTypes, index: usize) -> Result<(), AllocError> {
+    let id = TypeId::from_index(index);
+    assert!(rt; types.contains(id));
+    types.delete_entire_group(id)
 }
 
 #[tactic(auto, using(walrus_arena::proofs::ArenaLemmas::distinct_pair))]

@@ -1,33 +1,28 @@
 //! Types that are written in place.
+use super::calls::make_all;
 use super::*;
 use crate::assertions::assert_equal;
 use walrus_arena::Tombstone;
 
-#[test]
-fn a_type_is_rewritten_in_its_place(rt: HostRuntime) {
-    let alloc = rt.alloc();
-    let mut types = ModuleTypes::new(alloc);
-    let id = types.add(&[], &[]).expect(&rt, "memory");
-    let kind = structure(alloc, &[Val::I32]).expect(&rt, "memory");
-    rewrite(&rt, &mut types, 0, kind);
-    assert!(rt; types.contains(id));
-    assert!(rt; *types.get(id).kind() == structure(alloc, &[Val::I32]).expect(&rt, "memory"));
-    assert_equal(&rt, types.get(id).id(), id);
-    assert_equal(&rt, types.find(&[], &[]), None);
-}
+const TABLES: &str = "\
+a type is rewritten in its place
+    add func = 0
+    kind_mut 0 struct i
+    kind 0 = (struct (field i32))
+    iter = 0
+    find func = none
+a whole type brings its id
+    add entry = 0
+    add array i = 1
+    copy_over 0 1
+    iter = 0 0
+    kind 1 = entry (func)
+    rec_groups = 0 1
+";
 
 #[test]
-fn a_whole_type_brings_its_id(rt: HostRuntime) {
-    let alloc = rt.alloc();
-    let mut types = ModuleTypes::new(alloc);
-    types.add_entry_ty(&[]).expect(&rt, "memory");
-    types.add_array(field(Val::I32)).expect(&rt, "memory");
-    copy_over(&rt, &mut types, 0, 1);
-    let second = TypeId::from_index(1);
-    assert!(rt; types.contains(second));
-    assert_equal(&rt, types.get(second).id(), TypeId::from_index(0));
-    assert!(rt; types.get(second).is_for_function_entry());
-    assert!(rt; has_ids(&types, 1, &[1]));
+fn types_are_written(rt: HostRuntime) {
+    make_all(&rt, rt.alloc(), TABLES);
 }
 
 // The type of the first id.
@@ -41,7 +36,8 @@ fn first(rt: &impl Abort, types: &ModuleTypes) -> Result<Type, AllocError> {
 fn a_dead_type_gives_back_its_lists(rt: HostRuntime) {
     let alloc = rt.alloc();
     let mut types = ModuleTypes::new(alloc);
-    let kind = structure(alloc, &[Val::I32]).expect(&rt, "memory");
+    let fields = Listed::from_vec(vec![in alloc; field(Val::I32)].expect(&rt, "memory"));
+    let kind = CompositeType::Struct(StructType { fields });
     types.add_composite(kind, false, None).expect(&rt, "memory");
     let mut ty = first(&rt, &types).expect(&rt, "memory");
     ty.on_delete();

@@ -1,7 +1,5 @@
 //! Calls that add an instruction without sequences inside, each with every request refused.
-use super::super::calls::{
-    BRANCHES, CALLS, CONSTANTS, MEMORIES, OPERATORS, PlainCall, REFERENCES, Rows, VARIABLES, add,
-};
+use super::super::calls::{PlainCall, ROWS, add};
 use super::super::refusals::begin_again;
 use super::super::texts::is;
 use super::super::*;
@@ -43,13 +41,7 @@ fn add_again(
     add(alloc, &mut f.instr_seq(entry), call)
 }
 
-// Makes each call five times. Each time it must add its instruction.
-fn add_five(rt: &impl Abort, alloc: Global, rows: Rows) {
-    for (call, text) in rows {
-        adds_five(rt, alloc, *call, text);
-    }
-}
-
+// Makes the call five times. Each time it must add its instruction.
 fn adds_five(rt: &impl Abort, alloc: Global, call: PlainCall, text: &str) {
     let mut f = begin_again(alloc).expect(rt, "memory");
     for count in 0..5usize {
@@ -62,44 +54,12 @@ fn adds_five(rt: &impl Abort, alloc: Global, call: PlainCall, text: &str) {
 #[test]
 fn a_refused_instruction_is_not_added(rt: HostRuntime) {
     adds_five(&rt, rt.alloc(), PlainCall::Instr, "drop");
+    for (call, text) in ROWS {
+        adds_five(&rt, rt.alloc(), *call, text);
+    }
 }
 
 #[test]
 fn a_refused_instruction_goes_before_no_other(rt: HostRuntime) {
     adds_five(&rt, rt.alloc(), PlainCall::InstrAt, "unreachable");
-}
-
-#[test]
-fn a_refused_constant_is_not_added(rt: HostRuntime) {
-    add_five(&rt, rt.alloc(), CONSTANTS);
-}
-
-#[test]
-fn a_refused_variable_is_not_added(rt: HostRuntime) {
-    add_five(&rt, rt.alloc(), VARIABLES);
-}
-
-#[test]
-fn a_refused_call_is_not_added(rt: HostRuntime) {
-    add_five(&rt, rt.alloc(), CALLS);
-}
-
-#[test]
-fn a_refused_branch_is_not_added(rt: HostRuntime) {
-    add_five(&rt, rt.alloc(), BRANCHES);
-}
-
-#[test]
-fn a_refused_access_of_memory_is_not_added(rt: HostRuntime) {
-    add_five(&rt, rt.alloc(), MEMORIES);
-}
-
-#[test]
-fn a_refused_operator_is_not_added(rt: HostRuntime) {
-    add_five(&rt, rt.alloc(), OPERATORS);
-}
-
-#[test]
-fn a_refused_reference_is_not_added(rt: HostRuntime) {
-    add_five(&rt, rt.alloc(), REFERENCES);
 }
