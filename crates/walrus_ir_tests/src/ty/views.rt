@@ -87,6 +87,20 @@ fn a_type_has_one_kind(rt: HostRuntime) {
 }
 
 #[test]
+fn a_type_lends_its_part(rt: HostRuntime) {
+    let of = kind(rt.alloc(), "func i64").expect(&rt, "memory");
+    let made = Type::new(rt.alloc(), Id::from_index(0), of, true, None);
+    assert_equal(&rt, made.as_function().map(|f| f.params().len()), Some(1));
+    let of = kind(rt.alloc(), "array i16").expect(&rt, "memory");
+    let made = Type::new(rt.alloc(), Id::from_index(0), of, true, None);
+    assert_equal(
+        &rt,
+        made.as_array().map(|a| a.field.element_type),
+        Some(Storage::I16),
+    );
+}
+
+#[test]
 fn a_kind_that_is_known_is_unwrapped(rt: HostRuntime) {
     let made = kind(rt.alloc(), "func i64").expect(&rt, "memory");
     assert!(rt; made.is_function());
