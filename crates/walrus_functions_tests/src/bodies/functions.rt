@@ -127,5 +127,6 @@ fn a_function_is_built_further(rt: HostRuntime) {
     assert_equal(&rt, func.builder().func_body_id(), entry);
     let mut body = func.builder_mut().func_body();
     body.unreachable().expect(&rt, "memory");
+    assert!(rt; func.contains_block(entry));
     assert_equal(&rt, func.block(entry).instrs.len(), 1);
 }
