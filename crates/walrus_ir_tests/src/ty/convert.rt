@@ -2,13 +2,12 @@
 mod refusals;
 
 use crate::assertions::assert_equal;
-use crate::fixtures::{comp, field, kind};
 use std::alloc::{AllocError, Global};
-use std::process::Abort;
+use std::test::Fail;
 use walrus_ty::{
-    AbstractHeapType, CompAt, CompositeType, EntryAt, FieldAt, FieldType, FromRecordError, Heap,
-    HeapAt, HeapType, Id, IdsToIndices, IndicesToIds, NoIndex, RefAt, RefType, Reference, Storage,
-    StorageType, SubType, ToRecordError, Val, ValAt, ValType,
+    AbstractHeapType, CompAt, CompositeType, EntryAt, Field, FieldAt, FieldType, FromRecordError,
+    FunctionType, Heap, HeapAt, HeapType, Id, IdsToIndices, IndicesToIds, Listed, NoIndex, RefAt,
+    RefType, Reference, Storage, StorageType, SubType, ToRecordError, Val, ValAt, ValType,
 };
 
 // Indices 0, 1 and 2 are the types 10, 20 and 30.
@@ -36,12 +35,24 @@ fn reference<N>(nullable: bool, heap_type: Heap<N>) -> Val<N> {
     })
 }
 
+fn field(element: ValAt, mutable: bool) -> FieldAt {
+    Field {
+        element_type: Storage::Val(element),
+        mutable,
+    }
+}
+
 // What is written of what is read from this record.
-fn both_ways(rt: &impl Abort, alloc: Global, comp: &CompAt) -> CompAt {
-    let ids = ids(alloc).expect(rt, "memory");
-    let indices = indices(alloc).expect(rt, "memory");
-    let read = CompositeType::from_record(alloc, comp, &ids).expect(rt, "known indices");
-    read.to_record(alloc, &indices).expect(rt, "known ids")
+fn both_ways(alloc: Global, comp: &CompAt) -> Result<CompAt, Fail> {
+    let read = CompositeType::from_record(alloc, comp, &ids(alloc)?)?;
+    Ok(read.to_record(alloc, &indices(alloc)?)?)
+}
+
+fn function(alloc: Global, param: ValAt, answer: ValAt) -> Result<CompAt, AllocError> {
+    Ok(CompAt::Function {
+        params: Listed::from_vec(vec![in alloc; Val::I32, param]?),
+        results: Listed::from_vec(vec![in alloc; answer]?),
+    })
 }
 
 #[test]
@@ -78,34 +89,56 @@ fn fields_without_names_stay(rt: HostRuntime) {
     };
     let read = RefType::from_record(&of, &ids).expect(&rt, "memory");
     assert_equal(&rt, read.to_record(&indices), Ok(of));
-    let packed: FieldAt = field("mut:i8");
+    let packed: FieldAt = Field {
+        element_type: Storage::I8,
+        mutable: true,
+    };
     let read = FieldType::from_record(&packed, &ids).expect(&rt, "memory");
     assert_equal(&rt, read.to_record(&indices), Ok(packed));
     let read = StorageType::from_record(&packed.element_type, &ids).expect(&rt, "memory");
     assert_equal(&rt, read.to_record(&indices), Ok(Storage::I8));
 }
 
-// What is read, and what is written of it.
-const RECORDS: &[(&str, &str)] = &[
-    ("func i32 n0 > x1", "func i32 n2 > x1"),
-    ("struct mut:funcref r2", "struct mut:funcref r0"),
-    ("array r2", "array r0"),
-];
+#[test]
+fn functions_go_through_both_maps(rt: HostRuntime) -> Result<(), Fail> {
+    let alloc = rt.alloc();
+    let exact = reference(false, Heap::Exact(1));
+    let from = function(alloc, reference(true, Heap::Concrete(0)), exact)?;
+    let to = function(alloc, reference(true, Heap::Concrete(2)), exact)?;
+    assert!(rt; both_ways(alloc, &from)? == to);
+    Ok(())
+}
 
 #[test]
-fn composite_types_go_through_both_maps(rt: HostRuntime) {
-    for (from, to) in RECORDS {
-        let from = comp(rt.alloc(), from).expect(&rt, "memory");
-        let to = comp(rt.alloc(), to).expect(&rt, "memory");
-        assert!(rt; both_ways(&rt, rt.alloc(), &from) == to);
-    }
+fn structs_and_arrays_go_through_both_maps(rt: HostRuntime) -> Result<(), Fail> {
+    let alloc = rt.alloc();
+    let kept = field(
+        reference(true, Heap::Abstract(AbstractHeapType::Func)),
+        true,
+    );
+    let two = field(reference(false, Heap::Concrete(2)), false);
+    let zero = field(reference(false, Heap::Concrete(0)), false);
+    let from = CompAt::Struct {
+        fields: Listed::from_vec(vec![in alloc; kept, two]?),
+    };
+    let to = CompAt::Struct {
+        fields: Listed::from_vec(vec![in alloc; kept, zero]?),
+    };
+    assert!(rt; both_ways(alloc, &from)? == to);
+    let to = CompAt::Array { field: zero };
+    assert!(rt; both_ways(alloc, &CompAt::Array { field: two })? == to);
+    Ok(())
 }
 
 #[test]
 fn an_unknown_field_comes_before_an_unknown_supertype(rt: HostRuntime) {
     let alloc = rt.alloc();
+    let known = field(reference(true, Heap::Concrete(1)), false);
+    let unknown = field(reference(true, Heap::Exact(5)), false);
     let entry = EntryAt {
-        comp: comp(alloc, "struct n1 e5").expect(&rt, "memory"),
+        comp: CompAt::Struct {
+            fields: Listed::from_vec(vec![in alloc; known, unknown].expect(&rt, "memory")),
+        },
         is_final: true,
         supertype: Some(7),
     };
@@ -117,7 +150,10 @@ fn an_unknown_field_comes_before_an_unknown_supertype(rt: HostRuntime) {
 #[test]
 fn the_first_result_without_an_index_is_named(rt: HostRuntime) {
     let alloc = rt.alloc();
-    let function = kind(alloc, "func > n5 e6").expect(&rt, "memory");
+    let first = reference(true, Heap::Concrete(Id::from_index(5)));
+    let second = reference(true, Heap::Exact(Id::from_index(6)));
+    let results = vec![in alloc; first, second].expect(&rt, "memory");
+    let function = CompositeType::Function(FunctionType::new(Vec::new(alloc), results));
     let indices = indices(alloc).expect(&rt, "memory");
     let refused = function.to_record(alloc, &indices).err();
     let missing = NoIndex::OfType(Id::from_index(5));
@@ -128,7 +164,9 @@ fn the_first_result_without_an_index_is_named(rt: HostRuntime) {
 fn a_supertype_goes_through_both_maps(rt: HostRuntime) {
     let alloc = rt.alloc();
     let entry = EntryAt {
-        comp: comp(alloc, "array mut:v128").expect(&rt, "memory"),
+        comp: CompAt::Array {
+            field: field(Val::V128, true),
+        },
         is_final: false,
         supertype: Some(2),
     };

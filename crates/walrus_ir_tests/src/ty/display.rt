@@ -1,138 +1,232 @@
 //! The printed text of types, in the words of the WebAssembly text format.
 use crate::assertions::prints;
-use crate::fixtures::{columns, field, kind, val};
-use std::alloc::Global;
+use std::alloc::{AllocError, Global};
 use std::process::Abort;
 use walrus_ty::{
-    AbstractHeapType, CompositeType, Field, FieldType, Heap, HeapType, RefType, Reference, Storage,
-    StorageType, Val, ValType,
+    AbstractHeapType, ArrayType, CompositeType, Field, FieldType, FunctionType, Heap, HeapType, Id,
+    Listed, RefType, Reference, Storage, StorageType, StructType, Val, ValType,
 };
 
-const HEAP_TYPES: [AbstractHeapType; 12] = [
-    AbstractHeapType::Func,
-    AbstractHeapType::NoFunc,
-    AbstractHeapType::Extern,
-    AbstractHeapType::NoExtern,
-    AbstractHeapType::Any,
-    AbstractHeapType::None,
-    AbstractHeapType::Eq,
-    AbstractHeapType::Struct,
-    AbstractHeapType::Array,
-    AbstractHeapType::I31,
-    AbstractHeapType::Exn,
-    AbstractHeapType::NoExn,
-];
-
-// Of each heap type the texts of a nullable reference to it, of one that is not, of the heap type
-// alone, and of a field that holds the first and can be written.
-const TEXTS: &str = "\
-funcref       | (ref func)     | func     | (mut funcref)
-nullfuncref   | (ref nofunc)   | nofunc   | (mut nullfuncref)
-externref     | (ref extern)   | extern   | (mut externref)
-nullexternref | (ref noextern) | noextern | (mut nullexternref)
-anyref        | (ref any)      | any      | (mut anyref)
-nullref       | (ref none)     | none     | (mut nullref)
-eqref         | (ref eq)       | eq       | (mut eqref)
-structref     | (ref struct)   | struct   | (mut structref)
-arrayref      | (ref array)    | array    | (mut arrayref)
-i31ref        | (ref i31)      | i31      | (mut i31ref)
-exnref        | (ref exn)      | exn      | (mut exnref)
-nullexnref    | (ref noexn)    | noexn    | (mut nullexnref)
-";
-
-fn reference(nullable: bool, name: AbstractHeapType) -> RefType {
+fn reference(nullable: bool, heap_type: HeapType) -> RefType {
     Reference {
         nullable,
-        heap_type: Heap::Abstract(name),
+        heap_type,
     }
 }
 
-// The references to the heap type, the heap type, and a field have the texts of the row.
-fn four_print(rt: &impl Abort, alloc: Global, name: AbstractHeapType, row: &str) {
-    let [nullable, other, alone, held] = columns(row);
-    let heap_type: HeapType = Heap::Abstract(name);
-    prints(rt, alloc, &reference(true, name), nullable);
-    prints(rt, alloc, &reference(false, name), other);
-    prints(rt, alloc, &heap_type, alone);
-    let field: FieldType = Field {
-        element_type: Storage::Val(Val::Ref(reference(true, name))),
+fn mutable(element: ValType) -> FieldType {
+    Field {
+        element_type: Storage::Val(element),
         mutable: true,
-    };
-    prints(rt, alloc, &field, held);
-}
-
-#[test]
-fn references_and_heap_types_print_their_names(rt: HostRuntime) {
-    for (name, row) in HEAP_TYPES.iter().zip(TEXTS.lines()) {
-        four_print(&rt, rt.alloc(), *name, row);
     }
 }
 
-// A word for a value type, its text, and the text of its heap type if it is a reference.
-const VALS: &str = "\
-i32  | i32                |
-i64  | i64                |
-f32  | f32                |
-f64  | f64                |
-v128 | v128               |
-n3   | (ref null 3)       | 3
-r3   | (ref 3)            | 3
-e3   | (ref null exact 3) | exact 3
-x3   | (ref exact 3)      | exact 3
-";
+fn fixed(element_type: StorageType) -> FieldType {
+    Field {
+        element_type,
+        mutable: false,
+    }
+}
+
+fn byte() -> FieldType {
+    Field {
+        element_type: Storage::I8,
+        mutable: true,
+    }
+}
+
+fn function(
+    alloc: Global,
+    params: &[ValType],
+    results: &[ValType],
+) -> Result<FunctionType, AllocError> {
+    Ok(FunctionType::new(params.to_vec(alloc)?, results.to_vec(alloc)?))
+}
+
+fn structure(alloc: Global, fields: &[FieldType]) -> Result<StructType, AllocError> {
+    Ok(StructType {
+        fields: Listed::from_vec(fields.to_vec(alloc)?),
+    })
+}
+
+// A nullable reference to it prints the first, one that is not the second, the heap type alone the
+// third, and a field that holds the first and can be written the last.
+fn four_forms(rt: &impl Abort, alloc: Global, name: AbstractHeapType, wanted: [&str; 4]) {
+    let heap_type: HeapType = Heap::Abstract(name);
+    prints(rt, alloc, &reference(true, Heap::Abstract(name)), wanted[0]);
+    prints(
+        rt,
+        alloc,
+        &reference(false, Heap::Abstract(name)),
+        wanted[1],
+    );
+    prints(rt, alloc, &heap_type, wanted[2]);
+    let held = mutable(Val::Ref(reference(true, Heap::Abstract(name))));
+    prints(rt, alloc, &held, wanted[3]);
+}
+
+// The type with the number 3.
+fn third() -> HeapType {
+    Heap::Concrete(Id::from_index(3))
+}
+
+fn exactly_third() -> HeapType {
+    Heap::Exact(Id::from_index(3))
+}
 
 #[test]
-fn value_types_print_what_they_are(rt: HostRuntime) {
-    for row in VALS.lines() {
-        let [word, text, heap_text, _] = columns(row);
-        let val: ValType = val(word);
-        prints(&rt, rt.alloc(), &val, text);
-        if let Val::Ref(reference) = &val {
-            prints(&rt, rt.alloc(), reference, text);
-            prints(&rt, rt.alloc(), &reference.heap_type, heap_text);
-        }
-    }
+fn references_to_functions_and_what_the_host_gives(rt: HostRuntime) {
+    let alloc = rt.alloc();
+    let texts = ["funcref", "(ref func)", "func", "(mut funcref)"];
+    four_forms(&rt, alloc, AbstractHeapType::Func, texts);
+    let texts = ["nullfuncref", "(ref nofunc)", "nofunc", "(mut nullfuncref)"];
+    four_forms(&rt, alloc, AbstractHeapType::NoFunc, texts);
+    let texts = ["externref", "(ref extern)", "extern", "(mut externref)"];
+    four_forms(&rt, alloc, AbstractHeapType::Extern, texts);
+    let texts = [
+        "nullexternref",
+        "(ref noextern)",
+        "noextern",
+        "(mut nullexternref)",
+    ];
+    four_forms(&rt, alloc, AbstractHeapType::NoExtern, texts);
+}
+
+#[test]
+fn references_to_what_can_be_looked_into(rt: HostRuntime) {
+    let alloc = rt.alloc();
+    let texts = ["anyref", "(ref any)", "any", "(mut anyref)"];
+    four_forms(&rt, alloc, AbstractHeapType::Any, texts);
+    let texts = ["nullref", "(ref none)", "none", "(mut nullref)"];
+    four_forms(&rt, alloc, AbstractHeapType::None, texts);
+    let texts = ["eqref", "(ref eq)", "eq", "(mut eqref)"];
+    four_forms(&rt, alloc, AbstractHeapType::Eq, texts);
+    let texts = ["structref", "(ref struct)", "struct", "(mut structref)"];
+    four_forms(&rt, alloc, AbstractHeapType::Struct, texts);
+}
+
+#[test]
+fn references_to_arrays_small_integers_and_exceptions(rt: HostRuntime) {
+    let alloc = rt.alloc();
+    let texts = ["arrayref", "(ref array)", "array", "(mut arrayref)"];
+    four_forms(&rt, alloc, AbstractHeapType::Array, texts);
+    let texts = ["i31ref", "(ref i31)", "i31", "(mut i31ref)"];
+    four_forms(&rt, alloc, AbstractHeapType::I31, texts);
+    let texts = ["exnref", "(ref exn)", "exn", "(mut exnref)"];
+    four_forms(&rt, alloc, AbstractHeapType::Exn, texts);
+    let texts = ["nullexnref", "(ref noexn)", "noexn", "(mut nullexnref)"];
+    four_forms(&rt, alloc, AbstractHeapType::NoExn, texts);
+}
+
+#[test]
+fn types_of_the_module_print_their_number(rt: HostRuntime) {
+    let alloc = rt.alloc();
+    prints(&rt, alloc, &third(), "3");
+    prints(&rt, alloc, &reference(true, third()), "(ref null 3)");
+    prints(&rt, alloc, &reference(false, third()), "(ref 3)");
+}
+
+#[test]
+fn exact_types_of_the_module_say_so(rt: HostRuntime) {
+    let alloc = rt.alloc();
+    prints(&rt, alloc, &exactly_third(), "exact 3");
+    prints(
+        &rt,
+        alloc,
+        &reference(true, exactly_third()),
+        "(ref null exact 3)",
+    );
+    prints(
+        &rt,
+        alloc,
+        &reference(false, exactly_third()),
+        "(ref exact 3)",
+    );
+}
+
+#[test]
+fn integers_print_their_names(rt: HostRuntime) {
+    let alloc = rt.alloc();
+    let (int, long): (ValType, ValType) = (Val::I32, Val::I64);
+    prints(&rt, alloc, &int, "i32");
+    prints(&rt, alloc, &long, "i64");
+}
+
+#[test]
+fn floats_and_vectors_print_their_names(rt: HostRuntime) {
+    let alloc = rt.alloc();
+    let (float, double, vector): (ValType, ValType, ValType) = (Val::F32, Val::F64, Val::V128);
+    prints(&rt, alloc, &float, "f32");
+    prints(&rt, alloc, &double, "f64");
+    prints(&rt, alloc, &vector, "v128");
 }
 
 #[test]
 fn packed_fields_print_their_names(rt: HostRuntime) {
-    for (word, text) in [("i8", "i8"), ("i16", "i16")] {
-        let storage: StorageType = field(word).element_type;
-        prints(&rt, rt.alloc(), &storage, text);
-    }
-    let byte: FieldType = field("mut:i8");
-    prints(&rt, rt.alloc(), &byte, "(mut i8)");
-}
-
-// A composite type and its text.
-const KINDS: &str = "\
-func                   | (func)
-func > v128            | (func (result v128))
-func i32 i64           | (func (param i32 i64))
-func i32 i64 > f32     | (func (param i32 i64) (result f32))
-func i32 i64 > funcref | (func (param i32 i64) (result funcref))
-struct                 | (struct)
-struct i32 mut:i8      | (struct (field i32) (field (mut i8)))
-array mut:e3           | (array (mut (ref null exact 3)))
-array i8               | (array i8)
-array f64              | (array f64)
-";
-
-// The part of the composite type has this text too.
-fn part_prints(rt: &impl Abort, alloc: Global, kind: &CompositeType, text: &str) {
-    match kind {
-        CompositeType::Function(function) => prints(rt, alloc, function, text),
-        CompositeType::Struct(structure) => prints(rt, alloc, structure, text),
-        CompositeType::Array(array) => prints(rt, alloc, array, text),
-    }
+    let alloc = rt.alloc();
+    let (byte_type, short_type): (StorageType, StorageType) = (Storage::I8, Storage::I16);
+    prints(&rt, alloc, &byte_type, "i8");
+    prints(&rt, alloc, &short_type, "i16");
+    prints(&rt, alloc, &byte(), "(mut i8)");
 }
 
 #[test]
-fn composite_types_print_their_parts(rt: HostRuntime) {
-    for row in KINDS.lines() {
-        let [words, text, ..] = columns(row);
-        let kind = kind(rt.alloc(), words).expect(&rt, "memory");
-        prints(&rt, rt.alloc(), &kind, text);
-        part_prints(&rt, rt.alloc(), &kind, text);
-    }
+fn function_types_leave_empty_parts_out(rt: HostRuntime) {
+    let alloc = rt.alloc();
+    let nothing = function(alloc, &[], &[]).expect(&rt, "memory");
+    prints(&rt, alloc, &nothing, "(func)");
+    let answers = function(alloc, &[], &[Val::V128]).expect(&rt, "memory");
+    prints(&rt, alloc, &answers, "(func (result v128))");
+    let takes = function(alloc, &[Val::I32, Val::I64], &[]).expect(&rt, "memory");
+    prints(&rt, alloc, &takes, "(func (param i32 i64))");
+}
+
+#[test]
+fn function_types_print_parameters_before_results(rt: HostRuntime) {
+    let alloc = rt.alloc();
+    let floats = function(alloc, &[Val::I32, Val::I64], &[Val::F32]).expect(&rt, "memory");
+    prints(&rt, alloc, &floats, "(func (param i32 i64) (result f32))");
+    let funcref = Val::Ref(RefType::FUNCREF);
+    let references = function(alloc, &[Val::I32, Val::I64], &[funcref]).expect(&rt, "memory");
+    prints(
+        &rt,
+        alloc,
+        &references,
+        "(func (param i32 i64) (result funcref))",
+    );
+}
+
+#[test]
+fn struct_types_print_their_fields(rt: HostRuntime) {
+    let alloc = rt.alloc();
+    let empty = structure(alloc, &[]).expect(&rt, "memory");
+    prints(&rt, alloc, &empty, "(struct)");
+    let both = structure(alloc, &[fixed(Storage::Val(Val::I32)), byte()]).expect(&rt, "memory");
+    prints(&rt, alloc, &both, "(struct (field i32) (field (mut i8)))");
+}
+
+#[test]
+fn array_types_print_their_field(rt: HostRuntime) {
+    let alloc = rt.alloc();
+    let references = ArrayType {
+        field: mutable(Val::Ref(reference(true, exactly_third()))),
+    };
+    prints(&rt, alloc, &references, "(array (mut (ref null exact 3)))");
+    let bytes = ArrayType {
+        field: fixed(Storage::I8),
+    };
+    prints(&rt, alloc, &bytes, "(array i8)");
+}
+
+#[test]
+fn composite_types_print_what_they_are(rt: HostRuntime) {
+    let alloc = rt.alloc();
+    let functions = CompositeType::Function(function(alloc, &[], &[]).expect(&rt, "memory"));
+    prints(&rt, alloc, &functions, "(func)");
+    let structs = CompositeType::Struct(structure(alloc, &[]).expect(&rt, "memory"));
+    prints(&rt, alloc, &structs, "(struct)");
+    let doubles = CompositeType::Array(ArrayType {
+        field: fixed(Storage::Val(Val::F64)),
+    });
+    prints(&rt, alloc, &doubles, "(array f64)");
 }

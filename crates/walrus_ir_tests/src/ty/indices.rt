@@ -2,10 +2,7 @@
 mod refusals;
 
 use crate::assertions::assert_equal;
-use refusals::{Kind, get, push};
-use std::alloc;
 use std::fmt::Debug;
-use std::process::Abort;
 use walrus_ty::{
     Data, Element, Function, FunctionId, Global, GlobalId, Id, IdsToIndices, IndicesToIds, Memory,
     NoIndex, Table, Tag, TypeId, UnknownIndex,
@@ -25,60 +22,24 @@ fn what_an_id_is_of_is_plain_data() {
     is_plain_data::<Tag>();
 }
 
-// The numbers of the ids of each kind of index, up to the first that stands for none.
-fn said(rt: &impl Abort, alloc: alloc::Global, ids: &IndicesToIds) -> String {
-    let mut text = String::new(alloc);
-    for (word, kind) in [
-        ("types", Kind::Ty),
-        (" funcs", Kind::Func),
-        (" globals", Kind::Global),
-    ] {
-        text.push_str(word).expect(rt, "memory");
-        add_ids(rt, &mut text, ids, kind);
-    }
-    text
-}
-
-fn add_ids(rt: &impl Abort, text: &mut String, ids: &IndicesToIds, kind: Kind) {
-    for index in 0..9u32 {
-        match get(ids, kind, index) {
-            Ok(id) => write!(text, " {id}").expect(rt, "memory"),
-            Err(none) => {
-                assert_equal(rt, none, UnknownIndex(index));
-                return;
-            }
-        }
-    }
-}
-
 #[test]
 fn an_index_stands_for_the_id_that_was_pushed_then(rt: HostRuntime) {
     let mut ids = IndicesToIds::new(rt.alloc());
-    assert_equal(
-        &rt,
-        said(&rt, rt.alloc(), &ids).as_str(),
-        "types funcs globals",
-    );
-    for (kind, id) in [
-        (Kind::Ty, 7),
-        (Kind::Ty, 9),
-        (Kind::Func, 5),
-        (Kind::Global, 6),
-    ] {
-        push(&mut ids, kind, id).expect(&rt, "memory");
-    }
-    assert_equal(
-        &rt,
-        said(&rt, rt.alloc(), &ids).as_str(),
-        "types 7 9 funcs 5 globals 6",
-    );
+    assert_equal(&rt, ids.get_type(0), Err(UnknownIndex(0)));
+    ids.push_type(Id::from_index(7)).expect(&rt, "memory");
+    ids.push_type(Id::from_index(9)).expect(&rt, "memory");
+    ids.push_func(Id::from_index(5)).expect(&rt, "memory");
+    ids.push_global(Id::from_index(6)).expect(&rt, "memory");
+    assert_equal(&rt, ids.get_type(0), Ok(Id::from_index(7)));
+    assert_equal(&rt, ids.get_type(1), Ok(Id::from_index(9)));
+    assert_equal(&rt, ids.get_type(2), Err(UnknownIndex(2)));
+    assert_equal(&rt, ids.get_func(0), Ok(Id::from_index(5)));
+    assert_equal(&rt, ids.get_func(1), Err(UnknownIndex(1)));
+    assert_equal(&rt, ids.get_global(0), Ok(Id::from_index(6)));
     assert_equal(&rt, ids.get_global(4), Err(UnknownIndex(4)));
     ids.remap_type(0, Id::from_index(8));
-    assert_equal(
-        &rt,
-        said(&rt, rt.alloc(), &ids).as_str(),
-        "types 8 9 funcs 5 globals 6",
-    );
+    assert_equal(&rt, ids.get_type(0), Ok(Id::from_index(8)));
+    assert_equal(&rt, ids.get_type(1), Ok(Id::from_index(9)));
 }
 
 #[test]
@@ -119,16 +80,11 @@ fn several_indices_stand_for_ids_in_a_row(rt: HostRuntime) {
     ids.push_type(Id::from_index(9)).expect(&rt, "memory");
     ids.push_types(4, 2).expect(&rt, "memory");
     assert_equal(&rt, ids.type_count(), 3);
-    assert_equal(
-        &rt,
-        said(&rt, rt.alloc(), &ids).as_str(),
-        "types 9 4 5 funcs globals",
-    );
+    assert_equal(&rt, ids.get_type(0), Ok(Id::from_index(9)));
+    assert_equal(&rt, ids.get_type(1), Ok(Id::from_index(4)));
+    assert_equal(&rt, ids.get_type(2), Ok(Id::from_index(5)));
     ids.truncate_types(2);
-    assert_equal(
-        &rt,
-        said(&rt, rt.alloc(), &ids).as_str(),
-        "types 9 4 funcs globals",
-    );
+    assert_equal(&rt, ids.get_type(1), Ok(Id::from_index(4)));
+    assert_equal(&rt, ids.get_type(2), Err(UnknownIndex(2)));
     assert_equal(&rt, ids.into_types().len(), 2);
 }

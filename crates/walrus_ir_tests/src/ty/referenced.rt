@@ -1,40 +1,66 @@
 //! Which ids a type is made with, and in which order.
 use crate::assertions::assert_equal;
-use crate::fixtures::kind;
+use crate::fixtures::{field, reference};
 use std::alloc::Global;
 use std::process::Abort;
-use walrus_ty::{Id, Type, TypeId};
+use walrus_ty::{
+    ArrayType, CompositeType, FieldType, FunctionType, Heap, Id, Listed, Reference, Storage,
+    StructType, Type, TypeId, Val,
+};
 
-// A composite type and the index of a supertype, and the ids that such a type is made with.
-type Rows = &'static [(&'static str, Option<usize>, &'static str)];
+fn ty(alloc: Global, kind: CompositeType, supertype: Option<TypeId>) -> Type {
+    Type::new(alloc, Id::from_index(9), kind, true, supertype)
+}
 
-const ROWS: Rows = &[
-    // The supertype comes first, and repeats are kept.
-    ("func n1 n1 > e0", Some(2), "2 1 1 0"),
-    ("struct n4 i32 n3", None, "4 3"),
-    ("array n5", Some(6), "6 5"),
-    ("array mut:i8", None, ""),
-];
-
-// The type is made with the ids of these indices, in this order. They come after a 7 that is there
+// The type is made with the ids of these places, in this order. They come after a 7 that is there
 // before.
-fn makes(rt: &impl Abort, alloc: Global, ty: &Type, wanted: &str) {
+fn makes(rt: &impl Abort, alloc: Global, ty: &Type, wanted: &[usize]) {
     let mut list = vec![in alloc; Id::from_index(7)].expect(rt, "memory");
     ty.referenced_types(&mut list).expect(rt, "memory");
-    let mut text = String::new(alloc);
+    let mut places = Vec::new(alloc);
     for id in &list {
-        write!(text, "{} ", id.index()).expect(rt, "memory");
+        places.push(id.index()).expect(rt, "memory");
     }
-    let wanted = format!(in alloc; "7 {wanted}").expect(rt, "memory");
-    assert_equal(rt, text.as_str().trim(), wanted.as_str().trim());
+    assert_equal(rt, places.as_slice(), wanted);
 }
 
 #[test]
-fn types_are_made_with_ids(rt: HostRuntime) {
-    for (words, above, wanted) in ROWS {
-        let kind = kind(rt.alloc(), words).expect(&rt, "memory");
-        let above = above.map(|index| TypeId::from_index(index));
-        let ty = Type::new(rt.alloc(), Id::from_index(9), kind, true, above);
-        makes(&rt, rt.alloc(), &ty, wanted);
-    }
+fn the_supertype_comes_first_and_repeats_are_kept(rt: HostRuntime) {
+    let alloc = rt.alloc();
+    let params = vec![in alloc; reference(1), reference(1)].expect(&rt, "memory");
+    let exact = Val::Ref(Reference {
+        nullable: true,
+        heap_type: Heap::Exact(Id::from_index(0)),
+    });
+    let results = vec![in alloc; exact].expect(&rt, "memory");
+    let kind = CompositeType::Function(FunctionType::new(params, results));
+    let made = ty(alloc, kind, Some(Id::from_index(2)));
+    makes(&rt, alloc, &made, &[7, 2, 1, 1, 0]);
+}
+
+#[test]
+fn fields_come_in_order(rt: HostRuntime) {
+    let alloc = rt.alloc();
+    let (first, second, third) = (field(reference(4)), field(Val::I32), field(reference(3)));
+    let fields = vec![in alloc; first, second, third].expect(&rt, "memory");
+    let fields = Listed::from_vec(fields);
+    let made = ty(alloc, CompositeType::Struct(StructType { fields }), None);
+    makes(&rt, alloc, &made, &[7, 4, 3]);
+    let array = CompositeType::Array(ArrayType {
+        field: field(reference(5)),
+    });
+    let made = ty(alloc, array, Some(Id::from_index(6)));
+    makes(&rt, alloc, &made, &[7, 6, 5]);
+}
+
+#[test]
+fn a_type_may_be_made_with_no_id(rt: HostRuntime) {
+    let array = CompositeType::Array(ArrayType {
+        field: FieldType {
+            element_type: Storage::I8,
+            mutable: true,
+        },
+    });
+    let made = ty(rt.alloc(), array, None);
+    makes(&rt, rt.alloc(), &made, &[7]);
 }

@@ -1,17 +1,26 @@
 //! Clones, lists that grow by an item, and names of types, where memory is refused.
 use crate::assertions::assert_equal;
-use crate::fixtures::{are, clone_again, kind_again, list, name_again, reference};
+use crate::fixtures::{are, clone_again, field, list, name_again, reference};
 use std::alloc::{AllocError, Global};
 use std::process::Abort;
-use walrus_ty::{CompositeType, Listed, SubType, Type, TypeId, Val, ValType};
+use walrus_ty::{
+    CompositeType, FunctionType, Listed, StructType, SubType, Type, TypeId, Val, ValType,
+};
 
-const FUNCTION: &str = "func n3 > i32 n5";
+fn function(alloc: Global) -> Result<FunctionType, AllocError> {
+    let params = list(alloc, &[reference(3)])?;
+    Ok(FunctionType::new(params, list(alloc, &[Val::I32, reference(5)])?))
+}
 
-const STRUCT: &str = "struct n3 i32";
+fn structure(alloc: Global) -> Result<StructType, AllocError> {
+    let fields = list(alloc, &[field(reference(3)), field(Val::I32)])?;
+    Ok(StructType {
+        fields: Listed::from_vec(fields),
+    })
+}
 
-// A function type with a name and a supertype.
-fn named(alloc: Global) -> Result<Type, AllocError> {
-    let kind = kind_again(alloc, FUNCTION)?;
+// A type of this kind with a name and a supertype.
+fn named(alloc: Global, kind: CompositeType) -> Result<Type, AllocError> {
     let supertype = Some(TypeId::from_index(2));
     let mut ty = Type::new(alloc, TypeId::from_index(9), kind, false, supertype);
     ty.name = Some(name_again(alloc)?);
@@ -27,27 +36,33 @@ fn a_refused_clone_of_a_list_comes_when_it_is_asked_for_again(rt: HostRuntime) {
     assert!(rt; source.as_slice() == vals.as_slice());
 }
 
-// A clone of the part of the composite type is equal to it.
-fn part_is_cloned(rt: &impl Abort, kind: &CompositeType) {
-    match kind {
-        CompositeType::Function(of) => assert!(rt; clone_again(of).expect(rt, "memory") == *of),
-        CompositeType::Struct(of) => assert!(rt; clone_again(of).expect(rt, "memory") == *of),
-        CompositeType::Array(_) => panic!(rt; "nothing to clone"),
-    }
-}
-
 #[test]
 fn a_refused_clone_of_a_kind_comes_when_it_is_asked_for_again(rt: HostRuntime) {
-    for words in [FUNCTION, STRUCT] {
-        let source = kind_again(rt.alloc(), words).expect(&rt, "memory");
-        part_is_cloned(&rt, &source);
-        assert!(rt; clone_again(&source).expect(&rt, "memory") == source);
-    }
+    let alloc = rt.alloc();
+    let source = function(alloc).expect(&rt, "memory");
+    let copy = clone_again(&source).expect(&rt, "memory");
+    assert!(rt; copy == source);
+    assert!(rt;
+        clone_again(&CompositeType::Function(source)).expect(&rt, "memory")
+            == CompositeType::Function(copy)
+    );
+    let source = structure(alloc).expect(&rt, "memory");
+    let copy = clone_again(&source).expect(&rt, "memory");
+    assert!(rt; copy == source);
+    assert!(rt;
+        clone_again(&CompositeType::Struct(source)).expect(&rt, "memory")
+            == CompositeType::Struct(copy)
+    );
 }
 
 #[test]
 fn a_refused_clone_of_a_type_comes_when_it_is_asked_for_again(rt: HostRuntime) {
-    let source = named(rt.alloc()).expect(&rt, "memory");
+    let alloc = rt.alloc();
+    let source = named(
+        alloc,
+        CompositeType::Function(function(alloc).expect(&rt, "memory")),
+    )
+    .expect(&rt, "memory");
     let copy = clone_again(&source).expect(&rt, "memory");
     assert!(rt; copy == source);
     assert_equal(&rt, copy.id().index(), 9);
@@ -56,8 +71,9 @@ fn a_refused_clone_of_a_type_comes_when_it_is_asked_for_again(rt: HostRuntime) {
 
 #[test]
 fn a_refused_clone_of_a_sub_type_comes_when_it_is_asked_for_again(rt: HostRuntime) {
+    let alloc = rt.alloc();
     let source = SubType {
-        kind: kind_again(rt.alloc(), STRUCT).expect(&rt, "memory"),
+        kind: CompositeType::Struct(structure(alloc).expect(&rt, "memory")),
         is_final: true,
         supertype: Some(TypeId::from_index(4)),
     };
@@ -136,7 +152,11 @@ fn name_types_again(
 #[test]
 fn refused_names_of_a_type_are_not_in_the_list(rt: HostRuntime) {
     let alloc = rt.alloc();
-    let made = named(alloc).expect(&rt, "memory");
+    let made = named(
+        alloc,
+        CompositeType::Function(function(alloc).expect(&rt, "memory")),
+    )
+    .expect(&rt, "memory");
     let named = [2, 3, 5, 2, 3, 5, 2, 3, 5, 2, 3, 5];
     let mut list = Vec::new(alloc);
     for round in 0..4usize {

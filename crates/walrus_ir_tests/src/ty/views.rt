@@ -1,29 +1,49 @@
 //! Kinds of types, unpacked fields, and the named reference types.
 use crate::assertions::{assert_equal, prints};
-use crate::fixtures::kind;
+use std::alloc::{AllocError, Global};
 use walrus_ty::laws::reference_constant;
 use walrus_ty::{
-    AbstractHeapType, CompositeType, HeapType, Id, RefType, Storage, StorageType, Type, ValType,
+    AbstractHeapType, ArrayType, CompositeType, Field, FunctionType, HeapType, Id, Listed, RefType,
+    Storage, StorageType, StructType, Type, ValType,
 };
+
+fn function(alloc: Global, param: ValType) -> Result<CompositeType, AllocError> {
+    let params = vec![in alloc; param]?;
+    Ok(CompositeType::Function(FunctionType::new(params, vec![in alloc]?)))
+}
+
+fn structure(alloc: Global) -> Result<CompositeType, AllocError> {
+    let fields = Listed::from_vec(vec![in alloc]?);
+    Ok(CompositeType::Struct(StructType { fields }))
+}
+
+fn array() -> CompositeType {
+    CompositeType::Array(ArrayType {
+        field: Field {
+            element_type: Storage::I16,
+            mutable: false,
+        },
+    })
+}
+
+fn ty(alloc: Global, kind: CompositeType) -> Type {
+    Type::new(alloc, Id::from_index(0), kind, true, None)
+}
 
 #[test]
 fn named_references_print_their_names(rt: HostRuntime) {
-    let names = [
-        (RefType::ANYREF, "anyref"),
-        (RefType::EQREF, "eqref"),
-        (RefType::FUNCREF, "funcref"),
-        (RefType::EXTERNREF, "externref"),
-        (RefType::I31REF, "i31ref"),
-        (RefType::ARRAYREF, "arrayref"),
-        (RefType::STRUCTREF, "structref"),
-        (RefType::EXNREF, "exnref"),
-        (RefType::NULLREF, "nullref"),
-        (RefType::NULLEXTERNREF, "nullexternref"),
-        (RefType::NULLFUNCREF, "nullfuncref"),
-    ];
-    for (reference, name) in names {
-        prints(&rt, rt.alloc(), &reference, name);
-    }
+    let alloc = rt.alloc();
+    prints(&rt, alloc, &RefType::ANYREF, "anyref");
+    prints(&rt, alloc, &RefType::EQREF, "eqref");
+    prints(&rt, alloc, &RefType::FUNCREF, "funcref");
+    prints(&rt, alloc, &RefType::EXTERNREF, "externref");
+    prints(&rt, alloc, &RefType::I31REF, "i31ref");
+    prints(&rt, alloc, &RefType::ARRAYREF, "arrayref");
+    prints(&rt, alloc, &RefType::STRUCTREF, "structref");
+    prints(&rt, alloc, &RefType::EXNREF, "exnref");
+    prints(&rt, alloc, &RefType::NULLREF, "nullref");
+    prints(&rt, alloc, &RefType::NULLEXTERNREF, "nullexternref");
+    prints(&rt, alloc, &RefType::NULLFUNCREF, "nullfuncref");
 }
 
 #[test]
@@ -49,66 +69,41 @@ fn packed_fields_are_read_as_integers(rt: HostRuntime) {
     assert_equal(&rt, StorageType::Val(ValType::F64).unpack(), ValType::F64);
 }
 
-// Whether it is a function type, a struct type and an array type.
-type Kinds = (bool, bool, bool);
-
-const KINDS: &[(&str, Kinds)] = &[
-    ("func i64", (true, false, false)),
-    ("struct", (false, true, false)),
-    ("array i16", (false, false, true)),
-];
-
-fn kinds_of(kind: &CompositeType) -> Kinds {
-    (kind.is_function(), kind.is_struct(), kind.is_array())
-}
-
-fn kinds_of_type(ty: &Type) -> Kinds {
-    (ty.is_function(), ty.is_struct(), ty.is_array())
-}
-
-// Of which kinds the type lends its part.
-fn lent_kinds(ty: &Type) -> Kinds {
-    (
-        ty.as_function().is_some(),
-        ty.as_struct().is_some(),
-        ty.as_array().is_some(),
-    )
-}
-
 #[test]
 fn a_type_has_one_kind(rt: HostRuntime) {
-    for (words, kinds) in KINDS {
-        let kind = kind(rt.alloc(), words).expect(&rt, "memory");
-        assert!(rt; kinds_of(&kind) == *kinds);
-        let ty = Type::new(rt.alloc(), Id::from_index(0), kind, true, None);
-        assert!(rt; kinds_of_type(&ty) == *kinds);
-        assert!(rt; lent_kinds(&ty) == *kinds);
-    }
+    let made = function(rt.alloc(), ValType::I64).expect(&rt, "memory");
+    assert!(rt; made.is_function() && !made.is_struct() && !made.is_array());
+    let made = structure(rt.alloc()).expect(&rt, "memory");
+    assert!(rt; !made.is_function() && made.is_struct() && !made.is_array());
+    let made = array();
+    assert!(rt; !made.is_function() && !made.is_struct() && made.is_array());
 }
 
 #[test]
-fn a_type_lends_its_part(rt: HostRuntime) {
-    let of = kind(rt.alloc(), "func i64").expect(&rt, "memory");
-    let made = Type::new(rt.alloc(), Id::from_index(0), of, true, None);
+fn a_type_of_a_module_is_seen_by_its_kind(rt: HostRuntime) {
+    let kind = function(rt.alloc(), ValType::I64).expect(&rt, "memory");
+    let made = ty(rt.alloc(), kind);
+    assert!(rt; made.is_function() && !made.is_struct() && !made.is_array());
     assert_equal(&rt, made.as_function().map(|f| f.params().len()), Some(1));
-    let of = kind(rt.alloc(), "array i16").expect(&rt, "memory");
-    let made = Type::new(rt.alloc(), Id::from_index(0), of, true, None);
+    assert!(rt; made.as_struct().is_none() && made.as_array().is_none());
+    let made = ty(rt.alloc(), array());
     assert_equal(
         &rt,
         made.as_array().map(|a| a.field.element_type),
         Some(Storage::I16),
     );
+    assert!(rt; made.as_function().is_none());
 }
 
 #[test]
 fn a_kind_that_is_known_is_unwrapped(rt: HostRuntime) {
-    let made = kind(rt.alloc(), "func i64").expect(&rt, "memory");
+    let made = function(rt.alloc(), ValType::I64).expect(&rt, "memory");
     assert!(rt; made.is_function());
     assert_equal(&rt, made.unwrap_function().params().len(), 1);
-    let made = kind(rt.alloc(), "struct").expect(&rt, "memory");
+    let made = structure(rt.alloc()).expect(&rt, "memory");
     assert!(rt; made.is_struct());
     assert_equal(&rt, made.unwrap_struct().fields.as_slice().len(), 0);
-    let made = kind(rt.alloc(), "array i16").expect(&rt, "memory");
+    let made = array();
     assert!(rt; made.is_array());
     assert_equal(&rt, made.unwrap_array().field.element_type, Storage::I16);
 }
@@ -116,15 +111,15 @@ fn a_kind_that_is_known_is_unwrapped(rt: HostRuntime) {
 #[test]
 fn a_function_type_is_written_through_its_view(rt: HostRuntime) {
     let alloc = rt.alloc();
-    let mut made = kind(alloc, "func i64").expect(&rt, "memory");
-    let CompositeType::Function(other) = kind(alloc, "func > f32").expect(&rt, "memory") else {
-        panic!(rt; "no function type");
-    };
+    let mut made = function(alloc, ValType::I64).expect(&rt, "memory");
+    let other = FunctionType::new(
+        vec![in alloc].expect(&rt, "memory"),
+        vec![in alloc; ValType::F32].expect(&rt, "memory"),
+    );
     match made.as_function_mut() {
         Some(function) => *function = other,
         None => assert!(rt; false),
     }
     prints(&rt, alloc, &made, "(func (result f32))");
-    let mut array = kind(alloc, "array i16").expect(&rt, "memory");
-    assert!(rt; array.as_function_mut().is_none());
+    assert!(rt; array().as_function_mut().is_none());
 }

@@ -1,17 +1,31 @@
 //! Conversions of composite types where memory is refused.
 use crate::assertions::assert_equal;
-use crate::fixtures::{comp_again, kind_again};
+use crate::fixtures::{field, list, reference};
 use std::alloc::{AllocError, Global};
-use std::process::Abort;
 use walrus_ty::{
-    CompAt, CompositeType, EntryAt, FromRecordError, IdsToIndices, IndicesToIds, NoIndex, SubType,
-    ToRecordError, Type, TypeId,
+    CompAt, CompositeType, EntryAt, FromRecordError, Heap, IdsToIndices, IndicesToIds, Listed,
+    NoIndex, SubType, ToRecordError, Type, TypeId, Val, ValAt,
 };
 
-// A record, and its type in a module.
-const FUNCTION: (&str, &str) = ("func n1 > n0 i32", "func n3 > n5 i32");
+// A nullable reference to the type at this index.
+fn to(index: u32) -> ValAt {
+    super::reference(true, Heap::Concrete(index))
+}
 
-const STRUCT: (&str, &str) = ("struct n1", "struct n3");
+// A function type whose parameter names index 1 and whose first result names index 0.
+fn function_at(alloc: Global) -> Result<CompAt, AllocError> {
+    Ok(CompAt::Function {
+        params: Listed::from_vec(list(alloc, &[to(1)])?),
+        results: Listed::from_vec(list(alloc, &[to(0), ValAt::I32])?),
+    })
+}
+
+// A struct type whose field names this index.
+fn struct_at(alloc: Global, index: u32) -> Result<CompAt, AllocError> {
+    Ok(CompAt::Struct {
+        fields: Listed::from_vec(list(alloc, &[super::field(to(index), false)])?),
+    })
+}
 
 fn two_ids(alloc: Global) -> Result<IndicesToIds, AllocError> {
     let mut ids = IndicesToIds::new(alloc);
@@ -22,7 +36,10 @@ fn two_ids(alloc: Global) -> Result<IndicesToIds, AllocError> {
 
 // Index 0 is the type 5, and index 1 the type 3. The map is made again after a refusal.
 fn two_ids_again(alloc: Global) -> Result<IndicesToIds, AllocError> {
-    two_ids(alloc).or_else(|_| two_ids(alloc))
+    match two_ids(alloc) {
+        Ok(ids) => Ok(ids),
+        Err(_) => two_ids(alloc),
+    }
 }
 
 fn two_indices(alloc: Global) -> Result<IdsToIndices, AllocError> {
@@ -34,7 +51,10 @@ fn two_indices(alloc: Global) -> Result<IdsToIndices, AllocError> {
 
 // The type 5 has index 0, and the type 3 index 1. The map is made again after a refusal.
 fn two_indices_again(alloc: Global) -> Result<IdsToIndices, AllocError> {
-    two_indices(alloc).or_else(|_| two_indices(alloc))
+    match two_indices(alloc) {
+        Ok(indices) => Ok(indices),
+        Err(_) => two_indices(alloc),
+    }
 }
 
 // The composite type of the record. It is read again after a refusal of memory.
@@ -61,38 +81,60 @@ fn write_again(
     }
 }
 
-// The record is converted to the type, and back.
-fn goes_both_ways(rt: &impl Abort, alloc: Global, (record, words): (&str, &str)) {
-    let at = comp_again(alloc, record).expect(rt, "memory");
-    let wanted = kind_again(alloc, words).expect(rt, "memory");
-    let ids = two_ids_again(alloc).expect(rt, "memory");
-    let kind = read_again(alloc, &at, &ids).expect(rt, "memory");
-    assert!(rt; kind == wanted);
-    let indices = two_indices_again(alloc).expect(rt, "memory");
-    assert!(rt; write_again(alloc, &kind, &indices).expect(rt, "memory") == at);
-}
-
 #[test]
 fn a_refused_function_type_is_converted_when_it_is_given_again(rt: HostRuntime) {
-    goes_both_ways(&rt, rt.alloc(), FUNCTION);
+    let alloc = rt.alloc();
+    let at = function_at(alloc).expect(&rt, "memory");
+    let kind = read_again(alloc, &at, &two_ids_again(alloc).expect(&rt, "memory")).expect(
+        &rt, "memory",
+    );
+    assert!(rt; kind.is_function_of(&[reference(3)], &[reference(5), Val::I32]));
+    let record = write_again(
+        alloc,
+        &kind,
+        &two_indices_again(alloc).expect(&rt, "memory"),
+    )
+    .expect(&rt, "memory");
+    assert!(rt; record == at);
+    let refused = write_again(alloc, &kind, &IdsToIndices::new(alloc)).err();
+    let missing = NoIndex::OfType(TypeId::from_index(3));
+    assert_equal(&rt, refused, Some(ToRecordError::NoIndex(missing)));
 }
 
 #[test]
 fn a_refused_struct_type_is_converted_when_it_is_given_again(rt: HostRuntime) {
-    goes_both_ways(&rt, rt.alloc(), STRUCT);
+    let alloc = rt.alloc();
+    let at = struct_at(alloc, 1).expect(&rt, "memory");
+    let ids = two_ids_again(alloc).expect(&rt, "memory");
+    let kind = read_again(alloc, &at, &ids).expect(&rt, "memory");
+    match &kind {
+        CompositeType::Struct(of) => {
+            assert!(rt; of.fields.as_slice() == [field(reference(3))].as_slice());
+        }
+        _ => panic!(rt; "no struct type"),
+    }
+    let record = write_again(
+        alloc,
+        &kind,
+        &two_indices_again(alloc).expect(&rt, "memory"),
+    )
+    .expect(&rt, "memory");
+    assert!(rt; record == at);
+    let ill = struct_at(alloc, 2).expect(&rt, "memory");
+    assert_equal(
+        &rt,
+        read_again(alloc, &ill, &ids).err(),
+        Some(FromRecordError::UnknownIndex(2)),
+    );
 }
 
-#[test]
-fn a_refused_conversion_of_an_unknown_name_is_its_error(rt: HostRuntime) {
-    let alloc = rt.alloc();
-    let kind = kind_again(alloc, "func n3").expect(&rt, "memory");
-    let missing = NoIndex::OfType(TypeId::from_index(3));
-    let refused = write_again(alloc, &kind, &IdsToIndices::new(alloc)).err();
-    assert_equal(&rt, refused, Some(ToRecordError::NoIndex(missing)));
-    let ill = comp_again(alloc, "struct n2").expect(&rt, "memory");
-    let ids = two_ids_again(alloc).expect(&rt, "memory");
-    let refused = read_again(alloc, &ill, &ids).err();
-    assert_equal(&rt, refused, Some(FromRecordError::UnknownIndex(2)));
+// A record with a supertype, whose function type has one parameter.
+fn entry_at(alloc: Global) -> Result<EntryAt, AllocError> {
+    Ok(EntryAt {
+        comp: function_at(alloc)?,
+        is_final: false,
+        supertype: Some(1),
+    })
 }
 
 // What the record says. It is read again after a refusal of memory.
@@ -119,20 +161,19 @@ fn record_again(
     }
 }
 
-// A function type that is not final, and has a supertype.
 #[test]
 fn a_refused_type_is_converted_when_it_is_given_again(rt: HostRuntime) {
     let alloc = rt.alloc();
-    let (record, words) = FUNCTION;
-    let at = EntryAt {
-        comp: comp_again(alloc, record).expect(&rt, "memory"),
-        is_final: false,
-        supertype: Some(1),
-    };
-    let ids = two_ids_again(alloc).expect(&rt, "memory");
-    let said = sub_type_again(alloc, &at, &ids).expect(&rt, "memory");
-    assert!(rt; said.kind == kind_again(alloc, words).expect(&rt, "memory"));
-    assert!(rt; !said.is_final && said.supertype == Some(TypeId::from_index(3)));
+    let at = entry_at(alloc).expect(&rt, "memory");
+    let said = sub_type_again(alloc, &at, &two_ids_again(alloc).expect(&rt, "memory")).expect(
+        &rt, "memory",
+    );
+    assert!(rt;
+        said.kind
+            .is_function_of(&[reference(3)], &[reference(5), Val::I32])
+    );
+    assert!(rt; !said.is_final);
+    assert_equal(&rt, said.supertype, Some(TypeId::from_index(3)));
     let ty = Type::new(
         alloc,
         TypeId::from_index(9),
@@ -140,6 +181,8 @@ fn a_refused_type_is_converted_when_it_is_given_again(rt: HostRuntime) {
         false,
         said.supertype,
     );
-    let indices = two_indices_again(alloc).expect(&rt, "memory");
-    assert!(rt; record_again(alloc, &ty, &indices).expect(&rt, "memory") == at);
+    let record = record_again(alloc, &ty, &two_indices_again(alloc).expect(&rt, "memory")).expect(
+        &rt, "memory",
+    );
+    assert!(rt; record == at);
 }

@@ -5,18 +5,19 @@ ghost use Rattle.walrus_ty.specs.Indices.{GivesNext, type_indices, func_indices,
 use crate::assertions::assert_equal;
 use std::alloc::AllocError;
 use std::process::Abort;
+use std::test::Fail;
 use walrus_ty::{FunctionId, GlobalId, IdsToIndices, IndicesToIds, NoIndex, TypeId, UnknownIndex};
 
 // The id of an index.
 #[derive(Clone, Copy)]
-pub(super) enum Kind {
+enum Kind {
     Ty,
     Func,
     Global,
 }
 
 // Gives this id the next index of this kind.
-pub(super) fn push(ids: &mut IndicesToIds, kind: Kind, index: usize) -> Result<(), AllocError> {
+fn push(ids: &mut IndicesToIds, kind: Kind, index: usize) -> Result<(), AllocError> {
     match kind {
         Kind::Ty => ids.push_type(TypeId::from_index(index)),
         Kind::Func => ids.push_func(FunctionId::from_index(index)),
@@ -25,7 +26,7 @@ pub(super) fn push(ids: &mut IndicesToIds, kind: Kind, index: usize) -> Result<(
 }
 
 // The id of the index.
-pub(super) fn get(ids: &IndicesToIds, kind: Kind, index: u32) -> Result<usize, UnknownIndex> {
+fn get(ids: &IndicesToIds, kind: Kind, index: u32) -> Result<usize, UnknownIndex> {
     Ok(match kind {
         Kind::Ty => ids.get_type(index)?.index(),
         Kind::Func => ids.get_func(index)?.index(),
@@ -199,12 +200,13 @@ fn a_refused_index_of_another_kind_is_given_when_it_is_asked_for_again(rt: HostR
 
 #[test]
 #[tactic(auto, using(walrus_arena::proofs::ArenaLemmas::distinct_pair))]
-fn a_refused_row_of_types_is_given_when_it_is_asked_for_again(rt: HostRuntime) {
+fn a_refused_row_of_types_is_given_when_it_is_asked_for_again(rt: HostRuntime) -> Result<(), Fail> {
     let mut indices = IdsToIndices::new(rt.alloc());
     let ids: [TypeId; 2] = [TypeId::from_index(5), TypeId::from_index(4)];
     if indices.push_all_types(ids.as_slice()).is_err() {
         assert!(rt; have_indices(&indices, 0));
-        indices.push_all_types(ids.as_slice()).expect(&rt, "memory");
+        indices.push_all_types(ids.as_slice())?;
     }
     assert!(rt; have_indices(&indices, 2));
+    Ok(())
 }
