@@ -38,10 +38,8 @@ pub use Rattle.walrus_canonical.specs.EqualTypes
 pub use Rattle.walrus_canonical.specs.Listing as CanonicalListing
 pub use Rattle.walrus_canonical.specs.Greedy as CanonicalOrder
 pub use Rattle.walrus_canonical.specs.Keys as GroupKeys
-pub use Rattle.walrus_canonical.specs.Renamed as RenamedGroups
 pub use Rattle.walrus_canonical.specs.Roots
 pub use Rattle.walrus_canonical.specs.Refusals as CanonicalRefusals
-pub use Rattle.walrus_canonical.specs.Examples as CanonicalExamples
 pub use Rattle.walrus_types.specs.TypesById
 pub use Rattle.walrus_types.specs.Differences
 pub use Rattle.walrus_types.specs.Table
@@ -146,7 +144,6 @@ pub use Rattle.walrus_passes.specs.ConvertingAdapters
 pub use Rattle.wasm_binary.specs.Leb128
 pub use Rattle.wasm_binary.specs.Grammar
 pub use Rattle.wasm_binary.specs.Faults
-pub use Rattle.wasm_binary.specs.SectionProgress
 pub use Rattle.wasm_binary.specs.Modules
 pub use Rattle.wasm_binary.specs.ModuleSections
 pub use Rattle.wasm_binary.specs.Sections as SectionPlaces

@@ -12,4 +12,3 @@ pub mod Writing
 pub mod Choice
 pub mod Extension
 pub mod Existence
-pub mod WorkedSections

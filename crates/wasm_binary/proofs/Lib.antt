@@ -10,7 +10,6 @@ pub mod FirstFaults
 pub mod ListFaults
 pub mod Places
 pub mod Sections
-pub mod Progress
 pub mod Shortest
 pub mod Least
 pub mod NoTexts

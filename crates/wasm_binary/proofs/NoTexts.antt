@@ -1,4 +1,4 @@
--- What has no text where a part of it has none, and what is too long for one.
+-- Lists that have no text, since an item has none or they are too long for one.
 use Rattle.std.proofs.Common.{ℕ, ◌^◌, ◌<◌, List, [], ◌∷◌, ◌++◌, length}
 use Rattle.walrus_ty.specs.declared.ty.value.Val.{Val}
 use Rattle.walrus_ty.specs.declared.records.CompAt.{CompAt}
@@ -44,40 +44,3 @@ no_items IsText [] item after bad bytes h = let k = (items_parts IsText bytes (i
 no_items IsText (x ∷ before) item after bad bytes h = let k =
     (items_parts IsText bytes (x ∷ (before ++ item ∷ after)) h).1 in
     no_items IsText before item after bad k.0 k.1
-
--- ---- composite types, definitions and groups
-
-abbrev CompParts : CompAt → Type 0
-CompParts (comp.Array f) = Unit {0}
-CompParts (comp.Struct fs) = HasText (IsVec IsFieldType) fs
-CompParts (comp.Function ps rs) = HasText (IsVec IsValType) ps × HasText (IsVec IsValType) rs
-
-comp_parts : (bytes : List ℕ) (c : CompAt) → IsCompType bytes c → CompParts c
-comp_parts _ _ (array bytes f h) = tt
-comp_parts _ _ (struct bytes fs h) = (bytes, h)
-comp_parts _ _ (function first second ps rs h k) = ((first, h), (second, k))
-
-pub no_results : (ps rs : List (Val ℕ)) → HasNoText (IsVec IsValType) rs →
-    HasNoText IsCompType (comp.Function ps rs)
-no_results ps rs bad bytes h = let k = comp_parts bytes (comp.Function ps rs) h in bad k.1.0 k.1.1
-
-entry_parts : (bytes : List ℕ) (e : EntryAt) → IsSubType bytes e → HasText IsCompType e.comp
-entry_parts _ _ (declared supers bytes is_final s c h k) = (bytes, k)
-entry_parts _ _ (plain bytes c h) = (bytes, h)
-
-pub no_entry : (e : EntryAt) → HasNoText IsCompType e.comp → HasNoText IsSubType e
-no_entry e bad bytes h = let k = entry_parts bytes e h in bad k.0 k.1
-
-abbrev GroupParts : GroupAt → Type 0
-GroupParts (group.Rec es) = HasText (IsVec IsSubType) es
-GroupParts (group.Single e) = HasText IsSubType e
-
-group_parts : (bytes : List ℕ) (g : GroupAt) → IsRecType bytes g → GroupParts g
-group_parts _ _ (rec bytes es h) = (bytes, h)
-group_parts _ _ (single bytes e h) = (bytes, h)
-
-pub no_rec : (es : List EntryAt) → HasNoText (IsVec IsSubType) es → HasNoText IsRecType (group.Rec es)
-no_rec es bad bytes h = let k = group_parts bytes (group.Rec es) h in bad k.0 k.1
-
-pub no_single : (e : EntryAt) → HasNoText IsSubType e → HasNoText IsRecType (group.Single e)
-no_single e bad bytes h = let k = group_parts bytes (group.Single e) h in bad k.0 k.1

@@ -2,7 +2,6 @@ pub mod Leb128
 pub mod Grammar
 pub mod Places
 pub mod Faults
-pub mod SectionProgress
 pub mod Modules
 pub mod ModuleSections
 pub mod Sections

@@ -8,11 +8,9 @@ ghost use Rattle.wasm_binary.specs.Steps.Reading.{GivesAll, types_at};
 mod composite;
 mod group;
 mod list;
-mod reader;
 mod value;
 
 use crate::decode::list::read_vec;
-pub use crate::decode::reader::TypeSectionReader;
 use crate::error::{DecodeError, Expected, RawReadError};
 use std::alloc::Global;
 use walrus_ty::GroupAt;

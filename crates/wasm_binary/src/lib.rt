@@ -4,8 +4,7 @@
 //! - [`type_section`] finds the type section of a module. [`section_around`] says which section a
 //!   byte is in, and [`custom_section_name`] which name it has.
 //! - [`decode_types`] reads the groups of a section, and says where bytes are no text of groups.
-//!   [`module_types`] reads the groups of a module. A [`TypeSectionReader`] reads a section group
-//!   by group, in the memory of one.
+//!   [`module_types`] reads the groups of a module.
 //! - [`encode_types`] writes the shortest text of groups.
 //! - [`laws`] has the theorems: bytes are a text of at most one list of groups, and have at most
 //!   one first bad byte. No text is the beginning of a longer one. Bytes are a module of at most
@@ -33,7 +32,7 @@ pub mod laws;
 mod leb128;
 mod module;
 
-pub use decode::{TypeSectionReader, decode_types};
+pub use decode::decode_types;
 pub use encode::encode_types;
 pub use error::{DecodeError, EncodeError, Expected, NotHeld};
 pub use module::{SectionPlace, custom_section_name, module_types, section_around, type_section};

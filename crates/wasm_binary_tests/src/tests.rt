@@ -9,7 +9,6 @@ mod names;
 mod productions;
 mod refusals;
 mod speed;
-mod turns;
 mod unsupported;
 
 use crate::assertions::assert_equal;

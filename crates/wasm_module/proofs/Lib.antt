@@ -29,7 +29,6 @@ pub mod TypeMaps
 pub mod Subsections
 pub mod NameSections
 pub mod Descriptions
-pub mod StrippedModules
 pub mod SameTexts
 pub mod Entries
 pub mod OwnEntries
@@ -37,7 +36,7 @@ pub mod SyntaxTrees
 pub mod TreesOfChanges
 pub mod TreesOfTexts
 pub mod TreesOfContents
-pub mod CodeLaws
+pub mod RenamedCode
 pub mod TypeLengths
 pub mod OneLength
 pub mod ModuleLengths
@@ -51,5 +50,4 @@ pub mod AlikeNames
 pub mod AlikeTrees
 pub mod AlikeModules
 pub mod StrippedOnce
-pub mod StrippedRenamed
 pub mod RenamedNames

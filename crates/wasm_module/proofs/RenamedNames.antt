@@ -25,7 +25,7 @@ use Rattle.wasm_module.specs.RenamedSections.RenamesContent.{texts as texts_cont
 use Rattle.wasm_module.specs.Renaming.{NewIndices, new_index}
 use Rattle.wasm_module.proofs.RenamedModules.{sized_pair, pair}
 use Rattle.wasm_module.proofs.ModuleLaws.{pairs, have_same_ids}
-use Rattle.wasm_module.proofs.CodeLaws.{names_follow}
+use Rattle.wasm_module.proofs.RenamedCode.{names_follow}
 use Rattle.wasm_module.proofs.StrippedOnce.{module_of}
 
 module _ (m : NewIndices) (w : Widths) where

@@ -8,8 +8,7 @@ use Rattle.walrus_ty.specs.Records.{section_of}
 use Rattle.walrus_ty.specs.declared.records.GroupAt.{GroupAt}
 use Rattle.walrus_ty.proofs.Equality.Contents.{same_section}
 use Rattle.walrus_sections.specs.Section.{index_space}
-use Rattle.walrus_canonical.specs.Listing.{HasPlainGroups, IsCanonical, IsListing, all_indices, kept_indices}
-use Rattle.walrus_canonical.specs.Renamed.{new_or_zero}
+use Rattle.walrus_canonical.specs.Listing.{HasPlainGroups, IsCanonical, IsListing, all_indices, kept_indices, new_or_zero}
 use Rattle.walrus_canonical.proofs.Forms.Canonical as forms
 use Rattle.walrus_canonical.proofs.Forms.Indices.{built_at}
 use Rattle.wasm_module.specs.declared.renaming.Widths.{Widths}

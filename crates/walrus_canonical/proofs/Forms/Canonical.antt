@@ -2,8 +2,7 @@
 use Rattle.std.proofs.Common.{◌≡◌, ℕ, ◌<◌, List, map, Contains, sym, subst}
 use Rattle.std.specs.Prelude.{◌↔◌}
 use Rattle.walrus_ty.specs.Groups.{Section}
-use Rattle.walrus_canonical.specs.Listing.{IsNeeded, NewIndices, IsListing, IsCanonical, AreAmong, all_indices, kept_indices}
-use Rattle.walrus_canonical.specs.Renamed.{new_or_zero}
+use Rattle.walrus_canonical.specs.Listing.{IsNeeded, NewIndices, IsListing, IsCanonical, AreAmong, all_indices, kept_indices, new_or_zero}
 use Rattle.walrus_sections.specs.Section.{index_space}
 use Rattle.walrus_canonical.proofs.Forms.Orders.{section_once}
 use Rattle.walrus_canonical.proofs.Forms.Listings.{same_indices, among_by_listing, relisting}

@@ -6,12 +6,11 @@ use Rattle.std.proofs.lemmas.Option.{same_Some}
 use Rattle.walrus_ty.specs.Groups.{Section}
 use Rattle.walrus_sections.specs.Section.{IndexSpace, index_space}
 use Rattle.walrus_canonical.specs.EqualTypes.{AreEqual}
-use Rattle.walrus_canonical.specs.Listing.{IsNeeded, at_root, NewIndices, new_index, IsListing, all_indices, kept_indices}
-use Rattle.walrus_canonical.specs.Renamed.{new_or_zero}
+use Rattle.walrus_canonical.specs.Listing.{IsNeeded, at_root, NewIndices, new_index, IsListing, all_indices, kept_indices, new_or_zero}
 use Rattle.walrus_canonical.proofs.Equality.EqualTypes.{equal_itself, equal_back, equal_over}
 use Rattle.walrus_canonical.proofs.Forms.Indices.{contained-map, contained_before, some_of, is_some_at, built_length, built_at, built_within, below_contained, contained_below}
 use Rattle.walrus_canonical.proofs.Forms.Listings.{new_of, needed_of, needed_within, needed_below, listed_once, relisting}
-use Rattle.walrus_canonical.proofs.Equality.Renamed.{among_by_roots}
+use Rattle.walrus_canonical.proofs.Equality.EqualRoots.{among_by_roots}
 
 pub all_needed :
     (s : Section) (i : ℕ) → i < (index_space s).count → IsNeeded (index_space s) (all_indices s) i

@@ -3,7 +3,7 @@
 use super::*;
 use crate::assertions::assert_equal;
 use std::test::*;
-use wasm_binary::{EncodeError, TypeSectionReader, encode_types, module_types};
+use wasm_binary::{EncodeError, encode_types, module_types};
 
 // The groups of the bytes. After a refusal the call is made again.
 fn decode_again(alloc: Global, bytes: &[u8]) -> Result<Vec<GroupAt>, DecodeError> {
@@ -41,28 +41,6 @@ fn a_refused_decode_reads_again(rt: HostRuntime) {
     assert_equal(&rt, sizes(&groups[0]), [1, 2, 1]);
     assert_equal(&rt, sizes(&groups[1]), [2, 0, 0]);
     assert_equal(&rt, sizes(&groups[2]), [1, 1, 0]);
-}
-
-// The sizes of the next group; none at the end. After a refusal the call is made again.
-fn next_sizes(reader: &mut TypeSectionReader<'_>) -> Result<Option<[usize; 3]>, DecodeError> {
-    let next = match reader.next_group() {
-        Err(DecodeError::Memory) => reader.next_group()?,
-        other => other?,
-    };
-    Ok(next.map(|group| sizes(&group)))
-}
-
-#[test]
-fn a_refused_group_comes_when_it_is_read_again(rt: HostRuntime) {
-    let bytes = [
-        2, 0x60, 2, 0x7F, 0x7E, 1, 0x6F, 0x4E, 2, 0x5F, 1, 0x78, 1, 0x5E, 0x77, 0,
-    ];
-    let mut reader = TypeSectionReader::new(rt.alloc(), &bytes)
-        .ok()
-        .expect(&rt, "a count");
-    assert_equal(&rt, next_sizes(&mut reader).ok(), Some(Some([1, 2, 1])));
-    assert_equal(&rt, next_sizes(&mut reader).ok(), Some(Some([2, 0, 0])));
-    assert_equal(&rt, next_sizes(&mut reader).ok(), Some(None));
 }
 
 // The groups of the module. After a refusal the call is made again.

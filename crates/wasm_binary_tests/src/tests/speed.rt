@@ -3,7 +3,7 @@
 use super::*;
 use crate::assertions::assert_equal;
 use std::test::*;
-use wasm_binary::{TypeSectionReader, encode_types};
+use wasm_binary::encode_types;
 
 /// Two function types, a struct type with a supertype, and an array type: 7 bytes each.
 const SHORT: [u8; 29] = [
@@ -43,21 +43,6 @@ fn group_count(alloc: Global, bytes: &[u8]) -> Option<usize> {
     }
 }
 
-/// How many groups the bytes are read as, where each is dropped before the next is read.
-fn group_count_in_turn(alloc: Global, bytes: &[u8]) -> Option<usize> {
-    let mut reader = TypeSectionReader::new(alloc, bytes).ok()?;
-    let count = reader.remaining_count();
-    for _ in 0..count {
-        let Ok(Some(_)) = reader.next_group() else {
-            return None;
-        };
-    }
-    match reader.next_group() {
-        Ok(None) => Some(count),
-        _ => None,
-    }
-}
-
 /// Whether the groups of the bytes are written as the bytes.
 fn is_written(alloc: Global, bytes: &[u8]) -> bool {
     let Ok(groups) = decode_types(alloc, bytes) else {
@@ -82,22 +67,9 @@ fn large_section_of_short_types_is_built(rt: HostRuntime) {
 }
 
 #[test]
-fn small_section_of_short_types_is_read_in_turn(rt: HostRuntime) {
-    let bytes = section(rt.alloc(), &SMALL, &SHORT, 25_000).expect(&rt, "memory");
-    assert_equal(&rt, group_count_in_turn(rt.alloc(), &bytes), Some(100_000));
-}
-
-#[test]
 fn small_section_of_short_types_is_read(rt: HostRuntime) {
     let bytes = section(rt.alloc(), &SMALL, &SHORT, 25_000).expect(&rt, "memory");
     assert_equal(&rt, group_count(rt.alloc(), &bytes), Some(100_000));
-}
-
-#[test]
-fn large_section_of_short_types_is_read_in_turn(rt: HostRuntime) {
-    let bytes = section(rt.alloc(), &LARGE, &SHORT, 250_000).expect(&rt, "memory");
-    let count = group_count_in_turn(rt.alloc(), &bytes);
-    assert_equal(&rt, count, Some(1_000_000));
 }
 
 #[test]
@@ -131,22 +103,9 @@ fn large_section_of_long_types_is_built(rt: HostRuntime) {
 }
 
 #[test]
-fn small_section_of_long_types_is_read_in_turn(rt: HostRuntime) {
-    let bytes = section(rt.alloc(), &SMALL, &LONG, 50_000).expect(&rt, "memory");
-    assert_equal(&rt, group_count_in_turn(rt.alloc(), &bytes), Some(100_000));
-}
-
-#[test]
 fn small_section_of_long_types_is_read(rt: HostRuntime) {
     let bytes = section(rt.alloc(), &SMALL, &LONG, 50_000).expect(&rt, "memory");
     assert_equal(&rt, group_count(rt.alloc(), &bytes), Some(100_000));
-}
-
-#[test]
-fn large_section_of_long_types_is_read_in_turn(rt: HostRuntime) {
-    let bytes = section(rt.alloc(), &LARGE, &LONG, 500_000).expect(&rt, "memory");
-    let count = group_count_in_turn(rt.alloc(), &bytes);
-    assert_equal(&rt, count, Some(1_000_000));
 }
 
 #[test]

@@ -1,5 +1,5 @@
 use Rattle.walrus_canonical.proofs.laws.equal_roots.Goals as goal
-use Rattle.walrus_canonical.proofs.Equality.Renamed as lemmas
+use Rattle.walrus_canonical.proofs.Equality.EqualRoots as lemmas
 
 pub returns : goal.returns
 returns c = lemmas.among_by_roots
