@@ -14,6 +14,8 @@ REPLACED = [
       for path in ('src/visitor.rt', 'src/visitor_mut.rt')),
     ('src/visitor.rt', r'All are\n/// required; one that has nothing to do returns `Ok\(\(\)\)`\.',
      'One that\n/// is left out does nothing.'),
+    # An arena is copied where its items are, whether that can be refused or not.
+    ('src/tombstone_arena.rt', r'impl<T: TryClone> Clone for .*\n(?:.*\n)+?\}\n\n', ''),
     # Whatever becomes the type of a sequence is taken for it.
     ('src/function_builder.rt', r'\bty: InstrSeqType,\n', 'ty: impl Into<InstrSeqType>,\n'),
     ('src/function_builder.rt', r'let id = self\.add_seq\(ty\)', 'let id = self.add_seq(ty.into())'),

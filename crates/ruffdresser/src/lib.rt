@@ -211,9 +211,8 @@ pub use walrus_unused::{delete_unused_types, laws as unused_laws, new_indices};
 
 // Binary: the sections of a module, its type section, and modules with their types in canonical form.
 pub use wasm_binary::{
-    DecodeError, EncodeError, Expected, NotHeld, SectionPlace,
-    custom_section_name, decode_types, encode_types, laws as binary_laws, module_types,
-    section_around, type_section,
+    DecodeError, EncodeError, Expected, NotHeld, SectionPlace, custom_section_name, decode_types,
+    encode_types, laws as binary_laws, module_types, section_around, type_section,
 };
 pub use wasm_module::{
     DescriptionKind, RenameError, ScanError, Section, SectionIter, Widths, body_types,

@@ -1,11 +1,12 @@
 -- How each change of the slots shows in the view, and keeps the count.
-use Rattle.std.proofs.Common.{◌≡◌, ℕ, ◌+◌, ◌-◌, ◌<◌, List, map, length, get_or, set, Some, None, is_some, IsSome, count_by, cond, true, false, refl, sym, ap, ◌∙◌, arith}
+use Rattle.std.proofs.Common.{◌≡◌, ℕ, ◌+◌, ◌-◌, ◌<◌, List, [], ◌∷◌, map, length, get_or, set, Some, None, is_some, IsSome, count_by, if◌then◌else◌, cond, Bool, true, false, refl, sym, ap, ◌∙◌, arith}
+use Rattle.std.specs.List.{AllZip}
 use Rattle.std.proofs.lemmas.List.{map-set, length-map, get_or-map, get_or_past}
-use Rattle.std.proofs.lemmas.List.Sums.{sum_by-set}
+use Rattle.std.proofs.lemmas.List.Sums.{sum_by-set, sum_by-cons}
 use Rattle.std.proofs.lemmas.Grind.{common_steps}
 use Rattle.walrus_arena.specs.declared.tombstone_arena.Slot.{Slot}
-use Rattle.walrus_arena.specs.Arena.{get, IsLive}
-use Rattle.walrus_arena.specs.Slot.{value_of, IsCounted, with_item}
+use Rattle.walrus_arena.specs.Arena.{get, IsLive, IsValueClone, AreClones}
+use Rattle.walrus_arena.specs.Slot.{value_of, IsCounted, with_item, IsSlotClone}
 
 module _ {T : Type 0} where
   -- an id with a live slot is within the slots
@@ -86,3 +87,40 @@ module _ {T : Type 0} where
       let change = count-set slots at slot (record { item = item; is_live = false }) read.within same in
       let before : value_of slot ≡ Some slot.item = value_of-with_item slot slot.item read.live in
       omega (arith, rw before at change)
+
+-- ---- clones
+
+module _ {T : Type 0} (IsClone : T → T → Type 0) where
+  value_clone : (live : Bool) (x y : T) → IsClone x y →
+      IsValueClone IsClone (if live then Some x else None) (if live then Some y else None)
+  value_clone true x y is = is
+  value_clone false x y is = tt
+
+  pub slots_cloned : (slots others : List (Slot T)) → AllZip (IsSlotClone IsClone) slots others →
+      AreClones IsClone (map value_of slots) (map value_of others)
+  slots_cloned [] [] are = are
+  slots_cloned [] (t ∷ others) are = are
+  slots_cloned (s ∷ slots) [] are = are
+  slots_cloned (s ∷ slots) (t ∷ others) are =
+      (rw are.0.0 (value_clone s.is_live s.item t.item are.0.1), slots_cloned slots others are.1)
+
+  as_live : (live : Bool) (x y : T) →
+      is_some (if live then Some y else None) ≡ is_some (if live then Some x else None)
+  as_live true x y = refl
+  as_live false x y = refl
+
+  pub clones_counted : (slots others : List (Slot T)) → AllZip (IsSlotClone IsClone) slots others →
+      count_by is_some (map value_of others) ≡ count_by is_some (map value_of slots)
+  clones_counted [] [] are = refl
+  clones_counted [] (t ∷ others) are = absurd are
+  clones_counted (s ∷ slots) [] are = absurd are
+  clones_counted (s ∷ slots) (t ∷ others) are =
+      let flags : is_some (value_of t) ≡ is_some (value_of s) = rw are.0.0 (as_live s.is_live s.item t.item) in
+      let one = ap (λ (b : Bool). cond {A = ℕ} b 1 0) flags in
+      omega (
+        arith,
+        one,
+        clones_counted slots others are.1,
+        sum_by-cons (λ o. cond (is_some o) 1 0) (value_of t) (map value_of others),
+        sum_by-cons (λ o. cond (is_some o) 1 0) (value_of s) (map value_of slots),
+      )

@@ -14,3 +14,7 @@ module _ {T : Type 0} where
   -- the slot with this item
   abbrev pub with_item : Slot T → T → Slot T
   with_item s item = record s { item = item }
+
+  -- the second slot is as live as the first, and its item is a clone
+  abbrev pub IsSlotClone : (T → T → Type 0) → Slot T → Slot T → Type 0
+  IsSlotClone IsClone s t = (t.is_live ≡ s.is_live) × IsClone s.item t.item

@@ -262,6 +262,33 @@ impl<T> Slot<T> {
     }
 }
 
+// The item of a dead slot is cloned too.
+impl<T: Clone, A: Allocator + Clone> Clone for TombstoneArena<T, A> {
+    ghost use Rattle.walrus_arena.specs.Arena.{AreClones};
+
+    ghost is_clone = { AreClones T.is_clone };
+
+    fn clone(&self) -> Result<Self, AllocError> {
+        Ok(TombstoneArena {
+            slots: self.slots.clone()?,
+            live: self.live,
+        })
+    }
+}
+
+impl<T: Clone> Clone for Slot<T> {
+    ghost use Rattle.walrus_arena.specs.Slot.{IsSlotClone};
+
+    ghost is_clone = { IsSlotClone T.is_clone };
+
+    fn clone(&self) -> Result<Self, AllocError> {
+        Ok(Slot {
+            is_live: self.is_live,
+            item: self.item.clone()?,
+        })
+    }
+}
+
 /// `arena[id]` is the item of a live id.
 impl<T, A: Allocator> Index<Id<T>> for TombstoneArena<T, A> {
     type Output = T;

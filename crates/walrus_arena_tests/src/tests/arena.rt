@@ -131,3 +131,16 @@ fn live_items_come_from_the_back(rt: HostRuntime) {
     }
     assert_equal(&rt, digits, 320);
 }
+
+#[test]
+fn a_clone_has_the_same_items_and_the_same_next_id(rt: HostRuntime) {
+    let mut arena = three_items(rt.alloc()).expect(&rt, "memory");
+    assert!(rt; delete_if_live(&mut arena, 1).expect(&rt, "memory"));
+    let mut copy = arena.clone().expect(&rt, "memory");
+    assert_equal(&rt, notes_in_order(&copy), 2);
+    assert!(rt; note_of(&copy, 1).is_none());
+    assert_equal(&rt, copy.len(), 2);
+    let next = copy.alloc(make_tagged(7, 3)).expect(&rt, "memory");
+    assert_equal(&rt, next.index(), 3);
+    assert_equal(&rt, arena.len(), 2);
+}

@@ -385,3 +385,30 @@ fn deletions_take_no_memory(rt: HostRuntime) {
     assert_equal(&rt, index_of(&set, 3), None);
     assert_equal(&rt, set.next_id().index(), 4);
 }
+
+// An arena of two items.
+fn two_items(alloc: Global) -> Result<TombstoneArena<Tagged>, AllocError> {
+    let mut arena = TombstoneArena::new(alloc);
+    arena.alloc(make_tagged(1, 1))?;
+    arena.alloc(make_tagged(2, 2))?;
+    Ok(arena)
+}
+
+#[test]
+fn a_refused_clone_is_made_again(rt: HostRuntime) {
+    let arena = match two_items(rt.alloc()) {
+        Ok(arena) => arena,
+        Err(_) => two_items(rt.alloc()).expect(&rt, "memory"),
+    };
+    let copy = match arena.clone() {
+        Ok(copy) => copy,
+        Err(_) => arena.clone().expect(&rt, "memory"),
+    };
+    assert_equal(&rt, copy.len(), 2);
+    assert_equal(
+        &rt,
+        copy.get(Id::from_index(1)).map(|item| item.note),
+        Some(2),
+    );
+    assert_equal(&rt, arena.len(), 2);
+}
