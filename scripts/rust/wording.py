@@ -35,6 +35,8 @@ RULES = [(re.compile(pattern, re.M), text) for pattern, text in [
     (r'\[(`used_types`)\]\(crate::used_types\)', r'\1'),
     (paragraph(r'- \[`laws`\]'), ''),
     (paragraph('Contracts find the definitions'), ''),
+    (paragraph('The tests of this crate, in'), ''),
+    (spaced('`ArenaSet` of `walrus_arena`'), '`ArenaSet`'),
     # What a call returns that returns no `Result` here.
     (spaced('(?:, and always returns `Ok`|, and never returns an error|, with the same errors)'), ''),
     # What pages say of other libraries.
