@@ -7,6 +7,18 @@ FILE = f'{os.path.dirname(os.path.abspath(__file__))}/additions.rs'
 MARK = re.compile(r'^// == (.*)\n', re.M)
 # The types that can be copied in Rust alone.
 COPIED = {'Slot', 'TombstoneArena', 'ArenaSet', 'ModuleTypes'}
+# The structs that become instructions in Rattle too.
+NESTED = {'Block', 'Loop', 'IfElse', 'TryTable', 'Try'}
+
+
+def with_conversions(enum):
+    """The enum of instructions, and that its structs become instructions."""
+    kinds = [it for it in re.findall(r'^    (\w+)\((\w+)\),', enum[0], re.M) if it[1] not in NESTED]
+    return enum[0] + ''.join(
+        f'\nimpl From<{struct}> for Instr {{\n    fn from(x: {struct}) -> Instr {{\n        Instr::{kind}(x)\n    }}\n}}\n'
+        for kind, struct in kinds)
+
+
 # By file: a pattern for lines of the rewritten text, and what takes their place.
 REPLACED = [
     # A hook that is left out does nothing.
@@ -16,7 +28,11 @@ REPLACED = [
      'One that\n/// is left out does nothing.'),
     # An arena is copied where its items are, whether that can be refused or not.
     ('src/tombstone_arena.rt', r'impl<T: TryClone> Clone for .*\n(?:.*\n)+?\}\n\n', ''),
-    # Whatever becomes the type of a sequence is taken for it.
+    ('src/instr.rt', r'pub enum Instr \{\n(?:.*\n)+?\}\n', with_conversions),
+    # Whatever becomes an instruction or the type of a sequence is taken for it.
+    ('src/function_builder/instr_seq_builder.rt', r'(?<!fn try_push\(&mut self, )\binstr: Instr\b',
+     'instr: impl Into<Instr>'),
+    ('src/function_builder/instr_seq_builder.rt', r'(self\.try_push\(|self\.id, position, )instr\)', r'\1instr.into())'),
     ('src/function_builder.rt', r'\bty: InstrSeqType,\n', 'ty: impl Into<InstrSeqType>,\n'),
     ('src/function_builder.rt', r'let id = self\.add_seq\(ty\)', 'let id = self.add_seq(ty.into())'),
     ('src/function_builder/nested.rt', r'\bty: InstrSeqType,', 'ty: impl Into<InstrSeqType>,'),

@@ -1,9 +1,7 @@
 //! Atomic instructions on a memory that several threads share. Names and meaning are from the
 //! threads proposal.
-ghost use Rattle.std.specs.Prelude.{◌≡◌};
-ghost use Rattle.ir_instr.specs.declared.instr.Instr.TheVariants as instr;
 
-use crate::{Instr, MemArg};
+use crate::MemArg;
 use ir_operators::{AtomicOp, AtomicWidth};
 use walrus_ty::MemoryId;
 
@@ -20,14 +18,6 @@ pub struct AtomicRmw {
     pub arg: MemArg,
 }
 
-impl From<AtomicRmw> for Instr {
-    ghost from_gives = { λ x i. i ≡ instr.AtomicRmw x };
-
-    fn from(x: AtomicRmw) -> Instr {
-        Instr::AtomicRmw(x)
-    }
-}
-
 /// `i32.atomic.rmw.cmpxchg` and similar instructions: writes a value where the one in memory is the
 /// expected one.
 #[derive(Clone, Copy, PartialEq, Eq, Debug)]
@@ -40,14 +30,6 @@ pub struct Cmpxchg {
     pub arg: MemArg,
 }
 
-impl From<Cmpxchg> for Instr {
-    ghost from_gives = { λ x i. i ≡ instr.Cmpxchg x };
-
-    fn from(x: Cmpxchg) -> Instr {
-        Instr::Cmpxchg(x)
-    }
-}
-
 /// `memory.atomic.notify`: wakes threads that wait at an address.
 #[derive(Clone, Copy, PartialEq, Eq, Debug)]
 pub struct AtomicNotify {
@@ -55,14 +37,6 @@ pub struct AtomicNotify {
     pub memory: MemoryId,
     /// Alignment and offset.
     pub arg: MemArg,
-}
-
-impl From<AtomicNotify> for Instr {
-    ghost from_gives = { λ x i. i ≡ instr.AtomicNotify x };
-
-    fn from(x: AtomicNotify) -> Instr {
-        Instr::AtomicNotify(x)
-    }
 }
 
 /// `memory.atomic.wait32` or `memory.atomic.wait64`: waits at an address.
@@ -76,22 +50,6 @@ pub struct AtomicWait {
     pub sixty_four: bool,
 }
 
-impl From<AtomicWait> for Instr {
-    ghost from_gives = { λ x i. i ≡ instr.AtomicWait x };
-
-    fn from(x: AtomicWait) -> Instr {
-        Instr::AtomicWait(x)
-    }
-}
-
 /// `atomic.fence`: orders memory accesses.
 #[derive(Clone, Copy, PartialEq, Eq, Debug)]
 pub struct AtomicFence {}
-
-impl From<AtomicFence> for Instr {
-    ghost from_gives = { λ x i. i ≡ instr.AtomicFence x };
-
-    fn from(x: AtomicFence) -> Instr {
-        Instr::AtomicFence(x)
-    }
-}

@@ -57,25 +57,9 @@ impl From<IfElse> for Instr {
 #[derive(Clone, Copy, PartialEq, Eq, Debug)]
 pub struct Unreachable {}
 
-impl From<Unreachable> for Instr {
-    ghost from_gives = { λ x i. i ≡ instr.Unreachable x };
-
-    fn from(x: Unreachable) -> Instr {
-        Instr::Unreachable(x)
-    }
-}
-
 /// `return`: leaves the function.
 #[derive(Clone, Copy, PartialEq, Eq, Debug)]
 pub struct Return {}
-
-impl From<Return> for Instr {
-    ghost from_gives = { λ x i. i ≡ instr.Return x };
-
-    fn from(x: Return) -> Instr {
-        Instr::Return(x)
-    }
-}
 
 /// `br`: branches.
 #[derive(Clone, Copy, PartialEq, Eq, Debug)]
@@ -84,27 +68,11 @@ pub struct Br {
     pub block: InstrSeqId,
 }
 
-impl From<Br> for Instr {
-    ghost from_gives = { λ x i. i ≡ instr.Br x };
-
-    fn from(x: Br) -> Instr {
-        Instr::Br(x)
-    }
-}
-
 /// `br_if`: takes an `i32` and branches where it is not zero.
 #[derive(Clone, Copy, PartialEq, Eq, Debug)]
 pub struct BrIf {
     /// The sequence that it branches to.
     pub block: InstrSeqId,
-}
-
-impl From<BrIf> for Instr {
-    ghost from_gives = { λ x i. i ≡ instr.BrIf x };
-
-    fn from(x: BrIf) -> Instr {
-        Instr::BrIf(x)
-    }
 }
 
 /// `br_table`: takes an `i32` and branches to the target of that number.
@@ -116,14 +84,6 @@ pub struct BrTable {
     pub default: InstrSeqId,
 }
 
-impl From<BrTable> for Instr {
-    ghost from_gives = { λ x i. i ≡ instr.BrTable x };
-
-    fn from(x: BrTable) -> Instr {
-        Instr::BrTable(x)
-    }
-}
-
 /// `br_on_null`: takes a reference and branches where it is null. Otherwise the reference stays.
 #[derive(Clone, Copy, PartialEq, Eq, Debug)]
 pub struct BrOnNull {
@@ -131,27 +91,11 @@ pub struct BrOnNull {
     pub block: InstrSeqId,
 }
 
-impl From<BrOnNull> for Instr {
-    ghost from_gives = { λ x i. i ≡ instr.BrOnNull x };
-
-    fn from(x: BrOnNull) -> Instr {
-        Instr::BrOnNull(x)
-    }
-}
-
 /// `br_on_non_null`: takes a reference and branches with it where it is not null.
 #[derive(Clone, Copy, PartialEq, Eq, Debug)]
 pub struct BrOnNonNull {
     /// The sequence that it branches to.
     pub block: InstrSeqId,
-}
-
-impl From<BrOnNonNull> for Instr {
-    ghost from_gives = { λ x i. i ≡ instr.BrOnNonNull x };
-
-    fn from(x: BrOnNonNull) -> Instr {
-        Instr::BrOnNonNull(x)
-    }
 }
 
 /// `br_on_cast`: branches with the reference where it is of the second type.
@@ -169,14 +113,6 @@ pub struct BrOnCast {
     pub to_heap_type: HeapType,
 }
 
-impl From<BrOnCast> for Instr {
-    ghost from_gives = { λ x i. i ≡ instr.BrOnCast x };
-
-    fn from(x: BrOnCast) -> Instr {
-        Instr::BrOnCast(x)
-    }
-}
-
 /// `br_on_cast_fail`: branches with the reference where it is not of the second type.
 #[derive(Clone, Copy, PartialEq, Eq, Debug)]
 pub struct BrOnCastFail {
@@ -190,12 +126,4 @@ pub struct BrOnCastFail {
     pub to_nullable: bool,
     /// What the second type points at.
     pub to_heap_type: HeapType,
-}
-
-impl From<BrOnCastFail> for Instr {
-    ghost from_gives = { λ x i. i ≡ instr.BrOnCastFail x };
-
-    fn from(x: BrOnCastFail) -> Instr {
-        Instr::BrOnCastFail(x)
-    }
 }

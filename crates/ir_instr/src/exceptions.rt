@@ -72,37 +72,13 @@ pub struct Throw {
     pub tag: TagId,
 }
 
-impl From<Throw> for Instr {
-    ghost from_gives = { λ x i. i ≡ instr.Throw x };
-
-    fn from(x: Throw) -> Instr {
-        Instr::Throw(x)
-    }
-}
-
 /// `throw_ref`: takes a reference to an exception and throws that exception.
 #[derive(Clone, Copy, PartialEq, Eq, Debug)]
 pub struct ThrowRef {}
-
-impl From<ThrowRef> for Instr {
-    ghost from_gives = { λ x i. i ≡ instr.ThrowRef x };
-
-    fn from(x: ThrowRef) -> Instr {
-        Instr::ThrowRef(x)
-    }
-}
 
 /// `rethrow`: throws the exception that a clause of an older `try` has caught.
 #[derive(Clone, Copy, PartialEq, Eq, Debug)]
 pub struct Rethrow {
     /// How many labels out that clause is.
     pub relative_depth: u32,
-}
-
-impl From<Rethrow> for Instr {
-    ghost from_gives = { λ x i. i ≡ instr.Rethrow x };
-
-    fn from(x: Rethrow) -> Instr {
-        Instr::Rethrow(x)
-    }
 }

@@ -1,9 +1,6 @@
 //! Memories, and loads and stores.
 //! WebAssembly core specification, "Memory Instructions".
-ghost use Rattle.std.specs.Prelude.{◌≡◌};
-ghost use Rattle.ir_instr.specs.declared.instr.Instr.TheVariants as instr;
 
-use crate::Instr;
 use ir_operators::{LoadKind, LoadSimdKind, StoreKind};
 use walrus_ty::{DataId, MemoryId};
 
@@ -23,14 +20,6 @@ pub struct MemorySize {
     pub memory: MemoryId,
 }
 
-impl From<MemorySize> for Instr {
-    ghost from_gives = { λ x i. i ≡ instr.MemorySize x };
-
-    fn from(x: MemorySize) -> Instr {
-        Instr::MemorySize(x)
-    }
-}
-
 /// `memory.grow`: makes a memory larger.
 #[derive(Clone, Copy, PartialEq, Eq, Debug)]
 pub struct MemoryGrow {
@@ -38,27 +27,11 @@ pub struct MemoryGrow {
     pub memory: MemoryId,
 }
 
-impl From<MemoryGrow> for Instr {
-    ghost from_gives = { λ x i. i ≡ instr.MemoryGrow x };
-
-    fn from(x: MemoryGrow) -> Instr {
-        Instr::MemoryGrow(x)
-    }
-}
-
 /// `memory.fill`: sets bytes of a memory to one value.
 #[derive(Clone, Copy, PartialEq, Eq, Debug)]
 pub struct MemoryFill {
     /// The memory.
     pub memory: MemoryId,
-}
-
-impl From<MemoryFill> for Instr {
-    ghost from_gives = { λ x i. i ≡ instr.MemoryFill x };
-
-    fn from(x: MemoryFill) -> Instr {
-        Instr::MemoryFill(x)
-    }
 }
 
 /// `memory.init`: copies bytes of a data segment into a memory.
@@ -70,14 +43,6 @@ pub struct MemoryInit {
     pub data_id: DataId,
 }
 
-impl From<MemoryInit> for Instr {
-    ghost from_gives = { λ x i. i ≡ instr.MemoryInit x };
-
-    fn from(x: MemoryInit) -> Instr {
-        Instr::MemoryInit(x)
-    }
-}
-
 /// `memory.copy`: copies bytes of one memory into another, or into the same.
 #[derive(Clone, Copy, PartialEq, Eq, Debug)]
 pub struct MemoryCopy {
@@ -87,27 +52,11 @@ pub struct MemoryCopy {
     pub dst: MemoryId,
 }
 
-impl From<MemoryCopy> for Instr {
-    ghost from_gives = { λ x i. i ≡ instr.MemoryCopy x };
-
-    fn from(x: MemoryCopy) -> Instr {
-        Instr::MemoryCopy(x)
-    }
-}
-
 /// `data.drop`: gives up a data segment.
 #[derive(Clone, Copy, PartialEq, Eq, Debug)]
 pub struct DataDrop {
     /// The data segment.
     pub data_id: DataId,
-}
-
-impl From<DataDrop> for Instr {
-    ghost from_gives = { λ x i. i ≡ instr.DataDrop x };
-
-    fn from(x: DataDrop) -> Instr {
-        Instr::DataDrop(x)
-    }
 }
 
 /// `i32.load` and similar instructions: reads a value.
@@ -121,14 +70,6 @@ pub struct Load {
     pub arg: MemArg,
 }
 
-impl From<Load> for Instr {
-    ghost from_gives = { λ x i. i ≡ instr.Load x };
-
-    fn from(x: Load) -> Instr {
-        Instr::Load(x)
-    }
-}
-
 /// `i32.store` and similar instructions: writes a value.
 #[derive(Clone, Copy, PartialEq, Eq, Debug)]
 pub struct Store {
@@ -140,14 +81,6 @@ pub struct Store {
     pub arg: MemArg,
 }
 
-impl From<Store> for Instr {
-    ghost from_gives = { λ x i. i ≡ instr.Store x };
-
-    fn from(x: Store) -> Instr {
-        Instr::Store(x)
-    }
-}
-
 /// `v128.load8_splat` and similar instructions: reads or writes a vector or a lane of one.
 #[derive(Clone, Copy, PartialEq, Eq, Debug)]
 pub struct LoadSimd {
@@ -157,12 +90,4 @@ pub struct LoadSimd {
     pub kind: LoadSimdKind,
     /// Alignment and offset.
     pub arg: MemArg,
-}
-
-impl From<LoadSimd> for Instr {
-    ghost from_gives = { λ x i. i ≡ instr.LoadSimd x };
-
-    fn from(x: LoadSimd) -> Instr {
-        Instr::LoadSimd(x)
-    }
 }

@@ -15,10 +15,6 @@ module _ {T : Type 0} where
       let inside : at < length (map value_of slots) = grind (arith, get_or_past) in
       omega (arith, length-map slots value_of)
 
-  -- a live slot shows its item
-  pub live_value : (slot : Slot T) → IsSome (value_of slot) → value_of slot ≡ Some slot.item
-  live_value slot live = grind (arith, common_steps)
-
   -- the count of live slots after a write
   pub count-set : (slots : List (Slot T)) (at : ℕ) (old new : Slot T) → at < length slots →
       old ≡ get_or slots at old → count_by is_some (map value_of (set slots at new)) + cond

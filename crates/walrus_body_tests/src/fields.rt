@@ -35,9 +35,9 @@ impl Rows {
 
     // An instruction, of which just these fields and tags are reported, in this order. The
     // sequences 1, 2 and 3 may stand in it.
-    fn add<I: Into<Instr>>(&mut self, instr: I, fields: &str) {
+    fn add(&mut self, instr: Instr, fields: &str) {
         let gap = if fields.is_empty() { "" } else { " " };
-        let is_added = self.instrs.push(instr.into()).is_ok();
+        let is_added = self.instrs.push(instr).is_ok();
         let is_wanted = write!(self.wanted, "\n{gap}{fields}").is_ok();
         self.has_room = self.has_room && is_added && is_wanted;
     }

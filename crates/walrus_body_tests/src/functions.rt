@@ -88,7 +88,7 @@ fn fill_entry(rt: &impl Abort, entry: &mut InstrSeqBuilder<'_>, ty: TypeId, atte
         .block(InstrSeqType::MultiValue(ty), |block| fill_block(block, ty))
         .expect(rt, "memory");
     add_number(entry, 6).expect(rt, "memory");
-    entry.instr(attempt).expect(rt, "memory");
+    entry.instr(Instr::Try(attempt)).expect(rt, "memory");
     add_number(entry, 10).expect(rt, "memory");
 }
 
@@ -128,7 +128,7 @@ pub(crate) fn try_table_function(rt: &impl Abort, alloc: Global) -> LocalFunctio
     assert!(rt; f.entry().is_some());
     let mut entry = f.func_body();
     add_number(&mut entry, 1).expect(rt, "memory");
-    entry.instr(table).expect(rt, "memory");
+    entry.instr(Instr::TryTable(table)).expect(rt, "memory");
     add_number(&mut entry, 99).expect(rt, "memory");
     f.local_func(Vec::new(alloc))
 }

@@ -183,7 +183,7 @@ impl FunctionBuilder {
     /// let mut dangling = builder.dangling_instr_seq(InstrSeqType::Simple(None))?;
     /// dangling.unreachable()?;
     /// let seq = dangling.id();
-    /// builder.func_body().instr(Block { seq })?;
+    /// builder.func_body().instr(Instr::Block(Block { seq }))?;
     /// ```
     pub fn dangling_instr_seq(
         &mut self,

@@ -65,7 +65,7 @@ use walrus_types::{FunctionId, ModuleTypes, TypeId, ValType};
 ///     ty,
 ///     |body, _, handle| {
 ///         body.local_get(handle)?;
-///         body.instr(TableGet { table })
+///         body.instr(Instr::TableGet(TableGet { table }))
 ///     },
 ///     |body, _, reference| {
 ///         body.local_get(reference)?;

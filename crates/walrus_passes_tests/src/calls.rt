@@ -33,8 +33,8 @@ fn add_calls(f: &mut FunctionBuilder) -> Result<(), BuildError> {
     seq.ref_func(id(5))?;
     seq.call(id(6))?;
     seq.ref_func(id(6))?;
-    seq.instr(ReturnCall { func: id(5) })?;
-    seq.instr(ReturnCall { func: id(6) })
+    seq.instr(Instr::ReturnCall(ReturnCall { func: id(5) }))?;
+    seq.instr(Instr::ReturnCall(ReturnCall { func: id(6) }))
 }
 
 // Both sequences have these instructions, and all else is as it was made.

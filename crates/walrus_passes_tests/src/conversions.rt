@@ -7,7 +7,7 @@ use crate::bodies::{entry_is_of, function_type, has};
 use std::alloc::{AllocError, Global};
 use std::process::Abort;
 use walrus_functions::{BuildError, InstrSeqBuilder, LocalFunction};
-use walrus_ir::{InstrSeqType, LocalId, ModuleLocals, TableGet, UnaryOp};
+use walrus_ir::{Instr, InstrSeqType, LocalId, ModuleLocals, TableGet, UnaryOp};
 use walrus_passes::adapter_between;
 use walrus_types::{Id, ModuleTypes, RefType, TypeId, ValType};
 
@@ -49,9 +49,9 @@ fn reference_of(body: &mut InstrSeqBuilder<'_>, handle: LocalId) -> Result<(), B
     ensures known { StayKnown (function_of body.old) (function_of body.new) }
 {
     body.local_get(handle)?;
-    body.instr(TableGet {
+    body.instr(Instr::TableGet(TableGet {
         table: Id::from_index(5),
-    })
+    }))
 }
 
 // Has the function 3 put the reference in this local into the table, which returns the handle.

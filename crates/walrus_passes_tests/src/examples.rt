@@ -172,7 +172,7 @@ fn an_import_of_references_is_called_with_handles(rt: HostRuntime) {
         ty,
         |body, _, handle| {
             body.local_get(handle)?;
-            body.instr(TableGet { table })
+            body.instr(Instr::TableGet(TableGet { table }))
         },
         |body, _, reference| {
             body.local_get(reference)?;

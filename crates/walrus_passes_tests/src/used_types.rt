@@ -8,7 +8,8 @@ use std::alloc::{AllocError, Global};
 use std::process::Abort;
 use walrus_functions::{BuildError, FunctionBuilder, InstrSeqBuilder, LocalFunction};
 use walrus_ir::{
-    ArrayCopy, Block, BrOnCast, Id, InstrSeqId, InstrSeqType, LocalId, Loop, ModuleLocals, RefTest,
+    ArrayCopy, Block, BrOnCast, Id, Instr, InstrSeqId, InstrSeqType, LocalId, Loop, ModuleLocals,
+    RefTest,
 };
 use walrus_passes::used_types;
 use walrus_types::{Heap, HeapType, RefType, Reference, TypeId, Val, ValType};
@@ -77,13 +78,13 @@ pub(crate) fn enter(f: &mut FunctionBuilder, index: usize) {
 fn nested(alloc: Global) -> Result<FunctionBuilder, BuildError> {
     let mut f = FunctionBuilder::without_entry(alloc, ty(7));
     let mut entry = f.dangling_instr_seq(NOTHING)?;
-    entry.instr(Block {
+    entry.instr(Instr::Block(Block {
         seq: Id::from_index(1),
-    })?;
+    }))?;
     let mut block = f.dangling_instr_seq(InstrSeqType::Simple(Some(value(2))))?;
-    block.instr(Loop {
+    block.instr(Instr::Loop(Loop {
         seq: Id::from_index(2),
-    })?;
+    }))?;
     let mut again = f.dangling_instr_seq(InstrSeqType::MultiValue(ty(3)))?;
     again.struct_new(ty(6))?;
     let mut apart = f.dangling_instr_seq(InstrSeqType::MultiValue(ty(4)))?;
@@ -140,21 +141,21 @@ fn types_that_walks_do_not_report_are_used(rt: HostRuntime) {
 fn instructions_use_the_types_behind_them(rt: HostRuntime) {
     let func = function(rt.alloc(), |b| {
         b.call_indirect(ty(12), Id::from_index(80))?;
-        b.instr(BrOnCast {
+        b.instr(Instr::BrOnCast(BrOnCast {
             block: Id::from_index(0),
             from_nullable: true,
             from_heap_type: heap(13),
             to_nullable: false,
             to_heap_type: heap(14),
-        })?;
-        b.instr(ArrayCopy {
+        }))?;
+        b.instr(Instr::ArrayCopy(ArrayCopy {
             dst_ty: ty(15),
             src_ty: ty(16),
-        })?;
-        b.instr(RefTest {
+        }))?;
+        b.instr(Instr::RefTest(RefTest {
             nullable: true,
             heap_type: heap(17),
-        })
+        }))
     });
     let indices = [7, 1, 12, 13, 14, 15, 16, 17];
     uses(&rt, rt.alloc(), &func.expect(&rt, "memory"), &indices);
@@ -181,7 +182,9 @@ fn a_body_that_is_not_nested_has_no_list(rt: HostRuntime) {
     let locals = locals(rt.alloc()).expect(&rt, "memory");
     for index in 0..2usize {
         let seq = Id::from_index(index);
-        let func = function(rt.alloc(), |b| b.instr(Block { seq })).expect(&rt, "memory");
+        let func = function(rt.alloc(), |b| b.instr(Instr::Block(Block { seq }))).expect(
+            &rt, "memory",
+        );
         let used = used_types(rt.alloc(), &func, &locals).expect(&rt, "memory");
         assert!(rt; used.is_none());
     }

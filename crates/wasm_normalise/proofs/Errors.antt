@@ -20,7 +20,7 @@ use Rattle.walrus_canonical.specs.declared.error.CanonicalError.{CanonicalError}
 use Rattle.walrus_canonical.specs.declared.error.CanonicalError.TheVariants as canonical
 use Rattle.walrus_canonical.proofs.Forms.Rounds.{all_known}
 use Rattle.walrus_canonical.proofs.Reading.Containing.{contained_from}
-use Rattle.wasm_normalise.specs.CanonicalModules.{AreRoots, HasTypesError, IsRefusedBy, IsStoppedByFault, unread, BecomesTooLong}
+use Rattle.wasm_normalise.specs.CanonicalModules.{AreRoots, HasTypesError, IsRefusedBy, IsStoppedByFault, BecomesTooLong}
 use Rattle.wasm_normalise.specs.Steps.Errors.{canonical_refusal, encode_refusal, read_failure, rename_refusal}
 use Rattle.wasm_normalise.specs.Steps.CanonicalModules.{IsRefusal}
 use Rattle.wasm_normalise.specs.Steps.CanonicalTypes.{IsTypesRefusal}
@@ -30,7 +30,6 @@ use Rattle.wasm_normalise.specs.declared.options.NormaliseOptions.{NormaliseOpti
 use Rattle.wasm_normalise.specs.declared.options.UnusedTypes.{UnusedTypes}
 use Rattle.wasm_normalise.specs.declared.options.UnusedTypes.TheVariants as kinds
 use Rattle.wasm_normalise.specs.declared.refusal.Refusal.{Refusal}
-use Rattle.wasm_normalise.specs.declared.refusal.Refusal.TheVariants as refusal
 
 -- ---- the types of a module
 
@@ -44,11 +43,6 @@ types_error options bytes (error.UnknownType index count place) h = absurd h
 types_error options bytes error.TooLong h = absurd h
 types_error options bytes (error.Outdated offset) h = absurd h
 types_error options bytes error.Memory h = tt
-
-pub types_refused : (options : NormaliseOptions) (bytes : List ℕ) (x : Refusal) →
-    IsTypesRefusal options.unused bytes x → IsRefusal options bytes x
-types_refused options bytes refusal.Fault h = unread h.0 h.1
-types_refused options bytes (refusal.Other e) h = types_error options bytes e h
 
 section_first : (bytes : List ℕ) (groups : List GroupAt) (e : ReadError) → HasTypes bytes groups →
     IsFirstError (section_of groups) e → HasTypesError bytes (read_failure e)

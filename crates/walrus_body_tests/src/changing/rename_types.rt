@@ -9,12 +9,12 @@ use walrus_ir::{CallIndirect, CallRef, InstrSeqType, RefTest};
 fn body(rt: &impl Abort, alloc: Global) -> LocalFunction {
     let mut f = empty(alloc);
     let entry = vec![in alloc;
-        Instr::from(CallRef { ty: id(1) }),
-        Instr::from(RefTest {
+        Instr::CallRef(CallRef { ty: id(1) }),
+        Instr::RefTest(RefTest {
             nullable: true,
             heap_type: HeapType::Exact(id(0))
         }),
-        Instr::from(CallIndirect {
+        Instr::CallIndirect(CallIndirect {
             ty: id(2),
             table: id(0)
         }),
@@ -22,7 +22,7 @@ fn body(rt: &impl Abort, alloc: Global) -> LocalFunction {
     ]
     .expect(rt, "memory");
     add(alloc, &mut f, NOTHING, entry).expect(rt, "memory");
-    let inside = vec![in alloc; Instr::from(CallRef { ty: id(1) })].expect(rt, "memory");
+    let inside = vec![in alloc; Instr::CallRef(CallRef { ty: id(1) })].expect(rt, "memory");
     add(alloc, &mut f, InstrSeqType::MultiValue(id(0)), inside).expect(rt, "memory");
     f.local_func(Vec::new(alloc))
 }

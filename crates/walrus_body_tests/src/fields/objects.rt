@@ -30,10 +30,10 @@ fn fields_of_references(rt: HostRuntime) {
         heap_type: HeapType::Concrete(id(21)),
     };
     let mut rows = Rows::new(rt.alloc());
-    rows.add(RefNull { ty }, "");
-    rows.add(RefNull { ty: abstract_ty }, "");
-    rows.add(test, "heap 21");
-    rows.add(cast, "heap 21");
+    rows.add(Instr::RefNull(RefNull { ty }), "");
+    rows.add(Instr::RefNull(RefNull { ty: abstract_ty }), "");
+    rows.add(Instr::RefTest(test), "heap 21");
+    rows.add(Instr::RefCast(cast), "heap 21");
     rows.are_reported(&rt, rt.alloc());
 }
 
@@ -41,12 +41,12 @@ fn fields_of_references(rt: HostRuntime) {
 fn fields_of_structs(rt: HostRuntime) {
     let (ty, field) = (id(21), 90);
     let mut rows = Rows::new(rt.alloc());
-    rows.add(StructNew { ty }, "type 21");
-    rows.add(StructNewDefault { ty }, "type 21");
-    rows.add(StructGet { ty, field }, "type 21");
-    rows.add(StructGetS { ty, field }, "type 21");
-    rows.add(StructGetU { ty, field }, "type 21");
-    rows.add(StructSet { ty, field }, "type 21");
+    rows.add(Instr::StructNew(StructNew { ty }), "type 21");
+    rows.add(Instr::StructNewDefault(StructNewDefault { ty }), "type 21");
+    rows.add(Instr::StructGet(StructGet { ty, field }), "type 21");
+    rows.add(Instr::StructGetS(StructGetS { ty, field }), "type 21");
+    rows.add(Instr::StructGetU(StructGetU { ty, field }), "type 21");
+    rows.add(Instr::StructSet(StructSet { ty, field }), "type 21");
     rows.are_reported(&rt, rt.alloc());
 }
 
@@ -54,14 +54,14 @@ fn fields_of_structs(rt: HostRuntime) {
 fn fields_of_arrays(rt: HostRuntime) {
     let (ty, len) = (id(21), 90);
     let mut rows = Rows::new(rt.alloc());
-    rows.add(ArrayNew { ty }, "type 21");
-    rows.add(ArrayNewDefault { ty }, "type 21");
-    rows.add(ArrayGet { ty }, "type 21");
-    rows.add(ArrayGetS { ty }, "type 21");
-    rows.add(ArrayGetU { ty }, "type 21");
-    rows.add(ArraySet { ty }, "type 21");
-    rows.add(ArrayFill { ty }, "type 21");
-    rows.add(ArrayNewFixed { ty, len }, "type 21");
+    rows.add(Instr::ArrayNew(ArrayNew { ty }), "type 21");
+    rows.add(Instr::ArrayNewDefault(ArrayNewDefault { ty }), "type 21");
+    rows.add(Instr::ArrayGet(ArrayGet { ty }), "type 21");
+    rows.add(Instr::ArrayGetS(ArrayGetS { ty }), "type 21");
+    rows.add(Instr::ArrayGetU(ArrayGetU { ty }), "type 21");
+    rows.add(Instr::ArraySet(ArraySet { ty }), "type 21");
+    rows.add(Instr::ArrayFill(ArrayFill { ty }), "type 21");
+    rows.add(Instr::ArrayNewFixed(ArrayNewFixed { ty, len }), "type 21");
     rows.are_reported(&rt, rt.alloc());
 }
 
@@ -69,11 +69,26 @@ fn fields_of_arrays(rt: HostRuntime) {
 fn fields_of_arrays_of_segments(rt: HostRuntime) {
     let (ty, data_id, elem, src_ty) = (id(21), id(71), id(81), id(22));
     let mut rows = Rows::new(rt.alloc());
-    rows.add(ArrayNewData { ty, data_id }, "type 21 data 71");
-    rows.add(ArrayInitData { ty, data_id }, "type 21 data 71");
-    rows.add(ArrayNewElem { ty, elem }, "type 21 element 81");
-    rows.add(ArrayInitElem { ty, elem }, "type 21 element 81");
-    rows.add(ArrayCopy { dst_ty: ty, src_ty }, "type 21 type 22");
+    rows.add(
+        Instr::ArrayNewData(ArrayNewData { ty, data_id }),
+        "type 21 data 71",
+    );
+    rows.add(
+        Instr::ArrayInitData(ArrayInitData { ty, data_id }),
+        "type 21 data 71",
+    );
+    rows.add(
+        Instr::ArrayNewElem(ArrayNewElem { ty, elem }),
+        "type 21 element 81",
+    );
+    rows.add(
+        Instr::ArrayInitElem(ArrayInitElem { ty, elem }),
+        "type 21 element 81",
+    );
+    rows.add(
+        Instr::ArrayCopy(ArrayCopy { dst_ty: ty, src_ty }),
+        "type 21 type 22",
+    );
     rows.are_reported(&rt, rt.alloc());
 }
 
@@ -91,41 +106,44 @@ fn fields_of_exceptions(rt: HostRuntime) {
     let catches = Listed::from_vec(clauses.expect(&rt, "memory"));
     let seq = id(1);
     let mut rows = Rows::new(rt.alloc());
-    rows.add(TryTable { seq, catches }, "seq 1 tag 5 tag 6");
+    rows.add(
+        Instr::TryTable(TryTable { seq, catches }),
+        "seq 1 tag 5 tag 6",
+    );
     let all = LegacyCatch::CatchAll { handler: seq };
     let delegated = LegacyCatch::Delegate { relative_depth: 90 };
     let caught = LegacyCatch::Catch { tag, handler };
     let handlers = vec![in rt.alloc(); all, delegated, caught].expect(&rt, "memory");
     let catches = Listed::from_vec(handlers);
     let seq = id(2);
-    rows.add(Try { seq, catches }, "seq 2 tag 5");
-    rows.add(Throw { tag }, "tag 5");
-    rows.add(Rethrow { relative_depth: 90 }, "");
+    rows.add(Instr::Try(Try { seq, catches }), "seq 2 tag 5");
+    rows.add(Instr::Throw(Throw { tag }), "tag 5");
+    rows.add(Instr::Rethrow(Rethrow { relative_depth: 90 }), "");
     rows.are_reported(&rt, rt.alloc());
 }
 
 #[test]
 fn instructions_without_fields(rt: HostRuntime) {
     let mut rows = Rows::new(rt.alloc());
-    rows.add(Unreachable {}, "");
-    rows.add(DropInstr {}, "");
-    rows.add(Return {}, "");
-    rows.add(AtomicFence {}, "");
-    rows.add(RefIsNull {}, "");
-    rows.add(RefAsNonNull {}, "");
-    rows.add(RefI31 {}, "");
-    rows.add(I31GetS {}, "");
-    rows.add(I31GetU {}, "");
-    rows.add(AnyConvertExtern {}, "");
-    rows.add(ExternConvertAny {}, "");
-    rows.add(RefEq {}, "");
-    rows.add(ArrayLen {}, "");
-    rows.add(I64Add128 {}, "");
-    rows.add(I64Sub128 {}, "");
-    rows.add(I64MulWideS {}, "");
-    rows.add(I64MulWideU {}, "");
-    rows.add(V128Bitselect {}, "");
-    rows.add(I8x16Swizzle {}, "");
-    rows.add(ThrowRef {}, "");
+    rows.add(Instr::Unreachable(Unreachable {}), "");
+    rows.add(Instr::Drop(DropInstr {}), "");
+    rows.add(Instr::Return(Return {}), "");
+    rows.add(Instr::AtomicFence(AtomicFence {}), "");
+    rows.add(Instr::RefIsNull(RefIsNull {}), "");
+    rows.add(Instr::RefAsNonNull(RefAsNonNull {}), "");
+    rows.add(Instr::RefI31(RefI31 {}), "");
+    rows.add(Instr::I31GetS(I31GetS {}), "");
+    rows.add(Instr::I31GetU(I31GetU {}), "");
+    rows.add(Instr::AnyConvertExtern(AnyConvertExtern {}), "");
+    rows.add(Instr::ExternConvertAny(ExternConvertAny {}), "");
+    rows.add(Instr::RefEq(RefEq {}), "");
+    rows.add(Instr::ArrayLen(ArrayLen {}), "");
+    rows.add(Instr::I64Add128(I64Add128 {}), "");
+    rows.add(Instr::I64Sub128(I64Sub128 {}), "");
+    rows.add(Instr::I64MulWideS(I64MulWideS {}), "");
+    rows.add(Instr::I64MulWideU(I64MulWideU {}), "");
+    rows.add(Instr::V128Bitselect(V128Bitselect {}), "");
+    rows.add(Instr::I8x16Swizzle(I8x16Swizzle {}), "");
+    rows.add(Instr::ThrowRef(ThrowRef {}), "");
     rows.are_reported(&rt, rt.alloc());
 }

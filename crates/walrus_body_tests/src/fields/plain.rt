@@ -22,16 +22,16 @@ fn fields_of_control(rt: HostRuntime) {
     let labels = vec![in rt.alloc(); id(91), default].expect(&rt, "memory");
     let blocks = Listed::from_vec(labels);
     let mut rows = Rows::new(rt.alloc());
-    rows.add(Block { seq }, "seq 1");
-    rows.add(Loop { seq: id(2) }, "seq 2");
+    rows.add(Instr::Block(Block { seq }), "seq 1");
+    rows.add(Instr::Loop(Loop { seq: id(2) }), "seq 2");
     let arms = IfElse {
         consequent: id(2),
         alternative: id(3),
     };
-    rows.add(arms, "seq 2 seq 3");
-    rows.add(Br { block: default }, "");
-    rows.add(BrIf { block: default }, "");
-    rows.add(BrTable { blocks, default }, "");
+    rows.add(Instr::IfElse(arms), "seq 2 seq 3");
+    rows.add(Instr::Br(Br { block: default }), "");
+    rows.add(Instr::BrIf(BrIf { block: default }), "");
+    rows.add(Instr::BrTable(BrTable { blocks, default }), "");
     rows.are_reported(&rt, rt.alloc());
 }
 
@@ -53,10 +53,10 @@ fn fields_of_branches_on_references(rt: HostRuntime) {
         to_heap_type: cast.to_heap_type,
     };
     let mut rows = Rows::new(rt.alloc());
-    rows.add(BrOnNull { block }, "seq 1");
-    rows.add(BrOnNonNull { block }, "seq 1");
-    rows.add(cast, "seq 1 heap 21 heap 22");
-    rows.add(failed_cast, "seq 1 heap 21 heap 22");
+    rows.add(Instr::BrOnNull(BrOnNull { block }), "seq 1");
+    rows.add(Instr::BrOnNonNull(BrOnNonNull { block }), "seq 1");
+    rows.add(Instr::BrOnCast(cast), "seq 1 heap 21 heap 22");
+    rows.add(Instr::BrOnCastFail(failed_cast), "seq 1 heap 21 heap 22");
     rows.are_reported(&rt, rt.alloc());
 }
 
@@ -64,13 +64,19 @@ fn fields_of_branches_on_references(rt: HostRuntime) {
 fn fields_of_calls(rt: HostRuntime) {
     let (func, ty, table) = (id(11), id(21), id(31));
     let mut rows = Rows::new(rt.alloc());
-    rows.add(Call { func }, "function 11");
-    rows.add(ReturnCall { func }, "function 11");
-    rows.add(RefFunc { func }, "function 11");
-    rows.add(CallIndirect { ty, table }, "type 21 table 31");
-    rows.add(ReturnCallIndirect { ty, table }, "type 21 table 31");
-    rows.add(CallRef { ty }, "type 21");
-    rows.add(ReturnCallRef { ty }, "type 21");
+    rows.add(Instr::Call(Call { func }), "function 11");
+    rows.add(Instr::ReturnCall(ReturnCall { func }), "function 11");
+    rows.add(Instr::RefFunc(RefFunc { func }), "function 11");
+    rows.add(
+        Instr::CallIndirect(CallIndirect { ty, table }),
+        "type 21 table 31",
+    );
+    rows.add(
+        Instr::ReturnCallIndirect(ReturnCallIndirect { ty, table }),
+        "type 21 table 31",
+    );
+    rows.add(Instr::CallRef(CallRef { ty }), "type 21");
+    rows.add(Instr::ReturnCallRef(ReturnCallRef { ty }), "type 21");
     rows.are_reported(&rt, rt.alloc());
 }
 
@@ -78,11 +84,11 @@ fn fields_of_calls(rt: HostRuntime) {
 fn fields_of_variables(rt: HostRuntime) {
     let (local, global) = (id(41), id(51));
     let mut rows = Rows::new(rt.alloc());
-    rows.add(LocalGet { local }, "local 41");
-    rows.add(LocalSet { local }, "local 41");
-    rows.add(LocalTee { local }, "local 41");
-    rows.add(GlobalGet { global }, "global 51");
-    rows.add(GlobalSet { global }, "global 51");
+    rows.add(Instr::LocalGet(LocalGet { local }), "local 41");
+    rows.add(Instr::LocalSet(LocalSet { local }), "local 41");
+    rows.add(Instr::LocalTee(LocalTee { local }), "local 41");
+    rows.add(Instr::GlobalGet(GlobalGet { global }), "global 51");
+    rows.add(Instr::GlobalSet(GlobalSet { global }), "global 51");
     rows.are_reported(&rt, rt.alloc());
 }
 
@@ -100,13 +106,13 @@ fn fields_of_values_and_operators(rt: HostRuntime) {
         UnaryOp::I32Eqz,
     );
     let mut rows = Rows::new(rt.alloc());
-    rows.add(Const { value: whole }, "value 1");
-    rows.add(Const { value: bits }, "value 7");
-    rows.add(TernOp { op }, "");
-    rows.add(Binop { op: binary }, "");
-    rows.add(Unop { op: unary }, "");
-    rows.add(Select { ty }, "");
-    rows.add(I8x16Shuffle { indices: [90; 16] }, "");
+    rows.add(Instr::Const(Const { value: whole }), "value 1");
+    rows.add(Instr::Const(Const { value: bits }), "value 7");
+    rows.add(Instr::TernOp(TernOp { op }), "");
+    rows.add(Instr::Binop(Binop { op: binary }), "");
+    rows.add(Instr::Unop(Unop { op: unary }), "");
+    rows.add(Instr::Select(Select { ty }), "");
+    rows.add(Instr::I8x16Shuffle(I8x16Shuffle { indices: [90; 16] }), "");
     rows.are_reported(&rt, rt.alloc());
 }
 
@@ -114,12 +120,18 @@ fn fields_of_values_and_operators(rt: HostRuntime) {
 fn fields_of_memories(rt: HostRuntime) {
     let (memory, data_id, dst) = (id(61), id(71), id(62));
     let mut rows = Rows::new(rt.alloc());
-    rows.add(MemorySize { memory }, "memory 61");
-    rows.add(MemoryGrow { memory }, "memory 61");
-    rows.add(MemoryFill { memory }, "memory 61");
-    rows.add(MemoryInit { memory, data_id }, "memory 61 data 71");
-    rows.add(DataDrop { data_id }, "data 71");
-    rows.add(MemoryCopy { src: memory, dst }, "memory 61 memory 62");
+    rows.add(Instr::MemorySize(MemorySize { memory }), "memory 61");
+    rows.add(Instr::MemoryGrow(MemoryGrow { memory }), "memory 61");
+    rows.add(Instr::MemoryFill(MemoryFill { memory }), "memory 61");
+    rows.add(
+        Instr::MemoryInit(MemoryInit { memory, data_id }),
+        "memory 61 data 71",
+    );
+    rows.add(Instr::DataDrop(DataDrop { data_id }), "data 71");
+    rows.add(
+        Instr::MemoryCopy(MemoryCopy { src: memory, dst }),
+        "memory 61 memory 62",
+    );
     rows.are_reported(&rt, rt.alloc());
 }
 
@@ -144,10 +156,10 @@ fn fields_of_loads_and_stores(rt: HostRuntime) {
         arg,
     };
     let mut rows = Rows::new(rt.alloc());
-    rows.add(Load { memory, kind, arg }, "memory 61");
-    rows.add(store, "memory 61");
-    rows.add(load_splat, "memory 61");
-    rows.add(load_lane, "memory 61");
+    rows.add(Instr::Load(Load { memory, kind, arg }), "memory 61");
+    rows.add(Instr::Store(store), "memory 61");
+    rows.add(Instr::LoadSimd(load_splat), "memory 61");
+    rows.add(Instr::LoadSimd(load_lane), "memory 61");
     rows.are_reported(&rt, rt.alloc());
 }
 
@@ -166,10 +178,13 @@ fn fields_of_atomics(rt: HostRuntime) {
         sixty_four: true,
     };
     let mut rows = Rows::new(rt.alloc());
-    rows.add(change, "memory 61");
-    rows.add(Cmpxchg { memory, width, arg }, "memory 61");
-    rows.add(AtomicNotify { memory, arg }, "memory 61");
-    rows.add(wait, "memory 61");
+    rows.add(Instr::AtomicRmw(change), "memory 61");
+    rows.add(Instr::Cmpxchg(Cmpxchg { memory, width, arg }), "memory 61");
+    rows.add(
+        Instr::AtomicNotify(AtomicNotify { memory, arg }),
+        "memory 61",
+    );
+    rows.add(Instr::AtomicWait(wait), "memory 61");
     rows.are_reported(&rt, rt.alloc());
 }
 
@@ -177,13 +192,19 @@ fn fields_of_atomics(rt: HostRuntime) {
 fn fields_of_tables(rt: HostRuntime) {
     let (table, elem, dst) = (id(31), id(81), id(32));
     let mut rows = Rows::new(rt.alloc());
-    rows.add(TableGet { table }, "table 31");
-    rows.add(TableSet { table }, "table 31");
-    rows.add(TableGrow { table }, "table 31");
-    rows.add(TableSize { table }, "table 31");
-    rows.add(TableFill { table }, "table 31");
-    rows.add(TableInit { table, elem }, "table 31 element 81");
-    rows.add(ElemDrop { elem }, "element 81");
-    rows.add(TableCopy { src: table, dst }, "table 31 table 32");
+    rows.add(Instr::TableGet(TableGet { table }), "table 31");
+    rows.add(Instr::TableSet(TableSet { table }), "table 31");
+    rows.add(Instr::TableGrow(TableGrow { table }), "table 31");
+    rows.add(Instr::TableSize(TableSize { table }), "table 31");
+    rows.add(Instr::TableFill(TableFill { table }), "table 31");
+    rows.add(
+        Instr::TableInit(TableInit { table, elem }),
+        "table 31 element 81",
+    );
+    rows.add(Instr::ElemDrop(ElemDrop { elem }), "element 81");
+    rows.add(
+        Instr::TableCopy(TableCopy { src: table, dst }),
+        "table 31 table 32",
+    );
     rows.are_reported(&rt, rt.alloc());
 }

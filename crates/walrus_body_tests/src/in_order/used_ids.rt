@@ -40,28 +40,28 @@ fn table_of_catches(alloc: Global) -> Result<Instr, AllocError> {
 
 fn named_things(alloc: Global) -> Result<Vec<Instr>, AllocError> {
     Ok(vec![in alloc;
-        Instr::from(Call { func: id(5) }),
-        Instr::from(CallIndirect {
+        Instr::Call(Call { func: id(5) }),
+        Instr::CallIndirect(CallIndirect {
             ty: id(6),
             table: id(7)
         }),
-        Instr::from(Call { func: id(5) }),
-        Instr::from(LocalGet { local: id(8) }),
-        Instr::from(MemoryInit {
+        Instr::Call(Call { func: id(5) }),
+        Instr::LocalGet(LocalGet { local: id(8) }),
+        Instr::MemoryInit(MemoryInit {
             memory: id(1),
             data_id: id(2)
         }),
-        Instr::from(TableInit {
+        Instr::TableInit(TableInit {
             table: id(3),
             elem: id(4)
         }),
-        Instr::from(RefCast {
+        Instr::RefCast(RefCast {
             nullable: true,
             heap_type: HeapType::Concrete(id(11))
         }),
-        Instr::from(RefNull { ty: reference(90) }),
-        Instr::from(BrIf { block: id(90) }),
-        Instr::from(Throw { tag: id(12) }),
+        Instr::RefNull(RefNull { ty: reference(90) }),
+        Instr::BrIf(BrIf { block: id(90) }),
+        Instr::Throw(Throw { tag: id(12) }),
     ]?)
 }
 

@@ -82,14 +82,14 @@ fn funcref() -> ValType {
 fn heap_types_are_reported_whole(rt: HostRuntime) {
     let alloc = rt.alloc();
     let mut f = empty(alloc);
-    let cast = Instr::from(BrOnCast {
+    let cast = Instr::BrOnCast(BrOnCast {
         block: id(0),
         from_nullable: true,
         from_heap_type: HeapType::Abstract(AbstractHeapType::Any),
         to_nullable: true,
         to_heap_type: HeapType::Concrete(id(3)),
     });
-    let select = Instr::from(Select {
+    let select = Instr::Select(Select {
         ty: Some(funcref()),
     });
     let ty = InstrSeqType::Simple(Some(funcref()));

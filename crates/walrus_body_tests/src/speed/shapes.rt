@@ -4,7 +4,7 @@ ghost use Rattle.walrus_body.specs.Building.{function_of, IsKnown, Stays, StayKn
 
 use super::*;
 use walrus_body::{BuildError, FunctionBuilder, InstrSeqBuilder};
-use walrus_ir::{BinaryOp, Block, InstrSeqType, LocalId};
+use walrus_ir::{BinaryOp, Block, Instr, InstrSeqType, LocalId};
 
 // The shape, and how many tens of instructions there are.
 #[derive(Clone, Copy)]
@@ -80,7 +80,7 @@ fn nested(rt: &impl Abort, alloc: Global, tens: usize) -> LocalFunction {
 fn add_level(builder: &mut FunctionBuilder, inner: InstrSeqId) -> Result<(), BuildError> {
     let mut body = builder.dangling_instr_seq(InstrSeqType::Simple(None))?;
     add_nine(&mut body)?;
-    body.instr(Block { seq: inner })
+    body.instr(Instr::Block(Block { seq: inner }))
 }
 
 fn add_empty(rt: &impl Abort, builder: &mut FunctionBuilder) {

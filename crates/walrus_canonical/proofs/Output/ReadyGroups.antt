@@ -217,9 +217,6 @@ module _ (task : Task) (done : ℕ → Bool) (before : Section) (new_index : Lis
 
   module _ (class : Class) (ds : List Definition) (q : IsReadyAs task done new_index class ds)
       (undone : done class.first ≡ false) where
-    abbrev ready_head : ℕ
-    ready_head = q.head
-
     abbrev settled_definitions : List Definition
     settled_definitions = map (rename (settled next)) ds
 

@@ -85,37 +85,34 @@ impl<'a> InstrSeqBuilder<'a> {
         builder.instrs_mut(id)
     }
 
-    /// Adds an instruction, or a struct of one such as `Binop`, at the end of the sequence. Where
-    /// memory is refused nothing changes.
+    /// Adds an instruction at the end of the sequence. Where memory is refused nothing changes.
     ///
     /// # Example
     ///
     /// ```
-    /// body.instr(Binop { op: BinaryOp::I32Add })?;
-    /// body.instr(Instr::Unreachable(Unreachable {}))?;
+    /// body.instr(Instr::Binop(Binop { op: BinaryOp::I32Add }))?;
     /// ```
-    pub fn instr<I: Into<Instr>>(&mut self, instr: I) -> Result<(), BuildError>
+    pub fn instr(&mut self, instr: Instr) -> Result<(), BuildError>
         requires { IsKnown self.old }
         ensures same { Stays self.old self.new }
         ensures known { StayKnown (function_of self.old) (function_of self.new) }
-        ensures ok { OnOk result ((i : Instr) × I.converts instr i × Adds self.old self.new i) }
+        ensures ok { OnOk result (Adds self.old self.new instr) }
         ensures err { IfErr result (AddsNothing self.old self.new) }
     {
-        self.push(instr.into())
+        self.push(instr)
     }
 
-    /// Puts an instruction, or a struct of one, into the sequence at this position, counted from 0.
-    /// The position may not be past the end. Where memory is refused nothing changes.
-    pub fn instr_at<I: Into<Instr>>(&mut self, position: usize, instr: I) -> Result<(), BuildError>
+    /// Puts an instruction into the sequence at this position, counted from 0. The position may not
+    /// be past the end. Where memory is refused nothing changes.
+    pub fn instr_at(&mut self, position: usize, instr: Instr) -> Result<(), BuildError>
         requires known { IsKnown self.old }
         requires position { position ≤ length (instrs_of (function_of self.old) (seq_id self.old)) }
         ensures same { Stays self.old self.new }
         ensures known { StayKnown (function_of self.old) (function_of self.new) }
-        ensures ok { OnOk result
-            ((i : Instr) × I.converts instr i × AddsAt self.old self.new position i) }
+        ensures ok { OnOk result (AddsAt self.old self.new position instr) }
         ensures err { IfErr result (AddsNothing self.old self.new) }
     {
-        self.builder.insert(self.id, position, instr.into())?;
+        self.builder.insert(self.id, position, instr)?;
         Ok(())
     }
 

@@ -43,7 +43,7 @@ fn a_dangling_sequence_becomes_the_entry(rt: HostRuntime) {
 #[test]
 fn an_instruction_is_added(rt: HostRuntime) {
     builds(&rt, rt.alloc(), "(block 0)", Ok(()), |b| {
-        b.instr(Block { seq: b.id() })
+        b.instr(Instr::Block(Block { seq: b.id() }))
     });
 }
 
@@ -51,7 +51,7 @@ fn an_instruction_is_added(rt: HostRuntime) {
 fn an_instruction_goes_before_another(rt: HostRuntime) {
     builds(&rt, rt.alloc(), "(drop, unreachable)", Ok(()), |b| {
         b.unreachable()?;
-        b.instr_at(0, DropInstr {})
+        b.instr_at(0, Instr::Drop(DropInstr {}))
     });
 }
 

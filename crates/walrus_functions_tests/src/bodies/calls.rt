@@ -51,8 +51,8 @@ pub(super) fn add(
     requires { IsKnown body.old }
 {
     match call {
-        PlainCall::Instr => body.instr(DropInstr {}),
-        PlainCall::InstrAt => body.instr_at(0, Unreachable {}),
+        PlainCall::Instr => body.instr(Instr::Drop(DropInstr {})),
+        PlainCall::InstrAt => body.instr_at(0, Instr::Unreachable(Unreachable {})),
         PlainCall::I32Const => body.i32_const(-1),
         PlainCall::I64Const => body.i64_const(-2),
         PlainCall::F32Const => body.f32_const(3),

@@ -36,7 +36,9 @@ fn example_of_dangling_instr_seq(rt: HostRuntime) {
     let alloc = rt.alloc();
     let mut f = begin(alloc).expect(&rt, "memory");
     let seq = f.dangling_instr_seq(NOTHING).expect(&rt, "memory").id();
-    f.func_body().instr(Block { seq }).expect(&rt, "memory");
+    f.func_body()
+        .instr(Instr::Block(Block { seq }))
+        .expect(&rt, "memory");
     has(&rt, alloc, &f.local_func(Vec::new(alloc)), "(block 1)()");
 }
 

@@ -1,42 +1,27 @@
-//! Instructions from their structs, and equal ones.
-use walrus_ir::{
-    Call, DropInstr, I31GetS, Id, Instr, MemoryCopy, RefFunc, Rethrow, ReturnCall, StructGetU,
-    StructSet, TableCopy,
-};
+//! Instructions from the structs of nested ones, and equal instructions.
+use walrus_ir::{Block, Call, Id, IfElse, Instr, Listed, Loop, RefFunc, Try, TryTable};
 
 #[test]
 fn structs_become_their_instructions(rt: HostRuntime) {
-    let func = Id::from_index(3);
-    let instr = Instr::from(Call { func });
-    assert!(rt; matches!(&instr, Instr::Call(x) if x.func.index() == 3));
-    let instr = Instr::from(ReturnCall { func });
-    assert!(rt; matches!(&instr, Instr::ReturnCall(x) if x.func.index() == 3));
-    let instr = Instr::from(RefFunc { func });
-    assert!(rt; matches!(&instr, Instr::RefFunc(x) if x.func.index() == 3));
-    let instr = Instr::from(DropInstr {});
-    assert!(rt; matches!(&instr, Instr::Drop(_)));
-    let instr: Instr = Rethrow { relative_depth: 2 }.into();
-    assert!(rt; matches!(&instr, Instr::Rethrow(x) if x.relative_depth == 2));
-    let instr: Instr = I31GetS {}.into();
-    assert!(rt; matches!(&instr, Instr::I31GetS(_)));
-}
-
-#[test]
-fn what_is_alike_stays_apart(rt: HostRuntime) {
-    let ty = Id::from_index(4);
-    let instr = Instr::from(StructGetU { ty, field: 1 });
-    assert!(rt; matches!(&instr, Instr::StructGetU(x) if x.ty.index() == 4 && x.field == 1));
-    let instr = Instr::from(StructSet { ty, field: 1 });
-    assert!(rt; matches!(&instr, Instr::StructSet(x) if x.ty.index() == 4 && x.field == 1));
-    let src = Id::from_index(1);
-    let dst = Id::from_index(2);
-    let instr = Instr::from(MemoryCopy { src, dst });
-    assert!(rt; matches!(&instr, Instr::MemoryCopy(x) if x.src.index() == 1 && x.dst.index() == 2));
-    let instr = Instr::from(TableCopy {
-        src: Id::from_index(1),
-        dst: Id::from_index(2),
+    let seq = Id::from_index(3);
+    let instr = Instr::from(Block { seq });
+    assert!(rt; matches!(&instr, Instr::Block(x) if x.seq.index() == 3));
+    let instr: Instr = Loop { seq }.into();
+    assert!(rt; matches!(&instr, Instr::Loop(x) if x.seq.index() == 3));
+    let catches = Listed::from_vec(Vec::new(rt.alloc()));
+    let instr = Instr::from(TryTable { seq, catches });
+    assert!(rt; matches!(&instr, Instr::TryTable(x) if x.seq.index() == 3));
+    let catches = Listed::from_vec(Vec::new(rt.alloc()));
+    let instr = Instr::from(Try { seq, catches });
+    assert!(rt; matches!(&instr, Instr::Try(x) if x.seq.index() == 3));
+    let instr = Instr::from(IfElse {
+        consequent: Id::from_index(1),
+        alternative: Id::from_index(2),
     });
-    assert!(rt; matches!(&instr, Instr::TableCopy(x) if x.src.index() == 1 && x.dst.index() == 2));
+    assert!(rt;
+        matches!(&instr, Instr::IfElse(x)
+        if x.consequent.index() == 1 && x.alternative.index() == 2)
+    );
 }
 
 #[test]
