@@ -6,7 +6,7 @@ import re
 FILE = f'{os.path.dirname(os.path.abspath(__file__))}/additions.rs'
 MARK = re.compile(r'^// == (.*)\n', re.M)
 # The types that can be copied in Rust alone.
-COPIED = {'Slot', 'TombstoneArena', 'ArenaSet', 'ModuleTypes'}
+COPIED = {'Slot', 'TombstoneArena', 'ArenaSet'}
 # The structs that become instructions in Rattle too.
 NESTED = {'Block', 'Loop', 'IfElse', 'TryTable', 'Try'}
 
@@ -28,6 +28,11 @@ REPLACED = [
      'One that\n/// is left out does nothing.'),
     # An arena is copied where its items are, whether that can be refused or not.
     ('src/tombstone_arena.rt', r'impl<T: TryClone> Clone for .*\n(?:.*\n)+?\}\n\n', ''),
+    ('src/tombstone_arena.rt', r' +// Where the memory .*\n +pub\(crate\) fn allocator\(.*\n.*\n +\}\n\n', ''),
+    # So is a set. Its copy that can be refused makes such copies of the values.
+    ('src/arena_set.rt', r'(?:///.*\n)*impl<T: Clone \+ Eq \+ Hash> Clone for .*\n(?:.*\n)+?\}\n\n', ''),
+    ('src/arena_set.rt', r'<T: (?=.*> TryClone for)|(?<=\nfn clone_map)<T: ', '<T: TryClone + '),
+    ('src/arena_set.rt', r', self\.arena\.allocator\(\)\.try_clone\(\)\?', ''),
     ('src/instr.rt', r'pub enum Instr \{\n(?:.*\n)+?\}\n', with_conversions),
     # Whatever becomes an instruction or the type of a sequence is taken for it.
     ('src/function_builder/instr_seq_builder.rt', r'(?<!fn try_push\(&mut self, )\binstr: Instr\b',

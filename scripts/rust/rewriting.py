@@ -13,7 +13,7 @@ CRATE = 'rattle_std'
 OTHER_MODULES = 'alloc|collections|env|fs|hash|process::Abort|rt|test'
 REFUSABLE = 'push|insert|reserve|extend_from_slice|sort|push_str|to_vec|to_string|clone'
 # Rust's maps and sets: a call `try_insert` of theirs is to come with another meaning.
-MAPS = r'self\.map|self\.by_id|self\.ready|seen|kept|known|(?<!\.)names'
+MAPS = r'self\.map|self\.by_id|self\.ready|seen|kept|known|copies|(?<!\.)names'
 # An allocator as an argument, and as a parameter or an argument.
 ALLOCATOR = r'[*&]?(?:\w+\.)*_?alloc(?:ator)?(?:\(\))?(?=[,;)\]])'
 PASSED = rf'(?:{ALLOCATOR}|_?alloc: (?:[\w:]+::)?(?:A|Global)(?=[,)]))'

@@ -3,7 +3,7 @@ use Rattle.std.specs.Prelude.{◌≡◌, ℕ, List, [], ◌∷◌, ◌++◌, len
 use Rattle.std.specs.Option.{option_eq}
 use Rattle.std.specs.Coded.{Coded, code_by, coded×, coded_ℕ, coded_list, coded_option}
 use Rattle.std.specs.Map.{lookup}
-use Rattle.walrus_arena.specs.Arena.{Slots, get, with_value, without}
+use Rattle.walrus_arena.specs.Arena.{Slots, get, with_value, without, AreClones}
 use Rattle.walrus_id.specs.HashKeys.{InitialHasher, keys_code}
 
 -- the slots, the entries of the map, whose order means nothing (`mapped_id` reads them), and the
@@ -87,6 +87,13 @@ module _ {T : Type 0} (eq : T → T → Bool) (old new : Set T) where
         (q : T) → mapped_id eq new q ≡
         (if is_own_entry eq old id q then None else mapped_id eq old q)
     pub keys : new.keys ≡ old.keys
+
+-- clones of the values in the same slots, the same keys, and, where clones are equal to their
+-- sources, the same map
+pub record IsSetClone {T : Type 0} (is_clone : T → T → Type 0) (eq : T → T → Bool) (old new : Set T) : Type 0 where
+  pub slots : AreClones is_clone old.slots new.slots
+  pub map : ClonesAreEqual is_clone eq → SameMap eq old new
+  pub keys : new.keys ≡ old.keys
 
 module _ {T : Type 0} (eq : T → T → Bool) where
   -- `Removes` of each of these ids in order

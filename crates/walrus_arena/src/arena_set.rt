@@ -3,6 +3,8 @@ ghost use Rattle.std.specs.Prelude.{◌≡◌, ◌∷◌, ◌++◌, [], length, 
 ghost use Rattle.walrus_arena.specs.Arena.{get, IsLive, items, range};
 ghost use Rattle.walrus_id.specs.HashKeys.{fixed_hasher};
 ghost use Rattle.walrus_arena.specs.Set.{found_id, holds, Adds, Registers, Removes, IsSame, ClonesAreEqual, RemovesAll};
+ghost use Rattle.std.specs.HashMap.{hasher_of};
+ghost use Rattle.std.specs.Map.{lookup};
 ghost use Rattle.std.specs.Borrow.{sem};
 ghost use Rattle.std.specs.List.{IsDistinct};
 
@@ -249,6 +251,39 @@ impl<T: Clone + Eq + Hash, A: Allocator> ArenaSet<T, A> {
         }
         self.arena.mark_dead(at);
     }
+}
+
+/// A clone has clones of the values under the same ids, and the same keys. Where clones are equal to
+/// their sources, each value is mapped to the id that it was mapped to.
+impl<T: Clone + Eq + Hash, A: Allocator + Clone> Clone for ArenaSet<T, A> {
+    ghost use Rattle.walrus_arena.specs.Set.{IsSetClone};
+
+    ghost is_clone = { IsSetClone T.is_clone T.eq };
+
+    fn clone(&self) -> Result<Self, AllocError> {
+        Ok(ArenaSet {
+            arena: self.arena.clone()?,
+            map: clone_map(&self.map, self.arena.allocator().clone()?)?,
+        })
+    }
+}
+
+// Clones the keys into a new map. The contract of std's own clone of a map does not say that the
+// keys of its hash are the same.
+fn clone_map<T: Clone + Eq + Hash, A: Allocator + Clone>(
+    map: &HashMap<T, Id<T>, HashKeys, A>,
+    alloc: A,
+) -> Result<HashMap<T, Id<T>, HashKeys, A>, AllocError>
+    ensures keys { IfOk result (λ copy. hasher_of copy ≡ hasher_of map.now) }
+    ensures same { IfOk result (λ copy. ClonesAreEqual T.is_clone T.eq → (q : T) →
+        lookup (T.eq q) copy.entries ≡ lookup (T.eq q) map.now.entries) }
+{
+    let mut copies = HashMap::with_hasher(alloc, *map.hasher());
+    copies.reserve(map.len())?;
+    for (key, id) in map {
+        copies.insert(key.clone()?, Id::from_index(id.place()))?;
+    }
+    Ok(copies)
 }
 
 /// `set[id]` is the item of a live id.

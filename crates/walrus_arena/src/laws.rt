@@ -3,7 +3,7 @@ ghost use Rattle.std.specs.Prelude.{◌≡◌, ◌↔◌, ℕ, List, Some, true}
 ghost use Rattle.walrus_arena.specs.Arena.{Slots, get, items};
 ghost use Rattle.walrus_arena.specs.Calls.{Step, AreCalls, AnswersFreshIds};
 ghost use Rattle.walrus_arena.specs.Listing.{IsListing};
-ghost use Rattle.walrus_arena.specs.Set.{Set, found_id, mapped_id, holds};
+ghost use Rattle.walrus_arena.specs.Set.{Set, found_id, mapped_id, holds, ClonesAreEqual, IsSetClone};
 
 pub mod calls;
 
@@ -26,4 +26,11 @@ pub fn find_gives_a_live_equal_item<T: Eq>()
     ensures { (s : Set T) (value : T) (id : ℕ) →
         (found_id T.eq s value ≡ Some id) ↔
         ((mapped_id T.eq s value ≡ Some id) × (holds (T.eq value) (get s.slots id) ≡ true)) }
+{}
+
+/// A clone of a set finds what the set finds, where clones are equal to their sources.
+pub fn a_clone_finds_what_its_source_finds<T: Clone + Eq>()
+    ensures { (old new : Set T) → IsSetClone T.is_clone T.eq old new →
+        ClonesAreEqual T.is_clone T.eq → (value : T) →
+        found_id T.eq new value ≡ found_id T.eq old value }
 {}

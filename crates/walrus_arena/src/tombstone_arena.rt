@@ -239,6 +239,11 @@ impl<T, A: Allocator> TombstoneArena<T, A> {
         self.live -= 1;
     }
 
+    // Where the memory of the slots is from.
+    pub(crate) fn allocator(&self) -> &A {
+        self.slots.allocator()
+    }
+
     // The item of a live id for writing.
     fn item_mut(&mut self, at: usize) -> &mut T
         requires { IsLive self.old at }

@@ -1,6 +1,7 @@
 -- Tables of types: what stands where, and what each call does.
 pub mod Deletions
 pub mod Calls
+pub mod Clones
 pub mod MadeCalls
 pub mod DeadGroup
 pub mod DeadTypes

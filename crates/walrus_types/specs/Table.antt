@@ -7,13 +7,15 @@ use Rattle.std.specs.declared.vec.Vec.{Vec}
 use Rattle.std.specs.declared.alloc.Global.{Global}
 use Rattle.std.specs.declared.alloc.AllocError.{AllocError}
 use Rattle.std.specs.List.{Contains, list_any, range_with_len}
+use Rattle.walrus_arena.specs.Arena.{AreClones}
 use Rattle.walrus_arena.specs.HashKeys.{InitialHasher}
 use Rattle.walrus_ty.specs.declared.ty.composite.CompositeType.{CompositeType}
 use Rattle.walrus_types.specs.declared.table.rec_group.RecGroup.{RecGroup}
 use Rattle.walrus_ty.specs.Signature.{Signature}
 use Rattle.walrus_ty.specs.Types.{ModuleType, signature_of, unnamed_type, function}
 use Rattle.walrus_ty.specs.SameTypes.{IsSameType}
-use Rattle.walrus_types.specs.TypesById.{TypesById, live_type, IsLive, known_id, found_id, IsUnchanged, Gains, Loses, LosesAll}
+use Rattle.walrus_ty.specs.contracts.ty.TypeClone.TheImpl.{ghosts as type_clone}
+use Rattle.walrus_types.specs.TypesById.{TypesById, live_type, IsLive, known_id, found_id, IsUnchanged, KnowsSame, Gains, Loses, LosesAll}
 use Rattle.walrus_ty.specs.declared.ty.value.Val.{Val}
 use Rattle.std.specs.String.{string_bytes}
 
@@ -77,6 +79,14 @@ module _ (old new : Table) where
   -- the same types, found in the same way and with the same keys, and the same groups
   pub record IsSameTable : Type 0 where
     pub types : IsUnchanged old.types new.types
+    pub groups : new.groups ≡ old.groups
+
+  -- clones of the types at the same ids, which are found in the same way and with the same keys, and
+  -- the same groups
+  pub record IsTableClone : Type 0 where
+    pub slots : AreClones type_clone.is_clone old.types.slots new.types.slots
+    pub map : KnowsSame old.types new.types
+    pub keys : new.types.keys ≡ old.types.keys
     pub groups : new.groups ≡ old.groups
 
   -- the type goes into a new slot at the end, is found there, and has a group of its own at the end

@@ -6,7 +6,7 @@ use Rattle.walrus_arena.specs.HashKeys.{InitialHasher}
 use Rattle.walrus_ty.specs.Groups.{Section}
 use Rattle.walrus_ty.specs.Types.{ModuleType}
 use Rattle.walrus_types.specs.TypesById.{IsLive, found_id}
-use Rattle.walrus_types.specs.Table.{Table, empty_table, Member, next_id, IsTable, IsSameTable, FindsOrAdds, AddsGroup, Deletes, DeletesAll, DeletesGroup}
+use Rattle.walrus_types.specs.Table.{Table, empty_table, Member, next_id, IsTable, IsSameTable, IsTableClone, FindsOrAdds, AddsGroup, Deletes, DeletesAll, DeletesGroup}
 use Rattle.walrus_types.specs.ReaderState.{IsReadInto}
 use Rattle.walrus_types.specs.TableLends.{with_type}
 
@@ -38,6 +38,8 @@ pub data Call (old new : Table) : Type 0 where
   -- `delete_entire_group`
   DeletesWhole :
       (id : ℕ) (live : IsLive old.types.slots id) (ok : DeletesGroup old new id) → Call old new
+  -- `clone`, which returns the new table
+  Clones : (ok : IsTableClone old new) → Call old new
 
 -- the ids that the call gives to new types, in order
 abbrev pub new_ids : {old new : Table} → Call old new → List ℕ
@@ -50,6 +52,7 @@ new_ids (DeletesOne id live ok) = []
 new_ids (DeletesMany ids live distinct ok) = []
 new_ids (TriesToDelete id deleted live ok) = []
 new_ids (DeletesWhole id live ok) = []
+new_ids (Clones ok) = []
 
 -- one call makes the new table of the old one, and gives these ids to new types
 abbrev pub IsCall : Table → Table → List ℕ → Type 0

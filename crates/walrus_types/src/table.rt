@@ -55,6 +55,22 @@ impl Model for ModuleTypes {
         t.group_of.items };
 }
 
+/// A clone has clones of the types at the same ids, finds types as its source does, and has the same
+/// groups.
+impl Clone for ModuleTypes {
+    ghost use Rattle.walrus_types.specs.Table.{IsTableClone};
+
+    ghost is_clone = { IsTableClone };
+
+    fn clone(&self) -> Result<ModuleTypes, AllocError> {
+        Ok(ModuleTypes {
+            types: self.types.clone()?,
+            groups: self.groups.clone()?,
+            group_of: self.group_of.clone()?,
+        })
+    }
+}
+
 impl ModuleTypes {
     /// A table without types, in which types are found by a hash with fixed keys. It takes no
     /// memory.

@@ -11,6 +11,7 @@ use walrus_types::{
 
 mod adding;
 pub(crate) mod calls;
+mod cloning;
 mod deleting;
 mod finding;
 mod grouping;

@@ -46,4 +46,5 @@ fn the_laws_hold_of_tagged_values() {
     laws::ids_are_given_out_once::<Tagged>();
     laws::iter_gives_the_live_items::<Tagged>();
     laws::find_gives_a_live_equal_item::<Tagged>();
+    laws::a_clone_finds_what_its_source_finds::<Tagged>();
 }

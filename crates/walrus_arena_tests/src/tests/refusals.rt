@@ -412,3 +412,15 @@ fn a_refused_clone_is_made_again(rt: HostRuntime) {
     );
     assert_equal(&rt, arena.len(), 2);
 }
+
+#[test]
+fn a_refused_clone_of_a_set_is_made_again(rt: HostRuntime) {
+    let set = three_values_again(rt.alloc()).expect(&rt, "memory");
+    let shown = shown_of_set(&set);
+    let copy = match set.clone() {
+        Ok(copy) => copy,
+        Err(_) => set.clone().expect(&rt, "memory"),
+    };
+    assert!(rt; shown_of_set(&copy) == shown);
+    assert!(rt; shown_of_set(&set) == shown);
+}

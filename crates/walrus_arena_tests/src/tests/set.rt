@@ -162,3 +162,24 @@ fn many_are_removed_at_once(rt: HostRuntime) -> Result<(), Fail> {
     assert!(rt; set.iter().next().is_none());
     Ok(())
 }
+
+#[test]
+fn a_clone_finds_what_its_source_finds(rt: HostRuntime) {
+    let mut set = changed(&rt, rt.alloc()).expect(&rt, "memory");
+    remove(&rt, &mut set, 0).expect(&rt, "memory");
+    let mut copy = set.clone().expect(&rt, "memory");
+    assert_equal(&rt, index_of(&copy, 1), Some(3));
+    assert_equal(&rt, index_of(&copy, 2), Some(2));
+    assert!(rt; !copy.contains(Id::from_index(0)));
+    assert_equal(&rt, note_of(&rt, &copy, 1), 30);
+    remove(&rt, &mut copy, 2).expect(&rt, "memory");
+    assert_equal(
+        &rt,
+        copy.insert(make_tagged(5, 0)).expect(&rt, "memory").index(),
+        4,
+    );
+    assert_equal(&rt, index_of(&copy, 2), None);
+    assert_equal(&rt, index_of(&set, 2), Some(2));
+    assert_equal(&rt, index_of(&set, 5), None);
+    assert_equal(&rt, set.next_id().index(), 4);
+}

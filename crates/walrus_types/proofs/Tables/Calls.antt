@@ -7,9 +7,9 @@ use Rattle.walrus_types.specs.declared.table.rec_group.RecGroup.{RecGroup}
 use Rattle.walrus_ty.specs.{Types.ModuleType, Groups.Section}
 use Rattle.walrus_types.specs.{TypesById.LosesAll, TypesById.found_id, TypesById.known_id, ReaderState.IsReadInto, TableLends.with_type, Steps.TableIndex.IsIndexed}
 use Rattle.walrus_types.specs.Table.{Table, empty_table, IsTable, IsIdAt, IsSameTable, AddsType, rec_group_at, next_id, Deletes, DeletesAll, DeletesGroup, member_types}
-use Rattle.walrus_types.specs.TableCalls.{Call, Adds, AddFails, AddsRec, AddRecFails, Writes, DeletesOne, DeletesMany, TriesToDelete, DeletesWhole, new_ids, Calls, Start, Read, Then, EveryTableIsSound}
+use Rattle.walrus_types.specs.TableCalls.{Call, Adds, AddFails, AddsRec, AddRecFails, Writes, DeletesOne, DeletesMany, TriesToDelete, DeletesWhole, Clones, new_ids, Calls, Start, Read, Then, EveryTableIsSound}
 use Rattle.walrus_types.proofs.Tables.Places.{IsHome, is_table, indexed_same, live_below, member_below, group_answer, none_some, many_grown}
-use Rattle.walrus_types.proofs.Tables.{NewType.table_added, NewGroup.table_grouped, NewGroup.length-placed, DeadTypes.table_deleted, DeadGroup.table_ended, DeadGroup.groups_are, Deletions.others_stay}
+use Rattle.walrus_types.proofs.Tables.{Clones.clone_indexed, NewType.table_added, NewGroup.table_grouped, NewGroup.length-placed, DeadTypes.table_deleted, DeadGroup.table_ended, DeadGroup.groups_are, Deletions.others_stay}
 
 -- a table for which some list has the groups of its ids
 IsSomewhere : Table → Type 0
@@ -134,6 +134,7 @@ after_call old new (DeletesMany ids live distinct ok) at =
     (at.0, all_deleted old new at.0 ids at.1 live distinct ok)
 after_call old new (TriesToDelete id deleted live ok) at = (at.0, tried old new at.0 id deleted at.1 live ok)
 after_call old new (DeletesWhole id live ok) at = (at.0, group_end old new at.0 id at.1 live ok)
+after_call old new (Clones ok) at = (at.0, clone_indexed old new at.0 at.1 ok)
 
 -- a table that a section was read into
 
@@ -258,6 +259,9 @@ ids_after old new (TriesToDelete id deleted live ok) ids go is e =
     same_ids old new ids e (sym after.one_each ∙ is.one_each)
 ids_after old new (DeletesWhole id live ok) ids go is e =
     let after : IsIndexed new go = group_end old new go id is live ok in
+    same_ids old new ids e (sym after.one_each ∙ is.one_each)
+ids_after old new (Clones ok) ids go is e =
+    let after : IsIndexed new go = clone_indexed old new go is ok in
     same_ids old new ids e (sym after.one_each ∙ is.one_each)
 
 somewhere :

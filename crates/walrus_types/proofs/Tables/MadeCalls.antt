@@ -1,11 +1,11 @@
 -- What the contracts of a table's calls say, as calls.
-use Rattle.std.proofs.Common.{◌≡◌, ℕ, List, length, Bool, Result, Ok, Err, IfOk, OnOk, OnErr, MatchBool, All, nat_eq, refl, sym, []}
+use Rattle.std.proofs.Common.{◌≡◌, ℕ, List, length, Bool, Result, Ok, Err, IfOk, OnOk, OnErr, MatchBool, MatchResult, All, nat_eq, refl, sym, []}
 use Rattle.std.specs.List.{range_with_len, IsDistinct}
 use Rattle.std.specs.declared.{alloc.Global.Global, alloc.AllocError.AllocError, vec.Vec.Vec}
 use Rattle.walrus_ty.specs.Types.{ModuleType}
 use Rattle.walrus_types.specs.TypesById.{IsLive}
-use Rattle.walrus_types.specs.Table.{Table, Member, next_id, IsSameTable, FindsOrAdds, AddsGroup, Builds, Deletes, DeletesAll, DeletesGroup}
-use Rattle.walrus_types.specs.TableCalls.{Adds, AddFails, AddsRec, AddRecFails, DeletesOne, DeletesMany, TriesToDelete, DeletesWhole, IsCall, IsAddition}
+use Rattle.walrus_types.specs.Table.{Table, Member, next_id, IsSameTable, IsTableClone, FindsOrAdds, AddsGroup, Builds, Deletes, DeletesAll, DeletesGroup}
+use Rattle.walrus_types.specs.TableCalls.{Adds, AddFails, AddsRec, AddRecFails, DeletesOne, DeletesMany, TriesToDelete, DeletesWhole, Clones, IsCall, IsAddition}
 
 module _ {E : Type 0} (old new : Table) where
   pub added : (ty : ModuleType) (r : Result ℕ E) → IfOk r (λ id. FindsOrAdds old new ty id) →
@@ -48,3 +48,8 @@ module _ {E : Type 0} (old new : Table) where
       OnOk r (DeletesGroup old new id) → OnOk r (IsCall old new [])
   group_deleted id live (Ok x) ok = (DeletesWhole id live ok, refl)
   group_deleted id live (Err e) ok = tt
+
+pub cloned : {E : Type 0} (Fails : E → Type 0) (old : Table) (r : Result Table E) →
+    MatchResult r (IsTableClone old) Fails → IfOk r (λ new. IsCall old new [])
+cloned Fails old (Ok new) is = (Clones is, refl)
+cloned Fails old (Err e) is = tt

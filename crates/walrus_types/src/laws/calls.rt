@@ -137,3 +137,10 @@ pub fn delete_entire_group(types: &mut ModuleTypes, id: TypeId) -> Result<(), Al
 {
     types.delete_entire_group(id)
 }
+
+/// `clone` of a table.
+pub fn clone(types: &ModuleTypes) -> Result<ModuleTypes, AllocError>
+    ensures { IfOk result (λ copy. IsCall types.now copy []) }
+{
+    types.clone()
+}

@@ -1,4 +1,5 @@
 //! Calls that add types alone, the list of live ids, and deletions, where memory is refused.
+use super::cloning::{finds_the_first, with_a_dead_type};
 use super::*;
 use crate::assertions::assert_equal;
 
@@ -238,4 +239,14 @@ fn deletions_take_no_memory(rt: HostRuntime) {
     let found = [0, 1, 2, 3].map(|named| find(&types, AddCall::Entry, named));
     let (third, fourth) = (TypeId::from_index(2), TypeId::from_index(3));
     assert_equal(&rt, found, [None, None, Some(third), Some(fourth)]);
+}
+
+#[test]
+fn a_refused_clone_is_made_again(rt: HostRuntime) {
+    let types = with_a_dead_type(rt.alloc()).expect(&rt, "memory");
+    let copy = match types.clone() {
+        Ok(copy) => copy,
+        Err(_) => types.clone().expect(&rt, "memory"),
+    };
+    assert!(rt; finds_the_first(&copy) && finds_the_first(&types));
 }

@@ -51,6 +51,11 @@ impl<K, V, S> HashMap<K, V, S> {
         self.entries.is_empty()
     }
 
+    /// What makes the hashes.
+    pub fn hasher(&self) -> &S {
+        &self.hasher
+    }
+
     fn mask(&self) -> usize {
         self.slots.len().wrapping_sub(1)
     }
@@ -113,6 +118,16 @@ impl<K, V, S> IntoIterator for HashMap<K, V, S> {
 
     fn into_iter(self) -> Self::IntoIter {
         self.entries.into_iter()
+    }
+}
+
+/// The entries, in the order in which they came.
+impl<'a, K, V, S> IntoIterator for &'a HashMap<K, V, S> {
+    type Item = (&'a K, &'a V);
+    type IntoIter = std::iter::Map<std::slice::Iter<'a, (K, V)>, fn(&'a (K, V)) -> Self::Item>;
+
+    fn into_iter(self) -> Self::IntoIter {
+        self.entries.iter().map(|entry| (&entry.0, &entry.1))
     }
 }
 
