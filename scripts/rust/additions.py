@@ -26,6 +26,15 @@ REPLACED = [
       for path in ('src/visitor.rt', 'src/visitor_mut.rt')),
     ('src/visitor.rt', r'All are\n/// required; one that has nothing to do returns `Ok\(\(\)\)`\.',
      'One that\n/// is left out does nothing.'),
+    # A visitor is told where a sequence goes on behind those inside it.
+    ('src/visitor.rt', r' +type Error: .*\n', '''\\g<0>
+    #[doc(hidden)]
+    fn resume_instr_seq(&mut self, id: InstrSeqId, place: usize) {}
+'''),
+    ('src/traversals.rt', r'(Work::Resume\(id, place\) => )(resume\(.*\)),', r'''\1{
+            visitor.resume_instr_seq(id, place);
+            \2
+        }'''),
     # An arena is copied where its items are, whether that can be refused or not.
     ('src/tombstone_arena.rt', r'impl<T: TryClone> Clone for .*\n(?:.*\n)+?\}\n\n', ''),
     ('src/tombstone_arena.rt', r' +// Where the memory .*\n +pub\(crate\) fn allocator\(.*\n.*\n +\}\n\n', ''),
@@ -50,16 +59,24 @@ REPLACED = [
     }
 '''),
     # The walk of a body that is known to be nested.
-    ('src/traversals.rt', r'(?<=\n    \}\n)    let mut stack', '''    walk(visitor, func, start)
+    ('src/traversals.rt', r'(?<=\n    \}\n)    let mut stack\b(?:.*\n){8}\}\n', '''    walk(visitor, func, start)
 }
 
-// Walks as `dfs_in_order` does, and checks nothing first.
+// Walks as `dfs_in_order` does, and checks nothing first. A body of one sequence takes no memory.
 pub(crate) fn walk<V: Visitor>(
     visitor: &mut V,
     func: &LocalFunction,
     start: InstrSeqId,
 ) -> Result<(), WalkError<V::Error>> {
-    let mut stack'''),
+    let mut stack = Vec::new();
+    let mut next = Some(Work::Enter(start));
+    while let Some(work) = next {
+        do_work(visitor, func, work, &mut stack)?;
+        next = stack.pop();
+    }
+    Ok(())
+}
+'''),
 ]
 
 

@@ -74,7 +74,29 @@ impl Default for ModuleLocals {
         ModuleLocals::new()
     }
 }
+// == walrus_traversals/src/traversals.rt
+
+// Whether the body is nested from `start`. Where the sequences inside each one are known, and come
+// after it, none can be inside itself. Otherwise this searches.
+pub(crate) fn is_nested(func: &LocalFunction, start: InstrSeqId) -> Result<bool, AllocError> {
+    let mut children: Vec<InstrSeqId> = Vec::new();
+    for at in 0..func.block_count() {
+        for (instr, _) in &func.block(walrus_ir::Id::from_index(at)).instrs {
+            if has_children(instr) {
+                try_push_children(&mut children, instr)?;
+            }
+        }
+        let is_later = |id: InstrSeqId| id.index() > at && func.contains_block(id);
+        if !children.drain(..).all(is_later) {
+            let found = walrus_nesting::try_check_nesting(func, start)?;
+            return Ok(matches!(found, walrus_nesting::Nesting::Nested(_)));
+        }
+    }
+    Ok(func.contains_block(start))
+}
 // == walrus_traversals/src/lib.rt
+
+pub(crate) use traversals::is_nested;
 
 /// A function whose body is nested from a sequence on. Walks from it don't check that again.
 ///
@@ -101,7 +123,7 @@ impl<'a> NestedBody<'a> {
         func: &'a walrus_functions::LocalFunction,
         start: walrus_ir::InstrSeqId,
     ) -> Option<Self> {
-        let is_nested = matches!(check_nesting(func, start), Nesting::Nested(_));
+        let is_nested = rattle_std::alloc::or_panic(is_nested(func, start));
         is_nested.then_some(NestedBody { func, start })
     }
 

@@ -22,9 +22,9 @@ class Guard:
 DISTINCT = 'rattle_std::guards::are_distinct(ids.iter().map(|id| id.index()))'
 CLOSURE = 'a closure in Rust takes every argument of its type'
 NESTED = 'the body is nested from `start`'
-CHECK = '''match walrus_nesting::try_check_nesting(func, start) {
-        Ok(walrus_nesting::Nesting::Nested(_)) => {}
-        Ok(_) => panic!("required: the body is nested from `start`"),
+CHECK = '''match walrus_traversals::is_nested(func, start) {
+        Ok(true) => {}
+        Ok(false) => panic!("required: the body is nested from `start`"),
         Err(_) => return Err(WalkError::Memory),
     }'''
 

@@ -6,8 +6,8 @@ use std::convert::Infallible;
 struct InOrder<'v, 'instr, V> {
     visitor: &'v mut V,
     func: Option<&'instr ruffdresser::LocalFunction>,
-    // The open sequences, and the place of the next instruction in each.
-    open: Vec<(&'instr InstrSeq, usize)>,
+    // The innermost open sequence, and the place of the next instruction in it.
+    open: Option<(&'instr InstrSeq, usize)>,
 }
 
 #[rustfmt::skip]
@@ -16,19 +16,23 @@ impl<'instr, V: Visitor<'instr>> ruffdresser::ir::Visitor for InOrder<'_, 'instr
 
     fn start_instr_seq(&mut self, seq: &InstrSeq) -> Result<(), Infallible> {
         let seq = self.func.unwrap().block(seq.id());
-        self.open.push((seq, 0));
+        self.open = Some((seq, 0));
         self.visitor.start_instr_seq(seq);
         Ok(())
     }
 
+    fn resume_instr_seq(&mut self, id: InstrSeqId, place: usize) {
+        self.open = Some((self.func.unwrap().block(id), place));
+    }
+
     fn end_instr_seq(&mut self, _: &InstrSeq) -> Result<(), Infallible> {
-        let (seq, _) = self.open.pop().unwrap();
+        let (seq, _) = self.open.unwrap();
         self.visitor.end_instr_seq(seq);
         Ok(())
     }
 
     fn visit_instr(&mut self, _: &Instr, _: &InstrLocId) -> Result<(), Infallible> {
-        let (seq, place) = self.open.last_mut().unwrap();
+        let (seq, place) = self.open.as_mut().unwrap();
         let (instr, loc) = &seq.instrs[*place];
         *place += 1;
         self.visitor.visit_instr(instr, loc);
@@ -65,7 +69,7 @@ impl<'instr> Nested<'instr> {
     }
 
     pub(crate) fn walk(self, visitor: &mut impl Visitor<'instr>) {
-        let mut walk = InOrder { visitor, func: Some(self.func.inner()), open: Vec::new() };
+        let mut walk = InOrder { visitor, func: Some(self.func.inner()), open: None };
         self.body.dfs_in_order(&mut walk).expect("memory");
     }
 }
@@ -80,7 +84,7 @@ impl std::ops::Deref for Nested<'_> {
 
 // The hooks of the fields of one instruction.
 pub(crate) fn visit_fields<'instr>(instr: &Instr, visitor: &mut impl Visitor<'instr>) {
-    let mut walk = InOrder { visitor, func: None, open: Vec::new() };
+    let mut walk = InOrder { visitor, func: None, open: None };
     let Ok(()) = ruffdresser::body::report_fields(&mut walk, instr);
 }
 

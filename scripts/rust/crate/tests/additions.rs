@@ -121,6 +121,14 @@ fn an_endless_body_is_not_nested() {
 }
 
 #[test]
+fn a_sequence_inside_a_later_one_is_nested() {
+    let mut func = function();
+    let seq = func.entry_block();
+    let start = func.builder_mut().dangling_instr_seq(None).instr(Block { seq }).id();
+    assert!(NestedBody::new(&func, start).is_some());
+}
+
+#[test]
 fn what_becomes_the_type_of_a_sequence_does() {
     let mut func = function();
     let builder = func.builder_mut();
