@@ -80,17 +80,21 @@ impl Default for ModuleLocals {
 // after it, none can be inside itself. Otherwise this searches.
 pub(crate) fn is_nested(func: &LocalFunction, start: InstrSeqId) -> Result<bool, AllocError> {
     let mut children: Vec<InstrSeqId> = Vec::new();
-    for at in 0..func.block_count() {
+    let (mut at, mut last) = (start.index(), start.index());
+    while at <= last && func.contains_block(walrus_ir::Id::from_index(at)) {
         for (instr, _) in &func.block(walrus_ir::Id::from_index(at)).instrs {
             if has_children(instr) {
                 try_push_children(&mut children, instr)?;
             }
         }
-        let is_later = |id: InstrSeqId| id.index() > at && func.contains_block(id);
-        if !children.drain(..).all(is_later) {
-            let found = walrus_nesting::try_check_nesting(func, start)?;
-            return Ok(matches!(found, walrus_nesting::Nesting::Nested(_)));
+        for child in children.drain(..) {
+            if child.index() <= at || !func.contains_block(child) {
+                let found = walrus_nesting::try_check_nesting(func, start)?;
+                return Ok(matches!(found, walrus_nesting::Nesting::Nested(_)));
+            }
+            last = last.max(child.index());
         }
+        at += 1;
     }
     Ok(func.contains_block(start))
 }
