@@ -13,12 +13,12 @@ pub(super) fn with_a_dead_type(alloc: Global) -> Result<ModuleTypes, AllocError>
     Ok(types)
 }
 
-// Whether the table finds its function type, and nothing else that was added.
+// Whether the table finds its function type alone. The group of the deleted type is empty.
 pub(super) fn finds_the_first(types: &ModuleTypes) -> bool {
     let first = types.find(&[Val::I32], &[]);
     matches!(first, Some(id) if id.index() == 0)
         && types.find(&[], &[]).is_none()
-        && types.rec_groups().len() == 1
+        && types.rec_groups().len() == 2
 }
 
 #[test]
