@@ -77,24 +77,24 @@ impl Default for ModuleLocals {
 // == walrus_traversals/src/traversals.rt
 
 // Whether the body is nested from `start`. Where the sequences inside each one are known, and come
-// after it, none can be inside itself. Otherwise this searches.
+// after it, none can be inside itself. Otherwise, and where others stand among them, this searches.
 pub(crate) fn is_nested(func: &LocalFunction, start: InstrSeqId) -> Result<bool, AllocError> {
     let mut children: Vec<InstrSeqId> = Vec::new();
-    let (mut at, mut last) = (start.index(), start.index());
+    let (mut at, mut last, mut named) = (start.index(), start.index(), 1);
     while at <= last && func.contains_block(walrus_ir::Id::from_index(at)) {
         for (instr, _) in &func.block(walrus_ir::Id::from_index(at)).instrs {
             if has_children(instr) {
                 try_push_children(&mut children, instr)?;
             }
         }
-        for child in children.drain(..) {
-            if child.index() <= at || !func.contains_block(child) {
-                let found = walrus_nesting::try_check_nesting(func, start)?;
-                return Ok(matches!(found, walrus_nesting::Nesting::Nested(_)));
-            }
-            last = last.max(child.index());
-        }
         at += 1;
+        named += children.len();
+        let is_known = |id: &InstrSeqId| id.index() >= at && func.contains_block(*id);
+        if at - start.index() > named || !children.iter().all(is_known) {
+            let found = walrus_nesting::try_check_nesting(func, start)?;
+            return Ok(matches!(found, walrus_nesting::Nesting::Nested(_)));
+        }
+        last = children.drain(..).fold(last, |last, id| last.max(id.index()));
     }
     Ok(func.contains_block(start))
 }

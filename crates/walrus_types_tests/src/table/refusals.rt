@@ -243,7 +243,10 @@ fn deletions_take_no_memory(rt: HostRuntime) {
 
 #[test]
 fn a_refused_clone_is_made_again(rt: HostRuntime) {
-    let types = with_a_dead_type(rt.alloc()).expect(&rt, "memory");
+    let types = match with_a_dead_type(rt.alloc()) {
+        Ok(types) => types,
+        Err(_) => with_a_dead_type(rt.alloc()).expect(&rt, "memory"),
+    };
     let copy = match types.clone() {
         Ok(copy) => copy,
         Err(_) => types.clone().expect(&rt, "memory"),
