@@ -164,6 +164,7 @@ pub use Rattle.wasm_module.specs.OwnIndices
 pub use Rattle.wasm_module.specs.RenamedNames
 pub use Rattle.wasm_module.specs.Lengths
 pub use Rattle.wasm_module.specs.UnknownCustoms
+pub use Rattle.wasm_module.specs.UnreadNames
 pub use Rattle.wasm_module.specs.Outdated
 pub use Rattle.wasm_normalise.specs.CanonicalModules
 pub use Rattle.wasm_normalise.specs.Meanings

@@ -49,7 +49,7 @@ pub use walrus_types::{
 };
 
 // Sections: the records of a type section, its normal form, and its canonical form.
-pub use walrus_canonical::{CanonicalError, canonicalise, laws as canonical_laws};
+pub use walrus_canonical::{CanonicalError, canonicalise, entry_count, laws as canonical_laws};
 pub use walrus_normal_form_check::is_normal_form;
 pub use walrus_sections::{ReadError, first_error, laws as section_laws};
 pub use walrus_ty::{
@@ -217,8 +217,9 @@ pub use wasm_binary::{
 pub use wasm_module::{
     DescriptionKind, RenameError, ScanError, Section, SectionIter, Widths, body_types,
     check_module, description_kind, expression_types, find_description, find_outdated,
-    find_unknown_custom, laws as module_laws, named_types, rename_body, rename_custom_section,
-    rename_expression, rename_module, rename_section, section_types, sections, strip_descriptions,
+    find_unknown_custom, find_unread_names, laws as module_laws, named_types, rename_body,
+    rename_custom_section, rename_expression, rename_module, rename_section, section_types,
+    sections, strip_descriptions,
 };
 pub use wasm_normalise::{
     Descriptions, Hazard, NormaliseModuleError, NormaliseOptions, StrictError, UnusedTypes,

@@ -15,12 +15,14 @@ use std::alloc::{AllocError, Global};
 use walrus_sections::{ReadError, first_error};
 use walrus_ty::{EntryAt, GroupAt};
 
-/// The number of entries of a section that can be read.
+/// Returns the number of entries of a section that can be read (WebAssembly core specification,
+/// "Modules", types).
 ///
 /// # Errors
 ///
-/// The first group that can't be read decides, as `first_error` says.
-pub(crate) fn entry_count(groups: &[GroupAt]) -> Result<usize, ReadError>
+/// The first group that can't be read decides, as [`first_error`](walrus_sections::first_error) says.
+/// [`canonicalise`](crate::canonicalise) has the same error.
+pub fn entry_count(groups: &[GroupAt]) -> Result<usize, ReadError>
     ensures well_named { OnOk result (IsWellNamed (section_of groups.now)) }
     ensures count { IfOk result (λ n. n ≡ (index_space (section_of groups.now)).count) }
     ensures refused { IfErr result (IsFirstError (section_of groups.now)) }

@@ -5,7 +5,7 @@ use crate::assertions::{assert_equal, is_right};
 use crate::fixtures::{columns, numbers_again, section_again};
 use std::alloc::Global;
 use std::process::Abort;
-use walrus_canonical::{CanonicalError, GroupAt, HashKeys, ReadError, canonicalise};
+use walrus_canonical::{CanonicalError, GroupAt, HashKeys, ReadError, canonicalise, entry_count};
 
 // The canonical form of the section of this text. It is asked for again after a refusal of memory.
 fn canonical_again(
@@ -119,4 +119,20 @@ fn a_section_is_refused_before_a_root(rt: HostRuntime) {
         end: 2,
     };
     assert_equal(&rt, refused, Some(CanonicalError::Section(bad)));
+}
+
+#[test]
+fn entries_of_all_groups_are_counted(rt: HostRuntime) {
+    let alloc = rt.alloc();
+    let none = section_again(alloc, "").expect(&rt, "memory");
+    let several = section_again(alloc, "f ( ) ( si f s2 ) f").expect(&rt, "memory");
+    let bad = section_again(alloc, "f ( f s3 ) f").expect(&rt, "memory");
+    let error = ReadError::BadIndex {
+        entry: 2,
+        index: 3,
+        end: 3,
+    };
+    assert_equal(&rt, entry_count(none.as_slice()), Ok(0));
+    assert_equal(&rt, entry_count(several.as_slice()), Ok(5));
+    assert_equal(&rt, entry_count(bad.as_slice()), Err(error));
 }

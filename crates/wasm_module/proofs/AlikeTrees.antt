@@ -193,12 +193,13 @@ module _ (R : Pairing) (m w : NewIndices) (h : LeadTogether R m w) where
       type_sections size content size' content'
 
 -- modules that are alike become one
-pub modules_become_one : (R : Pairing) (m w : NewIndices) → LeadTogether R m w →
-    (t bytes other a b : List ℕ) → AreAlike R bytes other → RenamesModule t m widths.Shortest bytes a →
+pub modules_become_one : (R : Pairing) (m w : NewIndices) → LeadTogether R m w → (count other_count : ℕ) →
+    length m ≡ count → length w ≡ other_count → (t bytes other a b : List ℕ) →
+    AreAlike R count other_count bytes other → RenamesModule t m widths.Shortest bytes a →
     RenamesModule t w widths.Shortest other b → a ≡ b
-modules_become_one R m w h t bytes other a b alike f g =
-    let p = alike.has.to t m widths.Shortest a f in
-    let q = alike.other_has.to t w widths.Shortest b g in
+modules_become_one R m w h count other_count many other_many t bytes other a b alike f g =
+    let p = alike.has.to t m widths.Shortest a many f in
+    let q = alike.other_has.to t w widths.Shortest b other_many g in
     sym p.2 ∙ ap (λ u. header ++ bytes_of u)
     (become_one R m w h t alike.tree alike.other_tree p.0 q.0 alike.alike p.1 q.1)
     ∙ q.2

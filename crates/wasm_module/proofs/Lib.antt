@@ -43,6 +43,7 @@ pub mod ModuleLengths
 pub mod DescriptionNames
 pub mod OutdatedSections
 pub mod UnknownSections
+pub mod UnreadNames
 pub mod TreesOfMaps
 pub mod TreesOfNames
 pub mod TreesOfModules

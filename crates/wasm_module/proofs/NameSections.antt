@@ -5,13 +5,14 @@ use Rattle.std.specs.Str.{bytes_eq}
 use Rattle.std.proofs.lemmas.Slice.Eq.{bytes_eq-Decides}
 use Rattle.wasm_binary.specs.Leb128.{IsU32}
 use Rattle.wasm_module.specs.declared.renaming.Widths.{Widths}
-use Rattle.wasm_module.specs.Changes.{Changes, ChangeAll, IsMalformed}
-use Rattle.wasm_module.specs.NameSections.{RenamesSubsection, name_bytes, RenamesCustom, name_section, other, FirstSubsectionIn, in_subsection}
-use Rattle.wasm_module.specs.Steps.NameSections.{BeginsNone, TakesSized, BeginsUnsized, IsSomeSubsection, BeginsSubsectionIn, begins}
+use Rattle.wasm_module.specs.Changes.{Changes, IsMalformed}
+use Rattle.wasm_module.specs.NameSections.{RenamesSubsection, IsSubsection, AreSubsections, name_bytes, RenamesCustom, name_section, unread, other, FirstSubsectionIn, in_subsection}
+use Rattle.wasm_module.specs.Steps.NameSections.{BeginsNone, IsAny, TakesSized, BeginsUnsized, BeginsSubsectionIn, begins}
 use Rattle.wasm_module.specs.Steps.Changes.{IsChangedUpTo}
 use Rattle.wasm_module.specs.Renaming.{NewIndices}
 use Rattle.wasm_module.proofs.SizedContents.{same_content}
 use Rattle.wasm_module.proofs.Changing.{changed_none}
+use Rattle.wasm_module.proofs.TreesOfNames.{renamed_read}
 use Rattle.wasm_module.proofs.Subsections.{next_subsection}
 
 -- ---- their names
@@ -41,17 +42,15 @@ pub record IsSectionUpTo (new_indices : NewIndices) (widths : Widths) (content u
   pub so_far : IsChangedUpTo (RenamesSubsection new_indices widths) count (size ++ name_bytes) content rest
       unwritten out
 
-pub section_begun : (new_indices : NewIndices) (widths : Widths) (content name rest out : List ℕ) →
-    TakesSized name content rest → name ≡ name_bytes → out ≡ [] →
-    IsSectionUpTo new_indices widths content content rest out
-section_begun new_indices widths content name rest out t e o =
+pub section_begun : (new_indices : NewIndices) (widths : Widths) (content rest out : List ℕ) →
+    TakesSized name_bytes content rest → out ≡ [] → IsSectionUpTo new_indices widths content content rest out
+section_begun new_indices widths content rest out t o =
     record {
       size = t.size;
-      is_size = subst (λ (u : List ℕ). IsU32 t.size (length u)) e t.is_size;
+      is_size = t.is_size;
       count = 0;
       so_far = changed_none (RenamesSubsection new_indices widths) (t.size ++ name_bytes) content rest out
-          (t.parts ∙ ap (λ (u : List ℕ). t.size ++ (u ++ rest)) e ∙ sym
-          (append_assoc t.size name_bytes rest)) o;
+          (t.parts ∙ sym (append_assoc t.size name_bytes rest)) o;
     }
 
 -- ---- what the whole says
@@ -115,34 +114,21 @@ section_first new_indices widths F content unwritten rest out s b =
         in_subsection s.count s.size s.so_far.texts behind s.so_far.new s.so_far.names id s.is_size
         s.so_far.so_far i
 
--- a name, and what follows it
-record Named (new_indices : NewIndices) (widths : Widths) (content new names : List ℕ) : Type 0 where
-  name : List ℕ
-  follows : List ℕ
-  takes : TakesSized name content follows
-  are : name ≡ name_bytes → (count : ℕ) × (others : List ℕ)
-      × ChangeAll (RenamesSubsection new_indices widths) count follows others names
+-- ---- what stays
 
 named : (new_indices : NewIndices) (widths : Widths) (content new names : List ℕ) →
-    RenamesCustom new_indices widths content new names → Named new_indices widths content new names
+    RenamesCustom new_indices widths content new names →
+    (name : List ℕ) × (follows : List ℕ) × TakesSized name content follows
 named new_indices widths _ _ _ (name_section count size texts new names h c) =
-    record {
-      name = name_bytes;
-      follows = texts;
-      takes = record { size = size; is_size = h; parts = refl };
-      are = λ e. (count, new, c);
-    }
+    (name_bytes, texts, record { size = size; is_size = h; parts = refl })
+named new_indices widths _ _ _ (unread size texts h c) =
+    (name_bytes, texts, record { size = size; is_size = h; parts = refl })
 named new_indices widths _ _ _ (other size bytes follows h not_name) =
-    record {
-      name = bytes;
-      follows = follows;
-      takes = record { size = size; is_size = h; parts = refl };
-      are = λ e. absurd (not_name e);
-    }
+    (bytes, follows, record { size = size; is_size = h; parts = refl })
 
 pub custom_nameless : (content : List ℕ) → BeginsUnsized content → IsMalformed RenamesCustom content
 custom_nameless content h new_indices widths new names r =
-    let n = named new_indices widths content new names r in h n.name n.follows n.takes
+    let n = named new_indices widths content new names r in h n.0 n.1 n.2
 
 pub custom_other : (new_indices : NewIndices) (widths : Widths) (content name rest : List ℕ) →
     TakesSized name content rest → (name ≡ name_bytes → ⊥) →
@@ -151,21 +137,31 @@ custom_other new_indices widths content name rest t e =
     subst (λ (u : List ℕ). RenamesCustom new_indices widths u u []) (sym t.parts)
     (other t.size name rest t.is_size e)
 
-pub section_malformed : (old_indices : NewIndices) (old_widths : Widths)
-    (content unwritten rest out : List ℕ) →
-    IsSectionUpTo old_indices old_widths content unwritten rest out → (rest ≡ [] → ⊥) →
-    BeginsNone IsSomeSubsection rest → IsMalformed RenamesCustom content
-section_malformed old_indices old_widths content unwritten rest out s some h new_indices widths new names r =
+-- the same name in another form
+pub as_name : (name content rest : List ℕ) → TakesSized name content rest → name ≡ name_bytes →
+    TakesSized name_bytes content rest
+as_name name content rest t e = subst (λ (u : List ℕ). TakesSized u content rest) e t
+
+pub custom_unread : (new_indices : NewIndices) (widths : Widths) (content rest : List ℕ) →
+    TakesSized name_bytes content rest → ¬ (AreSubsections (length new_indices) rest) →
+    RenamesCustom new_indices widths content content []
+custom_unread new_indices widths content rest t h =
+    subst (λ (u : List ℕ). RenamesCustom new_indices widths u u []) (sym t.parts)
+    (unread t.size rest t.is_size h)
+
+pub section_unread : (new_indices : NewIndices) (widths : Widths)
+    (content subsections unwritten rest out : List ℕ) →
+    IsSectionUpTo new_indices widths content unwritten rest out → TakesSized name_bytes content subsections →
+    (rest ≡ [] → ⊥) → BeginsNone (IsAny (IsSubsection (length new_indices))) rest →
+    ¬ (AreSubsections (length new_indices) subsections)
+section_unread new_indices widths content subsections unwritten rest out s t some h a =
     let u = s.so_far in
-    let n = named new_indices widths content new names r in
     let it : TakesSized name_bytes content (u.texts ++ rest) = record {
       size = s.size;
       is_size = s.is_size;
       parts = u.parts ∙ append_assoc s.size name_bytes (u.texts ++ rest);
     } in
-    let same = same_content content name_bytes (u.texts ++ rest) n.name n.follows it n.takes in
-    let a = n.are (sym same.0) in
-    let k = next_subsection old_indices new_indices old_widths widths s.count a.0 u.texts u.new u.names
-    n.follows a.1
-    names rest u.so_far a.2 same.1 some in
+    let same = same_content content name_bytes (u.texts ++ rest) name_bytes subsections it t in
+    let r = renamed_read new_indices widths s.count u.texts u.new u.names u.so_far in
+    let k = next_subsection (length new_indices) u.texts r.0 subsections a.ids rest r.1 a.are same.1 some in
     h k.0 k.1

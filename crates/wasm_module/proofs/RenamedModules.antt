@@ -8,8 +8,9 @@ use Rattle.wasm_binary.proofs.Modules.Faulting.{module_parts}
 use Rattle.wasm_binary.proofs.Modules.Uniqueness.{one_module}
 use Rattle.wasm_module.specs.declared.renaming.Widths.{Widths}
 use Rattle.wasm_module.specs.Changes.{TurnsInto, ChangesSized, stays, resized, ChangeAll, none, next, IsMalformed}
-use Rattle.wasm_module.specs.RenamedModules.{RenamesAny, RenamesSection, RenamesModule, CanNotBeRenamed, FirstSectionIn, InContent, AnyNamesUnknown, ModuleNamesUnknown, SectionBecomesTooLong, ModuleBecomesTooLong}
+use Rattle.wasm_module.specs.RenamedModules.{RenamesAny, RenamesSection, RenamesModule, CanNotBeRenamed, FirstSectionIn, InContent, ModuleNamesUnknown, SectionBecomesTooLong, ModuleBecomesTooLong}
 use Rattle.wasm_module.specs.RenamedModules.RenamesSection.{type_section, other}
+use Rattle.wasm_module.specs.RenamedSections.{NamesUnknownIn}
 use Rattle.wasm_module.proofs.RenamedSections.{in_content_of, too_long_longer}
 use Rattle.wasm_module.specs.Sections.{PlacedSection, placed, framing, ArePlaced}
 use Rattle.wasm_module.specs.Sections.ArePlaced.{none as nothing, next as placed_next}
@@ -437,9 +438,9 @@ pub module_unknown : (types : List ℕ) (new_indices : NewIndices) (widths : Wid
     → ModuleNamesUnknown types new_indices widths k bytes
 module_unknown types new_indices widths k bytes all old left out s m w e u =
     let n = placed_first bytes w.texts w.rest (length header + length w.texts) old left s refl w.places e in
-    let F : List ℕ → Type 0 = InContent (AnyNamesUnknown new_indices widths k) in
+    let F : List ℕ → Type 0 = InContent (λ id. NamesUnknownIn id new_indices widths k) in
     let found : F w.rest = subst F (sym n.parts)
-    (in_content_of (AnyNamesUnknown new_indices widths k) s.framed.id n.size s.framed.content n.others u.other
+    (in_content_of (λ id. NamesUnknownIn id new_indices widths k) s.framed.id n.size s.framed.content n.others u.other
     n.is_size u.unknown) in
     first_section types new_indices widths F bytes all old left out s m w e found
 

@@ -9,7 +9,6 @@ use Rattle.wasm_module.specs.declared.kind.Space.TheVariants as space
 use Rattle.wasm_module.specs.declared.kind.Kind.{Kind}
 use Rattle.wasm_module.specs.declared.scan.ScanError.{ScanError}
 use Rattle.wasm_module.specs.declared.scan.ScanError.TheVariants as scan
-use Rattle.wasm_module.specs.declared.renaming.RenameError.{RenameError}
 use Rattle.wasm_module.specs.declared.renaming.RenameError.TheVariants as rename
 use Rattle.wasm_module.specs.declared.renaming.Widths.{Widths}
 use Rattle.wasm_module.specs.declared.scan.TypeIndex.{TypeIndex}
@@ -368,7 +367,7 @@ is_malformed (scan.Malformed at) place h = ap scan.Malformed (same_place at plac
     same_place a b e = cc
 is_malformed scan.Memory place h = absurd cc
 
-pub same_failure : {T : Type 0} (r : Result T RenameError) (x y : RenameError) → r ≡ Err x → r ≡ Err y → x ≡ y
+pub same_failure : {T E : Type 0} (r : Result T E) (x y : E) → r ≡ Err x → r ≡ Err y → x ≡ y
 same_failure (Ok v) x y e f = absurd cc
 same_failure (Err z) x y e f = cc
 

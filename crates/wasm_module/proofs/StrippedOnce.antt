@@ -16,7 +16,7 @@ use Rattle.wasm_module.specs.declared.renaming.Widths.{Widths}
 use Rattle.wasm_module.specs.Changes.{stays, resized, ChangeAll}
 use Rattle.wasm_module.specs.Changes.ChangeAll.{none as no_change, next as next_change}
 use Rattle.wasm_module.specs.Customs.{IsDescriptionName, external_debug_info, linking, signature, source_mapping_url, debug, code_metadata, relocations, IsDescription, IsStrippedSection, left_out, kept, AreStripped, none, next, IsStripped}
-use Rattle.wasm_module.specs.NameSections.{name_bytes, RenamesCustom, name_section}
+use Rattle.wasm_module.specs.NameSections.{name_bytes, RenamesCustom, name_section, unread}
 use Rattle.wasm_module.specs.NameSections.RenamesCustom.{other as other_name}
 use Rattle.wasm_module.specs.RenamedModules.{RenamesAny, RenamesSection, RenamesModule}
 use Rattle.wasm_module.specs.RenamedModules.RenamesAny.{custom, other as other_content}
@@ -198,6 +198,7 @@ custom_alike m w id _ _ _ (name_section count size texts new names h hs) = (
   (λ d. absurd (name_section_fails id size texts h d)),
   (λ d. absurd (name_section_fails id size new h d)),
 )
+custom_alike m w id _ _ _ (unread size texts h fails) = ((λ d. d), (λ d. d))
 custom_alike m w id _ _ _ (other_name size bytes follows h different) = ((λ d. d), (λ d. d))
 
 any_alike : (m : NewIndices) (w : Widths) (id : ℕ) (content new names : List ℕ) →

@@ -2,15 +2,17 @@
 use Rattle.std.proofs.Common.{◌≡◌, ℕ, ◌+◌, ◌-◌, ◌<◌, ◌≤◌, ◌^◌, List, [], ◌∷◌, ◌++◌, length, take, drop, get_or, Option, Some, None, Result, Ok, Err, sym, ap, subst, ◌∙◌, arith, append_assoc, length-append}
 use Rattle.std.specs.Prelude.{IfSome, IfNone, IfOk}
 use Rattle.wasm_module.specs.declared.renaming.Widths.{Widths}
-use Rattle.wasm_module.specs.Changes.{Changes, ChangesSized, stays, resized, ChangeAll, none, next, IsMalformed, BecomesTooLong, InSized, in_content}
+use Rattle.wasm_binary.specs.Grammar.{AreItems, none, next}
+use Rattle.wasm_module.specs.Changes.{Changes, stays, resized, BecomesTooLong, InSized, in_content}
 use Rattle.wasm_module.specs.Renaming.{NewIndices, least_width, IsTextOf}
-use Rattle.wasm_module.specs.NameSections.{IsName, IsNameMap, RenamesMap, RenamesNames, RenamesSubsection, subsection}
+use Rattle.wasm_module.specs.NameSections.{IsName, IsNameMap, RenamesMap, RenamesNames, RenamesSubsection, subsection, IsTypeMap, AreNames, IsSubsection}
+use Rattle.wasm_module.specs.NameSections.IsSubsection.{sized as with_size}
 use Rattle.wasm_module.specs.NameSections.RenamesNames.{type_names, field_names}
+use Rattle.wasm_module.specs.NameSections.AreNames.{type_names as are_type_names, field_names as are_field_names, others as are_others}
 use Rattle.wasm_module.specs.Steps.Changes.{IsChangedUpTo}
 use Rattle.wasm_module.specs.Steps.Renaming.{Appends}
-use Rattle.wasm_module.specs.Steps.NameSections.{Takes, BeginsNone, TakesSized, BeginsUnsized, IsSomeSubsection, BeginsSubsectionIn, begins}
+use Rattle.wasm_module.specs.Steps.NameSections.{Takes, BeginsNone, TakesSized, BeginsUnsized, IsAny, BeginsSubsectionIn, begins}
 use Rattle.wasm_module.proofs.SizedContents.{same_content}
-use Rattle.wasm_module.proofs.TextItems.{IsPrefixFree}
 use Rattle.wasm_module.proofs.Changing.{none_weaker, some_weaker, before, changed_passed, changed_on}
 use Rattle.wasm_module.proofs.Searching.{integer_short}
 
@@ -54,74 +56,19 @@ field_names_change id new_indices widths content new e c =
       is_naming = c.is_naming;
     }
 
+-- the map that names by a subsection's id are
+pub type_map : (count id : ℕ) (text : List ℕ) → id ≡ 4 → AreNames count id text → IsTypeMap IsName count text
+type_map count id _ e (are_type_names text is h) = h
+type_map count id _ e (are_field_names text is h) = absurd (omega (arith, e, is))
+type_map count id _ e (are_others text fails lacks) = absurd (fails e)
+
+pub field_map : (count id : ℕ) (text : List ℕ) → id ≡ 10 → AreNames count id text →
+    IsTypeMap IsNameMap count text
+field_map count id _ e (are_type_names text is h) = absurd (omega (arith, e, is))
+field_map count id _ e (are_field_names text is h) = h
+field_map count id _ e (are_others text fails lacks) = absurd (lacks e)
+
 -- ---- one subsection
-
-record Opened (id : ℕ) (behind rest : List ℕ) : Type 0 where
-  new_indices : NewIndices
-  widths : Widths
-  content : List ℕ
-  new : List ℕ
-  names : List ℕ
-  takes : TakesSized content behind rest
-  renames : RenamesNames id new_indices widths content new names
-
-opened_sized : (id : ℕ) (new_indices : NewIndices) (widths : Widths) (text new names rest : List ℕ) →
-    ChangesSized widths (RenamesNames id new_indices widths) text new names → Opened id (text ++ rest) rest
-opened_sized id new_indices widths _ _ _ rest (stays size content h r) =
-    record {
-      new_indices = new_indices;
-      widths = widths;
-      content = content;
-      new = content;
-      names = [];
-      takes = record { size = size; is_size = h; parts = append_assoc size content rest };
-      renames = r;
-    }
-opened_sized id new_indices widths _ _ _ rest (resized size content new_size new names h r some w) =
-    record {
-      new_indices = new_indices;
-      widths = widths;
-      content = content;
-      new = new;
-      names = names;
-      takes = record { size = size; is_size = h; parts = append_assoc size content rest };
-      renames = r;
-    }
-
-opened : (new_indices : NewIndices) (widths : Widths) (text new names : List ℕ) (id : ℕ)
-    (behind rest : List ℕ) →
-    RenamesSubsection new_indices widths text new names → id ∷ behind ≡ text ++ rest → Opened id behind rest
-opened new_indices widths _ _ _ id behind rest (subsection its_id text new names c) e =
-    let id-is : id ≡ its_id = ap (λ (u : List ℕ). get_or u 0 0) e in
-    let behind-is : behind ≡ text ++ rest = ap (λ (u : List ℕ). drop 1 u) e in
-    subst (λ (u : List ℕ). Opened id u rest) (sym behind-is)
-    (subst (λ k. Opened k (text ++ rest) rest) (sym id-is)
-    (opened_sized its_id new_indices widths text new names rest c))
-
-taken_subsection : (id : ℕ) (behind rest : List ℕ) → Takes IsSomeSubsection (id ∷ behind) rest →
-    Opened id behind rest
-taken_subsection id behind rest t =
-    let s = t.is_text in
-    opened s.new_indices s.widths t.text s.new s.names id behind rest s.renames t.parts
-
-empty_subsection : (new_indices : NewIndices) (widths : Widths) (text new names : List ℕ) →
-    RenamesSubsection new_indices widths text new names → 0 < length text
-empty_subsection new_indices widths _ _ _ (subsection id text new names c) = omega arith
-
-pub unsized_subsection : (bytes : List ℕ) (id : ℕ) (behind : List ℕ) → bytes ≡ id ∷ behind →
-    BeginsUnsized behind → BeginsNone IsSomeSubsection bytes
-unsized_subsection bytes id behind e h rest t =
-    let o = taken_subsection id behind rest (subst (λ (u : List ℕ). Takes IsSomeSubsection u rest) e t) in
-    h o.content rest o.takes
-
-pub malformed_subsection : (bytes : List ℕ) (id : ℕ) (behind content after : List ℕ) → bytes ≡ id ∷ behind →
-    TakesSized content behind after → IsMalformed (RenamesNames id) content →
-    BeginsNone IsSomeSubsection bytes
-malformed_subsection bytes id behind content after e s h rest t =
-    let o = taken_subsection id behind rest (subst (λ (u : List ℕ). Takes IsSomeSubsection u rest) e t) in
-    let same = same_content behind content after o.content rest s o.takes in
-    h o.new_indices o.widths o.new o.names
-    (subst (λ (u : List ℕ). RenamesNames id o.new_indices o.widths u o.new o.names) (sym same.0) o.renames)
 
 pub begins_in : (F : ℕ → List ℕ → Type 0) (bytes : List ℕ) (id : ℕ) (behind content after : List ℕ) →
     bytes ≡ id ∷ behind → TakesSized content behind after → F id content → BeginsSubsectionIn F bytes
@@ -130,42 +77,81 @@ begins_in F bytes id behind content after e s f =
     (begins id behind (subst (λ (u : List ℕ). InSized (F id) u) (sym s.parts)
     (in_content s.size content after s.is_size f)))
 
-subsection_free : IsPrefixFree IsSomeSubsection
-subsection_free a b rest after h k e = first a (h.new) (h.names) h.renames e
-  where
-    first : (a new names : List ℕ) → RenamesSubsection h.new_indices h.widths a new names →
-        a ++ rest ≡ b ++ after → rest ≡ after
-    first _ _ _ (subsection id text new names c) e =
-        let o = opened_sized id h.new_indices h.widths text new names rest c in
-        let p = opened k.new_indices k.widths b k.new k.names id (text ++ rest) after k.renames e in
-        (same_content (text ++ rest) o.content rest p.content after o.takes p.takes).1
+-- ---- those that can be read, where there are this many types
 
--- ---- several subsections
+module _ (count : ℕ) where
+  abbrev IsAnySubsection : List ℕ → Type 0
+  IsAnySubsection = IsAny (IsSubsection count)
 
-some_subsection : (new_indices : NewIndices) (widths : Widths) (text new names : List ℕ) →
-    RenamesSubsection new_indices widths text new names → IsSomeSubsection text
-some_subsection new_indices widths text new names r =
-    record { new_indices = new_indices; widths = widths; new = new; names = names; renames = r }
+  record Opened (id : ℕ) (behind rest : List ℕ) : Type 0 where
+    content : List ℕ
+    takes : TakesSized content behind rest
+    are : AreNames count id content
 
--- a subsection behind subsections, where all of the bytes are subsections and some are left
-pub next_subsection : (a b : NewIndices) (v w : Widths) (count all : ℕ)
-    (texts new names whole its its_names rest : List ℕ)
-    → ChangeAll (RenamesSubsection a v) count texts new names
-    → ChangeAll (RenamesSubsection b w) all whole its its_names → texts ++ rest ≡ whole → (rest ≡ [] → ⊥) →
-    (after : List ℕ) × Takes IsSomeSubsection rest after
-next_subsection a b v w _ _ _ _ _ _ _ _ rest none none e some = absurd (some e)
-next_subsection a b v w _ _ _ _ _ _ _ _ rest none (next all text texts new news names more r rs) e some =
-    (texts, record { text = text; is_text = some_subsection b w text new names r; parts = e })
-next_subsection a b v w _ _ _ _ _ _ _ _ rest (next count text texts new news names more r rs) none e some =
-    absurd (let k = empty_subsection a v text new names r in
-    let long : length ((text ++ texts) ++ rest) ≡ 0 = ap (λ (u : List ℕ). length u) e in
-    omega (arith, k, long, length-append (text ++ texts) rest, length-append text texts))
-next_subsection a b v w _ _ _ _ _ _ _ _ rest (next count text texts new news names more r rs)
-    (next all its whole its_new its_news its_names its_more k ks) e some =
-    let same : text ++ (texts ++ rest) ≡ its ++ whole = sym (append_assoc text texts rest) ∙ e in
-    let behind = subsection_free text its (texts ++ rest) whole (some_subsection a v text new names r)
-    (some_subsection b w its its_new its_names k) same in
-    next_subsection a b v w count all texts news more whole its_news its_more rest rs ks behind some
+  opened_text : (text : List ℕ) (its_id id : ℕ) (behind rest : List ℕ) → IsSubsection count text its_id →
+      id ∷ behind ≡ text ++ rest → Opened id behind rest
+  opened_text _ its_id id behind rest (with_size _ size content h are) e =
+      record {
+        content = content;
+        takes = record {
+          size = size;
+          is_size = h;
+          parts = ap (λ (u : List ℕ). drop 1 u) e ∙ append_assoc size content rest;
+        };
+        are = subst (λ k. AreNames count k content) (sym (ap (λ (u : List ℕ). get_or u 0 0) e)) are;
+      }
+
+  opened : (bytes : List ℕ) (id : ℕ) (behind rest : List ℕ) → bytes ≡ id ∷ behind →
+      Takes IsAnySubsection bytes rest → Opened id behind rest
+  opened bytes id behind rest e t =
+      opened_text t.text t.is_text.item id behind rest t.is_text.is_text (sym e ∙ t.parts)
+
+  pub subsection_taken : (bytes : List ℕ) (id : ℕ) (behind content after : List ℕ) → bytes ≡ id ∷ behind →
+      TakesSized content behind after → AreNames count id content → Takes IsAnySubsection bytes after
+  subsection_taken bytes id behind content after e s are =
+      record {
+        text = id ∷ (s.size ++ content);
+        is_text = record { item = id; is_text = with_size id s.size content s.is_size are };
+        parts = e ∙ ap (λ (u : List ℕ). id ∷ u) (s.parts ∙ sym (append_assoc s.size content after));
+      }
+
+  pub unsized_subsection : (bytes : List ℕ) (id : ℕ) (behind : List ℕ) → bytes ≡ id ∷ behind →
+      BeginsUnsized behind → BeginsNone IsAnySubsection bytes
+  unsized_subsection bytes id behind e h rest t =
+      let o = opened bytes id behind rest e t in h o.content rest o.takes
+
+  pub unread_subsection : (bytes : List ℕ) (id : ℕ) (behind content after : List ℕ) → bytes ≡ id ∷ behind →
+      TakesSized content behind after → ¬ (AreNames count id content) → BeginsNone IsAnySubsection bytes
+  unread_subsection bytes id behind content after e s h rest t =
+      let o = opened bytes id behind rest e t in
+      let same = same_content behind content after o.content rest s o.takes in
+      h (subst (λ (u : List ℕ). AreNames count id u) (sym same.0) o.are)
+
+  pub subsection_long : (text : List ℕ) (id : ℕ) → IsSubsection count text id → 0 < length text
+  subsection_long _ id (with_size _ size content h are) = omega arith
+
+  subsection_free : (a b rest after : List ℕ) (x y : ℕ) → IsSubsection count a x → IsSubsection count b y →
+      a ++ rest ≡ b ++ after → rest ≡ after
+  subsection_free _ b rest after x y (with_size _ size content h are) k e =
+      let o = opened_text b y x ((size ++ content) ++ rest) after k e in
+      (same_content ((size ++ content) ++ rest) content rest o.content after
+      (record { size = size; is_size = h; parts = append_assoc size content rest }) o.takes).1
+
+  -- a subsection behind subsections, where all of the bytes are subsections and some are left
+  pub next_subsection : (text : List ℕ) (ids : List ℕ) (whole : List ℕ) (all rest : List ℕ) →
+      AreItems (IsSubsection count) text ids → AreItems (IsSubsection count) whole all →
+      text ++ rest ≡ whole → (rest ≡ [] → ⊥) → (after : List ℕ) × Takes IsAnySubsection rest after
+  next_subsection _ _ _ _ rest none none e some = absurd (some e)
+  next_subsection _ _ _ _ rest none (next text others id ids h hs) e some =
+      (others, record { text = text; is_text = record { item = id; is_text = h }; parts = e })
+  next_subsection _ _ _ _ rest (next text others id ids h hs) none e some =
+      absurd (let k = subsection_long text id h in
+      let long : length ((text ++ others) ++ rest) ≡ 0 = ap (λ (u : List ℕ). length u) e in
+      omega (arith, k, long, length-append (text ++ others) rest, length-append text others))
+  next_subsection _ _ _ _ rest (next text others id ids h hs) (next its whole other all k ks) e some =
+      let same : text ++ (others ++ rest) ≡ its ++ whole = sym (append_assoc text others rest) ∙ e in
+      next_subsection others ids whole all rest hs ks
+      (subsection_free text its (others ++ rest) whole id other h k same) some
 
 -- ---- what becomes of one
 

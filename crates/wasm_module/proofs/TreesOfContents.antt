@@ -9,13 +9,13 @@ use Rattle.wasm_module.specs.Changes.{ChangesSized, stays, resized, ChangeAll}
 use Rattle.wasm_module.specs.Changes.ChangeAll.{none as no_change, next as next_change}
 use Rattle.wasm_module.specs.Contents.{section_kinds}
 use Rattle.wasm_module.specs.NamedTypes.{code_id}
-use Rattle.wasm_module.specs.SyntaxTrees.{SyntaxTree, still, sized, joined, bytes_of, names_in, unchanged, unresized, resizes, joins}
+use Rattle.wasm_module.specs.SyntaxTrees.{SyntaxTree, still, sized, joined, bytes_of, names_in, TreeBecomes, unchanged, unresized, resizes, joins}
 use Rattle.wasm_module.specs.RenamedSections.{RenamesCode, RenamesContent}
 use Rattle.wasm_module.specs.RenamedSections.RenamesCode.{counted}
 use Rattle.wasm_module.specs.RenamedSections.RenamesContent.{texts, code, nameless}
 use Rattle.wasm_module.specs.Renaming.{NewIndices, least_width, IsTextOf}
 use Rattle.wasm_module.proofs.NumberTexts.{cancel}
-use Rattle.wasm_module.proofs.TreesOfChanges.{Changing, Trees, Writes, Found, Finds, AreOne, AreFirst, found_as, found_still, found_behind}
+use Rattle.wasm_module.proofs.TreesOfChanges.{Changing, Trees, Counted, Writes, Found, Finds, AreOne, AreFirst, found_as, found_still, found_behind}
 use Rattle.wasm_module.proofs.TreesOfTexts.{TextsBy, TextTree, texts_one, texts_written, texts_found}
 use Rattle.wasm_module.proofs.SameTexts.{same_kinds, no_texts_of_code, same_sizes, taken}
 use Rattle.wasm_module.proofs.SizedContents.{number_read, same_number, same_content}
@@ -39,7 +39,8 @@ sized_first Is one _ _ r s (sized_tree size p h is) (sized_tree size' q g its) e
       c.1,
     )
 
-pub sized_written : (C : Changing) (Is : Trees) → Writes C Is → Writes (WithSize C) (SizedTree Is)
+pub sized_written : (C : Changing) (Is : Counted) → Writes C Is →
+    Writes (WithSize C) (λ n. SizedTree (Is n))
 sized_written C Is write t m w _ _ (sized_tree size p h is) (unresized _ _ q unnamed same k) =
     let f : C t m w (bytes_of p) (bytes_of p) [] =
     subst (λ (u : List ℕ). C t m w (bytes_of p) u []) (sym same)
@@ -53,15 +54,16 @@ sized_written C Is write t m w _ _ (sized_tree size p h is) (resizes _ new_size 
 size_of : (size p content : List ℕ) → p ≡ content → IsU32 size (length content) → IsU32 size (length p)
 size_of size p content e h = subst (λ (u : List ℕ). IsU32 size (length u)) (sym e) h
 
-pub sized_found : (C : Changing) (Is : Trees) → Finds C Is → Finds (WithSize C) (SizedTree Is)
+pub sized_found : (C : Changing) (Is : Counted) → Finds C Is → Finds (WithSize C) (λ n. SizedTree (Is n))
 sized_found C Is find t m w _ _ _ (stays size content h f) =
     let k = find t m w content content [] f in
     record {
       tree = sized size k.tree;
       new_tree = sized size k.new_tree;
       is = sized_tree size k.tree (size_of size (bytes_of k.tree) content k.text_is h) k.is;
-      is_again = sized_tree size k.new_tree (size_of size (bytes_of k.new_tree) content k.new_is h)
-          k.is_again;
+      is_again = λ n bound. sized_tree size k.new_tree
+          (size_of size (bytes_of k.new_tree) content k.new_is h)
+          (k.is_again n bound);
       becomes = unresized size k.tree k.new_tree (sym k.names_are) (k.text_is ∙ sym k.new_is) k.becomes;
       text_is = ap (λ (u : List ℕ). size ++ u) k.text_is;
       new_is = ap (λ (u : List ℕ). size ++ u) k.new_is;
@@ -76,7 +78,7 @@ sized_found C Is find t m w _ _ _ (resized size content new_size new names h f s
       tree = sized size k.tree;
       new_tree = sized new_size k.new_tree;
       is = sized_tree size k.tree (size_of size (bytes_of k.tree) content k.text_is h) k.is;
-      is_again = sized_tree new_size k.new_tree long.is_text k.is_again;
+      is_again = λ n bound. sized_tree new_size k.new_tree long.is_text (k.is_again n bound);
       becomes = resizes size new_size k.tree k.new_tree (λ u. some (k.names_are ∙ u)) long k.becomes;
       text_is = ap (λ (u : List ℕ). size ++ u) k.text_is;
       new_is = ap (λ (u : List ℕ). new_size ++ u) k.new_is;
@@ -102,17 +104,19 @@ all_first Is first _ _ _ r s (next_tree count p q h hs) (next_tree _ p' q' k ks)
     let b = all_first Is first count q q' r s hs ks a.1 in
     (ap (λ u. joined u q) a.0 ∙ ap (λ u. joined p' u) b.0, b.1)
 
-pub all_written : (C : Changing) (Is : Trees) → Writes C Is → (count : ℕ) →
-    Writes (InTurn count C) (TreesInTurn Is count)
-all_written C Is write _ t m w _ _ no_tree (unchanged _) = no_change
-all_written C Is write _ t m w _ _ (next_tree count p q h hs) (joins _ _ r s k ks) =
+pub all_written : (C : Changing) (Is : Counted) → Writes C Is → (t : List ℕ) (m : NewIndices) (w : Widths)
+    (count : ℕ) (p q : SyntaxTree) → TreesInTurn (Is (length m)) count p → TreeBecomes t m w p q →
+    InTurn count C t m w (bytes_of p) (bytes_of q) (names_in p)
+all_written C Is write t m w _ _ _ no_tree (unchanged _) = no_change
+all_written C Is write t m w _ _ _ (next_tree count p q h hs) (joins _ _ r s k ks) =
     next_change count (bytes_of p) (bytes_of q) (bytes_of r) (bytes_of s) (names_in p) (names_in q)
-    (write t m w p r h k) (all_written C Is write count t m w q s hs ks)
+    (write t m w p r h k) (all_written C Is write t m w count q s hs ks)
 
-pub all_found : (C : Changing) (Is : Trees) → Finds C Is → (t : List ℕ) (m : NewIndices) (w : Widths)
+pub all_found : (C : Changing) (Is : Counted) → Finds C Is → (t : List ℕ) (m : NewIndices) (w : Widths)
     (count : ℕ) (text new names : List ℕ) → InTurn count C t m w text new names →
-    Found (TreesInTurn Is count) t m w text new names
-all_found C Is find t m w _ _ _ _ no_change = found_still t m w (TreesInTurn Is zero) [] no_tree
+    Found (λ n. TreesInTurn (Is n) count) t m w text new names
+all_found C Is find t m w _ _ _ _ no_change =
+    found_still t m w (λ n. TreesInTurn (Is n) zero) [] (λ n few. no_tree)
 all_found C Is find t m w _ _ _ _ (next_change count text others new news names more h hs) =
     let f = find t m w text new names h in
     let g = all_found C Is find t m w count others news more hs in
@@ -120,7 +124,7 @@ all_found C Is find t m w _ _ _ _ (next_change count text others new news names 
       tree = joined f.tree g.tree;
       new_tree = joined f.new_tree g.new_tree;
       is = next_tree count f.tree g.tree f.is g.is;
-      is_again = next_tree count f.new_tree g.new_tree f.is_again g.is_again;
+      is_again = λ n bound. next_tree count f.new_tree g.new_tree (f.is_again n bound) (g.is_again n bound);
       becomes = joins f.tree g.tree f.new_tree g.new_tree f.becomes g.becomes;
       text_is = ap (λ (u : List ℕ). u ++ bytes_of g.tree) f.text_is
           ∙ ap (λ (u : List ℕ). text ++ u) g.text_is;
@@ -156,18 +160,18 @@ code_one _ _ (code_tree bodies count p h hs) (code_tree bodies' count' q g gs) e
     (subst (λ j. TreesInTurn BodyTree j q) (sym n.0) gs) (ap (λ (u : List ℕ). u ++ []) n.1) in
     ap (λ (u : List ℕ). joined (still u) p) one ∙ ap (λ u. joined (still count') u) all.0
 
-code_written : Writes CodeBy CodeTree
+code_written : Writes CodeBy (λ n. CodeTree)
 code_written t m w _ _ (code_tree bodies count p h hs) (joins _ _ _ q (unchanged _) k) =
     counted bodies count (bytes_of p) (bytes_of q) (names_in p) h
-    (all_written BodyBy BodyTree (sized_written (TextsBy body) (TextTree body) (texts_written body)) bodies t
-    m w p q hs k)
+    (all_written BodyBy (λ n. BodyTree) (sized_written (TextsBy body) (λ n. TextTree body)
+    (texts_written body)) t m w bodies p q hs k)
 
-code_found : Finds CodeBy CodeTree
+code_found : Finds CodeBy (λ n. CodeTree)
 code_found t m w _ _ _ (counted bodies count text new names h hs) =
-    found_behind t m w (TreesInTurn BodyTree bodies) CodeTree count (λ p k. code_tree bodies count p h k) text
-    new names
-    (all_found BodyBy BodyTree (sized_found (TextsBy body) (TextTree body) (texts_found body)) t m w bodies
-    text new names hs)
+    found_behind t m w (λ n. TreesInTurn BodyTree bodies) (λ n. CodeTree) count
+    (λ n p k. code_tree bodies count p h k) text new names
+    (all_found BodyBy (λ n. BodyTree) (sized_found (TextsBy body) (λ n. TextTree body) (texts_found body)) t
+    m w bodies text new names hs)
 
 -- ---- contents
 
@@ -196,19 +200,19 @@ content_one id _ q (of_nothing text nothing fails) (of_code _ is k) same = absur
 content_one id _ _ (of_nothing text nothing fails) (of_nothing other nothing' fails') same =
     ap (λ (u : List ℕ). still u) same
 
-pub content_written : (id : ℕ) → Writes (ContentBy id) (ContentTree id)
+pub content_written : (id : ℕ) → Writes (ContentBy id) (λ n. ContentTree id)
 content_written id t m w p q (of_texts kinds _ e h) k =
     texts kinds (bytes_of p) (bytes_of q) (names_in p) e (texts_written kinds t m w p q h k)
 content_written id t m w p q (of_code _ is h) k =
     code (bytes_of p) (bytes_of q) (names_in p) is (code_written t m w p q h k)
 content_written id t m w _ _ (of_nothing text nothing fails) (unchanged _) = nameless text nothing fails
 
-pub content_found : (id : ℕ) → Finds (ContentBy id) (ContentTree id)
+pub content_found : (id : ℕ) → Finds (ContentBy id) (λ n. ContentTree id)
 content_found id t m w text new names (texts kinds _ _ _ e h) =
-    found_as t m w (TextTree kinds) (ContentTree id) (λ p k. of_texts kinds p e k) text new names
+    found_as t m w (λ n. TextTree kinds) (λ n. ContentTree id) (λ n p k. of_texts kinds p e k) text new names
     (texts_found kinds t m w text new names h)
 content_found id t m w text new names (code _ _ _ is h) =
-    found_as t m w CodeTree (ContentTree id) (λ p k. of_code p is k) text new names
+    found_as t m w (λ n. CodeTree) (λ n. ContentTree id) (λ n p k. of_code p is k) text new names
     (code_found t m w text new names h)
 content_found id t m w text _ _ (nameless _ nothing fails) =
-    found_still t m w (ContentTree id) text (of_nothing text nothing fails)
+    found_still t m w (λ n. ContentTree id) text (λ n few. of_nothing text nothing fails)

@@ -67,19 +67,19 @@ module _ (Follows : List ℕ → Type 0) where
       ap (λ (u : List ℕ). mapped u texts es) one ∙ ap (λ (u : List ℕ). mapped count' u es) c.1
       ∙ ap (λ (u : List TypeEntry). mapped count' texts' u) c.0
 
-  pub maps_written : Writes MapBy MapTree
+  pub maps_written : Writes MapBy (λ n. MapTree)
   maps_written t m w _ _ (map_tree count texts es h are) (unmapped _ _ _ nothing) =
       empty_map m w count texts es h are nothing
   maps_written t m w _ _ (map_tree count texts es h are) (remaps _ _ new_count news _ fs kept some is n a) =
       entries count texts new_count news es kept h are some is n (as_items w kept news fs a)
 
-  pub maps_found : Finds MapBy MapTree
+  pub maps_found : Finds MapBy (λ n. MapTree)
   maps_found t m w _ _ _ (empty count h) =
       record {
         tree = mapped count [] [];
         new_tree = mapped count [] [];
         is = map_tree count [] [] h none;
-        is_again = map_tree count [] [] h none;
+        is_again = λ n bound. map_tree count [] [] h none;
         becomes = unmapped count [] [] refl;
         text_is = append-nil count;
         new_is = append-nil count;
@@ -93,7 +93,7 @@ module _ (Follows : List ℕ → Type 0) where
         tree = mapped count texts es;
         new_tree = mapped new_count news a.0;
         is = map_tree count texts es h are;
-        is_again = map_tree new_count news a.0 (subst (λ k. IsU32 new_count k) long n.is_text)
+        is_again = λ c bound. map_tree new_count news a.0 (subst (λ k. IsU32 new_count k) long n.is_text)
             (as_entries w kept news a.0 a.1
             (λ k e there. follows_in Follows texts es are e (least_in m es e (is.are_least k e there).1)));
         becomes = remaps count texts new_count news es a.0 kept some is n a.1;

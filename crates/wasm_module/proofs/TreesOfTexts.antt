@@ -199,7 +199,7 @@ texts_one kinds _ _ (text_tree text ps are) (text_tree text' qs its) e =
     (ap (λ (u : List ℕ). u ++ [])
     (sym (tokens_bytes kinds text ps [] are) ∙ e ∙ tokens_bytes kinds text' qs [] its))
 
-pub texts_written : (kinds : List Kind) → Writes (TextsBy kinds) (TextTree kinds)
+pub texts_written : (kinds : List Kind) → Writes (TextsBy kinds) (λ n. TextTree kinds)
 texts_written kinds t m w _ q (text_tree text ps are) h =
     let here : AreTexts kinds (bytes_of (tokens_tree ps)) ps =
     subst (λ (u : List ℕ). AreTexts kinds u ps) (sym (tokens_bytes kinds text ps [] are)) are in
@@ -208,7 +208,7 @@ texts_written kinds t m w _ q (text_tree text ps are) h =
       renames = record { tokens = ps; are = here; renamed = tokens_from t m w ps q h };
     }
 
-pub texts_found : (kinds : List Kind) → Finds (TextsBy kinds) (TextTree kinds)
+pub texts_found : (kinds : List Kind) → Finds (TextsBy kinds) (λ n. TextTree kinds)
 texts_found kinds t m w text new names h =
     let ps = h.renames.tokens in
     let are = h.renames.are in
@@ -217,7 +217,7 @@ texts_found kinds t m w text new names h =
       tree = tokens_tree ps;
       new_tree = tokens_tree r.tokens;
       is = text_tree text ps are;
-      is_again = text_tree new r.tokens r.runs;
+      is_again = λ n bound. text_tree new r.tokens r.runs;
       becomes = r.becomes;
       text_is = tokens_bytes kinds text ps [] are;
       new_is = tokens_bytes kinds new r.tokens [] r.runs;

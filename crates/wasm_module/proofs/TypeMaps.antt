@@ -1,97 +1,89 @@
 -- Maps from types to names, from the front of bytes and written again.
-use Rattle.std.proofs.Common.{◌≡◌, ℕ, zero, suc, ◌+◌, ◌-◌, ◌<◌, ◌≤◌, List, [], ◌∷◌, ◌++◌, length, map, Option, Some, None, Ok, refl, sym, ap, subst, ◌∙◌, arith, append_assoc, append-nil, length-append}
+use Rattle.std.proofs.Common.{◌≡◌, ℕ, suc, ◌+◌, ◌-◌, ◌<◌, ◌≤◌, List, [], ◌∷◌, ◌++◌, length, map, Some, None, Ok, refl, sym, ap, subst, ◌∙◌, arith, append_assoc, append-nil, length-append}
 use Rattle.std.specs.List.{All}
-use Rattle.std.proofs.lemmas.List.Elements.{All-nil, All-cons, All-head, All-tail, All-contains, Contains-get_or, Contains-append_right}
+use Rattle.std.proofs.lemmas.List.Elements.{All-nil, All-cons, All-contains, Contains-get_or, Contains-append_right}
 use Rattle.wasm_binary.specs.Leb128.{IsU32}
-use Rattle.wasm_binary.specs.Grammar.{AreItems, none, next, IsVec, counted}
+use Rattle.wasm_binary.specs.Grammar.{AreItems, none, next}
 use Rattle.wasm_binary.specs.Steps.Reading.{u32_at}
 use Rattle.wasm_binary.proofs.Integers.{u32_sound}
 use Rattle.wasm_module.specs.declared.renaming.Widths.{Widths}
 use Rattle.wasm_module.specs.declared.renaming.Widths.TheVariants as width
-use Rattle.wasm_module.specs.Changes.{Changes, IsMalformed, FirstIn, here, behind as further}
-use Rattle.wasm_module.specs.Renaming.{NewIndices, least_width, IsTextOf}
-use Rattle.wasm_module.specs.NameSections.{TypeEntry, type_entry, IsEntry, entry, AreKept, IsKnownEntry, known, BeginsUnknown, MapNamesUnknown, in_entry, IsNewEntry, renumbered, RenamesMap, empty, entries}
+use Rattle.wasm_module.specs.Changes.{Changes}
+use Rattle.wasm_module.specs.Renaming.{NewIndices, new_index, least_width, IsTextOf}
+use Rattle.wasm_module.specs.NameSections.{TypeEntry, type_entry, IsEntry, entry, AreKept, IsKnownEntry, known, IsTypeMap, IsNewEntry, renumbered, RenamesMap, empty, entries}
 use Rattle.wasm_module.specs.Steps.Heads.{fault}
 use Rattle.wasm_module.specs.Steps.Renaming.{Appends}
-use Rattle.wasm_module.specs.Steps.NameSections.{BeginsNone, IsAny, TakesEntry, TakesEntries, BeginsNotEntries, Keeps, IsNewMap}
-use Rattle.wasm_module.proofs.NameMaps.{entry_free}
+use Rattle.wasm_module.specs.Steps.NameSections.{Takes, BeginsNone, TakesEntry, BeginsNoEntry, TakesEntries, BeginsNotEntries, Keeps, IsNewMap}
+use Rattle.wasm_module.proofs.NameMaps.{entry_free, no_count}
 use Rattle.wasm_module.proofs.KeptEntries.{none_kept, deleted_goes}
 use Rattle.wasm_module.proofs.Searching.{integer_short}
-use Rattle.wasm_module.proofs.TextItems.{IsPrefixFree, same_items, item_on, no_items, items_on, items_cut_off, vec_countless, vec_items}
+use Rattle.wasm_module.proofs.TextItems.{IsPrefixFree, same_items, item_on, no_items, items_on, items_cut_off, vec_free, vec_items}
+
+module _ (Follows : List ℕ → Type 0) (count : ℕ) where
+  pub is_known : (text : List ℕ) (e : TypeEntry) → IsKnownEntry Follows count text e → e.index < count
+  is_known _ _ (known text e h less) = less
+
+  is_entry : (text : List ℕ) (e : TypeEntry) → IsKnownEntry Follows count text e → IsEntry Follows text e
+  is_entry _ _ (known text e h less) = h
+
+  are_entries : (text : List ℕ) (es : List TypeEntry) → AreItems (IsKnownEntry Follows count) text es →
+      AreItems (IsEntry Follows) text es
+  are_entries _ _ none = none
+  are_entries _ _ (next text others e es h hs) =
+      next text others e es (is_entry text e h) (are_entries others es hs)
 
 module _ (Follows : List ℕ → Type 0) (new_indices : NewIndices) where
-  abbrev IsKnown : TypeEntry → Type 0
-  IsKnown e = e.index < length new_indices
+  abbrev IsKnown : List ℕ → TypeEntry → Type 0
+  IsKnown = IsKnownEntry Follows (length new_indices)
 
   pub entries_begun : (bytes : List ℕ) (kept : List (ℕ × TypeEntry)) → kept ≡ [] →
       TakesEntries Follows new_indices 0 kept bytes bytes
   entries_begun bytes kept e =
       record {
         entries = [];
-        taken = no_items (IsEntry Follows) bytes;
-        many = refl;
+        taken = no_items IsKnown bytes;
+        as_many = refl;
         are_kept = subst (λ (u : List (ℕ × TypeEntry)). AreKept new_indices [] u) (sym e)
             (none_kept new_indices);
         few = subst (λ (u : List (ℕ × TypeEntry)). length u ≤ 0) (sym e) (omega arith);
       }
 
   pub entries_on : (count : ℕ) (old new : List (ℕ × TypeEntry)) (bytes rest after : List ℕ) (n : ℕ)
-      (o : Option ℕ) (e : TypeEntry) → TakesEntries Follows new_indices count old bytes rest →
-      TakesEntry Follows new_indices o e rest after → o ≡ Some n → Keeps n e old new →
-      TakesEntries Follows new_indices (count + 1) new bytes after
-  entries_on count old new bytes rest after n o e t h is k =
+      (e : TypeEntry) → TakesEntries Follows new_indices count old bytes rest →
+      TakesEntry Follows (length new_indices) e rest after → new_index new_indices e.index ≡ Some n →
+      Keeps n e old new → TakesEntries Follows new_indices (count + 1) new bytes after
+  entries_on count old new bytes rest after n e t h is k =
       record {
         entries = t.entries ++ e ∷ [];
-        taken = items_on (IsEntry Follows) t.entries bytes rest after h.text e t.taken h.is_entry h.parts;
-        many = length-append t.entries (e ∷ []) ∙ omega (arith, t.many);
-        are_kept = k.keeps new_indices t.entries t.are_kept h.known (h.mapped ∙ is);
+        taken = items_on IsKnown t.entries bytes rest after h.text e t.taken h.is_entry h.parts;
+        as_many = length-append t.entries (e ∷ []) ∙ omega (arith, t.as_many);
+        are_kept = k.keeps new_indices t.entries t.are_kept
+            (is_known Follows (length new_indices) h.text e h.is_entry) is;
         few = omega (arith, t.few, k.few);
       }
 
   -- the entry of a deleted type goes
   pub entries_passed : (count : ℕ) (kept : List (ℕ × TypeEntry)) (bytes rest after : List ℕ)
-      (o : Option ℕ) (e : TypeEntry) → TakesEntries Follows new_indices count kept bytes rest →
-      TakesEntry Follows new_indices o e rest after → o ≡ None →
+      (e : TypeEntry) → TakesEntries Follows new_indices count kept bytes rest →
+      TakesEntry Follows (length new_indices) e rest after → new_index new_indices e.index ≡ None →
       TakesEntries Follows new_indices (count + 1) kept bytes after
-  entries_passed count kept bytes rest after o e t h gone =
+  entries_passed count kept bytes rest after e t h gone =
       record {
         entries = t.entries ++ e ∷ [];
-        taken = items_on (IsEntry Follows) t.entries bytes rest after h.text e t.taken h.is_entry h.parts;
-        many = length-append t.entries (e ∷ []) ∙ omega (arith, t.many);
-        are_kept = deleted_goes new_indices t.entries kept e t.are_kept h.known (h.mapped ∙ gone);
+        taken = items_on IsKnown t.entries bytes rest after h.text e t.taken h.is_entry h.parts;
+        as_many = length-append t.entries (e ∷ []) ∙ omega (arith, t.as_many);
+        are_kept = deleted_goes new_indices t.entries kept e t.are_kept
+            (is_known Follows (length new_indices) h.text e h.is_entry) gone;
         few = omega (arith, t.few);
       }
 
-  pub entries_malformed : IsPrefixFree Follows → (count taken : ℕ) (kept : List (ℕ × TypeEntry))
+  pub entries_unread : IsPrefixFree Follows → (count taken : ℕ) (kept : List (ℕ × TypeEntry))
       (bytes rest : List ℕ) → TakesEntries Follows new_indices taken kept bytes rest → taken < count →
-      BeginsNone (IsAny (IsEntry Follows)) rest → BeginsNotEntries Follows count bytes
-  entries_malformed free count taken kept bytes rest t less h others after many s =
-      items_cut_off (IsEntry Follows) (entry_free Follows free) t.entries bytes rest count t.taken
-      (omega (arith, t.many, less)) h others after many s
-
-  known_first : (text : List ℕ) (es : List TypeEntry) (rest : List ℕ) (count k : ℕ) →
-      AreItems (IsEntry Follows) text es → All IsKnown es → length es < count →
-      BeginsUnknown (length new_indices) k rest
-      → FirstIn (IsKnownEntry Follows (length new_indices)) (BeginsUnknown (length new_indices) k) count
-      (text ++ rest)
-  known_first _ _ rest zero k none all less u = absurd (omega (arith, less))
-  known_first _ _ rest (suc count) k none all less u = here count rest u
-  known_first _ _ rest zero k (next text others e es h hs) all less u = absurd (omega (arith, less))
-  known_first _ _ rest (suc count) k (next text others e es h hs) all less u =
-      subst (λ (v : List ℕ). FirstIn (IsKnownEntry Follows (length new_indices))
-      (BeginsUnknown (length new_indices) k) (suc count) v) (sym (append_assoc text others rest))
-      (further count text (others ++ rest) text (e.index ∷ []) (known text e h (All-head IsKnown e es all))
-      (known_first others es rest count k hs (All-tail IsKnown e es all) (omega (arith, less)) u))
-
-  pub entries_unknown : (count taken k : ℕ) (kept : List (ℕ × TypeEntry)) (bytes rest : List ℕ) →
-      TakesEntries Follows new_indices taken kept bytes rest → taken < count →
-      BeginsUnknown (length new_indices) k rest
-      → FirstIn (IsKnownEntry Follows (length new_indices)) (BeginsUnknown (length new_indices) k) count bytes
-  entries_unknown count taken k kept bytes rest t less u =
-      subst (λ (v : List ℕ). FirstIn (IsKnownEntry Follows (length new_indices))
-      (BeginsUnknown (length new_indices) k) count v) (sym t.taken.parts)
-      (known_first t.taken.text t.entries rest count k t.taken.are t.are_kept.known
-      (omega (arith, t.many, less)) u)
+      BeginsNoEntry Follows (length new_indices) rest →
+      BeginsNotEntries Follows (length new_indices) count bytes
+  entries_unread free count taken kept bytes rest t less h others after many s =
+      items_cut_off IsKnown (entry_free Follows (length new_indices) free) t.entries bytes rest count t.taken
+      (omega (arith, t.as_many, less)) h others after many s
 
   abbrev IsNarrow : TypeEntry → Type 0
   IsNarrow e = e.width ≤ 5
@@ -99,10 +91,11 @@ module _ (Follows : List ℕ → Type 0) (new_indices : NewIndices) where
   narrow : (text : List ℕ) (e : TypeEntry) → IsEntry Follows text e → IsNarrow e
   narrow _ _ (entry text follows k h f) = integer_short 0x80 text k h
 
-  all_narrow : (text : List ℕ) (es : List TypeEntry) → AreItems (IsEntry Follows) text es → All IsNarrow es
+  all_narrow : (text : List ℕ) (es : List TypeEntry) → AreItems IsKnown text es → All IsNarrow es
   all_narrow _ _ none = All-nil IsNarrow
   all_narrow _ _ (next text others e es h hs) =
-      All-cons IsNarrow e es (narrow text e h) (all_narrow others es hs)
+      All-cons IsNarrow e es (narrow text e (is_entry Follows (length new_indices) text e h))
+      (all_narrow others es hs)
 
   one_narrow : (es before after : List TypeEntry) (e : TypeEntry) → All IsNarrow es →
       es ≡ before ++ e ∷ after → IsNarrow e
@@ -119,28 +112,7 @@ module _ (Follows : List ℕ → Type 0) (new_indices : NewIndices) where
 
   -- ---- whole maps
 
-  map_vec : (widths : Widths) (content new names : List ℕ) →
-      RenamesMap Follows new_indices widths content new names →
-      (es : List TypeEntry) × IsVec (IsEntry Follows) content es
-  map_vec widths _ _ _ (empty count h) = (
-    [],
-    subst (λ (u : List ℕ). IsVec (IsEntry Follows) u []) (append-nil count)
-        (counted count [] [] h none),
-  )
-  map_vec widths _ _ _ (entries count texts new_count new_texts es kept h are some is_kept is_count new_are) =
-      (es, counted count texts es h are)
-
-  pub map_unknown : (content : List ℕ) (count k : ℕ) (behind : List ℕ) → u32_at content ≡ Ok (count, behind)
-      → FirstIn (IsKnownEntry Follows (length new_indices)) (BeginsUnknown (length new_indices) k) count
-      behind
-      → MapNamesUnknown Follows (length new_indices) k content
-  map_unknown content count k behind e h =
-      let n = u32_sound content count behind e in
-      subst (λ (u : List ℕ). MapNamesUnknown Follows (length new_indices) k u) (sym n.parts)
-      (in_entry count n.text behind n.is_text h)
-
-  no_text : (text : List ℕ) (es : List TypeEntry) → AreItems (IsEntry Follows) text es → length es ≡ 0 →
-      text ≡ []
+  no_text : (text : List ℕ) (es : List TypeEntry) → AreItems IsKnown text es → length es ≡ 0 → text ≡ []
   no_text _ _ none e = refl
   no_text _ _ (next text others x es h hs) e = absurd (omega (arith, e))
 
@@ -159,7 +131,7 @@ module _ (Follows : List ℕ → Type 0) (new_indices : NewIndices) where
       RenamesMap Follows new_indices widths content content []
   map_stays widths content count behind rest kept e t empty_rest zero_is =
       let n = u32_sound content count behind e in
-      let text-is = no_text t.taken.text t.entries t.taken.are (t.many ∙ zero_is) in
+      let text-is = no_text t.taken.text t.entries t.taken.are (t.as_many ∙ zero_is) in
       let behind-is : behind ≡ [] = t.taken.parts ∙ ap (λ (u : List ℕ). u ++ rest) text-is ∙ empty_rest in
       let content-is : content ≡ n.text = n.parts ∙ ap (λ (u : List ℕ). n.text ++ u) behind-is
       ∙ append-nil n.text in
@@ -185,9 +157,9 @@ module _ (Follows : List ℕ → Type 0) (new_indices : NewIndices) where
       let content-is : content ≡ n.text ++ t.taken.text = n.parts
       ∙ ap (λ (u : List ℕ). n.text ++ u) behind-is in
       let there : t.entries ≡ [] → ⊥ = λ h.
-      some (sym t.many ∙ ap (λ (u : List TypeEntry). length u) h) in
+      some (sym t.as_many ∙ ap (λ (u : List TypeEntry). length u) h) in
       let named : map (λ (x : TypeEntry). x.index) t.entries ≡ [] → ⊥ = λ h.
-      some (sym t.many ∙ names_long t.entries
+      some (sym t.as_many ∙ names_long t.entries
       ∙ ap (λ (u : List ℕ). length u) h) in
       subst (λ (u : List ℕ). Changes (RenamesMap Follows new_indices widths) u new) (sym content-is)
       (subst (λ (u : List ℕ). Changes (RenamesMap Follows new_indices widths) (n.text ++ t.taken.text) u)
@@ -196,38 +168,47 @@ module _ (Follows : List ℕ → Type 0) (new_indices : NewIndices) where
         names = map (λ (x : TypeEntry). x.index) t.entries;
         becomes =
             entries n.text t.taken.text w.count w.texts t.entries kept
-            (subst (λ (m : ℕ). IsU32 n.text m) (sym t.many) n.is_text) t.taken.are there t.are_kept
+            (subst (λ (m : ℕ). IsU32 n.text m) (sym t.as_many) n.is_text)
+            (are_entries Follows (length new_indices) t.taken.text t.entries t.taken.are) there t.are_kept
             (subst (λ (m : ℕ). IsTextOf 0x80 (least_width widths m) w.count (length kept)) width-is
             w.is_count)
             w.are;
         is_naming = named;
       }))
 
-module _ (Follows : List ℕ → Type 0) where
-  pub map_countless : (content left : List ℕ) → u32_at content ≡ fault left →
-      IsMalformed (RenamesMap Follows) content
-  map_countless content left e new_indices widths new names r =
-      let v = map_vec Follows new_indices widths content new names r in
-      vec_countless (IsEntry Follows) content [] left v.0 (ap u32_at (append-nil content) ∙ e) v.1
+-- what begins no bytes is not all of them
+pub not_whole : (IsText : List ℕ → Type 0) (bytes : List ℕ) → BeginsNone IsText bytes → ¬ (IsText bytes)
+not_whole IsText bytes h is = h [] (record { text = bytes; is_text = is; parts = sym (append-nil bytes) })
 
-  pub map_malformed : (content : List ℕ) (count : ℕ) (behind : List ℕ) → u32_at content ≡ Ok (count, behind) →
-      BeginsNotEntries Follows count behind → IsMalformed (RenamesMap Follows) content
-  map_malformed content count behind e h new_indices widths new names r =
-      let v = map_vec Follows new_indices widths content new names r in
-      let i = vec_items (IsEntry Follows) content [] count behind v.0 (ap u32_at (append-nil content) ∙ e) v.1
-      in
-      h v.0 [] i.0 i.1
+module _ (Follows : List ℕ → Type 0) (count : ℕ) where
+  pub map_countless : (content left : List ℕ) → u32_at content ≡ fault left → ¬ (IsTypeMap Follows count content)
+  map_countless content left e =
+      not_whole (IsTypeMap Follows count) content (no_count (IsKnownEntry Follows count) content left e)
 
-  pub map_left_over : IsPrefixFree Follows → (old_indices : NewIndices) (content : List ℕ) (count : ℕ)
-      (behind rest : List ℕ) (kept : List (ℕ × TypeEntry)) → u32_at content ≡ Ok (count, behind) →
-      TakesEntries Follows old_indices count kept behind rest → (rest ≡ [] → ⊥) →
-      IsMalformed (RenamesMap Follows) content
-  map_left_over free old_indices content count behind rest kept e t some new_indices widths new names r =
-      let v = map_vec Follows new_indices widths content new names r in
-      let i = vec_items (IsEntry Follows) content [] count behind v.0 (ap u32_at (append-nil content) ∙ e) v.1
-      in
-      some (same_items (IsEntry Follows) (entry_free Follows free) t.taken.text t.entries i.1.text v.0 rest []
-      t.taken.are i.1.are (sym t.taken.parts ∙ i.1.parts) (t.many ∙ sym i.0))
+  pub map_unread : (content : List ℕ) (many : ℕ) (behind : List ℕ) → u32_at content ≡ Ok (many, behind) →
+      BeginsNotEntries Follows count many behind → ¬ (IsTypeMap Follows count content)
+  map_unread content many behind e h v =
+      let i = vec_items (IsKnownEntry Follows count) content [] many behind v.items
+      (ap u32_at (append-nil content) ∙ e) v.is_vec in
+      h v.items [] i.0 i.1
+
+-- nothing is left behind a map that all of the bytes are
+pub whole_map : (Follows : List ℕ → Type 0) → IsPrefixFree Follows → (count : ℕ) (bytes rest : List ℕ) →
+    Takes (IsTypeMap Follows count) bytes rest → IsTypeMap Follows count bytes → rest ≡ []
+whole_map Follows free count bytes rest t v =
+    vec_free (IsKnownEntry Follows count) (entry_free Follows count free) t.text bytes rest [] t.is_text.items
+    v.items t.is_text.is_vec v.is_vec (sym t.parts ∙ sym (append-nil bytes))
+
+pub map_left_over : (Follows : List ℕ → Type 0) → IsPrefixFree Follows → (new_indices : NewIndices)
+    (content : List ℕ) (count : ℕ) (behind rest : List ℕ) (kept : List (ℕ × TypeEntry)) →
+    u32_at content ≡ Ok (count, behind) → TakesEntries Follows new_indices count kept behind rest →
+    (rest ≡ [] → ⊥) → ¬ (IsTypeMap Follows (length new_indices) content)
+map_left_over Follows free new_indices content count behind rest kept e t some v =
+    let i = vec_items (IsKnownEntry Follows (length new_indices)) content [] count behind v.items
+    (ap u32_at (append-nil content) ∙ e) v.is_vec in
+    some (same_items (IsKnownEntry Follows (length new_indices))
+    (entry_free Follows (length new_indices) free) t.taken.text t.entries i.1.text v.items rest []
+    t.taken.are i.1.are (sym t.taken.parts ∙ i.1.parts) (t.as_many ∙ sym i.0))
 
 -- ---- what is written
 

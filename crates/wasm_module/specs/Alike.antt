@@ -93,22 +93,23 @@ pub data Alike (R : Pairing) : SyntaxTree → SyntaxTree → Type 0 where
 
 -- ---- modules
 
--- The module has this tree behind its header: what becomes of the module by new indices is what
--- becomes of the tree.
-pub record HasSyntaxTree (bytes : List ℕ) (p : SyntaxTree) : Type 0 where
+-- The module has so many types, and this tree behind its header: what becomes of the module by new
+-- indices, one for each type, is what becomes of the tree.
+pub record HasSyntaxTree (count : ℕ) (bytes : List ℕ) (p : SyntaxTree) : Type 0 where
   pub to :
-      (t : List ℕ) (m : NewIndices) (w : Widths) (new : List ℕ) → RenamesModule t m w bytes new
+      (t : List ℕ) (m : NewIndices) (w : Widths) (new : List ℕ) → length m ≡ count
+      → RenamesModule t m w bytes new
       → (q : SyntaxTree) × TreeBecomes t m w p q × (header ++ bytes_of q ≡ new)
   pub from :
-      (t : List ℕ) (m : NewIndices) (w : Widths) (q : SyntaxTree) → TreeBecomes t m w p q
-      → RenamesModule t m w bytes (header ++ bytes_of q)
+      (t : List ℕ) (m : NewIndices) (w : Widths) (q : SyntaxTree) → length m ≡ count
+      → TreeBecomes t m w p q → RenamesModule t m w bytes (header ++ bytes_of q)
 
--- the modules have trees that are alike
-pub record AreAlike (R : Pairing) (bytes other : List ℕ) : Type 0 where
+-- the modules, of so many types each, have trees that are alike
+pub record AreAlike (R : Pairing) (count other_count : ℕ) (bytes other : List ℕ) : Type 0 where
   pub tree : SyntaxTree
   pub other_tree : SyntaxTree
-  pub has : HasSyntaxTree bytes tree
-  pub other_has : HasSyntaxTree other other_tree
+  pub has : HasSyntaxTree count bytes tree
+  pub other_has : HasSyntaxTree other_count other other_tree
   pub alike : Alike R tree other_tree
 
 -- New indices by which both modules can become one: those of types that belong together are the

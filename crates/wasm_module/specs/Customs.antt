@@ -65,25 +65,33 @@ pub record IsStripped (bytes new : List ℕ) : Type 0 where
   pub new_parts : new ≡ header ++ new_texts
   pub are : AreStripped texts new_texts
 
--- ---- where the first of them is
+-- ---- where the first section of a kind is
 
 -- the bytes are a module of these sections, at these places
 pub record HasSections (bytes : List ℕ) (sections : List PlacedSection) : Type 0 where
   pub is_module : IsModule bytes (framing sections)
   pub places : ArePlaced (length header) (drop (length header) bytes) sections
 
--- no section of the module describes other bytes
-pub record HasNoDescription (bytes : List ℕ) : Type 0 where
+-- no section of the module is such a one
+pub record HasNone (Is : Section → Type 0) (bytes : List ℕ) : Type 0 where
   pub sections : List PlacedSection
   pub has : HasSections bytes sections
-  pub none : All (λ s. IsDescription s.framed → ⊥) sections
+  pub none : All (λ s. Is s.framed → ⊥) sections
 
--- the first section of the module that describes other bytes begins at this place
-pub record HasDescriptionAt (bytes : List ℕ) (offset : ℕ) : Type 0 where
+-- the first such section of the module begins at this place
+pub record HasFirstAt (Is : Section → Type 0) (bytes : List ℕ) (offset : ℕ) : Type 0 where
   pub before : List PlacedSection
   pub first : PlacedSection
   pub behind : List PlacedSection
   pub has : HasSections bytes (before ++ first ∷ behind)
-  pub none_before : All (λ s. IsDescription s.framed → ⊥) before
-  pub is_description : IsDescription first.framed
+  pub none_before : All (λ s. Is s.framed → ⊥) before
+  pub is : Is first.framed
   pub place : first.offset ≡ offset
+
+-- no section of the module describes other bytes
+abbrev pub HasNoDescription : List ℕ → Type 0
+HasNoDescription = HasNone IsDescription
+
+-- the first section of the module that describes other bytes begins at this place
+abbrev pub HasDescriptionAt : List ℕ → ℕ → Type 0
+HasDescriptionAt = HasFirstAt IsDescription

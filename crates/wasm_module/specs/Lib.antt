@@ -14,6 +14,7 @@ pub mod Customs
 pub mod Lengths
 pub mod Outdated
 pub mod UnknownCustoms
+pub mod UnreadNames
 pub mod OwnIndices
 pub mod RenamedNames
 pub mod SyntaxTrees

@@ -6,7 +6,7 @@ use Rattle.std.specs.List.Sorted.{IsStrictlyIncreasing}
 use Rattle.wasm_binary.specs.Leb128.{IsU32}
 use Rattle.wasm_binary.specs.Grammar.{AreItems, IsVec}
 use Rattle.wasm_module.specs.declared.renaming.Widths.{Widths}
-use Rattle.wasm_module.specs.Changes.{ChangesSized, ChangeAll, BecomesTooLong, InSized, FirstIn}
+use Rattle.wasm_module.specs.Changes.{ChangesSized, ChangeAll, BecomesTooLong, InSized}
 use Rattle.wasm_module.specs.Renaming.{NewIndices, new_index, least_width, IsTextOf}
 
 -- ---- names, and maps of them
@@ -21,10 +21,14 @@ pub data IsIndexedName : List ℕ → ℕ → Type 0 where
       (index name : List ℕ) (k : ℕ) → IsU32 index k → IsName name
       → IsIndexedName (index ++ name) k
 
+-- a number, and as many texts of such items
+pub record IsVecOf {A : Type 0} (IsText : List ℕ → A → Type 0) (text : List ℕ) : Type 0 where
+  pub items : List A
+  pub is_vec : IsVec IsText text items
+
 -- a map from indices, of any space, to names
-pub record IsNameMap (text : List ℕ) : Type 0 where
-  pub indices : List ℕ
-  pub is_vec : IsVec IsIndexedName text indices
+abbrev pub IsNameMap : List ℕ → Type 0
+IsNameMap = IsVecOf IsIndexedName
 
 -- ---- maps from types
 
@@ -41,6 +45,12 @@ pub data IsEntry (Follows : List ℕ → Type 0) : List ℕ → TypeEntry → Ty
   entry :
       (text follows : List ℕ) (index : ℕ) → IsU32 text index → Follows follows
       → IsEntry Follows (text ++ follows) (type_entry index (length text) follows)
+
+-- an entry of a type below this count
+pub data IsKnownEntry (Follows : List ℕ → Type 0) (count : ℕ) : List ℕ → TypeEntry → Type 0 where
+  known :
+      (text : List ℕ) (e : TypeEntry) → IsEntry Follows text e → e.index < count
+      → IsKnownEntry Follows count text e
 
 -- Of all entries that get the same new index, `e` has the least old one. Where several have that,
 -- `e` is the first of them.
@@ -112,6 +122,30 @@ pub data RenamesSubsection (new_indices : NewIndices) (widths : Widths) :
       → ChangesSized widths (RenamesNames id new_indices widths) text new names
       → RenamesSubsection new_indices widths (id ∷ text) (id ∷ new) names
 
+-- ---- what can be read
+
+-- a map from types below this count
+abbrev pub IsTypeMap : (List ℕ → Type 0) → ℕ → List ℕ → Type 0
+IsTypeMap Follows count = IsVecOf (IsKnownEntry Follows count)
+
+-- what a subsection of this id has after its size, in a module of this many types
+pub data AreNames (count id : ℕ) : List ℕ → Type 0 where
+  type_names : (text : List ℕ) → id ≡ 4 → IsTypeMap IsName count text → AreNames count id text
+  field_names : (text : List ℕ) → id ≡ 10 → IsTypeMap IsNameMap count text → AreNames count id text
+  others : (text : List ℕ) → (id ≡ 4 → ⊥) → (id ≡ 10 → ⊥) → AreNames count id text
+
+-- a subsection of this id
+pub data IsSubsection (count : ℕ) : List ℕ → ℕ → Type 0 where
+  sized :
+      (id : ℕ) (size content : List ℕ) → IsU32 size (length content) → AreNames count id content
+      → IsSubsection count (id ∷ (size ++ content)) id
+
+-- What a section `name` has after its name, if it can be read: subsections, in which the names of
+-- types and fields are as the grammar says, and name no type that the module does not have.
+pub record AreSubsections (count : ℕ) (texts : List ℕ) : Type 0 where
+  pub ids : List ℕ
+  pub are : AreItems (IsSubsection count) texts ids
+
 -- ---- custom sections
 
 -- the bytes of `name`
@@ -119,7 +153,7 @@ abbrev pub name_bytes : List ℕ
 name_bytes = 0x6E ∷ 0x61 ∷ 0x6D ∷ 0x65 ∷ []
 
 -- The content of a custom section: a name, and what follows. Where the name is another than `name`,
--- all stays.
+-- all stays; and so it does where a section `name` can't be read.
 pub data RenamesCustom (new_indices : NewIndices) (widths : Widths) :
     List ℕ → List ℕ → List ℕ → Type 0 where
   name_section :
@@ -127,6 +161,11 @@ pub data RenamesCustom (new_indices : NewIndices) (widths : Widths) :
       → ChangeAll (RenamesSubsection new_indices widths) subsections texts new names
       → RenamesCustom new_indices widths (size ++ (name_bytes ++ texts))
       (size ++ (name_bytes ++ new)) names
+  unread :
+      (size texts : List ℕ) → IsU32 size (length name_bytes)
+      → ¬ (AreSubsections (length new_indices) texts)
+      → RenamesCustom new_indices widths (size ++ (name_bytes ++ texts))
+      (size ++ (name_bytes ++ texts)) []
   other :
       (size bytes follows : List ℕ) → IsU32 size (length bytes) → (bytes ≡ name_bytes → ⊥)
       → RenamesCustom new_indices widths (size ++ (bytes ++ follows)) (size ++ (bytes ++ follows))
@@ -142,40 +181,6 @@ pub data FirstSubsectionIn (new_indices : NewIndices) (widths : Widths)
       → ChangeAll (RenamesSubsection new_indices widths) before texts new names
       → InSized (F id) rest
       → FirstSubsectionIn new_indices widths F (size ++ (name_bytes ++ (texts ++ id ∷ rest)))
-
--- an entry of a type below this count, deleted or not
-pub data IsKnownEntry (Follows : List ℕ → Type 0) (count : ℕ) :
-    List ℕ → List ℕ → List ℕ → Type 0 where
-  known :
-      (text : List ℕ) (e : TypeEntry) → IsEntry Follows text e → e.index < count
-      → IsKnownEntry Follows count text text (e.index ∷ [])
-
--- the index `k` begins the bytes, and it is not below this count
-pub data BeginsUnknown (count k : ℕ) : List ℕ → Type 0 where
-  unknown :
-      (text rest : List ℕ) → IsU32 text k → count ≤ k → BeginsUnknown count k (text ++ rest)
-
--- the map names type k, which is not below this count, behind types that are
-pub data MapNamesUnknown (Follows : List ℕ → Type 0) (count k : ℕ) : List ℕ → Type 0 where
-  in_entry :
-      (entries : ℕ) (text rest : List ℕ) → IsU32 text entries
-      → FirstIn (IsKnownEntry Follows count) (BeginsUnknown count k) entries rest
-      → MapNamesUnknown Follows count k (text ++ rest)
-
--- what a subsection of this id has after its size names type k, behind types below this count
-pub data SubsectionNamesUnknown (count k id : ℕ) : List ℕ → Type 0 where
-  type_names :
-      (text : List ℕ) → id ≡ 4 → MapNamesUnknown IsName count k text
-      → SubsectionNamesUnknown count k id text
-  field_names :
-      (text : List ℕ) → id ≡ 10 → MapNamesUnknown IsNameMap count k text
-      → SubsectionNamesUnknown count k id text
-
--- The content names type k, which is at or past the end of the new indices, behind types that are
--- not. Names of deleted types are known.
-abbrev pub CustomNamesUnknown : NewIndices → Widths → ℕ → List ℕ → Type 0
-CustomNamesUnknown new_indices widths k =
-    FirstSubsectionIn new_indices widths (SubsectionNamesUnknown (length new_indices) k)
 
 -- the new text of a subsection is so long that no size counts its bytes
 abbrev pub CustomBecomesTooLong : NewIndices → Widths → List ℕ → Type 0

@@ -6,7 +6,7 @@ use Rattle.wasm_binary.specs.Leb128.{IsU32}
 use Rattle.wasm_binary.specs.Modules.{Section, ids, IsModule, header}
 use Rattle.wasm_module.specs.declared.renaming.Widths.{Widths}
 use Rattle.wasm_module.specs.Changes.{ChangesSized, ChangeAll, BecomesTooLong, InSized, FirstIn}
-use Rattle.wasm_module.specs.NameSections.{RenamesCustom, CustomNamesUnknown, CustomBecomesTooLong}
+use Rattle.wasm_module.specs.NameSections.{RenamesCustom, CustomBecomesTooLong}
 use Rattle.wasm_module.specs.RenamedSections.{RenamesContent, NamesUnknownIn, BodyBecomesTooLong}
 use Rattle.wasm_module.specs.Renaming.{NewIndices, IsTextOf}
 
@@ -77,20 +77,10 @@ pub data InContent (F : ℕ → List ℕ → Type 0) : List ℕ → Type 0 where
   in_section :
       (id : ℕ) (bytes : List ℕ) → (id ≡ 1 → ⊥) → InSized (F id) bytes → InContent F (id ∷ bytes)
 
--- the content names type k, which has no new index, behind types that have one
-pub data AnyNamesUnknown (new_indices : NewIndices) (widths : Widths) (k id : ℕ) :
-    List ℕ → Type 0 where
-  custom :
-      (content : List ℕ) → id ≡ 0 → CustomNamesUnknown new_indices widths k content
-      → AnyNamesUnknown new_indices widths k id content
-  other :
-      (content : List ℕ) → (id ≡ 0 → ⊥) → NamesUnknownIn id new_indices widths k content
-      → AnyNamesUnknown new_indices widths k id content
-
--- the module names type k, which has no new index, behind types that have one
+-- the module names type k outside custom sections, and behind types that have a new index: k has none
 abbrev pub ModuleNamesUnknown : List ℕ → NewIndices → Widths → ℕ → List ℕ → Type 0
 ModuleNamesUnknown types new_indices widths k =
-    FirstSectionIn types new_indices widths (InContent (AnyNamesUnknown new_indices widths k))
+    FirstSectionIn types new_indices widths (InContent (λ id. NamesUnknownIn id new_indices widths k))
 
 -- new indices with which each of this many types stays where it is
 abbrev pub kept_indices : ℕ → NewIndices

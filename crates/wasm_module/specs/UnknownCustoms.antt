@@ -4,10 +4,9 @@
 -- tools, but for `name`.
 use Rattle.std.specs.Prelude.{◌≡◌, ℕ, List, [], ◌∷◌, ◌++◌, map, codes}
 use Rattle.std.specs.Borrow.{Bor}
-use Rattle.std.specs.List.{All, Any}
+use Rattle.std.specs.List.{Any}
 use Rattle.wasm_binary.specs.Modules.{Section}
-use Rattle.wasm_module.specs.Customs.{IsDescriptionName, HasName, HasSections}
-use Rattle.wasm_module.specs.Sections.{PlacedSection}
+use Rattle.wasm_module.specs.Customs.{IsDescriptionName, HasName, HasNone, HasFirstAt}
 
 -- Sections of these names refer to no type and to no place in the file, but for `name`, which is
 -- written again with the types that it names. The first ones are conventions for all tools, and the
@@ -54,18 +53,9 @@ pub record IsUnknownCustom (allowed : List (Bor (List ℕ))) (s : Section) : Typ
 -- ---- where the first of them is
 
 -- no custom section of the module is of an unknown kind
-pub record HasNoUnknownCustom (allowed : List (Bor (List ℕ))) (bytes : List ℕ) : Type 0 where
-  pub sections : List PlacedSection
-  pub has : HasSections bytes sections
-  pub none : All (λ s. IsUnknownCustom allowed s.framed → ⊥) sections
+abbrev pub HasNoUnknownCustom : List (Bor (List ℕ)) → List ℕ → Type 0
+HasNoUnknownCustom allowed = HasNone (IsUnknownCustom allowed)
 
 -- the first custom section of an unknown kind begins at this place of the module
-pub record HasUnknownCustomAt (allowed : List (Bor (List ℕ))) (bytes : List ℕ) (offset : ℕ) :
-    Type 0 where
-  pub before : List PlacedSection
-  pub first : PlacedSection
-  pub behind : List PlacedSection
-  pub has : HasSections bytes (before ++ first ∷ behind)
-  pub none_before : All (λ s. IsUnknownCustom allowed s.framed → ⊥) before
-  pub is_unknown : IsUnknownCustom allowed first.framed
-  pub place : first.offset ≡ offset
+abbrev pub HasUnknownCustomAt : List (Bor (List ℕ)) → List ℕ → ℕ → Type 0
+HasUnknownCustomAt allowed = HasFirstAt (IsUnknownCustom allowed)

@@ -1,6 +1,6 @@
 //! Laws of modules with other indices of types. Each function does nothing; its clause
 //! is a theorem, which a caller gets by calling it.
-ghost use Rattle.std.specs.Prelude.{◌≡◌, ℕ, List, Some};
+ghost use Rattle.std.specs.Prelude.{◌≡◌, ℕ, ◌≤◌, List, length, Some};
 ghost use Rattle.wasm_binary.specs.Modules.{Section, IsModule, HasNoTypeSection};
 ghost use Rattle.wasm_module.specs.declared.renaming.Widths.{Widths};
 ghost use Rattle.wasm_module.specs.OwnIndices.{AreOwn};
@@ -16,10 +16,11 @@ pub fn one_module()
         RenamesModule types new_indices widths bytes b → a ≡ b }
 {}
 
-/// A module that was renamed stays where each new index is its own.
+/// A module that was renamed stays where each new index is its own, and where there are no more of
+/// them: a section `name` that can't be read stays so with fewer types.
 pub fn renamed_module_stays()
     ensures { (types : List ℕ) (first again : NewIndices) (widths : Widths) (bytes new : List ℕ) →
-        AreOwn first again →
+        AreOwn first again → length again ≤ length first →
         RenamesModule types first widths bytes new → RenamesModule types again widths new new }
 {}
 

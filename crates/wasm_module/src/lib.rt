@@ -14,7 +14,8 @@
 //!   bytes, such as debug data, and [`find_description`] the place of the first one.
 //! - [`find_outdated`] returns the place of the first of these sections that no longer fits where
 //!   the module is written again. [`description_kind`] says what a section describes.
-//! - [`find_unknown_custom`] returns the place of the first custom section of an unknown kind.
+//! - [`find_unknown_custom`] returns the place of the first custom section of an unknown kind, and
+//!   [`find_unread_names`] that of the first section `name` that can't be read.
 #![tactic(auto)]
 
 mod append;
@@ -45,6 +46,7 @@ mod stack;
 mod texts;
 mod typeless;
 mod unknown_customs;
+mod unread_names;
 
 pub use bodies::{body_types, expression_types};
 pub use customs::{find_description, strip_descriptions};
@@ -58,3 +60,4 @@ pub use renamed_module::{check_module, rename_module};
 pub use renaming::{RenameError, Widths, rename_body, rename_expression};
 pub use scan::ScanError;
 pub use unknown_customs::find_unknown_custom;
+pub use unread_names::find_unread_names;

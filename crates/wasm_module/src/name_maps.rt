@@ -1,16 +1,15 @@
 //! Maps from types to names.
 //!
 //! WebAssembly core specification, "Name Section", name maps and indirect name maps.
-ghost use Rattle.std.specs.Prelude.{◌≡◌, ◌≤◌, ◌<◌, ◌^◌, ◌++◌, ℕ, [], length, IfOk, IfSome, IfNone, OnOk, IsErrOf};
+ghost use Rattle.std.specs.Prelude.{◌≡◌, ◌≤◌, ◌<◌, ◌^◌, ◌++◌, [], length, IfOk, IfSome, IfNone, OnOk, IsErrOf};
 ghost use Rattle.std.specs.List.{All};
-ghost use Rattle.wasm_module.specs.Changes.{Changes, IsMalformed, FirstIn};
-ghost use Rattle.wasm_module.specs.NameSections.{IsName, IsNameMap, IsIndexedName, IsEntry, IsKnownEntry, BeginsUnknown, MapNamesUnknown, RenamesMap};
-ghost use Rattle.wasm_module.specs.Steps.NameSections.{Takes, BeginsNone, TakesSized, BeginsUnsized, IsFollowing, TakesEntry, IsAny, Keeps, IsNewMap, TakesEntries, BeginsNotEntries};
-ghost use Rattle.wasm_module.specs.declared.renaming.RenameError.TheVariants.{Malformed, UnknownType, TooLong};
+ghost use Rattle.wasm_module.specs.Changes.{Changes};
+ghost use Rattle.wasm_module.specs.NameSections.{IsName, IsNameMap, IsIndexedName, IsTypeMap, RenamesMap};
+ghost use Rattle.wasm_module.specs.Steps.NameSections.{Takes, BeginsNone, TakesSized, BeginsUnsized, IsFollowing, TakesEntry, BeginsNoEntry, IsAny, Keeps, IsNewMap, TakesEntries, BeginsNotEntries};
+ghost use Rattle.wasm_module.specs.declared.name_maps.NamesError.TheVariants.{Unread, TooLong};
 
 use crate::leb128::{push_u32, read_u32};
-use crate::renaming::{RenameError, Widths, least_width};
-use crate::scan::place_of;
+use crate::renaming::{Widths, least_width};
 use std::alloc::{AllocError, Global};
 use std::collections::BTreeMap;
 use std::marker::Model;
@@ -43,39 +42,52 @@ impl<'a> Model for TypeEntry<'a> {
     ghost view = { λ e. type_entry e.index e.width e.follows.now };
 }
 
-/// Returns a map from types with other indices of types, or `None` where it has no entries. Places
-/// are counted such that the content ends at `end`.
+/// Why the names of a section `name` are not written again.
+#[derive(Clone, Copy, PartialEq, Eq, Debug)]
+pub enum NamesError {
+    /// They can't be read.
+    Unread,
+    /// A subsection would have 2^32 bytes or more.
+    TooLong,
+    /// Memory was refused.
+    Memory,
+}
+
+impl From<AllocError> for NamesError {
+    ghost use Rattle.wasm_module.specs.declared.name_maps.NamesError.TheVariants.{Memory};
+
+    ghost from_gives = { λ _ e. e ≡ Memory };
+
+    fn from(_: AllocError) -> NamesError {
+        NamesError::Memory
+    }
+}
+
+/// Returns a map from types with other indices of types, or `None` where it has no entries.
 pub fn rename_map(
     alloc: Global,
     follows: Follows,
     content: &[u8],
-    end: usize,
     new_indices: &[Option<u32>],
     widths: Widths,
-) -> Result<Option<Vec<u8>>, RenameError>
+) -> Result<Option<Vec<u8>>, NamesError>
     ensures stays { IfOk result (λ new. IfNone new (RenamesMap (IsFollowing follows)
         new_indices.now widths content.now content.now [])) }
     ensures changes { IfOk result (λ new. IfSome new (λ bytes.
         Changes (RenamesMap (IsFollowing follows) new_indices.now widths) content.now
         bytes.items)) }
-    ensures malformed { (place : ℕ) → IsErrOf result (Malformed place) →
-        IsMalformed (RenamesMap (IsFollowing follows)) content.now }
-    ensures unknown { (k place : ℕ) → IsErrOf result (UnknownType k place) →
-        MapNamesUnknown (IsFollowing follows) (length new_indices.now) k content.now }
+    ensures unread { IsErrOf result Unread →
+        ¬ IsTypeMap (IsFollowing follows) (length new_indices.now) content.now }
     ensures short { IsErrOf result TooLong → ⊥ }
 {
     let mut rest = content;
     let Some(count) = read_u32(&mut rest) else {
-        return Err(RenameError::Malformed {
-            offset: place_of(rest, end),
-        });
+        return Err(NamesError::Unread);
     };
     let width = content.len() - rest.len();
-    let kept = take_entries(alloc, follows, count, &mut rest, end, new_indices)?;
+    let kept = take_entries(alloc, follows, count, &mut rest, new_indices)?;
     if !rest.is_empty() {
-        return Err(RenameError::Malformed {
-            offset: place_of(rest, end),
-        });
+        return Err(NamesError::Unread);
     }
     if count == 0 {
         return Ok(None);
@@ -90,71 +102,58 @@ fn take_entries<'a>(
     follows: Follows,
     count: u32,
     input: &mut &'a [u8],
-    end: usize,
     new_indices: &[Option<u32>],
-) -> Result<BTreeMap<u32, TypeEntry<'a>>, RenameError>
+) -> Result<BTreeMap<u32, TypeEntry<'a>>, NamesError>
     ensures taken { IfOk result (λ kept. TakesEntries (IsFollowing follows) new_indices.now count
         kept.entries input.old.now input.new.now) }
-    ensures malformed { (place : ℕ) → IsErrOf result (Malformed place) →
-        BeginsNotEntries (IsFollowing follows) count input.old.now }
-    ensures unknown { (k place : ℕ) → IsErrOf result (UnknownType k place) →
-        FirstIn (IsKnownEntry (IsFollowing follows) (length new_indices.now))
-        (BeginsUnknown (length new_indices.now) k) count input.old.now }
+    ensures unread { IsErrOf result Unread →
+        BeginsNotEntries (IsFollowing follows) (length new_indices.now) count input.old.now }
     ensures short { IsErrOf result TooLong → ⊥ }
 {
     let mut kept = BTreeMap::new(alloc);
     for _ in 0..count {
-        let (new_index, entry) = take_entry(follows, input, end, new_indices)?;
-        if let Some(new_index) = new_index {
+        let Some(entry) = take_entry(follows, input, new_indices.len()) else {
+            return Err(NamesError::Unread);
+        };
+        if let Some(new_index) = new_indices[entry.index as usize] {
             keep(&mut kept, new_index, entry)?;
         }
     }
     Ok(kept)
 }
 
-/// Takes an entry from the front. Returns it with the new index of its type, or with `None` where
-/// the type is deleted.
-fn take_entry<'a>(
-    follows: Follows,
-    input: &mut &'a [u8],
-    end: usize,
-    new_indices: &[Option<u32>],
-) -> Result<(Option<u32>, TypeEntry<'a>), RenameError>
-    ensures taken { IfOk result (λ r. TakesEntry (IsFollowing follows) new_indices.now r.0
-        r.1 input.old.now input.new.now) }
-    ensures malformed { (place : ℕ) → IsErrOf result (Malformed place) →
-        BeginsNone (IsAny (IsEntry (IsFollowing follows))) input.old.now }
-    ensures unknown { (k place : ℕ) → IsErrOf result (UnknownType k place) →
-        BeginsUnknown (length new_indices.now) k input.old.now }
-    ensures short { IsErrOf result TooLong → ⊥ }
+/// Passes over a map from types below `count`.
+pub fn skip_map(follows: Follows, input: &mut &[u8], count: usize) -> Option<()>
+    ensures taken { IfSome result (λ u.
+        Takes (IsTypeMap (IsFollowing follows) count) input.old.now input.new.now) }
+    ensures none { IfNone result
+        (BeginsNone (IsTypeMap (IsFollowing follows) count) input.old.now) }
+{
+    let entries = read_u32(input)?;
+    for _ in 0..entries {
+        take_entry(follows, input, count)?;
+    }
+    Some(())
+}
+
+/// Takes an entry of a type below `count` from the front.
+fn take_entry<'a>(follows: Follows, input: &mut &'a [u8], count: usize) -> Option<TypeEntry<'a>>
+    ensures taken { IfSome result (λ e.
+        TakesEntry (IsFollowing follows) count e input.old.now input.new.now) }
+    ensures none { IfNone result (BeginsNoEntry (IsFollowing follows) count input.old.now) }
 {
     let before = input.len();
-    let Some(index) = read_u32(input) else {
-        return Err(RenameError::Malformed {
-            offset: place_of(input, end),
-        });
-    };
+    let index = read_u32(input)?;
     let width = before - input.len();
-    if index as usize >= new_indices.len() {
-        return Err(RenameError::UnknownType {
-            index,
-            offset: end.saturating_sub(before),
-        });
+    if index as usize >= count {
+        return None;
     }
-    let new_index = new_indices[index as usize];
-    let Some(follows) = take_following(follows, input) else {
-        return Err(RenameError::Malformed {
-            offset: place_of(input, end),
-        });
-    };
-    Ok((
-        new_index,
-        TypeEntry {
-            index,
-            width,
-            follows,
-        },
-    ))
+    let follows = take_following(follows, input)?;
+    Some(TypeEntry {
+        index,
+        width,
+        follows,
+    })
 }
 
 /// Keeps the entry, unless one of a lower or the same old index has its new index already.

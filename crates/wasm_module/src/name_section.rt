@@ -3,22 +3,23 @@
 //! WebAssembly core specification, "Custom Sections" and "Name Section".
 ghost use Rattle.std.specs.Prelude.{◌≡◌, ◌+◌, ◌<◌, ℕ, List, [], ◌++◌, length, IfOk, IfSome, IfNone, OnOk, IsErrOf};
 ghost use Rattle.wasm_module.specs.Changes.{Changes, TurnsInto, IsMalformed, BecomesTooLong};
-ghost use Rattle.wasm_module.specs.NameSections.{RenamesNames, RenamesSubsection, RenamesCustom, SubsectionNamesUnknown, CustomNamesUnknown, CustomBecomesTooLong};
-ghost use Rattle.wasm_module.specs.Steps.NameSections.{BeginsNone, IsSomeSubsection, BeginsSubsectionIn};
+ghost use Rattle.wasm_module.specs.NameSections.{AreNames, AreSubsections, IsSubsection, RenamesNames, RenamesSubsection, RenamesCustom, CustomBecomesTooLong, name_bytes};
+ghost use Rattle.wasm_module.specs.Steps.NameSections.{BeginsNone, IsAny, TakesSized, BeginsSubsectionIn};
 ghost use Rattle.wasm_module.specs.Steps.Changes.{IsChangedUpTo};
+ghost use Rattle.wasm_module.specs.declared.name_maps.NamesError.TheVariants as names;
 ghost use Rattle.wasm_module.specs.declared.renaming.RenameError.TheVariants.{Malformed, UnknownType, TooLong};
 
 use crate::leb128::push_u32;
-use crate::name_maps::{Follows, rename_map, take_sized};
+use crate::name_maps::{Follows, NamesError, rename_map, take_sized};
 use crate::renaming::{RenameError, Widths, least_width, new_or_copy};
 use crate::scan::place_of;
 use std::alloc::Global;
 
 /// The id of the subsection with the names of types.
-const TYPE_NAMES: u8 = 4;
+pub const TYPE_NAMES: u8 = 4;
 
 /// The id of the subsection with the names of fields.
-const FIELD_NAMES: u8 = 10;
+pub const FIELD_NAMES: u8 = 10;
 
 /// A size is below this.
 const SIZE_LIMIT: usize = 1 << 32;
@@ -34,14 +35,13 @@ const SIZE_LIMIT: usize = 1 << 32;
 /// [`Widths::Kept`], with as many as they had at least. A subsection that loses all its entries
 /// stays, with the count 0.
 ///
+/// A name section that can't be read stays byte for byte, as other tools pass over it:
+/// [`find_unread_names`](crate::find_unread_names) finds it. The length of `new_indices` is the number
+/// of types that there are.
+///
 /// # Errors
 ///
-/// The first fault from left to right decides.
-///
-/// - [`RenameError::Malformed`] comes where the content does not begin with a name, and where a
-///   name section is no sequence of subsections or has malformed entries for types.
-/// - [`RenameError::UnknownType`] comes at the first index of a type that is at or past the end of
-///   `new_indices`, even if what is behind it is malformed.
+/// - [`RenameError::Malformed`] comes where the content does not begin with a name.
 /// - [`RenameError::TooLong`] comes where a subsection would have 2^32 bytes or more.
 /// - [`RenameError::Memory`] comes where memory was refused.
 ///
@@ -65,9 +65,7 @@ pub fn rename_custom_section(
         TurnsInto (RenamesCustom new_indices.now widths) content.now new.items) }
     // What is refused as malformed is no content of a custom section.
     ensures malformed { (place : ℕ) → IsErrOf result (Malformed place) → IsMalformed RenamesCustom content.now }
-    // What is refused for a type names one past the new indices, behind others that are not.
-    ensures unknown { (k place : ℕ) → IsErrOf result (UnknownType k place) →
-        CustomNamesUnknown new_indices.now widths k content.now }
+    ensures known { (k place : ℕ) → IsErrOf result (UnknownType k place) → ⊥ }
     // What is refused for its length has a subsection that no size can count.
     ensures too_long { IsErrOf result TooLong →
         CustomBecomesTooLong new_indices.now widths content.now }
@@ -77,7 +75,7 @@ pub fn rename_custom_section(
 }
 
 /// Returns the content of a custom section with other indices of types, or `None` where it names no
-/// type and stays. Places are counted such that the content ends at `end`.
+/// type or can't be read, and stays. Places are counted such that the content ends at `end`.
 pub fn rename_custom(
     alloc: Global,
     content: &[u8],
@@ -85,7 +83,7 @@ pub fn rename_custom(
     new_indices: &[Option<u32>],
     widths: Widths,
 ) -> Result<Option<Vec<u8>>, RenameError>
-    // Where nothing comes back the content names no type, and stays.
+    // Where nothing comes back the content names no type that is written again, and stays.
     ensures stays { IfOk result (λ new. IfNone new
         (RenamesCustom new_indices.now widths content.now content.now [])) }
     // Otherwise what comes back takes its place.
@@ -93,9 +91,7 @@ pub fn rename_custom(
         Changes (RenamesCustom new_indices.now widths) content.now bytes.items)) }
     // What is refused as malformed is malformed for all new indices.
     ensures malformed { (place : ℕ) → IsErrOf result (Malformed place) → IsMalformed RenamesCustom content.now }
-    // What is refused for a type names one past the new indices, behind others that are not.
-    ensures unknown { (k place : ℕ) → IsErrOf result (UnknownType k place) →
-        CustomNamesUnknown new_indices.now widths k content.now }
+    ensures known { (k place : ℕ) → IsErrOf result (UnknownType k place) → ⊥ }
     // A subsection that is refused as too long would have 2^32 bytes or more.
     ensures too_long { IsErrOf result TooLong →
         CustomBecomesTooLong new_indices.now widths content.now }
@@ -109,6 +105,33 @@ pub fn rename_custom(
     if name != b"name".as_slice() {
         return Ok(None);
     }
+    match rename_subsections(alloc, content, rest, new_indices, widths) {
+        Ok(new) => Ok(new),
+        Err(NamesError::Unread) => Ok(None),
+        Err(NamesError::TooLong) => Err(RenameError::TooLong),
+        Err(NamesError::Memory) => Err(RenameError::Memory),
+    }
+}
+
+/// The same of a section `name`, which has these subsections at its end.
+fn rename_subsections(
+    alloc: Global,
+    content: &[u8],
+    subsections: &[u8],
+    new_indices: &[Option<u32>],
+    widths: Widths,
+) -> Result<Option<Vec<u8>>, NamesError>
+    requires { TakesSized name_bytes content.now subsections.now }
+    ensures stays { IfOk result (λ new. IfNone new
+        (RenamesCustom new_indices.now widths content.now content.now [])) }
+    ensures changes { IfOk result (λ new. IfSome new (λ bytes.
+        Changes (RenamesCustom new_indices.now widths) content.now bytes.items)) }
+    ensures unread { IsErrOf result names.Unread →
+        ¬ AreSubsections (length new_indices.now) subsections.now }
+    ensures too_long { IsErrOf result names.TooLong →
+        CustomBecomesTooLong new_indices.now widths content.now }
+{
+    let mut rest = subsections;
     let mut out = Vec::new(alloc);
     let mut unwritten = content;
     while !rest.is_empty() {
@@ -116,7 +139,6 @@ pub fn rename_custom(
             alloc,
             &mut unwritten,
             &mut rest,
-            end,
             new_indices,
             widths,
             &mut out,
@@ -135,11 +157,10 @@ fn rename_subsection<'a>(
     alloc: Global,
     unwritten: &mut &'a [u8],
     rest: &mut &'a [u8],
-    end: usize,
     new_indices: &[Option<u32>],
     widths: Widths,
     out: &mut Vec<u8>,
-) -> Result<(), RenameError>
+) -> Result<(), NamesError>
     requires { (passed : List ℕ) × (unwritten.old.now ≡ passed ++ rest.old.now) }
     ensures renamed { OnOk result ((count : ℕ) (header content : List ℕ) →
         IsChangedUpTo (RenamesSubsection new_indices.now widths) count header content
@@ -147,28 +168,24 @@ fn rename_subsection<'a>(
         IsChangedUpTo (RenamesSubsection new_indices.now widths) (count + 1) header content
         rest.new.now unwritten.new.now out.new.items) }
     ensures shorter { OnOk result (length rest.new.now < length rest.old.now) }
-    ensures malformed { (place : ℕ) → IsErrOf result (Malformed place) → BeginsNone IsSomeSubsection rest.old.now }
-    ensures unknown { (k place : ℕ) → IsErrOf result (UnknownType k place) → BeginsSubsectionIn
-        (SubsectionNamesUnknown (length new_indices.now) k) rest.old.now }
-    ensures too_long { IsErrOf result TooLong → BeginsSubsectionIn
+    ensures unread { IsErrOf result names.Unread →
+        BeginsNone (IsAny (IsSubsection (length new_indices.now))) rest.old.now }
+    ensures too_long { IsErrOf result names.TooLong → BeginsSubsectionIn
         (λ id. BecomesTooLong (RenamesNames id new_indices.now widths)) rest.old.now }
 {
     let [id, behind @ ..] = *rest else {
-        return Err(RenameError::Malformed { offset: end });
+        return Err(NamesError::Unread);
     };
     let mut after = behind;
     let Some(content) = take_sized(&mut after) else {
-        return Err(RenameError::Malformed {
-            offset: place_of(after, end),
-        });
+        return Err(NamesError::Unread);
     };
     *rest = after;
-    let place = place_of(after, end);
-    let Some(new) = rename_names(alloc, *id, content, place, new_indices, widths)? else {
+    let Some(new) = rename_names(alloc, *id, content, new_indices, widths)? else {
         return Ok(());
     };
     if new.len() >= SIZE_LIMIT {
-        return Err(RenameError::TooLong);
+        return Err(NamesError::TooLong);
     }
     let width = behind.len() - after.len() - content.len();
     out.extend_from_slice(&unwritten[..unwritten.len() - behind.len()])?;
@@ -184,24 +201,22 @@ fn rename_names(
     alloc: Global,
     id: u8,
     content: &[u8],
-    end: usize,
     new_indices: &[Option<u32>],
     widths: Widths,
-) -> Result<Option<Vec<u8>>, RenameError>
+) -> Result<Option<Vec<u8>>, NamesError>
     ensures stays { IfOk result (λ new. IfNone new
         (RenamesNames id new_indices.now widths content.now content.now [])) }
     ensures changes { IfOk result (λ new. IfSome new (λ bytes.
         Changes (RenamesNames id new_indices.now widths) content.now bytes.items)) }
-    ensures malformed { (place : ℕ) → IsErrOf result (Malformed place) → IsMalformed (RenamesNames id) content.now }
-    ensures unknown { (k place : ℕ) → IsErrOf result (UnknownType k place) →
-        SubsectionNamesUnknown (length new_indices.now) k id content.now }
-    ensures short { IsErrOf result TooLong → ⊥ }
+    ensures unread { IsErrOf result names.Unread →
+        ¬ AreNames (length new_indices.now) id content.now }
+    ensures short { IsErrOf result names.TooLong → ⊥ }
 {
     if id == TYPE_NAMES {
-        return rename_map(alloc, Follows::Name, content, end, new_indices, widths);
+        return rename_map(alloc, Follows::Name, content, new_indices, widths);
     }
     if id == FIELD_NAMES {
-        return rename_map(alloc, Follows::NameMap, content, end, new_indices, widths);
+        return rename_map(alloc, Follows::NameMap, content, new_indices, widths);
     }
     Ok(None)
 }

@@ -3,7 +3,8 @@
 //! WebAssembly core specification, "Binary Format", modules and sections.
 ghost use Rattle.std.specs.Prelude.{◌≡◌, ◌^◌, ◌+◌, ◌≤◌, ℕ, List, [], length, slice_range, IfOk, IfNone, IfSome, IsErrOf, OnOk};
 ghost use Rattle.wasm_module.specs.Changes.{TurnsInto, Changes, IsMalformed};
-ghost use Rattle.wasm_module.specs.RenamedModules.{RenamesAny, RenamesSection, RenamesModule, CanNotBeRenamed, AnyNamesUnknown, ModuleNamesUnknown, kept_indices, PartBecomesTooLong, SectionBecomesTooLong, ModuleBecomesTooLong};
+ghost use Rattle.wasm_module.specs.RenamedModules.{RenamesAny, RenamesSection, RenamesModule, CanNotBeRenamed, ModuleNamesUnknown, kept_indices, PartBecomesTooLong, SectionBecomesTooLong, ModuleBecomesTooLong};
+ghost use Rattle.wasm_module.specs.RenamedSections.{NamesUnknownIn};
 ghost use Rattle.wasm_module.specs.Steps.RenamedModules.{IsWhole, IsSectionOf, IsMalformedSection, SectionNamesUnknown};
 ghost use Rattle.wasm_module.specs.Steps.Renaming.{Appends};
 ghost use Rattle.wasm_module.specs.declared.renaming.RenameError.TheVariants.{Malformed, UnknownType, TooLong};
@@ -34,16 +35,17 @@ const TYPES: u8 = 1;
 ///
 /// The type section gets the shortest size. Any other size is written again where it spans an index
 /// of a type. All other bytes stay: the order of the sections, custom sections but for the names of
-/// types and fields, padded integers, and sizes that span no such index.
+/// types and fields, padded integers, and sizes that span no such index. A section `name` that can't
+/// be read, in a module of as many types as `new_indices` has, stays as it is:
+/// [`find_unread_names`](crate::find_unread_names) finds it.
 ///
 /// # Errors
 ///
 /// The first fault from left to right decides. [`RenameError::Malformed`] comes where the bytes are
 /// no module by the framing of sections, as [`sections`] checks it for the whole module first, or
-/// where the content of a section that names types is not as the grammar says.
-/// [`RenameError::UnknownType`] comes at the first type that has no new index: it is deleted, or
-/// its index is at or past the end of `new_indices`. In the custom section `name` it comes for the
-/// latter alone.
+/// where the content of a section that names types is not as the grammar says, or a custom section
+/// does not begin with a name. [`RenameError::UnknownType`] comes at the first type that has no new
+/// index, outside custom sections: it is deleted, or its index is at or past the end of `new_indices`.
 /// [`RenameError::TooLong`] comes where a section, or a part of one that has a size, has 2^32 bytes
 /// or more in the result. [`RenameError::Memory`] comes where memory was refused.
 ///
@@ -96,7 +98,7 @@ pub fn rename_module(
 /// Whether the contents of a module's sections can be read, if the module has `count` types. The
 /// error has the place of the first fault from left to right, as it has in [`rename_module`]: so
 /// the content of the type section is not read, nor are other contents that name no type. Of a
-/// custom section its own name is read, and in a section `name` the names of types and fields.
+/// custom section its own name is read, and no more: a section `name` that can't be read is no fault.
 ///
 /// # Errors
 ///
@@ -199,7 +201,7 @@ fn rename_any(
         Changes (RenamesAny id new_indices.now widths) content.now bytes.items)) }
     ensures malformed { (place : ℕ) → IsErrOf result (Malformed place) → IsMalformed (RenamesAny id) content.now }
     ensures unknown { (k place : ℕ) → IsErrOf result (UnknownType k place) →
-        AnyNamesUnknown new_indices.now widths k id content.now }
+        NamesUnknownIn id new_indices.now widths k content.now }
     ensures too_long { IsErrOf result TooLong →
         PartBecomesTooLong new_indices.now widths id content.now }
 {

@@ -3,7 +3,6 @@ mod alignments;
 mod code;
 mod content_places;
 mod contents;
-mod custom_places;
 mod customs;
 mod laws;
 mod module_places;
@@ -14,6 +13,7 @@ mod renamed_modules;
 mod renaming;
 mod speed;
 mod unknown_customs;
+mod unread_names;
 
 use crate::assertions::assert_equal;
 use std::process::Abort;

@@ -1,15 +1,17 @@
 -- Two modules have the same result exactly where they differ in nothing but their lists of types.
-use Rattle.std.proofs.Common.{◌≡◌, ℕ, List, sym, ap, subst}
+use Rattle.std.proofs.Common.{◌≡◌, ℕ, List, length, sym, ap, subst}
 use Rattle.std.specs.Prelude.{◌↔◌}
 use Rattle.wasm_binary.specs.ModuleSections.{HasTypes}
 use Rattle.walrus_canonical.specs.Listing.{IsCanonical}
 use Rattle.walrus_canonical.proofs.Forms.Canonical.{complete}
+use Rattle.walrus_sections.specs.Section.{index_space}
 use Rattle.walrus_ty.specs.Groups.{Section}
 use Rattle.walrus_ty.specs.Records.{section_of}
 use Rattle.walrus_ty.specs.declared.records.GroupAt.{GroupAt}
 use Rattle.walrus_ty.proofs.Equality.Contents.{same_section}
 use Rattle.wasm_module.specs.declared.renaming.Widths.{Widths}
 use Rattle.wasm_module.specs.declared.renaming.Widths.TheVariants.{Shortest}
+use Rattle.wasm_module.specs.Alike.{Pairing, AreAlike}
 use Rattle.wasm_module.specs.Renaming.{NewIndices}
 use Rattle.wasm_module.specs.RenamedModules.{RenamesModule}
 use Rattle.wasm_module.proofs.AlikeModules.{modules_alike}
@@ -18,7 +20,7 @@ use Rattle.wasm_normalise.specs.AlikeModules.{DifferInLists, BelongTogether}
 use Rattle.wasm_normalise.specs.CanonicalModules.{AreRoots, HasCanonicalForm, IsCanonicalModule}
 use Rattle.wasm_normalise.specs.declared.options.NormaliseOptions.{NormaliseOptions}
 use Rattle.wasm_normalise.specs.declared.options.UnusedTypes.{UnusedTypes}
-use Rattle.wasm_normalise.proofs.LeadTogether.{lead_together}
+use Rattle.wasm_normalise.proofs.LeadTogether.{have_bound, lead_together}
 use Rattle.wasm_normalise.proofs.OneCanonicalModule.{types_once, roots_once, same_texts, left_once}
 use Rattle.wasm_normalise.proofs.SecondRound.{has_canonical}
 
@@ -63,7 +65,8 @@ same_result options bytes other a b short h k d =
     (subst (λ (u : List ℕ). RenamesModule u k.new_indices options.widths k.left b) (sym texts) k.renamed)) in
     modules_become_one (BelongTogether s d.roots t d.other_roots) h.new_indices k.new_indices
     (lead_together s t (section_of h.has.canonical) d.roots d.other_roots h.new_indices k.new_indices
-    f.listing g-too.listing) h.types d.left d.other_left a b d.alike first second
+    f.listing g-too.listing) (index_space s).count (index_space t).count f.listing.one_each
+    g-too.listing.one_each h.types d.left d.other_left a b d.alike first second
 
 -- the second module's canonical form, where that is the first one's
 pub alike_of : (options : NormaliseOptions) (bytes other new : List ℕ) → options.widths ≡ Shortest →
@@ -87,6 +90,12 @@ alike_of options bytes other new short h k =
     subst (λ (w : Widths). RenamesModule h.types h.new_indices w h.left new) short h.renamed in
     let second : RenamesModule k.types k.new_indices Shortest k.left new =
     subst (λ (w : Widths). RenamesModule k.types k.new_indices w k.left new) short k.renamed in
+    let R : Pairing = BelongTogether s f.roots t g.roots in
+    let alike : AreAlike R (length h.new_indices) (length k.new_indices) h.left k.left =
+    modules_alike R h.new_indices k.new_indices
+    (lead_together s t n f.roots g.roots h.new_indices k.new_indices f.is_canonical.listing g-too.listing)
+    (index_space n).count (have_bound s n f.roots h.new_indices f.is_canonical.listing)
+    (have_bound t n g.roots k.new_indices g-too.listing) h.types k.types h.left k.left new first second in
     record {
       groups = f.groups;
       other_groups = g.groups;
@@ -102,9 +111,8 @@ alike_of options bytes other new short h k =
       other_left = k.left;
       is_left = h.is_left;
       other_is_left = k.is_left;
-      alike = modules_alike (BelongTogether s f.roots t g.roots) h.new_indices k.new_indices
-          (lead_together s t n f.roots g.roots h.new_indices k.new_indices f.is_canonical.listing
-          g-too.listing) h.types k.types h.left k.left new first second;
+      alike = subst (λ i. AreAlike R i (index_space t).count h.left k.left) f.is_canonical.listing.one_each
+          (subst (λ j. AreAlike R (length h.new_indices) j h.left k.left) g-too.listing.one_each alike);
     }
 
 pub one_result : (options : NormaliseOptions) (bytes other a b : List ℕ) → options.widths ≡ Shortest →

@@ -1,14 +1,25 @@
 -- The new indices of two sections with one canonical form lead together: types that are needed and equal
 -- get the same ones.
-use Rattle.std.proofs.Common.{◌≡◌, ℕ, List, Some, sym, ◌∙◌, ap}
+use Rattle.std.proofs.Common.{◌≡◌, ℕ, ◌≤◌, List, Some, sym, subst, ◌∙◌, ap}
 use Rattle.walrus_canonical.specs.Listing.{IsListing}
 use Rattle.walrus_canonical.proofs.Equality.EqualTypes.{equal_back, equal_over}
-use Rattle.walrus_canonical.proofs.Forms.Listings.{new_of, needed_of, listed_once}
+use Rattle.walrus_canonical.proofs.Forms.Listings.{new_of, needed_of, needed_within, listed_once, equal_by_new, fewest}
 use Rattle.walrus_sections.specs.Section.{IndexSpace, index_space}
 use Rattle.walrus_ty.specs.Groups.{Section}
 use Rattle.wasm_module.specs.Alike.{LeadTogether}
 use Rattle.wasm_module.specs.Renaming.{NewIndices, new_index}
+use Rattle.wasm_module.proofs.TreesOfChanges.{HaveBound}
 use Rattle.wasm_normalise.specs.AlikeModules.{BelongTogether}
+
+-- the new indices are below the number of types that are listed, which are no more than there were
+pub have_bound : (s n : Section) (roots : List ℕ) (m : NewIndices) → IsListing s roots n m →
+    HaveBound m (index_space n).count
+have_bound s n roots m f = record {
+  few = subst (λ k. (index_space n).count ≤ k) (sym f.one_each)
+      (fewest s roots n m f s (λ i h. (let p = new_of s roots n m f i h in
+      (i, needed_within s roots n m f i h, equal_by_new s roots n m f i i p.0 p.1 p.1))));
+  below = f.below;
+}
 
 module _ (s t n : Section) (roots others : List ℕ) (m w : NewIndices) (f : IsListing s roots n m)
     (g : IsListing t others n w) where

@@ -8,5 +8,4 @@ pub mod SecondRound
 pub mod Meanings
 pub mod LeadTogether
 pub mod AlikeModules
-pub mod ModulesWithTypes
 pub mod StrictRefusals

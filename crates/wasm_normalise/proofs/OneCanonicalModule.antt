@@ -5,6 +5,7 @@ use Rattle.wasm_binary.specs.ModuleSections.{HasTypes, in_section, without_secti
 use Rattle.wasm_binary.specs.Modules.{IsTypeSectionAt}
 use Rattle.wasm_binary.proofs.Modules.FirstSections.{contents}
 use Rattle.wasm_binary.proofs.Sections as groups
+use Rattle.walrus_sections.specs.Section.{index_space}
 use Rattle.walrus_ty.specs.Groups.{Section}
 use Rattle.walrus_ty.specs.Records.{section_of}
 use Rattle.walrus_ty.specs.declared.records.GroupAt.{GroupAt}
@@ -16,7 +17,7 @@ use Rattle.wasm_module.specs.RenamedModules.{RenamesModule}
 use Rattle.wasm_module.proofs.TreesOfModules.{renamed_once}
 use Rattle.wasm_module.proofs.StrippedOnce.{stripped_once}
 use Rattle.wasm_module.specs.declared.renaming.Widths.{Widths}
-use Rattle.wasm_normalise.specs.CanonicalModules.{AreRoots, HasCanonicalForm, IsShortest, IsLeft, IsCanonicalModule}
+use Rattle.wasm_normalise.specs.CanonicalModules.{AreRoots, HasCanonicalForm, HasCount, IsShortest, IsLeft, IsCanonicalModule}
 use Rattle.wasm_normalise.specs.declared.options.UnusedTypes.{UnusedTypes}
 use Rattle.wasm_normalise.specs.declared.options.UnusedTypes.TheVariants as kinds
 use Rattle.wasm_normalise.specs.declared.options.Descriptions.{Descriptions}
@@ -46,6 +47,11 @@ types_once bytes _ _ (without_section h) (in_section start stop b t text) =
     groups.one_section t.content [] b (in_content bytes start stop [] t (without_section h))
     (in_content bytes start stop b t (in_section start stop b t text))
 types_once bytes _ _ (without_section h) (without_section k) = refl
+
+pub count_once : (bytes : List ℕ) (a b : ℕ) → HasCount bytes a → HasCount bytes b → a ≡ b
+count_once bytes a b h k =
+    h.same ∙ ap (λ (groups : List GroupAt). (index_space (section_of groups)).count)
+    (types_once bytes h.groups k.groups h.read k.read) ∙ sym k.same
 
 -- ---- their canonical form
 

@@ -1,5 +1,5 @@
 -- A second round changes nothing.
-use Rattle.std.proofs.Common.{◌≡◌, ℕ, ◌<◌, List, [], ◌∷◌, length, Option, Some, inl, inr, refl, sym, ap, subst, ◌∙◌, map, arith}
+use Rattle.std.proofs.Common.{◌≡◌, ℕ, ◌<◌, ◌≤◌, List, [], ◌∷◌, length, Option, Some, inl, inr, refl, sym, ap, subst, ◌∙◌, map, arith}
 use Rattle.std.specs.Option.{unwrap_or}
 use Rattle.wasm_binary.specs.ModuleSections.{HasTypes, without_section}
 use Rattle.wasm_binary.specs.Modules.{HasNoTypeSection}
@@ -10,7 +10,7 @@ use Rattle.walrus_ty.proofs.Equality.Contents.{same_section}
 use Rattle.walrus_sections.specs.Section.{index_space}
 use Rattle.walrus_canonical.specs.Listing.{HasPlainGroups, IsCanonical, IsListing, all_indices, kept_indices, new_or_zero}
 use Rattle.walrus_canonical.proofs.Forms.Canonical as forms
-use Rattle.walrus_canonical.proofs.Forms.Indices.{built_at}
+use Rattle.walrus_canonical.proofs.Forms.Indices.{built_length, built_at}
 use Rattle.wasm_module.specs.declared.renaming.Widths.{Widths}
 use Rattle.wasm_module.specs.OwnIndices.{AreOwn}
 use Rattle.wasm_module.specs.Renaming.{NewIndices, new_index}
@@ -23,6 +23,7 @@ use Rattle.wasm_normalise.specs.declared.options.Descriptions.TheVariants as des
 use Rattle.wasm_normalise.specs.declared.options.NormaliseOptions.{NormaliseOptions}
 use Rattle.wasm_normalise.specs.declared.options.UnusedTypes.{UnusedTypes}
 use Rattle.wasm_normalise.specs.declared.options.UnusedTypes.TheVariants as kinds
+use Rattle.wasm_normalise.proofs.LeadTogether.{have_bound}
 use Rattle.wasm_normalise.proofs.OneNaming.{NamesInTurn, names_in_turn, named_once}
 use Rattle.wasm_normalise.proofs.OneCanonicalModule.{types_once, module_once}
 use Rattle.wasm_normalise.proofs.ResultTypes.{has_new_types}
@@ -83,6 +84,13 @@ has_canonical options bytes new h =
 own_indices : (s n : Section) (roots : List ℕ) (m : NewIndices) → IsListing s roots n m →
     AreOwn m (kept_indices n)
 own_indices s n roots m h k p e = built_at (λ i. Some i) (index_space n).count p (h.below k p e)
+
+-- and there are no more of them
+no_more_own : (s n : Section) (roots : List ℕ) (m : NewIndices) → IsListing s roots n m →
+    length (kept_indices n) ≤ length m
+no_more_own s n roots m h =
+    subst (λ k. k ≤ length m) (sym (built_length (λ i. Some i) (index_space n).count))
+    (have_bound s n roots m h).few
 
 -- the new roots are what the names of the result are
 new_roots : (m : NewIndices) (names new : List ℕ) →
@@ -156,6 +164,8 @@ module _ (options other : NormaliseOptions) (bytes new : List ℕ) (widths : oth
     renamed = subst (λ (w : Widths). RenamesModule h.types own w new new) (sym widths)
         (module_stays h.new_indices own
         (own_indices (section_of h.has.has.groups) (section_of h.has.canonical) h.has.has.roots h.new_indices
+        h.has.has.is_canonical.listing)
+        (no_more_own (section_of h.has.has.groups) (section_of h.has.canonical) h.has.has.roots h.new_indices
         h.has.has.is_canonical.listing)
         options.widths h.types h.left new h.renamed);
   }

@@ -39,5 +39,5 @@ pub record DifferInLists (options : NormaliseOptions) (bytes other : List ℕ) :
   pub is_left : IsLeft options.descriptions bytes left
   pub other_is_left : IsLeft options.descriptions other other_left
   pub alike :
-      AreAlike (BelongTogether (section_of groups) roots (section_of other_groups) other_roots) left
-      other_left
+      AreAlike (BelongTogether (section_of groups) roots (section_of other_groups) other_roots)
+      (index_space (section_of groups)).count (index_space (section_of other_groups)).count left other_left

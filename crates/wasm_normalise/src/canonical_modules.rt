@@ -37,7 +37,8 @@ use wasm_module::{find_outdated, rename_module, strip_descriptions};
 ///
 /// The names of types and of their fields in the custom section `name` follow the types, and go
 /// with deleted ones. Of types that are merged, the one with the least old index that has names
-/// keeps its names. Other custom sections are copied as they are. **A section stops this where what
+/// keeps its names. A section `name` that can't be read is copied as it is, as are other custom
+/// sections: [`find_hazard`](crate::find_hazard) finds it. **A section stops this where what
 /// it describes changes**: debug data and branch hints no longer fit where a length in the code
 /// changes, and a source map where a length before the end of the code does. Relocations no longer
 /// fit where a byte of code or data changes, and a signature where any byte does.
@@ -99,7 +100,7 @@ pub fn canonical_module(
 {
     match new_module(alloc, keys, bytes, options) {
         Ok(new) => Ok(new),
-        Err(Refusal::Fault) => Err(error_of_fault(alloc, keys, bytes)),
+        Err(Refusal::Fault) => Err(error_of_fault(alloc, bytes)),
         Err(Refusal::Other(error)) => Err(error),
     }
 }

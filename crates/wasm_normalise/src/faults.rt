@@ -5,9 +5,9 @@ ghost use Rattle.std.specs.Prelude.{IfErr, IfOk};
 ghost use Rattle.wasm_normalise.specs.CanonicalModules.{HasCount, HasTypesError, IsRefusedBy, IsStoppedByFault};
 ghost use Rattle.wasm_normalise.specs.declared.options.NormaliseOptions.{NormaliseOptions};
 
-use crate::{HashKeys, NormaliseModuleError};
+use crate::NormaliseModuleError;
 use std::alloc::Global;
-use walrus_canonical::{CanonicalError, canonicalise};
+use walrus_canonical::entry_count;
 use wasm_binary::module_types;
 use wasm_module::{RenameError, check_module};
 
@@ -15,11 +15,11 @@ use wasm_module::{RenameError, check_module};
 /// one from left to right. What stopped the module may be a later one, or in another place where
 /// sections were left out.
 #[tactic(auto, using(crate::proofs::Errors::types_error))]
-pub fn error_of_fault(alloc: Global, keys: HashKeys, bytes: &[u8]) -> NormaliseModuleError
+pub fn error_of_fault(alloc: Global, bytes: &[u8]) -> NormaliseModuleError
     ensures { (options : NormaliseOptions) → IsStoppedByFault options bytes.now →
         IsRefusedBy options bytes.now result }
 {
-    match type_count(alloc, keys, bytes) {
+    match type_count(alloc, bytes) {
         Ok(count) => first_fault(alloc, bytes, count),
         Err(error) => error,
     }
@@ -44,15 +44,11 @@ fn first_fault(alloc: Global, bytes: &[u8], count: u32) -> NormaliseModuleError
 }
 
 /// How many types the module has.
-fn type_count(alloc: Global, keys: HashKeys, bytes: &[u8]) -> Result<u32, NormaliseModuleError>
+pub fn type_count(alloc: Global, bytes: &[u8]) -> Result<u32, NormaliseModuleError>
     ensures found { IfOk result (HasCount bytes.now) }
     ensures refused { IfErr result (HasTypesError bytes.now) }
 {
     let groups = module_types(alloc, bytes)?;
-    match canonicalise(alloc, keys, groups, None) {
-        Ok((_, new_indices)) => Ok(new_indices.len() as u32),
-        Err(CanonicalError::Section(error)) => Err(NormaliseModuleError::from(error)),
-        // All indices are roots, and so none is unknown. So only memory was refused.
-        Err(_) => Err(NormaliseModuleError::Memory),
-    }
+    let count = entry_count(groups.as_slice())?;
+    Ok(count as u32)
 }

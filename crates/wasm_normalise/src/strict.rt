@@ -1,8 +1,7 @@
 //! A module with its types in canonical form, if nothing can be wrong in it.
-ghost use Rattle.std.specs.Prelude.{◌≡◌, IfErr, IfNone, IfOk, IfSome, OnOk};
-ghost use Rattle.wasm_binary.specs.Modules.{IsNoModule};
+ghost use Rattle.std.specs.Prelude.{◌≡◌, IfErr, IfOk, OnOk};
 ghost use Rattle.wasm_normalise.specs.CanonicalModules.{DescriptionsFit, IsCanonicalModule};
-ghost use Rattle.wasm_normalise.specs.Hazards.{HasNoHazard, IsHazard};
+ghost use Rattle.wasm_normalise.specs.Hazards.{HasNoHazard};
 ghost use Rattle.wasm_normalise.specs.Meanings.{NameEqualTypes};
 ghost use Rattle.wasm_normalise.specs.StrictErrors.{IsStrictError};
 ghost use Rattle.wasm_normalise.specs.declared.options.Descriptions.TheVariants as descriptions;
@@ -34,7 +33,8 @@ impl From<NormaliseModuleError> for StrictError {
 }
 
 /// Returns what [`canonical_module`] returns, if nothing can be wrong in it: each custom section is
-/// of a known kind, or has a name in `allowed`. `wasmnorm --strict` does the same.
+/// of a known kind, or has a name in `allowed`, and the sections `name` can be read. `wasmnorm --strict`
+/// does the same.
 ///
 /// # Errors
 ///
@@ -51,7 +51,7 @@ impl From<NormaliseModuleError> for StrictError {
 /// };
 /// let new = strict_canonical_module(alloc, keys, bytes, options, &[])?;
 /// ```
-#[tactic(auto, using(crate::proofs::ModulesWithTypes::result_is_of_module))]
+#[tactic(auto, using(crate::proofs::Errors::types_error))]
 pub fn strict_canonical_module(
     alloc: Global,
     keys: HashKeys,
@@ -70,18 +70,8 @@ pub fn strict_canonical_module(
     ensures refused { IfErr result (IsStrictError options allowed.now bytes.now) }
 {
     let new = canonical_module(alloc, keys, bytes, options)?;
-    match hazard_of(bytes, allowed) {
+    match find_hazard(alloc, bytes, allowed)? {
         Some(hazard) => Err(StrictError::Hazard(hazard)),
         None => Ok(new),
     }
-}
-
-/// What can be wrong in the module that is made of these bytes.
-fn hazard_of(bytes: &[u8], allowed: &[&[u8]]) -> Option<Hazard>
-    requires { ¬ IsNoModule bytes.now }
-    ensures found { IfSome result (IsHazard allowed.now bytes.now) }
-    ensures none { IfNone result (HasNoHazard allowed.now bytes.now) }
-{
-    // The bytes are a module, so there is no error.
-    find_hazard(bytes, allowed).unwrap_or(None)
 }

@@ -17,10 +17,10 @@ const UNKNOWN_BEFORE_MALFORMED: [u8; 26] = [
     0, 0x61, 0x73, 0x6D, 1, 0, 0, 0, 1, 6, 2, 0x5F, 0, 0x60, 0, 0, 3, 2, 1, 7, 10, 4, 1, 2, 0, 0xFF,
 ];
 
-// a function of type 1 with such a body, before a name for type 5
-const MALFORMED_BEFORE_UNKNOWN: [u8; 39] = [
+// a function of type 1 with such a body, before data whose place is a null of type 7
+const MALFORMED_BEFORE_UNKNOWN: [u8; 34] = [
     0, 0x61, 0x73, 0x6D, 1, 0, 0, 0, 1, 6, 2, 0x5F, 0, 0x60, 0, 0, 3, 2, 1, 1, 10, 4, 1, 2, 0,
-    0xFF, 0, 11, 4, 0x6E, 0x61, 0x6D, 0x65, 4, 4, 1, 5, 1, 0x61,
+    0xFF, 11, 6, 1, 0, 0xD0, 7, 0x0B, 0,
 ];
 
 // the custom section `linking`, and one function without its type

@@ -21,6 +21,11 @@ const PRUNED: [u8; 18] = [
 // a custom section with the name "x"
 const UNKNOWN: [u8; 12] = [0, 0x61, 0x73, 0x6D, 1, 0, 0, 0, 0, 2, 1, b'x'];
 
+// a custom section "name" whose subsection has no size
+const UNREAD: [u8; 16] = [
+    0, 0x61, 0x73, 0x6D, 1, 0, 0, 0, 0, 6, 4, b'n', b'a', b'm', b'e', 4,
+];
+
 // (type (func)), a function with a type that is not there, and the same custom section
 const ILL_NAMED: [u8; 22] = [
     0, 0x61, 0x73, 0x6D, 1, 0, 0, 0, 1, 4, 1, 0x60, 0, 0, 3, 2, 1, 1, 0, 2, 1, b'x',
@@ -60,6 +65,8 @@ fn a_module_without_hazards_is_written_again(rt: HostRuntime) {
 fn a_hazard_is_an_error(rt: HostRuntime) {
     let unknown = StrictError::Hazard(Hazard::UnknownSection { offset: 8 });
     assert!(rt; error_of(rt.alloc(), &UNKNOWN) == Some(unknown));
+    let unread = StrictError::Hazard(Hazard::UnreadNames { offset: 8 });
+    assert!(rt; error_of(rt.alloc(), &UNREAD) == Some(unread));
 }
 
 #[test]

@@ -1,16 +1,12 @@
 -- The exit status of a failure, and what it says of the bytes.
 use Rattle.std.proofs.Common.{◌≡◌, ◌∙◌, ◌≤◌, ◌⊎◌, inl, inr, ℕ, List, Option, None, Some, Result, Ok, Err, sym, subst, arith}
 use Rattle.std.specs.Prelude.{IfErr, IfSome, IsErrAnd}
-use Rattle.wasm_normalise.specs.Hazards.{IsHazard}
-use Rattle.wasm_normalise.specs.declared.hazards.Hazard.{Hazard}
-use Rattle.wasm_normalise.specs.declared.hazards.Hazard.TheVariants as hazard
 use Rattle.wasm_normalise.specs.declared.error.NormaliseModuleError.{NormaliseModuleError}
 use Rattle.wasm_normalise.specs.declared.error.NormaliseModuleError.TheVariants as error
 use Rattle.wasmnorm.specs.declared.failure.Failure.{Failure}
 use Rattle.wasmnorm.specs.declared.failure.Failure.TheVariants as failure
 use Rattle.wasmnorm.specs.Runs.{IsRefused, IsRejected, refused_status}
 use Rattle.wasmnorm.specs.declared.options.RunOptions.{RunOptions}
-use Rattle.wasmnorm.specs.declared.options.Strictness.TheVariants.{Strict}
 use Rattle.wasmnorm.specs.Steps.Failures.{Explains, IsOfStreams, status_of}
 
 error_range : (e : NormaliseModuleError) → refused_status e ≤ 4
@@ -31,19 +27,13 @@ status_range failure.Keys = omega arith
 status_range (failure.Input error) = omega arith
 status_range (failure.Output error) = omega arith
 
-hazard_rejected :
-    (options : RunOptions) (bytes : List ℕ) (h : Hazard) → options.strictness ≡ Strict
-    → IsHazard options.allowed.now bytes h → IsRejected options bytes
-hazard_rejected options bytes (hazard.UnknownSection offset) strict has =
-    record { is_strict = strict; offset = offset; has = has }
-
 explains_refused :
     (options : RunOptions) (bytes : List ℕ) (f : Failure) → Explains options bytes f → status_of f ≡ 1
     → IsRefused options.normalise 1 bytes ⊎ IsRejected options bytes
 explains_refused options bytes (failure.Refused e context advice) why is =
     inl (record { error = e; has_status = is; explains = why.0 })
 explains_refused options bytes (failure.Rejected w) why is =
-    inr (hazard_rejected options bytes w.hazard why.0 why.1.0)
+    inr (record { is_strict = why.0; hazard = w.hazard; has = why.1.0 })
 explains_refused options bytes failure.Memory why is = absurd (omega (arith, is))
 explains_refused options bytes failure.Keys why is = absurd (omega (arith, is))
 explains_refused options bytes (failure.Input error) why is = absurd (omega (arith, is))
@@ -79,7 +69,7 @@ known_ill_named options (Some bytes) f result why (inl e) is =
 known_ill_named options (Some bytes) f result why (inr e) is = absurd (omega (arith, sym e ∙ is))
 
 -- a stream failed, or memory was refused, which says nothing of the bytes
-stream_explains :
+pub stream_explains :
     (options : RunOptions) (bytes : List ℕ) (f : Failure) → IsOfStreams f → Explains options bytes f
 stream_explains options bytes (failure.Refused e context advice) h = absurd h
 stream_explains options bytes (failure.Rejected w) h = absurd h

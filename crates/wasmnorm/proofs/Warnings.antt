@@ -2,10 +2,7 @@
 use Rattle.std.proofs.Common.{◌≡◌, ℕ, List, Option, None, Some, inl, inr, subst}
 use Rattle.std.specs.Prelude.{IfSome}
 use Rattle.std.specs.Borrow.{Bor}
-use Rattle.wasm_normalise.specs.Hazards.{IsHazard}
-use Rattle.wasm_normalise.specs.declared.hazards.Hazard.{Hazard}
-use Rattle.wasm_normalise.specs.declared.hazards.Hazard.TheVariants as hazard
-use Rattle.wasmnorm.specs.Runs.{Warns, WarnsAtMost, IsWarned, not_warned, of_unknown_section}
+use Rattle.wasmnorm.specs.Runs.{WarnsAtMost, IsWarned, not_warned, of_hazard}
 use Rattle.wasmnorm.specs.Steps.Failures.{Explains}
 use Rattle.wasmnorm.specs.Steps.Warnings.{IsFirstWarning, WarnsOf}
 use Rattle.wasmnorm.specs.declared.failure.Failure.TheVariants as failure
@@ -18,18 +15,12 @@ pub warns_at_most :
 warns_at_most None old new kept = inl kept
 warns_at_most (Some w) old new line = inr line
 
-hazard_warned :
-    (allowed : List (Bor (List ℕ))) (bytes : List ℕ) (h : Hazard) (old new : Option (List ℕ))
-    → IsHazard allowed bytes h → Warns old new → IsWarned allowed bytes old new
-hazard_warned allowed bytes (hazard.UnknownSection offset) old new has line =
-    of_unknown_section offset has line
-
 warning_warned :
     (allowed : List (Bor (List ℕ))) (bytes : List ℕ) (w : Option Warning) (old new : Option (List ℕ))
     → IsFirstWarning allowed bytes w → WarnsOf w old new → IsWarned allowed bytes old new
 warning_warned allowed bytes None old new safe kept = not_warned safe kept
 warning_warned allowed bytes (Some w) old new is line =
-    hazard_warned allowed bytes w.hazard old new is.0 line
+    of_hazard w.hazard is.0 line
 
 pub known_warned :
     (allowed : List (Bor (List ℕ))) (known : Option (List ℕ)) (read lent : List ℕ) (w : Option Warning)

@@ -9,13 +9,14 @@ use Rattle.std.specs.String.{string_bytes}
 use Rattle.std.specs.declared.alloc.Global.{Global}
 use Rattle.std.specs.declared.string.String.{String}
 use Rattle.command_line.specs.declared.arguments.OptionValue.{OptionValue}
-use Rattle.wasm_module.specs.UnknownCustoms.{HasNoUnknownCustom, HasUnknownCustomAt}
 use Rattle.wasm_normalise.specs.declared.options.Descriptions.TheVariants.{Kept}
 use Rattle.wasm_normalise.specs.declared.options.NormaliseOptions.{NormaliseOptions}
 use Rattle.wasm_normalise.specs.CanonicalModules.{IsCanonicalModule, DescriptionsFit}
+use Rattle.wasm_normalise.specs.Hazards.{HasNoHazard, IsHazard}
 use Rattle.wasm_normalise.specs.Meanings.{NameEqualTypes}
 use Rattle.wasm_normalise.specs.declared.error.NormaliseModuleError.{NormaliseModuleError}
 use Rattle.wasm_normalise.specs.declared.error.NormaliseModuleError.TheVariants as error
+use Rattle.wasm_normalise.specs.declared.hazards.Hazard.{Hazard}
 use Rattle.wasmnorm.specs.Judged.{ExplainsError}
 use Rattle.wasmnorm.specs.declared.options.RunOptions.{RunOptions}
 use Rattle.wasmnorm.specs.declared.options.Strictness.TheVariants.{Strict}
@@ -45,14 +46,13 @@ Warns old new = (text : List ℕ) × Appends old new (warning_line text)
 abbrev pub WarnsAtMost : Option (List ℕ) → Option (List ℕ) → Type 0
 WarnsAtMost old new = Keeps old new ⊎ Warns old new
 
--- A writer gained nothing, where no custom section of the bytes is of an unknown kind. Otherwise it
--- gained a warning.
+-- A writer gained nothing, where each custom section of the bytes is of a known kind, and their names
+-- can be read. Otherwise it gained a warning.
 pub data IsWarned (allowed : List (Bor (List ℕ))) (bytes : List ℕ) (old new : Option (List ℕ)) :
     Type 0 where
-  not_warned : HasNoUnknownCustom allowed bytes → Keeps old new → IsWarned allowed bytes old new
-  of_unknown_section :
-      (offset : ℕ) → HasUnknownCustomAt allowed bytes offset → Warns old new
-      → IsWarned allowed bytes old new
+  not_warned : HasNoHazard allowed bytes → Keeps old new → IsWarned allowed bytes old new
+  of_hazard :
+      (h : Hazard) → IsHazard allowed bytes h → Warns old new → IsWarned allowed bytes old new
 
 -- ---- where no module is written
 
@@ -73,11 +73,12 @@ pub record IsRefused (options : NormaliseOptions) (status : ℕ) (bytes : List �
   pub has_status : refused_status error ≡ status
   pub explains : ExplainsError options bytes error
 
--- the bytes are a module that `Strict` rejects, since it has a custom section of an unknown kind
+-- the bytes are a module that `Strict` rejects, since a custom section of it is of an unknown kind, or
+-- names in it can't be read
 pub record IsRejected (options : RunOptions) (bytes : List ℕ) : Type 0 where
   pub is_strict : options.strictness ≡ Strict
-  pub offset : ℕ
-  pub has : HasUnknownCustomAt options.allowed.now bytes offset
+  pub hazard : Hazard
+  pub has : IsHazard options.allowed.now bytes hazard
 
 -- ---- the arguments
 

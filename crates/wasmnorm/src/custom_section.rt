@@ -25,6 +25,16 @@ pub fn write_unknown_kind<W: fmt::Write>(
     write!(f, " is of an unknown kind")
 }
 
+/// Writes that the custom section at this place can't be read, with its name if the context has it.
+pub fn write_unread<W: fmt::Write>(
+    f: &mut Formatter<W>,
+    offset: usize,
+    context: &Context,
+) -> fmt::Result {
+    write_section(f, offset, context)?;
+    write!(f, " can't be read")
+}
+
 fn write_section<W: fmt::Write>(
     f: &mut Formatter<W>,
     offset: usize,

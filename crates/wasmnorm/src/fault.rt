@@ -8,10 +8,6 @@ use std::alloc::Global;
 use wasm_module::{RenameError, check_module};
 use wasm_normalise::{HashKeys, NormaliseModuleError, NormaliseOptions, canonical_module};
 
-/// How many types a module may have (WebAssembly JavaScript Interface, "Implementation-defined
-/// Limits").
-const ENOUGH_TYPES: u32 = 1_000_000;
-
 /// The error of what is wrong first, where a module was refused with this error. Where the framing
 /// of the bytes breaks, the sections before are judged as a module is.
 pub fn first_error(
@@ -64,13 +60,13 @@ fn first_of_module(alloc: Global, bytes: &[u8], error: NormaliseModuleError) -> 
     }
 }
 
-/// Where a section before the type section is malformed, if memory suffices to find it. The types
-/// are not known, so each is taken to be there that a module may have.
+/// Where a section before the type section is malformed. Only custom sections can be there, and which
+/// types there are makes no difference to whether one of them is.
 fn malformed_before_types(alloc: Global, bytes: &[u8]) -> Option<usize>
     ensures { IfSome result (λ place. HasMalformedBeforeTypes bytes.now) }
 {
     let before = sections_before_types(bytes)?;
-    match check_module(alloc, before, ENOUGH_TYPES) {
+    match check_module(alloc, before, 0) {
         Err(RenameError::Malformed { offset }) => Some(offset),
         _ => None,
     }

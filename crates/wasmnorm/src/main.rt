@@ -3,7 +3,7 @@
 
 ghost use Rattle.std.specs.Prelude.{◌≡◌, ◌<◌, ◌≤◌, ◌⊎◌, IfErr, IfOk, OnOk, IfSome, None};
 ghost use Rattle.std.specs.Io.KnownBytes.{Appends, Keeps};
-ghost use Rattle.wasm_module.specs.UnknownCustoms.{HasNoUnknownCustom};
+ghost use Rattle.wasm_normalise.specs.Hazards.{HasNoHazard};
 ghost use Rattle.wasm_normalise.specs.CanonicalModules.{IsCanonicalModule, DescriptionsFit};
 ghost use Rattle.wasm_normalise.specs.Meanings.{NameEqualTypes};
 ghost use Rattle.wasm_normalise.specs.declared.options.Descriptions.TheVariants as descriptions;
@@ -44,8 +44,9 @@ use wasm_normalise::{HashKeys, canonical_module};
 /// copied as they are. Where one of them describes bytes that would change, such as debug data, the
 /// module is refused, unless the options say that such sections are left out.
 ///
-/// In one case the new module can be wrong: a custom section is of an unknown kind, and so may refer
-/// to types or to places in the file. Sections whose names the options allow are of a known kind.
+/// In two cases the new module can be wrong. A custom section is of an unknown kind, and so may refer
+/// to types or to places in the file; sections whose names the options allow are of a known kind. Or a
+/// section `name` can't be read, and is copied as it is.
 /// With `Strictness::Strict` such a module is rejected, even if no byte would change. With
 /// `Strictness::Lenient` a line on `err` warns of it, before the module is written. The line names
 /// the place of the section in the input.
@@ -82,7 +83,7 @@ pub fn run<R: Read, W: Write, E: Write>(
     ensures done { result ≡ 0 → IfSome (R.remaining reader.old)
         (λ bytes. IsWritten options.now.normalise bytes (W.contents out.old) (W.contents out.new)) }
     ensures known { result ≡ 0 → options.now.strictness ≡ Strict →
-        IfSome (R.remaining reader.old) (HasNoUnknownCustom options.now.allowed.now) }
+        IfSome (R.remaining reader.old) (HasNoHazard options.now.allowed.now) }
     ensures warned { result ≡ 0 → IfSome (R.remaining reader.old)
         (λ bytes. IsWarned options.now.allowed.now bytes (E.contents err.old) (E.contents err.new)) }
     ensures bounded { result ≡ 0 → WarnsAtMost (E.contents err.old) (E.contents err.new) }
@@ -112,7 +113,7 @@ fn normalise_input<R: Read, W: Write, E: Write>(
     ensures done { OnOk result (IfSome (R.remaining reader.old)
         (λ bytes. IsWritten options.now.normalise bytes (W.contents out.old) (W.contents out.new))) }
     ensures known { OnOk result (options.now.strictness ≡ Strict →
-        IfSome (R.remaining reader.old) (HasNoUnknownCustom options.now.allowed.now)) }
+        IfSome (R.remaining reader.old) (HasNoHazard options.now.allowed.now)) }
     ensures warned { OnOk result (IfSome (R.remaining reader.old)
         (λ bytes. IsWarned options.now.allowed.now bytes (E.contents err.old) (E.contents err.new))) }
     ensures bounded { OnOk result (WarnsAtMost (E.contents err.old) (E.contents err.new)) }
@@ -143,7 +144,6 @@ struct NewModule {
 }
 
 /// The module that is written, and the warning of it.
-#[tactic(auto, using(wasm_normalise::proofs::ModulesWithTypes::result_is_of_module))]
 fn new_module(
     alloc: Global,
     keys: HashKeys,
@@ -159,14 +159,14 @@ fn new_module(
         IsFirstWarning options.now.allowed.now bytes.now new.warning) }
     ensures none { options.now.strictness ≡ Strict → IfOk result (λ new. new.warning ≡ None) }
     ensures known { OnOk result (options.now.strictness ≡ Strict →
-        HasNoUnknownCustom options.now.allowed.now bytes.now) }
+        HasNoHazard options.now.allowed.now bytes.now) }
     ensures refused { IfErr result (Explains options.now bytes.now) }
 {
     let module = match canonical_module(alloc, keys, bytes, options.normalise) {
         Ok(module) => module,
         Err(error) => return Err(refusal(alloc, keys, bytes, options, error)),
     };
-    let warning = accepted_warning(options, bytes)?;
+    let warning = accepted_warning(alloc, options, bytes)?;
     Ok(NewModule { module, warning })
 }
 

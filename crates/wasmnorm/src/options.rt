@@ -22,8 +22,8 @@ pub struct RunOptions<'a> {
     pub allowed: &'a [&'a [u8]],
 }
 
-/// What is done if the new module can be wrong: a custom section is of an unknown kind. The program
-/// does not know whether such a section refers to types or to places in the file.
+/// What is done if the new module can be wrong: a custom section is of an unknown kind, so that it may
+/// refer to types or to places in the file, or a section `name` can't be read.
 #[derive(Clone, Copy, PartialEq, Eq, Debug)]
 pub enum Strictness {
     /// It is written, with a warning on standard error.

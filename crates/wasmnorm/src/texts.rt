@@ -30,7 +30,8 @@ and every other index of a type written again. Each type stays equal to what it 
 or if it is -, the module comes from standard input. Custom sections other than the one named name
 are copied as they are, and a module is refused if one of them, such as debug data, describes bytes
 that would change. There is a warning if a custom section is of an unknown kind: it may refer to
-types or to places in the file.
+types or to places in the file. There is one if the section named name can't be read: it is copied
+as it is.
   --prune        deletes types that nothing uses outside the type section
   --strip        leaves out custom sections that describe other bytes, such as debug data
   --strict       rejects a module instead of warning of it

@@ -2,15 +2,13 @@
 ghost use Rattle.std.specs.Prelude.{◌≡◌, ◌++◌, ℕ, IfErr, IfNone, IfOk, IfSome, List, None, OnOk};
 ghost use Rattle.std.specs.Borrow.{Bor};
 ghost use Rattle.std.specs.Io.KnownBytes.{Appends};
-ghost use Rattle.wasm_binary.specs.Modules.{IsNoModule};
-ghost use Rattle.wasm_module.specs.UnknownCustoms.{HasNoUnknownCustom};
 ghost use Rattle.wasm_normalise.specs.Hazards.{HasNoHazard, IsHazard};
 ghost use Rattle.wasmnorm.specs.Runs.{Warns, warning_line};
 ghost use Rattle.wasmnorm.specs.Steps.Failures.{Explains, IsOfStreams};
 ghost use Rattle.wasmnorm.specs.Steps.Warnings.{IsFirstWarning, IsWarning, WarnsOf};
 ghost use Rattle.wasmnorm.specs.declared.options.Strictness.TheVariants.{Strict};
 
-use crate::custom_section::write_unknown_kind;
+use crate::custom_section::{write_unknown_kind, write_unread};
 use crate::failure::Failure;
 use crate::options::{RunOptions, Strictness};
 use error_context::{Context, context_of};
@@ -33,21 +31,25 @@ impl fmt::Display for Warning {
     fn fmt<W: fmt::Write>(&self, f: &mut Formatter<W>) -> fmt::Result {
         match self.hazard {
             Hazard::UnknownSection { offset } => write_unknown_kind(f, offset, &self.context),
+            Hazard::UnreadNames { offset } => write_unread(f, offset, &self.context),
         }
     }
 }
 
 /// The warning that a module needs, or `None`. It fails if the module is to be rejected instead.
 #[tactic(auto, using(crate::proofs::Warnings::warning_rejected))]
-pub fn accepted_warning(options: &RunOptions<'_>, bytes: &[u8]) -> Result<Option<Warning>, Failure>
-    requires { ¬ IsNoModule bytes.now }
+pub fn accepted_warning(
+    alloc: Global,
+    options: &RunOptions<'_>,
+    bytes: &[u8],
+) -> Result<Option<Warning>, Failure>
     ensures first { IfOk result (IsFirstWarning options.now.allowed.now bytes.now) }
     ensures none { options.now.strictness ≡ Strict → IfOk result (λ warning. warning ≡ None) }
     ensures known { OnOk result (options.now.strictness ≡ Strict →
-        HasNoUnknownCustom options.now.allowed.now bytes.now) }
+        HasNoHazard options.now.allowed.now bytes.now) }
     ensures refused { IfErr result (Explains options.now bytes.now) }
 {
-    let warning = first_warning(bytes, options.allowed);
+    let warning = first_warning(alloc, bytes, options.allowed)?;
     match options.strictness {
         Strictness::Lenient => Ok(warning),
         Strictness::Strict => match warning {
@@ -57,24 +59,16 @@ pub fn accepted_warning(options: &RunOptions<'_>, bytes: &[u8]) -> Result<Option
     }
 }
 
-fn first_warning(bytes: &[u8], allowed: &[&[u8]]) -> Option<Warning>
-    requires { ¬ IsNoModule bytes.now }
-    ensures { IsFirstWarning allowed.now bytes.now result }
+fn first_warning(alloc: Global, bytes: &[u8], allowed: &[&[u8]]) -> Result<Option<Warning>, Failure>
+    ensures first { IfOk result (IsFirstWarning allowed.now bytes.now) }
+    ensures refused { IfErr result IsOfStreams }
 {
-    match hazard_of(bytes, allowed) {
-        Some(hazard) => Some(warning_of(hazard, bytes)),
-        None => None,
+    match find_hazard(alloc, bytes, allowed) {
+        Ok(Some(hazard)) => Ok(Some(warning_of(hazard, bytes))),
+        Ok(None) => Ok(None),
+        // The types were read before, so only memory was refused.
+        Err(_) => Err(Failure::Memory),
     }
-}
-
-/// What can be wrong in the module that is made of these bytes.
-fn hazard_of(bytes: &[u8], allowed: &[&[u8]]) -> Option<Hazard>
-    requires { ¬ IsNoModule bytes.now }
-    ensures found { IfSome result (IsHazard allowed.now bytes.now) }
-    ensures none { IfNone result (HasNoHazard allowed.now bytes.now) }
-{
-    // The bytes are a module, so there is no error.
-    find_hazard(bytes, allowed).unwrap_or(None)
 }
 
 fn warning_of(hazard: Hazard, bytes: &[u8]) -> Warning
@@ -82,7 +76,9 @@ fn warning_of(hazard: Hazard, bytes: &[u8]) -> Warning
         IsWarning allowed bytes.now result }
 {
     let context = match hazard {
-        Hazard::UnknownSection { offset } => context_of(bytes, offset),
+        Hazard::UnknownSection { offset } | Hazard::UnreadNames { offset } => {
+            context_of(bytes, offset)
+        }
     };
     Warning { hazard, context }
 }

@@ -375,7 +375,7 @@ def name_map(it, take):
     for _ in range(count):
         entry = it.inside(it.end)
         old = entry.u(32)
-        new = entry.image(old, it.at)
+        new = entry.image(old)
         if new is not None:
             entry.write_number(it.at, new)
         take(entry)
@@ -408,10 +408,23 @@ def name_subsection(it):
         it.name()
 
 
+def name_subsections(it):
+    while it.at < it.end:
+        name_subsection(it)
+
+
+def are_names(it):
+    """Whether all that is left are subsections of a section `name`, with names of types that there are."""
+    try:
+        name_subsections(it.inside(it.end))
+    except (Malformed, NoSuchType):
+        return False
+    return True
+
+
 def custom(it):
-    if it.name() == b'name':
-        while it.at < it.end:
-            name_subsection(it)
+    if it.name() == b'name' and are_names(it):
+        name_subsections(it)
     whole(it)
 
 

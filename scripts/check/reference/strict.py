@@ -35,6 +35,19 @@ def unknown_section(text):
     return None
 
 
+def unread_names(text):
+    """The place of the first section `name` that can't be read, or None."""
+    parts, at = list(module.sections_of(text)), len(HEADER)
+    count = sum(len(module.canonical(section)[1]) for code, section in parts if code == module.TYPE)
+    for code, section in parts:
+        content = module.content(section)
+        it = module.Renamer(content, 0, len(content), range(count), False)
+        if code == CUSTOM and it.name() == b'name' and not module.are_names(it):
+            return at
+        at += 1 + len(section)
+    return None
+
+
 def shown(name):
     """A name as a string of the text format, with three points behind it if it is long."""
     def of_byte(byte):
@@ -48,10 +61,11 @@ def shown(name):
 def complaint(text):
     """The line about a module that only `--strict` rejects, and of which there is a warning without it. Or None."""
     found = unknown_section(text)
-    if found is None:
-        return None
-    name, at = found
-    return f'the custom section {shown(name)} at byte {at} is of an unknown kind'
+    if found is not None:
+        name, at = found
+        return f'the custom section {shown(name)} at byte {at} is of an unknown kind'
+    at = unread_names(text)
+    return None if at is None else f'the custom section "name" at byte {at} can\'t be read'
 
 
 def outcome(text, keeps_widths=False, prunes=False):

@@ -1,5 +1,5 @@
 -- Names and maps of them, from the front of bytes.
-use Rattle.std.specs.Prelude.{◌≡◌, ℕ, ◌+◌, ◌<◌, ◌≤◌, List, [], ◌∷◌, ◌++◌, length, Option, Some}
+use Rattle.std.specs.Prelude.{◌≡◌, ℕ, ◌+◌, ◌<◌, ◌≤◌, List, [], ◌∷◌, ◌++◌, length, Some}
 use Rattle.wasm_binary.specs.Leb128.{IsU32}
 use Rattle.wasm_binary.specs.Grammar.{AreItems}
 use Rattle.wasm_module.specs.declared.renaming.Widths.{Widths}
@@ -7,7 +7,7 @@ use Rattle.wasm_module.specs.declared.name_maps.Follows.{Follows}
 use Rattle.wasm_module.specs.declared.name_maps.Follows.TheVariants as follows
 use Rattle.wasm_module.specs.Changes.{InSized}
 use Rattle.wasm_module.specs.Renaming.{NewIndices, new_index, IsTextOf}
-use Rattle.wasm_module.specs.NameSections.{IsName, IsNameMap, TypeEntry, IsEntry, AreKept, IsNewEntry, RenamesSubsection}
+use Rattle.wasm_module.specs.NameSections.{IsName, IsNameMap, TypeEntry, IsKnownEntry, AreKept, IsNewEntry}
 
 -- such a text was taken from the front of bytes
 pub record Takes (IsText : List ℕ → Type 0) (bytes rest : List ℕ) : Type 0 where
@@ -46,29 +46,31 @@ abbrev pub IsFollowing : Follows → List ℕ → Type 0
 IsFollowing follows.Name = IsName
 IsFollowing follows.NameMap = IsNameMap
 
--- an entry was taken from the front of bytes, and its type has this new index, or is deleted
-pub record TakesEntry (Follows : List ℕ → Type 0) (new_indices : NewIndices) (n : Option ℕ)
-    (e : TypeEntry) (bytes rest : List ℕ) : Type 0 where
+-- an entry of a type below this count was taken from the front of bytes
+pub record TakesEntry (Follows : List ℕ → Type 0) (count : ℕ) (e : TypeEntry) (bytes rest : List ℕ) :
+    Type 0 where
   pub text : List ℕ
-  pub is_entry : IsEntry Follows text e
+  pub is_entry : IsKnownEntry Follows count text e
   pub parts : bytes ≡ text ++ rest
-  pub known : e.index < length new_indices
-  pub mapped : new_index new_indices e.index ≡ n
+
+-- no entry of a type below this count begins the bytes
+abbrev pub BeginsNoEntry : (List ℕ → Type 0) → ℕ → List ℕ → Type 0
+BeginsNoEntry Follows count = BeginsNone (IsAny (IsKnownEntry Follows count))
 
 -- of as many entries that were taken from the front of bytes these are kept
-pub record TakesEntries (Follows : List ℕ → Type 0) (new_indices : NewIndices) (count : ℕ)
+pub record TakesEntries (Follows : List ℕ → Type 0) (new_indices : NewIndices) (many : ℕ)
     (kept : List (ℕ × TypeEntry)) (bytes rest : List ℕ) : Type 0 where
   pub entries : List TypeEntry
-  pub taken : TakesItems (IsEntry Follows) entries bytes rest
-  pub many : length entries ≡ count
+  pub taken : TakesItems (IsKnownEntry Follows (length new_indices)) entries bytes rest
+  pub as_many : length entries ≡ many
   pub are_kept : AreKept new_indices entries kept
-  pub few : length kept ≤ count
+  pub few : length kept ≤ many
 
--- as many entries do not begin the bytes
-abbrev pub BeginsNotEntries : (List ℕ → Type 0) → ℕ → List ℕ → Type 0
-BeginsNotEntries Follows count bytes =
-    (entries : List TypeEntry) (rest : List ℕ) → length entries ≡ count
-    → TakesItems (IsEntry Follows) entries bytes rest → ⊥
+-- as many entries of types below this count do not begin the bytes
+abbrev pub BeginsNotEntries : (List ℕ → Type 0) → ℕ → ℕ → List ℕ → Type 0
+BeginsNotEntries Follows count many bytes =
+    (entries : List TypeEntry) (rest : List ℕ) → length entries ≡ many
+    → TakesItems (IsKnownEntry Follows count) entries bytes rest → ⊥
 
 -- an entry with this new index was kept, or another one that was there stays in its place
 pub record Keeps (n : ℕ) (e : TypeEntry) (old new : List (ℕ × TypeEntry)) : Type 0 where
@@ -88,14 +90,6 @@ pub record IsNewMap (widths : Widths) (least : ℕ) (kept : List (ℕ × TypeEnt
   pub are : AreItems (IsNewEntry widths) texts kept
 
 -- ---- subsections
-
--- some subsection
-pub record IsSomeSubsection (text : List ℕ) : Type 0 where
-  pub new_indices : NewIndices
-  pub widths : Widths
-  pub new : List ℕ
-  pub names : List ℕ
-  pub renames : RenamesSubsection new_indices widths text new names
 
 -- a subsection begins the bytes, and `F` is so of its content, by its id
 pub data BeginsSubsectionIn (F : ℕ → List ℕ → Type 0) : List ℕ → Type 0 where

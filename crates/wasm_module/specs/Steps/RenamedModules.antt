@@ -3,7 +3,8 @@ use Rattle.std.specs.Prelude.{◌≡◌, ℕ, List, ◌∷◌, ◌++◌, length}
 use Rattle.wasm_binary.specs.Modules.{section, IsSection}
 use Rattle.wasm_module.specs.declared.renaming.Widths.{Widths}
 use Rattle.wasm_module.specs.Changes.{IsMalformed}
-use Rattle.wasm_module.specs.RenamedModules.{RenamesAny, AnyNamesUnknown}
+use Rattle.wasm_module.specs.RenamedModules.{RenamesAny}
+use Rattle.wasm_module.specs.RenamedSections.{NamesUnknownIn}
 use Rattle.wasm_module.specs.Renaming.{NewIndices, IsTextOf}
 
 -- all bytes of a section
@@ -25,4 +26,4 @@ pub record IsMalformedSection (id : ℕ) (content : List ℕ) : Type 0 where
 pub record SectionNamesUnknown (new_indices : NewIndices) (widths : Widths) (k id : ℕ)
     (content : List ℕ) : Type 0 where
   pub other : id ≡ 1 → ⊥
-  pub unknown : AnyNamesUnknown new_indices widths k id content
+  pub unknown : NamesUnknownIn id new_indices widths k content

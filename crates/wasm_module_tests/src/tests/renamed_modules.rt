@@ -114,14 +114,14 @@ fn a_section_that_names_no_type_stays(rt: HostRuntime) {
 
 #[test]
 fn names_of_types_follow_them(rt: HostRuntime) {
-    // a custom section `name`: type 0 is `a`, type 1 is `b`
+    // a custom section `name`: type 0 is `a`, type 1 is `b`; and one that names type 2, which stays
     let bytes = [
         0, 0x61, 0x73, 0x6D, 1, 0, 0, 0, 0, 14, 4, 0x6E, 0x61, 0x6D, 0x65, 4, 7, 2, 0, 1, 0x61, 1,
-        1, 0x62,
+        1, 0x62, 0, 0x8A, 0, 4, 0x6E, 0x61, 0x6D, 0x65, 4, 3, 1, 2, 0,
     ];
     let expected = [
         0, 0x61, 0x73, 0x6D, 1, 0, 0, 0, 0, 14, 4, 0x6E, 0x61, 0x6D, 0x65, 4, 7, 2, 0, 1, 0x62, 1,
-        1, 0x61,
+        1, 0x61, 0, 0x8A, 0, 4, 0x6E, 0x61, 0x6D, 0x65, 4, 3, 1, 2, 0,
     ];
     assert!(rt; becomes(rt.alloc(), &bytes, Widths::Shortest, &expected));
 }

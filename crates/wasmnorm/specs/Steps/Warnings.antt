@@ -13,6 +13,7 @@ use Rattle.wasmnorm.specs.Runs.{Warns}
 -- where a hazard names a section, this is known of it
 abbrev pub IsSectionContext : List ℕ → Hazard → Context → Type 0
 IsSectionContext bytes (hazard.UnknownSection offset) context = IsContext context bytes offset
+IsSectionContext bytes (hazard.UnreadNames offset) context = IsContext context bytes offset
 
 -- what a warning says of the bytes
 abbrev pub IsWarning : List (Bor (List ℕ)) → List ℕ → Warning → Type 0

@@ -1,39 +1,32 @@
 use Rattle.std.proofs.Common.{◌∙◌, ◌-◌, Err, length, refl, sym, ap, subst, arith}
 use Rattle.std.proofs.lemmas.Result.{err_from_is_err_and}
-use Rattle.wasm_module.specs.declared.renaming.RenameError.TheVariants as rename
+use Rattle.wasm_module.specs.declared.name_maps.NamesError.TheVariants as names
 use Rattle.wasm_module.specs.Steps.NameSections.{IsFollowing, IsNewMap}
 use Rattle.wasm_module.proofs.Taking.{u32_shorter}
 use Rattle.wasm_module.proofs.NameMaps.{following_free}
 use Rattle.wasm_module.proofs.Rewriting.{same_failure}
-use Rattle.wasm_module.proofs.TypeMaps.{kept_narrow, map_unknown, count_short, map_stays, map_changes, map_countless, map_malformed, map_left_over, least_short}
+use Rattle.wasm_module.proofs.TypeMaps.{kept_narrow, count_short, map_stays, map_changes, map_countless, map_unread, map_left_over, least_short}
 use Rattle.wasm_module.proofs.WholeTexts.{empty, not_empty}
 use Rattle.wasm_module.proofs.name_maps.rename_map.Goals as goal
 
-pub returns-in_default-clause-malformed : goal.returns-in_default-clause-malformed
-returns-in_default-clause-malformed c = λ place e.
-    map_countless (IsFollowing c.args.follows) c.args.content.now c.read_u32.new.input.now
-    c.in_default.ensures
+pub returns-in_default-clause-unread : goal.returns-in_default-clause-unread
+returns-in_default-clause-unread c = λ e.
+    map_countless (IsFollowing c.args.follows) (length c.args.new_indices.now) c.args.content.now
+    c.read_u32.new.input.now c.in_default.ensures
 
 pub overflow_sub-width : goal.overflow_sub-width
 overflow_sub-width c =
     u32_shorter c.args.content.now c.in-Some.count c.read_u32.new.input.now c.in-Some.ensures
 
-pub returns-in_err-kept-clause-malformed : goal.returns-in_err-kept-clause-malformed
-returns-in_err-kept-clause-malformed c =
+pub returns-in_err-kept-clause-unread : goal.returns-in_err-kept-clause-unread
+returns-in_err-kept-clause-unread c =
     let p = err_from_is_err_and c.from_residual.result c.from_residual.ensures.1 in
-    λ place e. let is = sym p.2 ∙ same_failure c.from_residual.result p.0 (rename.Malformed place) p.1 e in
-    map_malformed (IsFollowing c.args.follows) c.args.content.now c.in-Some.count c.read_u32.new.input.now
-    c.in-Some.ensures (c.in_err-kept.ensures.malformed place (ap (λ x. Err x) is))
+    λ e. let is = sym p.2 ∙ same_failure c.from_residual.result p.0 names.Unread p.1 e in
+    map_unread (IsFollowing c.args.follows) (length c.args.new_indices.now) c.args.content.now c.in-Some.count
+    c.read_u32.new.input.now c.in-Some.ensures (c.in_err-kept.ensures.unread (ap (λ x. Err x) is))
 
-pub returns-in_err-kept-clause-unknown : goal.returns-in_err-kept-clause-unknown
-returns-in_err-kept-clause-unknown c =
-    let p = err_from_is_err_and c.from_residual.result c.from_residual.ensures.1 in
-    λ k place e. let is = sym p.2 ∙ same_failure c.from_residual.result p.0 (rename.UnknownType k place) p.1 e in
-    map_unknown (IsFollowing c.args.follows) c.args.new_indices.now c.args.content.now c.in-Some.count k
-    c.read_u32.new.input.now c.in-Some.ensures (c.in_err-kept.ensures.unknown k place (ap (λ x. Err x) is))
-
-pub returns-then-not-is_empty-clause-malformed : goal.returns-then-not-is_empty-clause-malformed
-returns-then-not-is_empty-clause-malformed c = λ place e.
+pub returns-then-not-is_empty-clause-unread : goal.returns-then-not-is_empty-clause-unread
+returns-then-not-is_empty-clause-unread c = λ e.
     map_left_over (IsFollowing c.args.follows) (following_free c.args.follows) c.args.new_indices.now
     c.args.content.now c.in-Some.count c.read_u32.new.input.now c.take_entries.new.input.now
     c.in_ok-kept.kept.entries c.in-Some.ensures c.in_ok-kept.ensures.taken

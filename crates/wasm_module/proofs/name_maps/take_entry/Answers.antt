@@ -1,37 +1,34 @@
 use Rattle.std.proofs.Common.{◌-◌, length, refl, arith}
-use Rattle.wasm_module.specs.Renaming.{new_index}
 use Rattle.wasm_module.specs.Steps.NameSections.{IsFollowing}
 use Rattle.wasm_module.proofs.Taking.{u32_shorter}
-use Rattle.wasm_module.proofs.NameMaps.{begins_unknown, unknown_is, entry_indexless, entry_malformed, entry_taken}
+use Rattle.wasm_module.proofs.NameMaps.{entry_indexless, entry_unknown, entry_malformed, entry_taken}
 use Rattle.wasm_module.proofs.name_maps.take_entry.Goals as goal
 
-pub returns-in_default-clause-malformed : goal.returns-in_default-clause-malformed
-returns-in_default-clause-malformed c = λ place e.
-    entry_indexless (IsFollowing c.args.follows) c.args.input.now.now c.read_u32.new.input.now
-    c.in_default.ensures
+pub returns-in_err-index-clause-none : goal.returns-in_err-index-clause-none
+returns-in_err-index-clause-none c =
+    rw c.from_residual.ensures
+    (entry_indexless (IsFollowing c.args.follows) c.args.count c.args.input.now.now c.read_u32.new.input.now
+    c.in_err-index.ensures)
 
 pub overflow_sub-width : goal.overflow_sub-width
 overflow_sub-width c =
-    u32_shorter c.args.input.now.now c.in-Some.index c.read_u32.new.input.now c.in-Some.ensures
+    u32_shorter c.args.input.now.now c.in_ok-index.index c.read_u32.new.input.now c.in_ok-index.ensures
 
-pub returns-then-index-new_indices-clause-unknown : goal.returns-then-index-new_indices-clause-unknown
-returns-then-index-new_indices-clause-unknown c = λ k place e.
-    begins_unknown c.args.input.now.now c.in-Some.index c.read_u32.new.input.now
-    (length c.args.new_indices.now) k
-    c.in-Some.ensures (omega (arith, c.if-index-new_indices.true)) (unknown_is c.in-Some.index k e)
+pub returns-then-index-count-clause-none : goal.returns-then-index-count-clause-none
+returns-then-index-count-clause-none c =
+    entry_unknown (IsFollowing c.args.follows) c.args.count c.args.input.now.now c.in_ok-index.index
+    c.read_u32.new.input.now c.in_ok-index.ensures (omega (arith, c.if-index-count.true))
 
-pub returns-in_default-take_following-clause-malformed :
-    goal.returns-in_default-take_following-clause-malformed
-returns-in_default-take_following-clause-malformed c = λ place e.
-    entry_malformed (IsFollowing c.args.follows) c.args.input.now.now c.in-Some.index c.read_u32.new.input.now
-    c.in-Some.ensures c.in_default-take_following.ensures.none
+pub returns-in_err-follows-clause-none : goal.returns-in_err-follows-clause-none
+returns-in_err-follows-clause-none c =
+    rw c.from_residual-in_err-follows.ensures
+    (entry_malformed (IsFollowing c.args.follows) c.args.count c.args.input.now.now c.in_ok-index.index
+    c.read_u32.new.input.now c.in_ok-index.ensures c.in_err-follows.ensures.none)
 
 pub returns-clause-taken : goal.returns-clause-taken
 returns-clause-taken c =
-    let new = c.args.new_indices.now in
-    let k = c.in-Some.index in
-    entry_taken (IsFollowing c.args.follows) c.args.input.now.now k
+    entry_taken (IsFollowing c.args.follows) c.args.count c.args.input.now.now c.in_ok-index.index
     (length c.args.input.now.now - length c.read_u32.new.input.now) c.read_u32.new.input.now
-    c.in-Some-take_following.follows.now c.take_following.new.input.now new (new_index new k)
-    c.in-Some.ensures refl c.in-Some-take_following.ensures.taken.0 c.in-Some-take_following.ensures.taken.1
-    (omega (arith, c.if-index-new_indices.false)) refl
+    c.in_ok-follows.follows.now c.take_following.new.input.now c.in_ok-index.ensures refl
+    c.in_ok-follows.ensures.taken.0 c.in_ok-follows.ensures.taken.1
+    (omega (arith, c.if-index-count.false))

@@ -1,12 +1,7 @@
-use Rattle.std.proofs.Common.{◌≡◌, ◌∙◌, ◌+◌, ◌++◌, nat_eq, true, false, not, Err, length, sym, ap, subst}
+use Rattle.std.proofs.Common.{◌≡◌, not, true, false, Err, ap, subst}
 use Rattle.std.specs.Str.{bytes_eq}
-use Rattle.std.proofs.lemmas.Result.{err_from_is_err_and}
-use Rattle.wasm_module.specs.declared.renaming.RenameError.TheVariants as rename
-use Rattle.wasm_module.specs.Changes.{BecomesTooLong}
-use Rattle.wasm_module.specs.NameSections.{RenamesNames, SubsectionNamesUnknown, name_bytes}
-use Rattle.wasm_module.proofs.Rewriting.{same_failure}
-use Rattle.wasm_module.proofs.WholeTexts.{empty, not_empty}
-use Rattle.wasm_module.proofs.NameSections.{same_bytes, other_bytes, section_begun, section_stays, section_changes, section_first, section_malformed, custom_nameless, custom_other}
+use Rattle.wasm_module.specs.NameSections.{name_bytes}
+use Rattle.wasm_module.proofs.NameSections.{same_bytes, other_bytes, as_name, custom_nameless, custom_other, custom_unread}
 use Rattle.wasm_module.proofs.name_section.rename_custom.Goals as goal
 
 pub returns-in_default-clause-malformed : goal.returns-in_default-clause-malformed
@@ -18,65 +13,16 @@ returns-then-ne-clause-stays c =
     c.take_sized.new.input.now c.in-Some.ensures.taken (other_bytes c.in-Some.name.now name_bytes
     (subst (λ u. true ≡ not (bytes_eq c.in-Some.name.now u)) c.as_slice.ensures c.if-ne.ensures))
 
-pub loop-rest-init : goal.loop-rest-init
-loop-rest-init c =
-    section_begun c.args.new_indices.now c.args.widths c.args.content.now c.in-Some.name.now
-    c.take_sized.new.input.now c.new-out.result.items c.in-Some.ensures.taken
+pub rename_subsections-requires : goal.rename_subsections-requires
+rename_subsections-requires c =
+    as_name c.in-Some.name.now c.args.content.now c.take_sized.new.input.now c.in-Some.ensures.taken
     (same_bytes c.in-Some.name.now name_bytes
     (subst (λ u. false ≡ not (bytes_eq c.in-Some.name.now u)) c.as_slice.ensures c.if-ne.ensures))
-    c.new-out.ensures.items
 
-pub loop-rest-preserved : goal.loop-rest-preserved
-loop-rest-preserved c =
-    let s = c.loop-rest.invariant in
-    record {
-      size = s.size;
-      is_size = s.is_size;
-      count = s.count + 1;
-      so_far = c.in_ok-rename_subsection.ensures.renamed s.count (s.size ++ name_bytes) c.args.content.now
-          s.so_far;
-    }
-
-pub returns-in_err-rename_subsection-clause-malformed : goal.returns-in_err-rename_subsection-clause-malformed
-returns-in_err-rename_subsection-clause-malformed c =
-    let l = c.loop-rest in
-    let p = err_from_is_err_and c.from_residual.result c.from_residual.ensures.1 in
-    λ place e. let is = sym p.2 ∙ same_failure c.from_residual.result p.0 (rename.Malformed place) p.1 e in
-    section_malformed c.args.new_indices.now c.args.widths c.args.content.now l.unwritten.now l.rest.now
-    l.out.items l.invariant (not_empty l.rest.now c.loop-rest-test.ensures)
-    (c.in_err-rename_subsection.ensures.malformed place (ap (λ x. Err x) is))
-
-pub returns-in_err-rename_subsection-clause-unknown : goal.returns-in_err-rename_subsection-clause-unknown
-returns-in_err-rename_subsection-clause-unknown c =
-    let l = c.loop-rest in
-    let p = err_from_is_err_and c.from_residual.result c.from_residual.ensures.1 in
-    λ k place e. let is = sym p.2 ∙ same_failure c.from_residual.result p.0 (rename.UnknownType k place) p.1 e in
-    section_first c.args.new_indices.now c.args.widths
-    (SubsectionNamesUnknown (length c.args.new_indices.now) k) c.args.content.now l.unwritten.now l.rest.now
-    l.out.items l.invariant (c.in_err-rename_subsection.ensures.unknown k place (ap (λ x. Err x) is))
-
-pub returns-in_err-rename_subsection-clause-too_long : goal.returns-in_err-rename_subsection-clause-too_long
-returns-in_err-rename_subsection-clause-too_long c =
-    let l = c.loop-rest in
-    let p = err_from_is_err_and c.from_residual.result c.from_residual.ensures.1 in
-    λ e. let is = sym p.2 ∙ same_failure c.from_residual.result p.0 rename.TooLong p.1 e in
-    section_first c.args.new_indices.now c.args.widths
-    (λ id. BecomesTooLong (RenamesNames id c.args.new_indices.now c.args.widths)) c.args.content.now
-    l.unwritten.now l.rest.now l.out.items l.invariant
-    (c.in_err-rename_subsection.ensures.too_long (ap (λ x. Err x) is))
-
-pub returns-then-is_empty-clause-stays : goal.returns-then-is_empty-clause-stays
-returns-then-is_empty-clause-stays c =
-    let l = c.loop-rest in
-    section_stays c.args.new_indices.now c.args.widths c.args.content.now l.unwritten.now l.rest.now
-    l.out.items
-    l.invariant (empty l.rest.now c.loop-rest-test.ensures) (empty l.out.items
-    (subst (λ n. true ≡ nat_eq n 0) l.out.ok.0 c.if-is_empty.ensures))
-
-pub returns-clause-changes : goal.returns-clause-changes
-returns-clause-changes c =
-    let l = c.loop-rest in
-    section_changes c.args.new_indices.now c.args.widths c.args.content.now l.unwritten.now l.rest.now
-    l.out.items c.extend_from_slice.new.self.items l.invariant (empty l.rest.now c.loop-rest-test.ensures)
-    (not_empty l.out.items (subst (λ n. false ≡ nat_eq n 0) l.out.ok.0 c.if-is_empty.ensures))
-    c.in_ok-extend_from_slice.ensures.items
+pub returns-in-Err-Unread-clause-stays : goal.returns-in-Err-Unread-clause-stays
+returns-in-Err-Unread-clause-stays c =
+    custom_unread c.args.new_indices.now c.args.widths c.args.content.now c.take_sized.new.input.now
+    (as_name c.in-Some.name.now c.args.content.now c.take_sized.new.input.now c.in-Some.ensures.taken
+    (same_bytes c.in-Some.name.now name_bytes
+    (subst (λ u. false ≡ not (bytes_eq c.in-Some.name.now u)) c.as_slice.ensures c.if-ne.ensures)))
+    (c.in-Err-Unread.ensures.unread (ap (λ x. Err x) c.in-Err-Unread.field-0-is))

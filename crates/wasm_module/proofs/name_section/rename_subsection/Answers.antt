@@ -1,36 +1,27 @@
 use Rattle.std.proofs.Common.{rules, ◌∙◌, Err, length, slice_index_or, sym, ap, arith}
 use Rattle.std.proofs.lemmas.Result.{err_from_is_err_and}
-use Rattle.wasm_module.specs.declared.renaming.RenameError.TheVariants as rename
+use Rattle.wasm_module.specs.declared.name_maps.NamesError.TheVariants as names
 use Rattle.wasm_module.specs.Changes.{BecomesTooLong}
-use Rattle.wasm_module.specs.NameSections.{RenamesNames, SubsectionNamesUnknown}
+use Rattle.wasm_module.specs.NameSections.{RenamesNames}
 use Rattle.wasm_module.proofs.Rewriting.{same_failure}
 use Rattle.wasm_module.proofs.TypeMaps.{least_short}
 use Rattle.wasm_module.proofs.Taking.{first_apart}
 use Rattle.wasm_module.proofs.Changing.{if_some}
-use Rattle.wasm_module.proofs.Subsections.{none_holds, unsized_subsection, malformed_subsection, begins_in, subsection_stays, subsection_written, subsection_too_long, size_short}
+use Rattle.wasm_module.proofs.Subsections.{none_holds, unsized_subsection, unread_subsection, begins_in, subsection_stays, subsection_written, subsection_too_long, size_short}
 use Rattle.wasm_module.proofs.name_section.rename_subsection.Goals as goal
 
-pub returns-in_default-take_sized-clause-malformed : goal.returns-in_default-take_sized-clause-malformed
-returns-in_default-take_sized-clause-malformed c = λ place e.
-    unsized_subsection c.args.rest.now.now _ _ (first_apart c.args.rest.now.now c.in-len1-up.len_at_least)
-    c.in_default-take_sized.ensures.none
+pub returns-in_default-take_sized-clause-unread : goal.returns-in_default-take_sized-clause-unread
+returns-in_default-take_sized-clause-unread c = λ e.
+    unsized_subsection (length c.args.new_indices.now) c.args.rest.now.now _ _
+    (first_apart c.args.rest.now.now c.in-len1-up.len_at_least) c.in_default-take_sized.ensures.none
 
-pub returns-in_err-new-clause-malformed : goal.returns-in_err-new-clause-malformed
-returns-in_err-new-clause-malformed c =
+pub returns-in_err-new-clause-unread : goal.returns-in_err-new-clause-unread
+returns-in_err-new-clause-unread c =
     let p = err_from_is_err_and c.from_residual.result c.from_residual.ensures.1 in
-    λ place e. let is = sym p.2 ∙ same_failure c.from_residual.result p.0 (rename.Malformed place) p.1 e in
-    malformed_subsection c.args.rest.now.now _ _ c.in-Some.content.now c.take_sized.new.input.now
-    (first_apart c.args.rest.now.now c.in-len1-up.len_at_least) c.in-Some.ensures.taken
-    (c.in_err-new.ensures.malformed place (ap (λ x. Err x) is))
-
-pub returns-in_err-new-clause-unknown : goal.returns-in_err-new-clause-unknown
-returns-in_err-new-clause-unknown c =
-    let p = err_from_is_err_and c.from_residual.result c.from_residual.ensures.1 in
-    λ k place e. let is = sym p.2 ∙ same_failure c.from_residual.result p.0 (rename.UnknownType k place) p.1 e in
-    begins_in (SubsectionNamesUnknown (length c.args.new_indices.now) k) c.args.rest.now.now _ _
-    c.in-Some.content.now c.take_sized.new.input.now
-    (first_apart c.args.rest.now.now c.in-len1-up.len_at_least) c.in-Some.ensures.taken
-    (c.in_err-new.ensures.unknown k place (ap (λ x. Err x) is))
+    λ e. let is = sym p.2 ∙ same_failure c.from_residual.result p.0 names.Unread p.1 e in
+    unread_subsection (length c.args.new_indices.now) c.args.rest.now.now _ _ c.in-Some.content.now
+    c.take_sized.new.input.now (first_apart c.args.rest.now.now c.in-len1-up.len_at_least)
+    c.in-Some.ensures.taken (c.in_err-new.ensures.unread (ap (λ x. Err x) is))
 
 pub returns-in_default-2-clause-renamed : goal.returns-in_default-2-clause-renamed
 returns-in_default-2-clause-renamed c = λ count header content u.

@@ -1,7 +1,6 @@
 use Rattle.std.proofs.Common.{[], arith}
 use Rattle.std.proofs.lemmas.Result.{IfOk-weaker}
 use Rattle.wasm_module.specs.RenamedModules.RenamesAny.{custom, other}
-use Rattle.wasm_module.specs.RenamedModules.AnyNamesUnknown.{custom as unknown_custom, other as unknown_other}
 use Rattle.wasm_module.specs.RenamedModules.PartBecomesTooLong.{custom as long_custom, other as long_other}
 use Rattle.wasm_module.specs.NameSections.{RenamesCustom}
 use Rattle.wasm_module.specs.RenamedModules.{RenamesAny}
@@ -26,8 +25,7 @@ returns-then-id-eq-CUSTOM-clause-changes c =
     c.rename_custom.ensures.changes
 
 pub returns-then-id-eq-CUSTOM-clause-unknown : goal.returns-then-id-eq-CUSTOM-clause-unknown
-returns-then-id-eq-CUSTOM-clause-unknown c = λ k place e. unknown_custom c.args.content.now
-    (omega (arith, c.if-id-eq-CUSTOM.true)) (c.rename_custom.ensures.unknown k place e)
+returns-then-id-eq-CUSTOM-clause-unknown c = λ k place e. absurd (c.rename_custom.ensures.known k place e)
 
 pub returns-then-id-eq-CUSTOM-clause-too_long : goal.returns-then-id-eq-CUSTOM-clause-too_long
 returns-then-id-eq-CUSTOM-clause-too_long c = λ e. long_custom c.args.content.now
@@ -49,10 +47,6 @@ returns-clause-changes c =
     (λ names k. other c.args.content.now bytes.items names
     (λ e. omega (arith, e, c.if-id-eq-CUSTOM.false)) k) r) h)
     c.rename_content.ensures.changes
-
-pub returns-clause-unknown : goal.returns-clause-unknown
-returns-clause-unknown c = λ k place e. unknown_other c.args.content.now
-    (λ is. omega (arith, is, c.if-id-eq-CUSTOM.false)) (c.rename_content.ensures.unknown k place e)
 
 pub returns-clause-too_long : goal.returns-clause-too_long
 returns-clause-too_long c = λ e. long_other c.args.content.now

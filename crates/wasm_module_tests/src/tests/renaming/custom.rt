@@ -1,6 +1,5 @@
 //! Names of types and fields in name sections. The bytes are put together by hand from the
 //! specification's grammar of the name section.
-use super::unknown;
 use crate::assertions::assert_equal;
 use std::alloc::{AllocError, Global};
 use std::process::Abort;
@@ -46,16 +45,6 @@ fn becomes(
 ) {
     let new = renamed(alloc, subsections, new_indices, Widths::Shortest);
     has(rt, alloc, new, expected);
-}
-
-/// Why these subsections are refused where two types change places.
-fn refusal(alloc: Global, subsections: &[u8]) -> Option<RenameError> {
-    renamed(alloc, subsections, &[Some(1), Some(0)], Widths::Shortest).err()
-}
-
-fn is_malformed(rt: &impl Abort, alloc: Global, subsections: &[u8], offset: usize) {
-    let error = Some(RenameError::Malformed { offset });
-    assert_equal(rt, refusal(alloc, subsections), error);
 }
 
 #[test]
@@ -136,24 +125,6 @@ fn content_without_a_name_is_malformed(rt: HostRuntime) {
 }
 
 #[test]
-fn malformed_subsections_are_refused(rt: HostRuntime) {
-    let alloc = rt.alloc();
-    // a size of more bytes than there are
-    is_malformed(&rt, alloc, &[1, 2, 0], 8);
-    // no size
-    is_malformed(&rt, alloc, &[4], 6);
-    // two entries where the count says one
-    let left_over = [4, 7, 1, 0, 1, 0x61, 1, 1, 0x62];
-    is_malformed(&rt, alloc, &left_over, 11);
-    // one entry where the count says two
-    is_malformed(&rt, alloc, &[4, 4, 2, 0, 1, 0x61], 11);
-    // a name of two bytes, of which one is there
-    is_malformed(&rt, alloc, &[4, 4, 1, 0, 2, 0x61], 11);
-    // a name where the map of fields is to be
-    is_malformed(&rt, alloc, &[10, 4, 1, 0, 1, 0x61], 11);
-}
-
-#[test]
 fn names_of_deleted_types_go(rt: HostRuntime) {
     // type 0 is a, 1 is b, 2 is c; type 1 is deleted
     let names = [4, 10, 3, 0, 1, 0x61, 1, 1, 0x62, 2, 1, 0x63];
@@ -181,21 +152,10 @@ fn names_of_fields_of_deleted_types_go(rt: HostRuntime) {
 }
 
 #[test]
-fn an_index_past_the_deleted_types_is_refused(rt: HostRuntime) {
+fn names_stay_where_one_is_past_the_deleted_types(rt: HostRuntime) {
     // type 0 is deleted, and there is no type 1
     let names = [4, 7, 2, 0, 1, 0x61, 1, 1, 0x62];
-    let refused = renamed(rt.alloc(), &names, &[None], Widths::Shortest);
-    assert_equal(&rt, refused.err(), unknown(1, 11));
-}
-
-#[test]
-fn a_type_without_a_new_index_is_refused(rt: HostRuntime) {
-    let alloc = rt.alloc();
-    // type 2, and no name behind it
-    let refused = refusal(alloc, &[4, 5, 2, 0, 1, 0x61, 2]);
-    assert_equal(&rt, refused, unknown(2, 11));
-    // what is malformed before it decides
-    is_malformed(&rt, alloc, &[4, 4, 2, 0, 9, 2], 11);
+    becomes(&rt, rt.alloc(), &names, &[None], &names);
 }
 
 #[test]
