@@ -11,7 +11,6 @@ use Rattle.wasm_normalise.specs.declared.options.Descriptions.{Descriptions}
 use Rattle.wasm_normalise.specs.declared.options.Descriptions.TheVariants as descriptions
 use Rattle.wasm_normalise.specs.declared.options.NormaliseOptions.{NormaliseOptions}
 use Rattle.wasm_normalise.specs.declared.options.UnusedTypes.{UnusedTypes}
-use Rattle.wasm_normalise.specs.declared.options.UnusedTypes.TheVariants as kinds
 
 -- the same, for a list that was lent
 pub lent_form :
