@@ -1,5 +1,5 @@
 -- The bytes that stand for abstract heap types.
-use Rattle.std.proofs.Common.{◌≡◌, ℕ, ◌<◌, ◌≤◌, ◌⊎◌, inl, inr, Some, None, refl, ap, arith, ne_eqb}
+use Rattle.std.proofs.Common.{◌≡◌, ℕ, ◌<◌, ◌≤◌, ◌⊎◌, inl, inr, Option, Some, None, refl, ap, arith}
 use Rattle.walrus_ty.specs.declared.ty.value.AbstractHeapType.{AbstractHeapType}
 use Rattle.walrus_ty.specs.declared.ty.value.AbstractHeapType.TheVariants as abstract
 use Rattle.wasm_binary.specs.Grammar.{heap_code}
@@ -42,34 +42,11 @@ code_from b a e =
 
 -- what is no code of one
 pub outside : (b : ℕ) → (b < 0x69) ⊎ (0x74 < b) → heap_type_of b ≡ None
-unfolding heap_type_of
-outside b (inl low) =
-    rw (
-      ne_eqb b 0x74 (λ q. omega (arith, q, low)),
-      ne_eqb b 0x73 (λ q. omega (arith, q, low)),
-      ne_eqb b 0x72 (λ q. omega (arith, q, low)),
-      ne_eqb b 0x71 (λ q. omega (arith, q, low)),
-      ne_eqb b 0x70 (λ q. omega (arith, q, low)),
-      ne_eqb b 0x6F (λ q. omega (arith, q, low)),
-      ne_eqb b 0x6E (λ q. omega (arith, q, low)),
-      ne_eqb b 0x6D (λ q. omega (arith, q, low)),
-      ne_eqb b 0x6C (λ q. omega (arith, q, low)),
-      ne_eqb b 0x6B (λ q. omega (arith, q, low)),
-      ne_eqb b 0x6A (λ q. omega (arith, q, low)),
-      ne_eqb b 0x69 (λ q. omega (arith, q, low)),
-    ) refl
-outside b (inr high) =
-    rw (
-      ne_eqb b 0x74 (λ q. omega (arith, q, high)),
-      ne_eqb b 0x73 (λ q. omega (arith, q, high)),
-      ne_eqb b 0x72 (λ q. omega (arith, q, high)),
-      ne_eqb b 0x71 (λ q. omega (arith, q, high)),
-      ne_eqb b 0x70 (λ q. omega (arith, q, high)),
-      ne_eqb b 0x6F (λ q. omega (arith, q, high)),
-      ne_eqb b 0x6E (λ q. omega (arith, q, high)),
-      ne_eqb b 0x6D (λ q. omega (arith, q, high)),
-      ne_eqb b 0x6C (λ q. omega (arith, q, high)),
-      ne_eqb b 0x6B (λ q. omega (arith, q, high)),
-      ne_eqb b 0x6A (λ q. omega (arith, q, high)),
-      ne_eqb b 0x69 (λ q. omega (arith, q, high)),
-    ) refl
+outside b h = none (heap_type_of b) refl
+  where
+    none : (o : Option AbstractHeapType) → heap_type_of b ≡ o → o ≡ None
+    none None is = refl
+    none (Some a) is = absurd (elim h [
+      | inl low ↦ omega (arith, low, code_from b a is, code_low a)
+      | inr high ↦ omega (arith, high, code_from b a is, code_high a)
+    ])

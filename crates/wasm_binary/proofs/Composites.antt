@@ -12,7 +12,7 @@ use Rattle.wasm_binary.specs.Grammar.{IsVec, IsValType, i32, i64, f32, f64, v128
 use Rattle.wasm_binary.specs.Steps.Reading.{val_at, storage_at, mutability_at, field_at, vec_at, function_at, comp_at}
 use Rattle.wasm_binary.proofs.Basics.{Takes, IsSound, IsComplete, split, branch, one_takes, map_takes, pair_takes, pair_again}
 use Rattle.wasm_binary.proofs.Lists.{vec_sound, vec_complete}
-use Rattle.wasm_binary.proofs.Values.{Begins, ref_begins, val_sound, val_complete}
+use Rattle.wasm_binary.proofs.Values.{Begins, begins_with, again_from, ref_begins, val_sound, val_complete}
 
 -- ---- storage types
 
@@ -26,10 +26,10 @@ storage_sound (b ∷ bytes) v rest e =
     (map_takes IsValType IsStorageType val_at (λ k. storage.Val k) [] val_sound (λ t a h. value t a h)
     (b ∷ bytes) v rest))
 
-value_reads : (b : ℕ) (bytes : List ℕ) (v : Val ℕ) (rest : List ℕ) → b ≤ 0x74 →
+value_reads : (v : Val ℕ) (rest : List ℕ) (b : ℕ) (bytes : List ℕ) → 0x63 ≤ b → b ≤ 0x74 →
     val_at (b ∷ bytes) ≡ Ok (v, rest) → storage_at (b ∷ bytes) ≡ Ok (storage.Val v, rest)
 unfolding storage_at
-value_reads b bytes v rest to e =
+value_reads v rest b bytes from to e =
     rw (ne_eqb b 0x78 (λ q. omega (arith, q, to)), ne_eqb b 0x77 (λ q. omega (arith, q, to)), e) refl
 
 value_again : (text : List ℕ) (v : Val ℕ) (rest : List ℕ) → IsValType text v →
@@ -41,10 +41,8 @@ value_again _ _ rest f32 e = rw e refl
 value_again _ _ rest f64 e = rw e refl
 value_again _ _ rest v128 e = rw e refl
 value_again _ _ rest (ref text r t) e =
-    let b = ref_begins text r t in
-    let is : text ++ rest ≡ b.first ∷ (b.others ++ rest) = ap (λ (u : List ℕ). u ++ rest) b.is in
-    let again : val_at (b.first ∷ (b.others ++ rest)) ≡ Ok (val.Ref r, rest) = ap val_at (sym is) ∙ e in
-    ap storage_at is ∙ value_reads b.first (b.others ++ rest) (val.Ref r) rest b.to again
+    again_from val_at storage_at (val.Ref r) (storage.Val (val.Ref r)) rest (ref_begins text r t) e
+    (value_reads (val.Ref r) rest)
 
 pub storage_complete : IsComplete IsStorageType storage_at
 unfolding storage_at
@@ -138,27 +136,6 @@ comp_complete _ _ rest (struct text fs h) = rw
 comp_complete _ _ rest (function s t ps rs h k) = function_again s t ps rs rest h k
 
 pub comp_begins : (text : List ℕ) (c : CompAt) → IsCompType text c → Begins text 0x5E 0x60
-comp_begins _ _ (array text f h) = record {
-  first = 0x5E;
-  others = text;
-  is = refl;
-  from = omega arith;
-  to =
-      omega arith;
-}
-comp_begins _ _ (struct text fs h) = record {
-  first = 0x5F;
-  others = text;
-  is = refl;
-  from = omega arith;
-  to =
-      omega arith;
-}
-comp_begins _ _ (function s t ps rs h k) = record {
-  first = 0x60;
-  others = s ++ t;
-  is = refl;
-  from =
-      omega arith;
-  to = omega arith;
-}
+comp_begins _ _ (array text f h) = begins_with 0x5E text (omega arith) (omega arith)
+comp_begins _ _ (struct text fs h) = begins_with 0x5F text (omega arith) (omega arith)
+comp_begins _ _ (function s t ps rs h k) = begins_with 0x60 (s ++ t) (omega arith) (omega arith)

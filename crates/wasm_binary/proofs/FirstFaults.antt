@@ -34,6 +34,13 @@ use Rattle.wasm_binary.proofs.Places.{sub_fails}
 use Rattle.wasm_binary.proofs.Faults.{failed, DoesNotRead, stop, here, left_is, reason_is, map_err, step_err, Tail, tail_bytes, Fills, sub_of_several, before_comp, before_heap, before_ref, supertypes, Begins, counts_several, comp_code, heap_code, ref_code, Names, names_said, expected_names, BeginAlike, by_byte, by_integer, Stops, Halts, within, inside, behind_byte, through, ends_with, at_end, at_first, held_first, pair_halts}
 use Rattle.wasm_binary.proofs.ListFaults.{Unended, integer_unended, u32_halts, s33_halts, vec_halts}
 
+-- what holds of both bytes holds of one of them
+one_of_two : (P : ℕ → Type 0) (b k l : ℕ) → (nat_eq b k || nat_eq b l) ≡ true → P k → P l → P b
+one_of_two P b k l h x y = elim (either_true (nat_eq b k) (nat_eq b l) h) [
+  | inl e ↦ subst P (sym (eqb-true b k e)) x
+  | inr e ↦ subst P (sym (eqb-true b l e)) y
+]
+
 -- ---- heap types
 
 -- the first byte of one that no record holds
@@ -43,10 +50,7 @@ is_shared_heap b h = subst (IsUnsupportedHeap held.Shared) (sym (eqb-true b 0x65
 is_continuation_heap : (b : ℕ) → (nat_eq b 0x68 || nat_eq b 0x75) ≡ true →
     IsUnsupportedHeap held.Continuation b
 is_continuation_heap b h =
-    elim (either_true (nat_eq b 0x68) (nat_eq b 0x75) h) [
-      | inl e ↦ subst (IsUnsupportedHeap held.Continuation) (sym (eqb-true b 0x68 e)) continuation_heap
-      | inr e ↦ subst (IsUnsupportedHeap held.Continuation) (sym (eqb-true b 0x75 e)) no_continuation_heap
-    ]
+    one_of_two (IsUnsupportedHeap held.Continuation) b 0x68 0x75 h continuation_heap no_continuation_heap
 
 abbrev some_heap : Heap ℕ
 some_heap = heap.Abstract abstract.Func
@@ -210,10 +214,7 @@ empty_struct = struct (0 ∷ []) [] (no_items IsFieldType)
 -- the first byte of one that no record holds
 is_descriptor : (b : ℕ) → (nat_eq b 0x4C || nat_eq b 0x4D) ≡ true → IsUnsupportedComp held.Descriptor b
 is_descriptor b h =
-    elim (either_true (nat_eq b 0x4C) (nat_eq b 0x4D) h) [
-      | inl e ↦ subst (IsUnsupportedComp held.Descriptor) (sym (eqb-true b 0x4C e)) describing_comp
-      | inr e ↦ subst (IsUnsupportedComp held.Descriptor) (sym (eqb-true b 0x4D e)) described_comp
-    ]
+    one_of_two (IsUnsupportedComp held.Descriptor) b 0x4C 0x4D h describing_comp described_comp
 
 held_comp : (what : NotHeld) (b : ℕ) → IsUnsupportedComp what b
     → ((xs : List ℕ) → comp_at (b ∷ xs) ≡ here (b ∷ xs) (reason.NotHeld what)) → (bytes : List ℕ) (f : Fault)

@@ -15,7 +15,7 @@ use Rattle.wasm_binary.specs.Steps.Reading.{◌>>=◌, expected_error, not_held_
 use Rattle.wasm_binary.proofs.Basics.{Reading, Takes, IsSound, IsComplete, bind_ok, guard_ok, value_is, rest_is, branch, map_takes, pair_takes, pair_again}
 use Rattle.wasm_binary.proofs.Integers.{u32_sound, u32_complete}
 use Rattle.wasm_binary.proofs.Lists.{vec_sound, vec_complete}
-use Rattle.wasm_binary.proofs.Values.{Begins}
+use Rattle.wasm_binary.proofs.Values.{Begins, begins_with, again_from}
 use Rattle.wasm_binary.proofs.Composites.{comp_sound, comp_complete, comp_begins}
 
 -- ---- supertypes
@@ -139,32 +139,25 @@ entry_sound (b ∷ bytes) v rest e =
     (map_takes IsCompType IsSubType comp_at (λ c. made_entry true None c) [] comp_sound (λ t a h. plain t a h)
     (b ∷ bytes) v rest))
 
-plain_reads : (b : ℕ) (bytes : List ℕ) (c : CompAt) (rest : List ℕ) → 0x5E ≤ b →
+plain_reads : (c : CompAt) (rest : List ℕ) (b : ℕ) (bytes : List ℕ) → 0x5E ≤ b → b ≤ 0x60 →
     comp_at (b ∷ bytes) ≡ Ok (c, rest) → entry_at (b ∷ bytes) ≡ Ok (made_entry true None c, rest)
 unfolding entry_at
-plain_reads b bytes c rest from e =
+plain_reads c rest b bytes from to e =
     rw (ne_eqb b 0x50 (λ q. omega (arith, q, from)), ne_eqb b 0x4F (λ q. omega (arith, q, from)), e) refl
-
-plain_again : (text : List ℕ) (c : CompAt) (rest : List ℕ) → IsCompType text c →
-    entry_at (text ++ rest) ≡ Ok (made_entry true None c, rest)
-plain_again text c rest h =
-    let b = comp_begins text c h in
-    let is : text ++ rest ≡ b.first ∷ (b.others ++ rest) = ap (λ (u : List ℕ). u ++ rest) b.is in
-    let again : comp_at (b.first ∷ (b.others ++ rest)) ≡ Ok (c, rest) = ap comp_at (sym is)
-    ∙ comp_complete text c rest h in
-    ap entry_at is ∙ plain_reads b.first (b.others ++ rest) c rest b.from again
 
 pub entry_complete : IsComplete IsSubType entry_at
 unfolding entry_at
 entry_complete _ _ rest (declared s t true v c h k) = declared_again true s t v c rest h k
 entry_complete _ _ rest (declared s t false v c h k) = declared_again false s t v c rest h k
-entry_complete _ _ rest (plain text c h) = plain_again text c rest h
+entry_complete _ _ rest (plain text c h) =
+    again_from comp_at entry_at c (made_entry true None c) rest (comp_begins text c h)
+    (comp_complete text c rest h) (plain_reads c rest)
 
 entry_begins : (text : List ℕ) (e : EntryAt) → IsSubType text e → Begins text 0x4F 0x60
 entry_begins _ _ (declared s t true v c h k) =
-    record { first = 0x4F; others = s ++ t; is = refl; from = omega arith; to = omega arith }
+    begins_with 0x4F (s ++ t) (omega arith) (omega arith)
 entry_begins _ _ (declared s t false v c h k) =
-    record { first = 0x50; others = s ++ t; is = refl; from = omega arith; to = omega arith }
+    begins_with 0x50 (s ++ t) (omega arith) (omega arith)
 entry_begins _ _ (plain text c h) =
     let b = comp_begins text c h in
     record { first = b.first; others = b.others; is = b.is; from = omega (arith, b.from); to = b.to }
@@ -184,25 +177,18 @@ group_sound (b ∷ bytes) v rest e =
     (map_takes IsSubType IsRecType entry_at (λ k. group.Single k) [] entry_sound (λ t a h. single t a h)
     (b ∷ bytes) v rest)
 
-single_reads : (b : ℕ) (bytes : List ℕ) (e : EntryAt) (rest : List ℕ) → 0x4F ≤ b →
+single_reads : (e : EntryAt) (rest : List ℕ) (b : ℕ) (bytes : List ℕ) → 0x4F ≤ b → b ≤ 0x60 →
     entry_at (b ∷ bytes) ≡ Ok (e, rest) → group_at (b ∷ bytes) ≡ Ok (group.Single e, rest)
 unfolding group_at
-single_reads b bytes e rest from h = rw (ne_eqb b 0x4E (λ q. omega (arith, q, from)), h) refl
-
-single_again : (text : List ℕ) (e : EntryAt) (rest : List ℕ) → IsSubType text e →
-    group_at (text ++ rest) ≡ Ok (group.Single e, rest)
-single_again text e rest h =
-    let b = entry_begins text e h in
-    let is : text ++ rest ≡ b.first ∷ (b.others ++ rest) = ap (λ (u : List ℕ). u ++ rest) b.is in
-    let again : entry_at (b.first ∷ (b.others ++ rest)) ≡ Ok (e, rest) = ap entry_at (sym is)
-    ∙ entry_complete text e rest h in
-    ap group_at is ∙ single_reads b.first (b.others ++ rest) e rest b.from again
+single_reads e rest b bytes from to h = rw (ne_eqb b 0x4E (λ q. omega (arith, q, from)), h) refl
 
 pub group_complete : IsComplete IsRecType group_at
 unfolding group_at
 group_complete _ _ rest (rec text es h) = rw (vec_complete IsSubType entry_at entry_complete text es rest h)
     refl
-group_complete _ _ rest (single text e h) = single_again text e rest h
+group_complete _ _ rest (single text e h) =
+    again_from entry_at group_at e (group.Single e) rest (entry_begins text e h)
+    (entry_complete text e rest h) (single_reads e rest)
 
 -- ---- sections
 

@@ -8,7 +8,7 @@ use Rattle.walrus_ty.specs.declared.ty.value.Val.TheVariants as val
 use Rattle.wasm_binary.specs.Leb128.{IsInteger, last, more, IsU32, IsS33}
 use Rattle.wasm_binary.specs.Grammar.{heap_code, IsHeapType, abstract_type, index, exact_index, reference, IsRefType, written_out, abbreviated, IsValType, i32, i64, f32, f64, v128, ref}
 use Rattle.wasm_binary.specs.Steps.Reading.{u32_at, s33_at, heap_type_of, index_at, abstract_or, heap_at, abbreviated_or, reference_at, val_at}
-use Rattle.wasm_binary.proofs.Basics.{Takes, IsSound, IsComplete, split, branch, one_takes, map_takes}
+use Rattle.wasm_binary.proofs.Basics.{Reading, Takes, IsSound, IsComplete, done, split, branch, one_takes, map_takes}
 use Rattle.wasm_binary.proofs.Codes.{code_low, code_high, code_read, code_from, outside}
 use Rattle.wasm_binary.proofs.Integers.{u32_sound, u32_complete, s33_sound, s33_complete}
 
@@ -127,7 +127,7 @@ val_sound (b ∷ bytes) v rest e =
     (map_takes IsRefType IsValType reference_at (λ r. val.Ref r) [] reference_sound (λ t a h. ref t a h)
     (b ∷ bytes) v rest)))))
 
--- the first byte of a reference type
+-- the first byte of a text, within bounds
 pub record Begins (bytes : List ℕ) (low high : ℕ) : Type 0 where
   pub first : ℕ
   pub others : List ℕ
@@ -135,24 +135,30 @@ pub record Begins (bytes : List ℕ) (low high : ℕ) : Type 0 where
   pub from : low ≤ first
   pub to : first ≤ high
 
+pub begins_with : {low high : ℕ} (b : ℕ) (others : List ℕ) → low ≤ b → b ≤ high → Begins (b ∷ others) low high
+begins_with b others from to = record { first = b; others = others; is = refl; from = from; to = to }
+
+-- what reads on from such a byte as another reading reads, reads on from the text so
+pub again_from : {A B : Type 0} {text : List ℕ} {low high : ℕ} (reads : List ℕ → Reading A)
+    (reads_on : List ℕ → Reading B) (x : A) (y : B) (rest : List ℕ) → Begins text low high →
+    reads (text ++ rest) ≡ done x rest →
+    ((b : ℕ) (bytes : List ℕ) → low ≤ b → b ≤ high → reads (b ∷ bytes) ≡ done x rest →
+    reads_on (b ∷ bytes) ≡ done y rest) → reads_on (text ++ rest) ≡ done y rest
+again_from reads reads_on x y rest b read on =
+    let is = ap (λ (u : List ℕ). u ++ rest) b.is in
+    ap reads_on is ∙ on b.first (b.others ++ rest) b.from b.to (ap reads (sym is) ∙ read)
+
 pub ref_begins : (text : List ℕ) (r : Reference ℕ) → IsRefType text r → Begins text 0x63 0x74
 ref_begins _ _ (written_out text true h t) =
-    record { first = 0x63; others = text; is = refl; from = omega arith; to = omega arith }
+    begins_with 0x63 text (omega arith) (omega arith)
 ref_begins _ _ (written_out text false h t) =
-    record { first = 0x64; others = text; is = refl; from = omega arith; to = omega arith }
-ref_begins _ _ (abbreviated a) = record {
-  first = heap_code a;
-  others = [];
-  is = refl;
-  from =
-      omega (arith, code_low a);
-  to = code_high a;
-}
+    begins_with 0x64 text (omega arith) (omega arith)
+ref_begins _ _ (abbreviated a) = begins_with (heap_code a) [] (omega (arith, code_low a)) (code_high a)
 
-ref_reads : (b : ℕ) (bytes : List ℕ) (r : Reference ℕ) (rest : List ℕ) → b ≤ 0x74 →
+ref_reads : (r : Reference ℕ) (rest : List ℕ) (b : ℕ) (bytes : List ℕ) → 0x63 ≤ b → b ≤ 0x74 →
     reference_at (b ∷ bytes) ≡ Ok (r, rest) → val_at (b ∷ bytes) ≡ Ok (val.Ref r, rest)
 unfolding val_at
-ref_reads b bytes r rest to e =
+ref_reads r rest b bytes from to e =
     rw (
       ne_eqb b 0x7F (λ q. omega (arith, q, to)),
       ne_eqb b 0x7E (λ q. omega (arith, q, to)),
@@ -165,9 +171,6 @@ ref_reads b bytes r rest to e =
 pub val_complete : IsComplete IsValType val_at
 unfolding val_at
 val_complete _ _ rest (ref text r t) =
-    let b = ref_begins text r t in
-    let is : text ++ rest ≡ b.first ∷ (b.others ++ rest) = ap (λ (u : List ℕ). u ++ rest) b.is in
-    let again : reference_at (b.first ∷ (b.others ++ rest)) ≡ Ok (r, rest) = ap reference_at (sym is)
-    ∙ reference_complete text r rest t in
-    ap val_at is ∙ ref_reads b.first (b.others ++ rest) r rest b.to again
+    again_from reference_at val_at r (val.Ref r) rest (ref_begins text r t) (reference_complete text r rest t)
+    (ref_reads r rest)
 val_complete _ _ rest v = refl
