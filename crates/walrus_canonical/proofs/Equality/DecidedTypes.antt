@@ -90,11 +90,12 @@ module _ (first second : Section) where
               (slice_get-get_or ns position 0 h))))) [
                 | inl each ↦ inl (record {
                   shape = shape;
-                  names = λ position x y at_x at_y. subst (λ (u : ℕ). Agree i j u y)
-                      (get_or_from_slice_get ns position x 0 at_x)
-                      (subst (λ (u : ℕ). Agree i j (get_or ns position 0) u)
-                      (get_or_from_slice_get ms position y 0 at_y)
-                      (each position (slice_get_within ns position x at_x)));
+                  names = λ position x y at_x at_y.
+                      rw (
+                        ← get_or_from_slice_get ns position x 0 at_x,
+                        ← get_or_from_slice_get ms position y 0 at_y,
+                      )
+                      (each position (slice_get_within ns position x at_x));
                 })
                 | inr x ↦ (let low = x.1 in inr (λ r. x.2 (r.names x.0 (get_or ns x.0 0) (get_or ms x.0 0)
                     (slice_get-get_or ns x.0 0 low)
@@ -220,7 +221,7 @@ module _ (first second : Section) where
       NamesBelowEnds s → (bound i j : ℕ) → i < bound → i < s.count → Decided (AreEqual s t i j)
   decided_below below zero i j low h = absurd (omega (arith, low))
   decided_below below (suc bound) i j low h = elim (cases_lt j t.count) [
-    | inr over ↦ inr (λ e. (let z = (equal_within first second i j e).1 in omega (arith, over, z)))
+    | inr over ↦ inr (λ e. (omega (arith, over, (equal_within first second i j e).1)))
     | inl hj ↦
         let p = own_member s i h in
         let q = own_member t j hj in
@@ -232,5 +233,5 @@ module _ (first second : Section) where
   pub equal_or_not : NamesBelowEnds s → (i j : ℕ) → Decided (AreEqual s t i j)
   equal_or_not below i j = elim (cases_lt i s.count) [
     | inl h ↦ decided_below below (suc i) i j (omega arith) h
-    | inr over ↦ inr (λ e. (let z = (equal_within first second i j e).0 in omega (arith, over, z)))
+    | inr over ↦ inr (λ e. (omega (arith, over, (equal_within first second i j e).0)))
   ]

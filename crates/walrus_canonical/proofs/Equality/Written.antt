@@ -281,30 +281,35 @@ module _ (s t : IndexSpace) (inner inner' : ℕ → ℕ) (Outer Outer' : ℕ →
 
 -- ---- equal groups have the same definitions
 
+-- a group with a member for each member of another has no fewer definitions
+no_fewer :
+    (s t : IndexSpace) (inner inner' : ℕ → ℕ) (Outer Outer' : ℕ → ℕ → Type 0) (i j : ℕ) (ds es : List Definition) →
+    IsWrittenBy s inner Outer i ds → IsWrittenBy t inner' Outer' j es →
+    ((k place : ℕ) → IsMember s i place k → (l : ℕ) × IsMember t j place l) → length ds ≤ length es
+no_fewer s t inner inner' Outer Outer' i j ds es v w places = elim (cases_lt (length es) (length ds)) [
+  | inr over ↦ over
+  | inl less ↦ absurd (
+      let k = v.members (length es) less in
+      let l = places k.0 (length es) k.1 in
+      omega (arith, w.places l.0 (length es) l.1))
+]
+
+pub as_many :
+    (s t : IndexSpace) (inner inner' : ℕ → ℕ) (Outer Outer' : ℕ → ℕ → Type 0) (i j : ℕ) →
+    HaveLikeGroups s t i j → (ds es : List Definition) → IsWrittenBy s inner Outer i ds →
+    IsWrittenBy t inner' Outer' j es → length ds ≡ length es
+as_many s t inner inner' Outer Outer' i j same ds es v w = omega (
+  arith,
+  no_fewer s t inner inner' Outer Outer' i j ds es v w same.first_places,
+  no_fewer t s inner' inner Outer' Outer j i es ds w v same.second_places,
+)
+
 module _ (s t : IndexSpace) (inner inner' : ℕ → ℕ) (Outer Outer' : ℕ → ℕ → Type 0) (i j : ℕ)
     (same : HaveLikeGroups s t i j) (ds es : List Definition) (v : IsWrittenBy s inner Outer i ds)
     (w : IsWrittenBy t inner' Outer' j es)
     (same_inner : (p : ℕ) → p < length ds → inner p ≡ inner' p)
     (same_outer : (x y a b : ℕ) → NameAtOnce s t i j x y → NamesOutside s i x → NamesOutside t j y →
     Outer x a → Outer' y b → a ≡ b) where
-  as_long : length ds ≤ length es
-  as_long = elim (cases_lt (length es) (length ds)) [
-    | inr over ↦ over
-    | inl less ↦ absurd (
-        let k = v.members (length es) less in
-        let l = same.first_places k.0 (length es) k.1 in
-        omega (arith, w.places l.0 (length es) l.1))
-  ]
-
-  no_longer : length es ≤ length ds
-  no_longer = elim (cases_lt (length ds) (length es)) [
-    | inr over ↦ over
-    | inl less ↦ absurd (
-        let l = w.members (length ds) less in
-        let k = same.second_places l.0 (length ds) l.1 in
-        omega (arith, v.places k.0 (length ds) k.1))
-  ]
-
   -- the numbers that stand for names at one position are one
   same_number :
       (x y a b : ℕ) → NameAtOnce s t i j x y → StandsFor s i ds x a → StandsFor t j es y b → a ≡ b
@@ -333,7 +338,8 @@ module _ (s t : IndexSpace) (inner inner' : ℕ → ℕ) (Outer Outer' : ℕ →
   pub one_if_equal : ds ≡ es
   one_if_equal =
       let none = no_place.definition in
-      ext_get_or none ds es (omega (arith, as_long, no_longer)) (λ q h.
+      let long = as_many s t inner inner' Outer Outer' i j same ds es v w in
+      ext_get_or none ds es long (λ q h.
       let k = v.members q h in
       same_item q (get_or ds q none) (get_or es q none) (slice_get-get_or ds q none h)
-      (slice_get-get_or es q none (omega (arith, h, as_long, no_longer))) k.0 k.1)
+      (slice_get-get_or es q none (omega (arith, h, long))) k.0 k.1)

@@ -1,26 +1,16 @@
 -- The types of a section are those that it has with further groups behind it.
-use Rattle.std.proofs.Common.{◌≡◌, ℕ, zero, suc, ◌+◌, ◌<◌, ◌≤◌, List, [], ◌∷◌, ◌++◌, length, length-append, refl, sym, ap, subst, ◌∙◌, inl, inr, Some, arith}
+use Rattle.std.proofs.Common.{◌≡◌, ℕ, zero, suc, ◌<◌, ◌≤◌, List, ◌++◌, length, length-append, sym, ap, subst, ◌∙◌, inl, inr, Some, arith}
 use Rattle.std.proofs.lemmas.Bool.{cases_lt}
+use Rattle.std.proofs.lemmas.List.{get_or_append_left}
 use Rattle.walrus_ty.specs.Definition.{Definition, Names, rename}
 use Rattle.walrus_ty.specs.Groups.{Section}
-use Rattle.walrus_sections.specs.Section.{IndexSpace, Place, places_from, index_space, NamesBelowEnds}
+use Rattle.walrus_sections.specs.Section.{IndexSpace, Place, no_place, places_from, index_space, NamesBelowEnds}
 use Rattle.walrus_sections.proofs.Sections.Lying.{in_or_out}
 use Rattle.walrus_sections.proofs.Sections.Rows.{at, laid_out}
 use Rattle.walrus_sections.proofs.Sections.Places.{places-append}
 use Rattle.walrus_canonical.specs.EqualTypes.{IsMember, alone, in_rec, NamesAt, NameAtOnce, HaveLikeGroups, AreEqual, equal}
 use Rattle.walrus_canonical.proofs.Equality.Definitions.{named_once, names_what_stands}
 use Rattle.walrus_canonical.proofs.Equality.Members.{only_itself, in_same_rec, own_member, member_within, member_once, named_outside}
-
-pub at-left : (ps qs : List Place) (p : ℕ) → p < length ps → at (ps ++ qs) p ≡ at ps p
-at-left [] qs p h = absurd (omega (arith, h))
-at-left (x ∷ ps) qs zero h = refl
-at-left (x ∷ ps) qs (suc p) h = at-left ps qs p (omega (arith, h))
-
-pub at-right : (ps qs : List Place) (j : ℕ) → at (ps ++ qs) (length ps + j) ≡ at qs j
-at-right [] qs j = let e : 0 + j ≡ j = omega arith in ap (at qs) e
-at-right (x ∷ ps) qs j =
-    let e : suc (length ps) + j ≡ suc (length ps + j) = omega arith in
-    ap (at (x ∷ ps ++ qs)) e ∙ at-right ps qs j
 
 module _ (pre more : Section) where
   abbrev P : IndexSpace
@@ -34,7 +24,7 @@ module _ (pre more : Section) where
   same_place p h =
       let a = places-append 0 0 pre more in
       ap (λ (qs : List Place). at qs p) a.2
-      ∙ at-left (places_from 0 0 pre) (places_from a.0 a.1 more) p h
+      ∙ get_or_append_left (places_from 0 0 pre) (places_from a.0 a.1 more) no_place p h
 
   pub same_definition : (p : ℕ) → p < P.count → N.definition p ≡ P.definition p
   same_definition p h = ap (λ (x : Place). x.definition) (same_place p h)
@@ -52,7 +42,7 @@ module _ (pre more : Section) where
       ∙ length-append (places_from 0 0 pre) (places_from a.0 a.1 more) in omega (arith, long)
 
   pub within : (p : ℕ) → p < P.count → p < N.count
-  within p h = let z = no_fewer in omega (arith, h, z)
+  within p h = omega (arith, h, no_fewer)
 
   mate_low :
       (p k group t u : ℕ) → p < P.count → k < N.count → N.rec_position p ≡ Some (group, t) →
@@ -61,12 +51,9 @@ module _ (pre more : Section) where
     | inl low ↦ low
     | inr over ↦
         let l = laid_out (pre ++ more) in
-        let fits = (laid_out pre).fits p h in
-        let end = same_end p h in
-        let own = l.own k hk in
         absurd (elim (l.pair p k (omega (arith, h, over)) hk) [
-          | inl a ↦ (let z = a.rises (group, t) (group, u) at_p at_k in omega (arith, z))
-          | inr o ↦ (let z = o.ends in omega (arith, z, end, fits, own, over))
+          | inl a ↦ omega (arith, a.rises (group, t) (group, u) at_p at_k)
+          | inr o ↦ omega (arith, o.ends, same_end p h, (laid_out pre).fits p h, l.own k hk, over)
         ])
   ]
 

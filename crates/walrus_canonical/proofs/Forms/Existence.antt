@@ -53,13 +53,12 @@ module _ (r : Rooted) where
       let next = pre ++ plain_group ds ∷ [] in
       let Q = index_space next in
       let on = onto r pre b i ds can in
-      let count = count_is r pre b i ds can in
       let few = no_more Q.count S.count (λ p h. (on p h).0)
       (λ p h. needed_within r (on p h).0 (on p h).1)
       (λ p q h k e. one_type next (apart r pre b i ds can) p q (equal_over Q S Q p (on p h).0 q
       (equal_back S Q (on p h).0 p (on p h).2)
       (subst (λ (u : ℕ). AreEqual S Q u q) (sym e) (on q k).2))) in
-      omega (arith, few, count)
+      omega (arith, few, count_is r pre b i ds can)
 
   -- ---- the whole
 
@@ -78,7 +77,7 @@ module _ (r : Rooted) where
       S.count < 2 ^ 32 → (fuel : ℕ) (pre : Section) → IsBeginning s r.roots pre →
       S.count < (index_space pre).count + fuel →
       (n : Section) × (m : NewIndices) × IsCanonical s r.roots n m
-  canonical_from few zero pre b h = absurd (let z = no_longer pre b in omega (arith, z, h))
+  canonical_from few zero pre b h = absurd (omega (arith, no_longer pre b, h))
   canonical_from few (suc fuel) pre b h = elim (choose r pre b.apart S.count (omega arith)) [
     | inl none ↦
         let m = new_indices s r.roots pre (needed_within r) (needed_or_not s r.roots r.below r.known)
@@ -87,9 +86,8 @@ module _ (r : Rooted) where
     | inr c ↦
         let least : AreLeast S r.roots (index_space pre) c.ds = λ j es x.
         c.least j es (needed_within r j x.needed) x in
-        let z = more r pre b c.i c.ds c.next in
         canonical_from few fuel (pre ++ plain_group c.ds ∷ []) (longer r pre b c.i c.ds c.next least)
-        (omega (arith, z, h))
+        (omega (arith, more r pre b c.i c.ds c.next, h))
   ]
 
 -- ---- the same of any well-named section

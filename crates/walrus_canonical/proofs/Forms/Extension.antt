@@ -64,7 +64,7 @@ module _ (r : Rooted) (pre : Section) (b : IsBeginning r.section r.roots pre) (i
   low = can.written.places i own.0 own.1
 
   filled : 0 < length ds
-  filled = let z = low in omega (arith, z)
+  filled = omega (arith, low)
 
   pub begin : BeginsAt Q c ds
   begin = subst (λ (es : List Definition). BeginsAt Q c es) (plain_definitions ds)
@@ -118,9 +118,8 @@ module _ (r : Rooted) (pre : Section) (b : IsBeginning r.section r.roots pre) (i
 
   pub new_place : (p : ℕ) → c ≤ p → p < Q.count → NewPlace p
   new_place p over h =
-      let count = count_is in
       let t = p - c in
-      let low_t : t < length ds = omega (arith, over, h, count) in
+      let low_t : t < length ds = omega (arith, over, h, count_is) in
       let is : p ≡ c + t = omega (arith, over) in
       let k = can.written.members t low_t in
       record {
@@ -155,9 +154,8 @@ module _ (r : Rooted) (pre : Section) (b : IsBeginning r.section r.roots pre) (i
               let a = groups_of Q Q p q e in
               let px = own_place p x in
               let qy = own_place q y in
-              let u = place_once Q p a.own_place x.t p a.first_own px in
               let v = place_once Q q a.own_place y.t q a.second_own qy in
-              let is_p = x.is in let is_q = y.is in omega (arith, less, u, v, is_p, is_q)
+              omega (arith, less, place_once Q p a.own_place x.t p a.first_own px, v, x.is, y.is)
         ]
   ]
     where
@@ -180,7 +178,6 @@ module _ (r : Rooted) (pre : Section) (b : IsBeginning r.section r.roots pre) (i
   below_new : (p : ℕ) (x : NewPlace p) (k : ℕ) → Names (Q.definition p) k → k < Q.end p
   below_new p x k names =
       let count = count_is in
-      let low_x = x.low_t in
       let end_p : Q.end c ≡ Q.end p = new_end x.t x.low_t ∙ ap Q.end (sym x.is) in
       let at_p : slice_get ds x.t ≡ Some (Q.definition p) = begin.definition x.t x.low_t
       ∙ ap (λ (u : ℕ). Some (Q.definition u)) (sym x.is) in
@@ -189,13 +186,12 @@ module _ (r : Rooted) (pre : Section) (b : IsBeginning r.section r.roots pre) (i
         | inl m ↦
             let is = can.written.own y.0 k m.0 y.1 m.1 in
             let low_m = can.written.places y.0 m.0 m.1 in
-            let end_m = new_end m.0 low_m in
             let own_end = (laid_out next).own (c + m.0) (omega (arith, low_m, count)) in
-            omega (arith, is, end_p, end_m, own_end)
+            omega (arith, is, end_p, new_end m.0 low_m, own_end)
         | inr out ↦
             let less = (equal_within r.section pre y.0 k (can.written.others y.0 k y.1 out)).1 in
             let is = x.is in
-            let own_end = (laid_out next).own p (omega (arith, is, low_x, count)) in
+            let own_end = (laid_out next).own p (omega (arith, is, x.low_t, count)) in
             omega (arith, less, is, own_end)
       ]
 
@@ -230,4 +226,4 @@ module _ (r : Rooted) (pre : Section) (b : IsBeginning r.section r.roots pre) (i
   }
 
   pub more : c < Q.count
-  more = let z = filled in let count = count_is in omega (arith, z, count)
+  more = omega (arith, filled, count_is)

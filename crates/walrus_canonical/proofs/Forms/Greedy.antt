@@ -37,7 +37,7 @@ module _ (s : Section) (roots : List ℕ) (pre ys : Section) (w : NewIndices)
   there = g.equal i P.count e
 
   low_base : P.count < O.count
-  low_base = let x = b.inside in let y = b.filled in omega (arith, x, y)
+  low_base = omega (arith, b.inside, b.filled)
 
   fresh : (p : ℕ) → ¬ (AreEqual S P i p)
   fresh p same =
@@ -74,15 +74,14 @@ module _ (s n o : Section) (roots : List ℕ) (m w : NewIndices) (f : IsListing 
 
   no_end : (pre : Section) (x : Group) (xs : Section) → n ≡ pre ++ x ∷ xs → ¬ (o ≡ pre ++ [])
   no_end pre x xs is is_too =
-      let few = fewest s roots n m f o covers in
       let f' : IsListing s roots (pre ++ x ∷ xs) m = subst (λ (u : Section). IsListing s roots u m) is f in
       let b = begins pre x xs (plain_right pre (x ∷ xs) f'.plain) in
       let more : (index_space pre).count < (index_space n).count =
       subst (λ (u : Section). (index_space pre).count < (index_space u).count) (sym is)
-      (let y = b.inside in let z = b.filled in omega (arith, y, z)) in
+      (omega (arith, b.inside, b.filled)) in
       let same : (index_space o).count ≡ (index_space pre).count =
       ap (λ (u : Section). (index_space u).count) (is_too ∙ append-nil pre) in
-      omega (arith, few, more, same)
+      omega (arith, fewest s roots n m f o covers, more, same)
 
   next_not_less :
       (pre : Section) (x y : Group) (xs ys : Section) → n ≡ pre ++ x ∷ xs → o ≡ pre ++ y ∷ ys →
@@ -92,7 +91,7 @@ module _ (s n o : Section) (roots : List ℕ) (m w : NewIndices) (f : IsListing 
       in
       let b = begins pre y ys (plain_right pre (y ∷ ys) g'.plain) in
       let low : (index_space pre).count < (index_space (pre ++ y ∷ ys)).count =
-      (let u = b.inside in let v = b.filled in omega (arith, u, v)) in
+      (omega (arith, b.inside, b.filled)) in
       let i = g'.onto (index_space pre).count low in
       greedy pre x xs is i.0 (group_definitions y)
       (can_come s roots pre (y ∷ ys) w g' i.0 i.1 (group_definitions y) b) less

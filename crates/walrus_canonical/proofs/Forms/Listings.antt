@@ -27,8 +27,7 @@ needed_below s roots below known _ (at_root i c) = known i c
 needed_below s roots below known _ (by_group mate i h g) = member_within s mate g.0 i g.1
 needed_below s roots below known _ (by_name user i h names) =
     let hu = needed_below s roots below known user h in
-    let low = below user hu i names in
-    let fits = (laid_out s).fits user hu in omega (arith, low, fits)
+    omega (arith, below user hu i names, (laid_out s).fits user hu)
 
 -- ---- the new indices of the needed types, where each is equal to one of a section
 

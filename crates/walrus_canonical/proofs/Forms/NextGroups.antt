@@ -1,9 +1,10 @@
 -- The group that stands behind other ones, and its members.
 use Rattle.std.proofs.Common.{◌≡◌, ℕ, zero, suc, ◌+◌, ◌-◌, ◌<◌, ◌≤◌, List, [], ◌∷◌, ◌++◌, length, length-append, append_assoc, append-nil, refl, sym, ap, subst, ◌∙◌, inl, inr, Some, None, slice_get, arith}
 use Rattle.std.proofs.lemmas.Bool.{cases_lt}
+use Rattle.std.proofs.lemmas.List.{get_or-append-add}
 use Rattle.walrus_ty.specs.Definition.{Definition}
 use Rattle.walrus_ty.specs.Groups.{Group, Single, Rec, Section}
-use Rattle.walrus_sections.specs.Section.{IndexSpace, Place, rec_places, places_from, index_space}
+use Rattle.walrus_sections.specs.Section.{IndexSpace, Place, no_place, rec_places, places_from, index_space}
 use Rattle.walrus_sections.proofs.Sections.Lying.{some_same}
 use Rattle.walrus_sections.proofs.Sections.Rows.{at, rows, laid_out, length-rec_places}
 use Rattle.walrus_sections.proofs.Sections.Numbering.{rec_past}
@@ -12,7 +13,6 @@ use Rattle.walrus_sections.proofs.Sections.Splits.{size, length-places}
 use Rattle.walrus_canonical.specs.EqualTypes.{IsMember, alone, in_rec}
 use Rattle.walrus_canonical.specs.Listing.{HasPlainGroups, group_definitions}
 use Rattle.walrus_canonical.proofs.Equality.Members.{only_itself, in_same_rec, some_pair, place_within}
-use Rattle.walrus_canonical.proofs.Forms.Beginnings.{at-right}
 
 -- a group of these definitions begins at b
 pub record BeginsAt (n : IndexSpace) (b : ℕ) (ds : List Definition) : Type 0 where
@@ -53,20 +53,19 @@ module _ (pre post : Section) (d : Definition) where
       let e : b ≡ b + 0 = omega arith in
       let long = ap (λ (xs : List Place). length xs) a.2 ∙ length-append ps qs in (
         a.0,
-        ap (λ (xs : List Place). at xs b) a.2 ∙ (ap (at (ps ++ qs)) e ∙ at-right ps qs 0),
+        ap (λ (xs : List Place). at xs b) a.2 ∙ (ap (at (ps ++ qs)) e ∙ get_or-append-add ps qs 0 no_place),
         omega (arith, long),
       )
 
   single_begins : BeginsAt (index_space whole) b (d ∷ [])
   single_begins =
       let p = one_place in
-      let low = p.2 in
       let o : (index_space whole).rec_position b ≡ None = ap (λ (x : Place). x.rec_position) p.1 in
       let is : (index_space whole).definition b ≡ d = ap (λ (x : Place). x.definition) p.1 in
       let at_zero : (t : ℕ) → t < 1 → b + t ≡ b = λ t h. omega (arith, h) in
       record {
         filled = omega arith;
-        inside = omega (arith, low);
+        inside = omega (arith, p.2);
         definition = one_definition is;
         member = one_member o p.2;
         only = λ t k m. (
@@ -117,7 +116,7 @@ module _ (pre post : Section) (d : Definition) (ds : List Definition) where
       record {
         c = a.0;
         l = a.1;
-        is = λ j. ap (λ (xs : List Place). at xs (base + j)) a.2 ∙ at-right ps qs j;
+        is = λ j. ap (λ (xs : List Place). at xs (base + j)) a.2 ∙ get_or-append-add ps qs j no_place;
         long = omega (arith, long, more);
       }
 
@@ -140,13 +139,12 @@ module _ (pre post : Section) (d : Definition) (ds : List Definition) where
       (h : Behind) (t k : ℕ) → N.rec_position k ≡ Some (h.l, t) → ¬ (k < base)
   not_before h t k at_k less =
       let at_b = position_first h in
-      let long = h.long in
-      elim ((laid_out all).pair k base less (omega (arith, long))) [
-        | inl a ↦ (let z = a.rises (h.l, t) (h.l, 0) at_k at_b in omega (arith, z))
+      elim ((laid_out all).pair k base less (omega (arith, h.long))) [
+        | inl a ↦ omega (arith, a.rises (h.l, t) (h.l, 0) at_k at_b)
         | inr o ↦
             let y = some_same (N.rec_position base) o.y (h.l, 0) o.at_y at_b in
             let y1 : o.y.1 ≡ 0 = ap (λ (x : ℕ × ℕ). x.1) y in
-            let z = o.later in omega (arith, y1, z)
+            omega (arith, y1, o.later)
       ]
 
   place_behind :
@@ -224,8 +222,8 @@ plain_append (Rec (d ∷ e ∷ ds) ∷ gs) hs h k = plain_append gs hs h k
 
 size-append : (gs hs : Section) → size (gs ++ hs) ≡ size gs + size hs
 size-append [] hs = omega arith
-size-append (Single d ∷ gs) hs = let z = size-append gs hs in omega (arith, z)
-size-append (Rec ds ∷ gs) hs = let z = size-append gs hs in omega (arith, z)
+size-append (Single d ∷ gs) hs = omega (arith, size-append gs hs)
+size-append (Rec ds ∷ gs) hs = omega (arith, size-append gs hs)
 
 size_one : (g : Group) → size (g ∷ []) ≡ length (group_definitions g)
 size_one (Single d) = refl
@@ -235,10 +233,8 @@ pub one_group_more :
     (pre : Section) (g : Group) →
     (index_space (pre ++ g ∷ [])).count ≡ (index_space pre).count + length (group_definitions g)
 one_group_more pre g =
-    let a = length-places 0 0 (pre ++ g ∷ []) in
-    let b = length-places 0 0 pre in
     let c = size-append pre (g ∷ []) in
-    let d = size_one g in omega (arith, a, b, c, d)
+    omega (arith, length-places 0 0 (pre ++ g ∷ []), length-places 0 0 pre, c, size_one g)
 
 -- ---- the group round an index
 
@@ -257,7 +253,6 @@ around_behind i pre [] over h = absurd (
     let same = ap (λ (u : Section). (index_space u).count) (append-nil pre) in
     omega (arith, over, h, same))
 around_behind i pre (g ∷ rest) over h =
-    let more = one_group_more pre g in
     let ds = group_definitions g in
     elim (cases_lt i ((index_space pre).count + length ds)) [
       | inl low ↦ record {
@@ -271,7 +266,7 @@ around_behind i pre (g ∷ rest) over h =
       | inr behind ↦
           let is : (pre ++ g ∷ []) ++ rest ≡ pre ++ g ∷ rest = append_assoc pre (g ∷ []) rest in
           subst (λ (u : Section). Around (index_space u) i) is
-          (around_behind i (pre ++ g ∷ []) rest (omega (arith, behind, more))
+          (around_behind i (pre ++ g ∷ []) rest (omega (arith, behind, one_group_more pre g))
           (subst (λ (u : Section). i < (index_space u).count) (sym is) h))
     ]
 

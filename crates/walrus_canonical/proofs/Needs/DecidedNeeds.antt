@@ -120,5 +120,5 @@ module _ (section : Section) (roots : List ℕ) (below : NamesBelowEnds (index_s
   pub needed_or_not : (i : ℕ) → Decided (IsNeeded s roots i)
   needed_or_not i = elim (cases_lt i s.count) [
     | inl h ↦ needed_from s.count i (omega arith) h
-    | inr over ↦ inr (λ n. (let z = within i n in omega (arith, over, z)))
+    | inr over ↦ inr (λ n. (omega (arith, over, within i n)))
   ]

@@ -1,11 +1,10 @@
 -- Marks that go back over the groups, from what is marked to what it needs.
-use Rattle.std.proofs.Common.{◌≡◌, ℕ, zero, suc, Bool, true, false, ◌+◌, ◌-◌, ◌<◌, ◌≤◌, List, [], ◌∷◌, length, map, get_or, replicate, slice_get, Some, None, Option, inl, inr, ◌∙◌, refl, sym, ap, subst, Contains, arith}
+use Rattle.std.proofs.Common.{◌≡◌, ℕ, zero, suc, Bool, true, false, ◌+◌, ◌-◌, ◌<◌, ◌≤◌, List, [], ◌∷◌, length, map, get_or, replicate, slice_get, Some, None, Option, inl, inr, ◌∙◌, sym, ap, subst, Contains, arith}
 use Rattle.std.specs.List.{flat_map}
 use Rattle.std.proofs.lemmas.Bool.{cases_lt}
 use Rattle.std.proofs.lemmas.List.{get_or-replicate, length-replicate}
 use Rattle.std.proofs.lemmas.List.Folds.{flat_map-map}
-use Rattle.std.proofs.lemmas.List.Elements.{Contains-append_left, Contains-append_right, Contains-append_cases}
-use Rattle.std.proofs.lemmas.Option.{slice_get_within}
+use Rattle.std.proofs.lemmas.Option.{same_Some, slice_get_within}
 use Rattle.walrus_ty.specs.declared.records.EntryAt.{EntryAt}
 use Rattle.walrus_ty.specs.declared.records.GroupAt.{GroupAt}
 use Rattle.walrus_ty.specs.Records.{entry_definition, group_of, section_of}
@@ -17,7 +16,7 @@ use Rattle.walrus_canonical.specs.EqualTypes.{IsMember, IsInGroup}
 use Rattle.walrus_canonical.specs.Listing.{IsNeeded, at_root, by_group, by_name, all_indices, AreIndices}
 use Rattle.walrus_canonical.specs.Roots.{roots_or_all}
 use Rattle.walrus_canonical.specs.Steps.Marks.{AreKnown, IsMarked, Marks, MarkRoots, MarkNeeds}
-use Rattle.walrus_canonical.proofs.Reading.Containing.{contained_at, contained_from}
+use Rattle.walrus_canonical.proofs.Reading.Containing.{contained_at, contained_from, in_flat, flat_in}
 use Rattle.walrus_canonical.proofs.Forms.Indices.{below_contained, contained_below}
 use Rattle.walrus_canonical.proofs.Forms.Listings.{needed_below}
 use Rattle.walrus_canonical.proofs.Equality.Members.{mate_from, mate_to, in_group_or_not, named_outside}
@@ -25,39 +24,12 @@ use Rattle.walrus_canonical.proofs.Forms.NextGroups.{BeginsAt}
 use Rattle.walrus_canonical.proofs.Needs.Marking.{marked_same}
 use Rattle.walrus_canonical.proofs.Needs.TurnsBack.{IsTurnBack}
 
--- ---- the names of a list of definitions
-
-pub name_in_all :
-    (ds : List Definition) (t : ℕ) (d : Definition) (k : ℕ) → slice_get ds t ≡ Some d → Names d k →
-    Contains (flat_map names_of ds) k
-name_in_all [] t d k at names = absurd cc
-name_in_all (e ∷ ds) zero d k at names =
-    let is : e ≡ d = cc in
-    Contains-append_left (names_of e) (flat_map names_of ds) k
-    (subst (λ (x : Definition). Names x k) (sym is) names)
-name_in_all (e ∷ ds) (suc t) d k at names =
-    Contains-append_right (names_of e) (flat_map names_of ds) k (name_in_all ds t d k at names)
-
-pub record NamedBy (ds : List Definition) (k : ℕ) : Type 0 where
-  pub t : ℕ
-  pub d : Definition
-  pub at : slice_get ds t ≡ Some d
-  pub names : Names d k
-
-pub named_by : (ds : List Definition) (k : ℕ) → Contains (flat_map names_of ds) k → NamedBy ds k
-named_by [] k c = absurd (let low = c.1 in omega (arith, low))
-named_by (e ∷ ds) k c = elim (Contains-append_cases (names_of e) (flat_map names_of ds) k c) [
-  | inl here ↦ record { t = 0; d = e; at = refl; names = here }
-  | inr there ↦ (let r = named_by ds k there in
-      record { t = suc r.t; d = r.d; at = r.at; names = r.names })
-]
-
 -- ---- marks
 
 pub marked_within : (marks : List Bool) (i : ℕ) → IsMarked marks i → i < length marks
 marked_within [] i h = absurd cc
 marked_within (b ∷ bs) zero h = omega arith
-marked_within (b ∷ bs) (suc i) h = let z = marked_within bs i h in omega (arith, z)
+marked_within (b ∷ bs) (suc i) h = omega (arith, marked_within bs i h)
 
 -- from this index on, what is marked has all that it needs marked
 pub record AreMarkedFrom (section : Section) (roots : List ℕ) (end : ℕ) (marks : List Bool) : Type 0 where
@@ -77,8 +49,8 @@ none_marked_yet section roots marks h = record {
   one_each = h.one_each;
   sound = λ i m. at_root i ((h.at_roots i).0 m);
   at_roots = λ i c. (h.at_roots i).1 c;
-  mates = λ i k over m g. absurd (let z = marked_within marks i m in omega (arith, z, over));
-  named = λ i k over m n. absurd (let z = marked_within marks i m in omega (arith, z, over));
+  mates = λ i k over m g. absurd (omega (arith, marked_within marks i m, over));
+  named = λ i k over m n. absurd (omega (arith, marked_within marks i m, over));
 }
 
 pub all_marked :
@@ -168,30 +140,27 @@ module _ (section : Section) (roots : List ℕ) (below : NamesBelowEnds (index_s
 
   user_of : (k : ℕ) → Contains (flat_map names_of ds) k → User k
   user_of k c =
-      let r = named_by ds k c in
-      let low = slice_get_within ds r.t r.d r.at in
-      let is : r.d ≡ S.definition (start + r.t) = same r.d (S.definition (start + r.t))
-      (sym r.at ∙ begins.definition r.t low) in
+      let r = in_flat names_of ds k c in
+      let t = contained_at ds r.0 r.1 in
+      let low = slice_get_within ds t.0 r.0 t.1 in
+      let is : r.0 ≡ S.definition (start + t.0) = same_Some r.0 (S.definition (start + t.0))
+      (sym t.1 ∙ begins.definition t.0 low) in
       record {
-        user = start + r.t;
+        user = start + t.0;
         over = omega arith;
         low = omega (arith, low);
-        member = (r.t, begins.member r.t low);
-        names = subst (λ (x : Definition). Names x k) is r.names;
+        member = (t.0, begins.member t.0 low);
+        names = subst (λ (x : Definition). Names x k) is r.2;
       }
-    where
-      same : (d e : Definition) → Some d ≡ Some e → d ≡ e
-      same d e h = cc
 
   named_low : (k : ℕ) → User k → k < stop
   named_low k u =
       let filled = begins.filled in
-      let inside = begins.inside in
       let own = here start (omega arith) (omega (arith, filled)) in
       elim (in_group_or_not S start own.t k own.member) [
         | inl g ↦ (in_range g.0 k g.1).1
         | inr outside ↦
-            let z = named_outside section start k below (omega (arith, filled, inside))
+            let z = named_outside section start k below (omega (arith, filled, begins.inside))
             (u.user, u.member, u.names, outside) in omega (arith, z, filled)
       ]
 
@@ -217,9 +186,9 @@ module _ (section : Section) (roots : List ℕ) (below : NamesBelowEnds (index_s
     old_behind i past m = elim (names.forth i m) [
       | inl old ↦ elim (own.forth i old) [
         | inl older ↦ older
-        | inr z ↦ absurd (let low = z.1 in omega (arith, past, low))
+        | inr z ↦ absurd (omega (arith, past, z.1))
       ]
-      | inr n ↦ absurd (let low = named_low i (user_of i n) in omega (arith, past, low))
+      | inr n ↦ absurd (omega (arith, past, named_low i (user_of i n)))
     ]
 
     kept_now : (i : ℕ) → IsMarked a i → IsMarked c i
@@ -227,13 +196,11 @@ module _ (section : Section) (roots : List ℕ) (below : NamesBelowEnds (index_s
 
     within_a : (i : ℕ) → i < stop → i < length a
     within_a i low =
-        let long = h.one_each in
-        let inside = begins.inside in omega (arith, long, inside, low)
+        omega (arith, h.one_each, begins.inside, low)
 
     within_b : (i : ℕ) → i < stop → i < length b
     within_b i low =
-        let z = within_a i low in
-        let long = own.long in omega (arith, z, long)
+        omega (arith, within_a i low, own.long)
 
     whole_marked : (i : ℕ) → start ≤ i → i < stop → IsMarked c i
     whole_marked i over low = names.kept i (own.marked i (within_a i low) (over, low))
@@ -241,7 +208,7 @@ module _ (section : Section) (roots : List ℕ) (below : NamesBelowEnds (index_s
     names_marked : (i k : ℕ) → start ≤ i → i < stop → Names (S.definition i) k → IsMarked c k
     names_marked i k over low n =
         let z = here i over low in
-        let cont = name_in_all ds z.t (S.definition i) k z.definition n in
+        let cont = flat_in names_of ds (S.definition i) k (contained_from ds (S.definition i) z.t z.definition) n in
         names.marked k (within_b k (named_low k (user_of k cont))) cont
 
     pub whole_group : AreMarkedFrom section roots start c
@@ -278,9 +245,7 @@ group_turn given roots n start end g entries names a b c well turn same is h fou
     let all : names ≡ flat_map names_of ds =
     is ∙ (sym (flat_map-map names_of entry_definition entries) ∙ ap (flat_map names_of) same) in
     whole_group (section_of given) roots well.below_ends start ds
-    (turn.begins (omega (arith, over, low, ends))) a b c
-    (subst (λ (m : ℕ). AreMarkedFrom (section_of given) roots m a) ends h)
-    (subst (λ (m : ℕ). Marks a b (λ i. (start ≤ i) × (i < m))) ends own)
+    (turn.begins (omega (arith, over, low, ends))) a b c (rw ends at h) (rw ends at own)
     (marked_same b c (λ i. (k : ℕ) × (slice_get names k ≡ Some i))
     (λ i. Contains (flat_map names_of ds) i) named
     (λ i x. subst (λ (ks : List ℕ). Contains ks i) all (contained_from names i x.0 x.1))
@@ -325,10 +290,9 @@ none_in start end seen marks e f i over low m =
 
 fresh_unmarked : (n i : ℕ) → ¬ (IsMarked (replicate n false) i)
 fresh_unmarked n i m =
-    let low = marked_within (replicate n false) i m in
     let long : length (replicate n false) ≡ n = length-replicate n false in
     let is : get_or (replicate n false) i false ≡ false =
-    get_or-replicate n i false false (omega (arith, low, long)) in
+    get_or-replicate n i false false (omega (arith, marked_within (replicate n false) i m, long)) in
     let k : false ≡ true = sym is ∙ m in absurd cc
 
 pub roots_marked :

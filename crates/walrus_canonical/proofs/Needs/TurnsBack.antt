@@ -1,7 +1,6 @@
 -- A walk back over groups.
 use Rattle.std.proofs.Common.{◌≡◌, ℕ, ◌+◌, ◌-◌, ◌<◌, List, [], ◌∷◌, ◌++◌, length, take, drop, get_or, reverse, map, refl, ap, sym, subst, ◌∙◌, arith, length-append}
-use Rattle.std.proofs.lemmas.List.{map-append, length-reverse, get_or-reverse, length-map}
-use Rattle.std.proofs.Math.Seq.{take-length}
+use Rattle.std.proofs.lemmas.List.{map-append, length-reverse, get_or-reverse, length-map, take_all}
 use Rattle.walrus_ty.specs.declared.records.GroupAt.{GroupAt}
 use Rattle.walrus_ty.specs.Definition.{Definition}
 use Rattle.walrus_ty.specs.Groups.{Group, Single, Rec, Section}
@@ -62,9 +61,7 @@ turned given n at start end g within is here next left down =
     record {
       left = started ∙ ap (λ (m : ℕ). (index_space (section_of (take m given))).count) (sym next);
       ends = omega (arith, left, ended, started);
-      begins = λ filled. subst (λ (m : ℕ). BeginsAt (index_space (section_of given)) m ds) (sym started)
-          (subst (λ (t : Section). BeginsAt (index_space t) (index_space pre).count ds) (sym whole)
-          (filled_begins pre (group_of g) post filled));
+      begins = λ filled. rw (started, whole) (filled_begins pre (group_of g) post filled);
     }
 
 pub turn_back :
@@ -72,23 +69,18 @@ pub turn_back :
     g ≡ get_or (reverse given) n g → end ≡ count_left given n →
     start ≡ end - length (definitions_of (group_of g)) → IsTurnBack given n start end g
 turn_back given n start end g low is left down =
-    let long = length-reverse given in
-    let within : n < length given = omega (arith, low, long) in
+    let within : n < length given = omega (arith, low, length-reverse given) in
     turned given n (length given - 1 - n) start end g (omega (arith, within))
     (is ∙ get_or-reverse given n g within) (omega (arith, within)) (omega (arith, within)) left down
 
-take_all : (given : List GroupAt) (n : ℕ) → n ≡ length given → take n given ≡ given
-take_all given n e = ap (λ (m : ℕ). take m given) e ∙ take-length given
-
 pub all_left : (given : List GroupAt) → (index_space (section_of given)).count ≡ count_left given 0
 all_left given = ap (λ (gs : List GroupAt). (index_space (section_of gs)).count)
-    (sym (take_all given (length given - 0) (omega arith)))
+    (sym (take_all (length given - 0) given (omega arith)))
 
 pub none_left_to_visit :
     (given : List GroupAt) (n : ℕ) → n ≡ length (reverse given) → count_left given n ≡ 0
 none_left_to_visit given n e =
-    let long = length-reverse given in
-    let z : length given - n ≡ 0 = omega (arith, e, long) in
+    let z : length given - n ≡ 0 = omega (arith, e, length-reverse given) in
     ap (λ (m : ℕ). (index_space (section_of (take m given))).count) z
 
 pub next_left :

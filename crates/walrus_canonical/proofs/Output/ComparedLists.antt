@@ -15,7 +15,7 @@ use Rattle.walrus_canonical.specs.Steps.Shown.{definitions_cmp, own_base, shown,
 -- the lists with each item replaced are compared as the items are
 pub cmp_of_maps :
     {A B C D : Type 0} (R : C → D → Ordering) (f : A → C) (g : B → D) (xs : List A) (ys : List B) →
-    slice_cmp (λ x y. R (f x) (g y)) xs ys ≡ slice_cmp R (map f xs) (map g ys)
+    slice_cmp R (map f xs) (map g ys) ≡ slice_cmp (λ x y. R (f x) (g y)) xs ys
 cmp_of_maps R f g [] [] = refl
 cmp_of_maps R f g [] (y ∷ ys) = refl
 cmp_of_maps R f g (x ∷ xs) [] = refl
@@ -46,16 +46,6 @@ ended R (x ∷ xs) (y ∷ ys) zero o m h = absurd (omega (arith, m))
 ended R (x ∷ xs) (y ∷ ys) (suc i) o m h =
     ended R xs ys i o (omega (arith, m)) (h ∙ both_less (length xs) (length ys))
 
-cmp_of_maps_twice :
-    {A B C D E F : Type 0} (R : E → F → Ordering) (f : C → E) (g : D → F) (h : A → C) (k : B → D)
-    (xs : List A) (ys : List B) →
-    slice_cmp (λ x y. R (f (h x)) (g (k y))) xs ys ≡ slice_cmp R (map f (map h xs)) (map g (map k ys))
-cmp_of_maps_twice R f g h k [] [] = refl
-cmp_of_maps_twice R f g h k [] (y ∷ ys) = refl
-cmp_of_maps_twice R f g h k (x ∷ xs) [] = refl
-cmp_of_maps_twice R f g h k (x ∷ xs) (y ∷ ys) =
-    ap (ordering_then (R (f (h x)) (g (k y)))) (cmp_of_maps_twice R f g h k xs ys)
-
 -- of two groups
 pub cmp_of_groups :
     (ds es : List EntryAt) (m n : ℕ) → m ≡ own_base (length ds) → n ≡ own_base (length es) →
@@ -63,8 +53,10 @@ pub cmp_of_groups :
     definitions_cmp (shown_definitions (map entry_definition ds))
     (shown_definitions (map entry_definition es))
 cmp_of_groups ds es m n p q =
-    cmp_of_maps_twice definition_cmp (rename (shown m)) (rename (shown n)) entry_definition
-    entry_definition ds es
+    sym (cmp_of_maps definition_cmp (rename (shown m)) (rename (shown n)) (map entry_definition ds)
+    (map entry_definition es)
+    ∙ cmp_of_maps (λ d e. definition_cmp (rename (shown m) d) (rename (shown n) e)) entry_definition
+    entry_definition ds es)
     ∙ (ap (λ b. definitions_cmp (map (rename (shown b)) (map entry_definition ds))
     (map (rename (shown n)) (map entry_definition es))) (p ∙ ap own_base
     (sym (length-map ds entry_definition)))

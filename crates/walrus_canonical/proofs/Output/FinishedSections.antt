@@ -58,23 +58,19 @@ module _ (task : Task) (done : ℕ → Bool) (before : Section) (by_slot : List 
 
   mark_low : (i : ℕ) → IsMarked task.marks i → i < length task.slots
   mark_low i m =
-      let z = marked_within task.marks i m in
-      let e = task.needs.one_each in
-      let f = task.are.one_each in omega (arith, z, e, f)
+      omega (arith, marked_within task.marks i m, task.needs.one_each, task.are.one_each)
 
   item_marked : (i : ℕ) → IsMarked task.marks i →
       new_index indices i ≡ Some (slot_of by_slot (slot_of task.slots i))
   item_marked i m =
-      let within = task.are.within i m in
       let size = b.one_each in
       item i (mark_low i m)
       ∙ (ap (λ (t : Bool). if t then slice_get by_slot (slot_of task.slots i) else None) m
-      ∙ slice_get-get_or by_slot (slot_of task.slots i) 0 (omega (arith, within, size)))
+      ∙ slice_get-get_or by_slot (slot_of task.slots i) 0 (omega (arith, task.are.within i m, size)))
 
   marked_if_some : (i p : ℕ) → new_index indices i ≡ Some p → IsMarked task.marks i
   marked_if_some i p e = true_from_ne_false (slice_index_or task.marks i false) (λ f. (
-      let low = index_within indices i p e in
-      let none : new_index indices i ≡ None = item i (omega (arith, low, a.long))
+      let none : new_index indices i ≡ None = item i (omega (arith, index_within indices i p e, a.long))
       ∙ ap (λ (t : Bool). if t then slice_get by_slot (slot_of task.slots i) else None) f in
       let z : None ≡ Some p = sym none ∙ e in cc))
 

@@ -75,17 +75,10 @@ ranks_stay n r f same xs =
     let ys = after_first r xs in
     let zs = after_first r ys in
     let us = after_first r zs in
-    let vs = after_first r us in
-    let y = after_stays r f same xs in
-    let z = ap (after_first r) y ∙ after_stays r f same ys in
-    let u = ap (after_first r) z ∙ after_stays r f same zs in
-    let v = ap (after_first r) u ∙ after_stays r f same us in
-    let a = first_stays r f same xs in
-    let b = ap (first_rank r) y ∙ first_stays r f same ys in
-    let c = ap (first_rank r) z ∙ first_stays r f same zs in
-    let d = ap (first_rank r) u ∙ first_stays r f same us in
-    let e = ap (first_rank r) v ∙ first_stays r f same vs in
-    λ i. (n, a i, b i, c i, d i, e i)
+    let after = after_stays r f same in
+    let first = first_stays r f same in
+    rw (after xs, after ys, after zs, after us, first xs, first ys, first zs, first us, first (after_first r us))
+    refl
 
 items_renamed :
     (m : ℕ → ℕ) (ps rs : List (Val ℕ)) →
@@ -138,25 +131,33 @@ ByKeys v w o p =
     (d e : Definition) → v ≡ composite_sort_key d.composite → w ≡ composite_sort_key e.composite →
     o ≡ p → definition_cmp d e ≡ p
 
+-- where the first keys decide, they decide the order of the groups
+by_first_key :
+    (d e : EntryAt) (ds es : List EntryAt) (v w : SortKey) (o p : Ordering) → v ≡ group_key (d ∷ ds) →
+    w ≡ group_key (e ∷ es) → ByKeys v w o p → o ≡ p → ordering_then p (definitions_cmp
+    (map (rename (shown (own_base (length (map entry_definition (d ∷ ds)))))) (map entry_definition ds))
+    (map (rename (shown (own_base (length (map entry_definition (e ∷ es)))))) (map entry_definition es))) ≡
+    definitions_cmp (shown_definitions (map entry_definition (d ∷ ds)))
+    (shown_definitions (map entry_definition (e ∷ es)))
+by_first_key d e ds es v w o p a b by is =
+    let x = entry_definition d in
+    let y = entry_definition e in
+    let f = shown (own_base (length (map entry_definition (d ∷ ds)))) in
+    let g = shown (own_base (length (map entry_definition (e ∷ es)))) in
+    ap (λ q. ordering_then q (definitions_cmp (map (rename f) (map entry_definition ds))
+    (map (rename g) (map entry_definition es))))
+    (sym (by (rename f x) (rename g y) (a ∙ sym (key_stays f x.composite)) (b ∙ sym (key_stays g y.composite))
+    is))
+
 pub less_by_group_key :
     (ds es : List EntryAt) (v w : SortKey) (o : Ordering) → v ≡ group_key ds → w ≡ group_key es →
     o ≡ sort_key_cmp v w → ByKeys v w o Less → o ≡ Less →
     Less ≡ definitions_cmp (shown_definitions (map entry_definition ds))
     (shown_definitions (map entry_definition es))
-less_by_group_key [] [] v w o a b of by is =
+less_by_group_key ds [] v w o a b of by is =
     absurd (not_less v (ap (sort_key_cmp v) (sym b) ∙ sym of ∙ is))
 less_by_group_key [] (e ∷ es) v w o a b of by is = refl
-less_by_group_key (d ∷ ds) [] v w o a b of by is =
-    absurd (not_less v (ap (sort_key_cmp v) (sym b) ∙ sym of ∙ is))
-less_by_group_key (d ∷ ds) (e ∷ es) v w o a b of by is =
-    let x = entry_definition d in
-    let y = entry_definition e in
-    let f = shown (own_base (length (map entry_definition (d ∷ ds)))) in
-    let g = shown (own_base (length (map entry_definition (e ∷ es)))) in
-    ap (λ p. ordering_then p (definitions_cmp (map (rename f) (map entry_definition ds))
-    (map (rename g) (map entry_definition es))))
-    (sym (by (rename f x) (rename g y) (a ∙ sym (key_stays f x.composite)) (b ∙ sym (key_stays g y.composite))
-    is))
+less_by_group_key (d ∷ ds) (e ∷ es) v w o a b of by is = by_first_key d e ds es v w o Less a b by is
 
 pub greater_by_group_key :
     (ds es : List EntryAt) (v w : SortKey) (o : Ordering) → v ≡ group_key ds → w ≡ group_key es →
@@ -166,12 +167,4 @@ pub greater_by_group_key :
 greater_by_group_key [] es v w o a b of by is =
     absurd (not_greater w (ap (λ u. sort_key_cmp u w) (sym a) ∙ sym of ∙ is))
 greater_by_group_key (d ∷ ds) [] v w o a b of by is = refl
-greater_by_group_key (d ∷ ds) (e ∷ es) v w o a b of by is =
-    let x = entry_definition d in
-    let y = entry_definition e in
-    let f = shown (own_base (length (map entry_definition (d ∷ ds)))) in
-    let g = shown (own_base (length (map entry_definition (e ∷ es)))) in
-    ap (λ p. ordering_then p (definitions_cmp (map (rename f) (map entry_definition ds))
-    (map (rename g) (map entry_definition es))))
-    (sym (by (rename f x) (rename g y) (a ∙ sym (key_stays f x.composite)) (b ∙ sym (key_stays g y.composite))
-    is))
+greater_by_group_key (d ∷ ds) (e ∷ es) v w o a b of by is = by_first_key d e ds es v w o Greater a b by is

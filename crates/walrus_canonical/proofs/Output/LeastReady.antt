@@ -19,11 +19,10 @@ use Rattle.walrus_canonical.specs.Steps.Shown.{own_base, definitions_cmp}
 use Rattle.walrus_canonical.specs.Steps.Waits.{names_in, AreWaits, open_count}
 use Rattle.walrus_canonical.specs.Steps.Writing.{Task, IsBegun, IsReadyAs, IsQueue, IsReady, AreOpen, settled}
 use Rattle.walrus_canonical.proofs.Waits.ClassWaits.{NamesSlot, waits_for, wait_there}
-use Rattle.walrus_canonical.proofs.Reading.Containing.{contained_cases}
+use Rattle.walrus_canonical.proofs.Reading.Containing.{contained_at, contained_from, contained_cases, contained_none, in_flat, flat_in}
 use Rattle.walrus_canonical.proofs.Equality.Definitions.{names_what_stands}
 use Rattle.walrus_canonical.proofs.Equality.EqualTypes.{equal_itself, equal_mates, equal_over, groups_of}
 use Rattle.walrus_canonical.proofs.Equality.Members.{mate_from}
-use Rattle.walrus_canonical.proofs.Needs.NeedsMarked.{named_by, name_in_all}
 use Rattle.walrus_canonical.proofs.Forms.NextGroups.{Around, around}
 use Rattle.walrus_canonical.proofs.Waits.OpenWaits.{open_zero, nothing_open}
 use Rattle.std.proofs.lemmas.Bool.{false_from_ne_true}
@@ -61,7 +60,7 @@ module _ (task : Task) (c : ℕ) (class : Class) (at : slice_get task.classes c 
         at = at;
         names = subst (λ (u : ℕ). Contains (names_in class.entries) u) is
             (subst (λ (ns : List ℕ). Contains ns s.0) (all_names class.entries)
-            (name_in_all own s.1.place s.1.definition s.0 s.1.written
+            (flat_in names_of own s.1.definition s.0 (contained_from own s.1.definition s.1.place s.1.written)
             (names_what_stands s.1.definition s.1.position s.0 s.1.new_name)));
         low = o.fits x u;
       }
@@ -76,13 +75,13 @@ module _ (task : Task) (c : ℕ) (class : Class) (at : slice_get task.classes c 
       subst (λ (k : Class). Contains (names_in k.entries) slot) same n.names in
       let low : slot < own_base (length class.entries) =
       subst (λ (k : Class). slot < own_base (length k.entries)) same n.low in
-      let r = named_by own slot (subst (λ (ns : List ℕ). Contains ns slot) (sym (all_names class.entries))
-      names)
-      in
+      let r = in_flat names_of own slot
+      (subst (λ (ns : List ℕ). Contains ns slot) (sym (all_names class.entries)) names) in
+      let t = contained_at own r.0 r.1 in
       let x = name_there S (own_number (length class.entries)) (λ y z. z ≡ slot_of task.slots y) o.head own
-      o.records r.t slot r.d r.at r.names in
+      o.records t.0 slot r.0 t.1 r.2 in
       let outside : IsInGroup S o.head x.0 → ⊥ = λ m. (
-      let is = o.records.own x.0 slot m.0 x.1 m.1 in omega (arith, is, low)) in
+      omega (arith, o.records.own x.0 slot m.0 x.1 m.1, low)) in
       (x.0, outside_stood x.1 outside, o.records.others x.0 slot x.1 outside)
 
 -- a class that waits for nothing names what is written
@@ -228,7 +227,4 @@ module _ (task : Task) (waits : List Wait) (are : AreWaits task.classes waits) (
       (j : ℕ) (others : List Definition) → ¬ (CanComeNext T task.roots B j others)
   none_comes now queue j others can =
       let r = comes_of j others can in
-      contained_none (queue.there r.c r.ready).0 r.c (queue.there r.c r.ready).1
-    where
-      contained_none : (ds : List Definition) (c : ℕ) → Contains {X = List Definition × ℕ} [] (ds, c) → ⊥
-      contained_none ds c m = let low = m.1 in omega (arith, low)
+      contained_none ((queue.there r.c r.ready).0, r.c) (queue.there r.c r.ready).1

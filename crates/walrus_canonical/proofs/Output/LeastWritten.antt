@@ -1,5 +1,5 @@
 -- The least of the queue is written.
-use Rattle.std.proofs.Common.{◌≡◌, ℕ, Bool, true, false, ◌+◌, ◌-◌, ◌%◌, ◌^◌, ◌<◌, ◌≤◌, List, [], ◌∷◌, ◌++◌, length, map, cond, nat_lt, slice_get, slice_index_or, Some, inl, inr, ◌∙◌, refl, sym, ap, subst, Contains, arith}
+use Rattle.std.proofs.Common.{◌≡◌, ℕ, Bool, true, false, ◌+◌, ◌-◌, ◌^◌, ◌<◌, ◌≤◌, List, [], ◌∷◌, ◌++◌, length, map, slice_get, Some, inl, inr, ◌∙◌, refl, sym, ap, subst, Contains, arith}
 use Rattle.std.specs.Prelude.{min}
 use Rattle.std.specs.BTreeMap.Range.{IsLtBy}
 use Rattle.std.specs.List.{All}
@@ -44,22 +44,8 @@ use Rattle.walrus_canonical.proofs.Output.WrittenSlots.{still_done, other_first}
 settled_shown :
     (base next y : ℕ) → base < 4294967296 → settled next (shown base y) ≡ renamed base [] next y
 settled_shown base next y small = elim (cases_lt y base) [
-  | inl low ↦ (
-      let e : nat_lt y base ≡ true = grind (arith, nat_tests, low) in
-      let f : nat_lt y 4294967296 ≡ true = grind (arith, nat_tests, low, small) in
-      ap (λ (b : Bool). settled next (cond b y (y - base + 4294967296))) e
-      ∙ (ap (λ (b : Bool). cond b y ((y - 4294967296 + next) % 4294967296)) f
-      ∙ (sym (get_or_past [] y y (omega arith))
-      ∙ sym (ap (λ (b : Bool). cond b (slice_index_or [] y y) ((y - base + next) % 4294967296)) e))))
-  | inr over ↦ (
-      let e : nat_lt y base ≡ false = grind (arith, nat_tests, over) in
-      let z = y - base + 4294967296 in
-      let f : nat_lt z 4294967296 ≡ false = grind (arith, nat_tests) in
-      let same : z - 4294967296 + next ≡ y - base + next = omega arith in
-      ap (λ (b : Bool). settled next (cond b y (y - base + 4294967296))) e
-      ∙ (ap (λ (b : Bool). cond b z ((z - 4294967296 + next) % 4294967296)) f
-      ∙ (ap (λ (u : ℕ). u % 4294967296) same
-      ∙ sym (ap (λ (b : Bool). cond b (slice_index_or [] y y) ((y - base + next) % 4294967296)) e))))
+  | inl low ↦ grind (arith, nat_tests, low, small, get_or_past)
+  | inr over ↦ grind (arith, nat_tests, over, small)
 ]
 
 renamed_all :
@@ -148,8 +134,7 @@ module _ (task : Task) (waits : List Wait) (are : AreWaits task.classes waits) (
       let a = ap (λ (es : List Definition). length es) shows in
       let l = length-map (map entry_definition entries)
       (rename (shown (own_base (length (map entry_definition entries))))) in
-      let m = length-map entries entry_definition in
-      let s = q.size in omega (arith, a, l, m, s)
+      omega (arith, a, l, length-map entries entry_definition, q.size)
 
   same_first : first ≡ class.first
   same_first = let k = queue.firsts place class at in first_is k.0 k.1 ∙ k.2
@@ -157,36 +142,26 @@ module _ (task : Task) (waits : List Wait) (are : AreWaits task.classes waits) (
   room : (index_space before).count + n ≤ S.count
   room =
       let z = ready_room task done before new_index next b class ds q undone in
-      let s = q.size in omega (arith, z, s)
+      omega (arith, z, q.size)
 
   fits : class.first + n ≤ task.slot_count
   fits = task.are.fit place class at
 
   same_end : end ≡ class.first + n
   same_end =
-      let f = fits in
-      let c = task.are.few in
-      let w = task.well.few in
-      let s = size in
-      let e = same_first in
-      omega (arith, end_is, count_is, f, c, w, s, e)
+      omega (arith, end_is, count_is, fits, task.are.few, task.well.few, size, same_first)
 
   small : next + length entries < 2 ^ 32
   small =
-      let r = room in
-      let w = task.well.few in
-      let s = size in
-      let i = b.next_is in omega (arith, r, w, s, i)
+      omega (arith, room, task.well.few, size, b.next_is)
 
   gives : GivesIndices new_index newer class.first n next
   gives =
-      let f = fits in
-      let o = b.one_each in
       let s = size in
       let e = same_first in
       subst (λ (u : ℕ). GivesIndices new_index newer u n next) e
       (subst (λ (u : ℕ). GivesIndices new_index newer first u next) s
-      (given (omega (arith, f, o, s, e)) small))
+      (given (omega (arith, fits, b.one_each, s, e)) small))
 
   above : (es : List Definition) (d : ℕ) → Contains rest (es, d) → definitions_cmp ds es ≡ Less
   above es d m =
@@ -213,24 +188,16 @@ module _ (task : Task) (waits : List Wait) (are : AreWaits task.classes waits) (
 
   same_more : before ++ plain_group final ∷ [] ≡ more
   same_more =
-      let w = task.well.few in
-      let r = room in
-      let s = size in
       ap (λ (es : List Definition). before ++ plain_group es ∷ [])
       (settles_as_written ds (map entry_definition entries) next (length entries) shows
-      (sym (length-map entries entry_definition)) (omega (arith, w, r, s)))
+      (sym (length-map entries entry_definition)) (omega (arith, task.well.few, room, size)))
 
   pub begun : IsBegun task after more newer next'
   begun =
-      let s = size in
-      let is = next_is small in
-      let same_next : next + n ≡ next' = omega (arith, s, is) in
-      subst (λ (u : ℕ). IsBegun task after more newer u) same_next
-      (subst (λ (u : Section). IsBegun task after u newer (next + n)) same_more
-      (subst (λ (u : ℕ → Bool). IsBegun task u (before ++ plain_group final ∷ []) newer (next + n)) same_after
-      (class_written task done before new_index newer next b place class at undone ds q long gives
-      (least task waits are done before new_index next b counts opens now ds place class rest queue q undone
-      above))))
+      let same_next : next + n ≡ next' = omega (arith, size, next_is small) in
+      rw (same_after, same_more, same_next) at (class_written task done before new_index newer next b place
+      class at undone ds q long gives (least task waits are done before new_index next b counts opens now ds
+      place class rest queue q undone above))
 
   pub grows : (index_space before).count < (index_space more).count
   grows = subst (λ (u : Section). (index_space before).count < (index_space u).count) same_more
@@ -247,10 +214,9 @@ module _ (task : Task) (waits : List Wait) (are : AreWaits task.classes waits) (
   pub undone_range : (x : ℕ) → first ≤ x → x < end → done x ≡ false
   undone_range x low high =
       let f = same_first in
-      let e = same_end in
       let p = x - class.first in
       let is : class.first + p ≡ x = omega (arith, low, f) in
-      ap done (sym is) ∙ (b.whole place p class at (omega (arith, low, high, f, e)) ∙ undone)
+      ap done (sym is) ∙ (b.whole place p class at (omega (arith, low, high, f, same_end)) ∙ undone)
 
   pub can_release : CanRelease task (release_of waits done after)
   can_release = subst (λ (u : ℕ → Bool). CanRelease task (release_of waits done u)) same_after (record {
@@ -289,18 +255,10 @@ module _ (task : Task) (waits : List Wait) (are : AreWaits task.classes waits) (
     some,
     grows,
     released can_release undone_range (record {
-      begun = subst (λ (n : ℕ). IsBegun task after more mid.new_index.items n) (sym e_next)
-          (subst (λ (xs : List ℕ). IsBegun task after more xs next') (sym e_indices) begun);
+      begun = rw (e_next, e_indices) begun;
       written = e_written;
-      counts = subst (λ (ns : List ℕ). AreOpen task waits done after 0 ns) (sym e_counts) open_now;
-      queue = subst (λ (es : List (List Definition × ℕ)). IsQueue task after mid.new_index.items
-          (IsReady task after mid.counts.items) mid.classes.items es) (sym e_ready)
-          (subst (λ (cs : List Class). IsQueue task after mid.new_index.items
-          (IsReady task after mid.counts.items) cs rest) (sym e_classes)
-          (subst (λ (ns : List ℕ). IsQueue task after mid.new_index.items (IsReady task after ns) now rest)
-          (sym e_counts)
-          (subst (λ (xs : List ℕ). IsQueue task after xs (IsReady task after counts) now rest)
-          (sym e_indices) queue_now)));
+      counts = rw e_counts open_now;
+      queue = rw (e_ready, e_classes, e_counts, e_indices) queue_now;
     }),
   )
 
@@ -318,6 +276,4 @@ none_ready task waits done before new_index next b counts now ((ds, c) ∷ queue
     let same : z.0.0 ≡ class = same_Some z.0.0 class (sym z.0.1 ∙ z.1.1) in
     let undone : done class.first ≡ false = ap (λ (k : Class). done k.first) (sym same) ∙ z.0.2 in
     let r = ready_room task done before new_index next b class ds z.1.2 undone in
-    let s = z.1.2.size in
-    let f = filled task c class z.1.1 in
-    omega (arith, full, r, s, f))
+    omega (arith, full, r, z.1.2.size, filled task c class z.1.1))

@@ -141,8 +141,7 @@ same_as_none [] h = refl
 same_as_none (e ∷ es) h = absurd (contained_none e ((h e).0 (contained_first es e)))
 
 pub not_none : (es : List Entry) (e : Entry) (fs : List Entry) → HaveSame es (e ∷ fs) → ¬ (es ≡ [])
-not_none es e fs h none = contained_none e
-    (subst (λ (gs : List Entry). Contains gs e) none ((h e).1 (contained_first fs e)))
+not_none es e fs h none = contained_none e (rw none at (h e).1 (contained_first fs e))
 
 pub same_in_order :
     (es gs hs : List Entry) → IsPermutation gs hs → HaveSame (es ++ gs) (es ++ hs)
@@ -161,17 +160,13 @@ pub more_inserted :
     left ≡ (k, v) ∷ rest → es' ≡ inserted es k v → AreApart start → HaveSame start (es ++ left) →
     HaveSame start (es' ++ rest)
 more_inserted start es left rest k v es' is put apart same =
-    let now : HaveSame start (es ++ (k, v) ∷ rest) =
-    subst (λ (ls : List Entry). HaveSame start (es ++ ls)) is same in
-    subst (λ (fs : List Entry). HaveSame start (fs ++ rest)) (sym put)
-    (same_over start (es ++ (k, v) ∷ rest) (inserted es k v ++ rest) now
+    let now : HaveSame start (es ++ (k, v) ∷ rest) = rw is at same in
+    rw put (same_over start (es ++ (k, v) ∷ rest) (inserted es k v ++ rest) now
     (one_inserted es rest k v (apart_too start (es ++ (k, v) ∷ rest) now apart)))
 
 pub all_inserted :
     (start es left : List Entry) → left ≡ [] → HaveSame start (es ++ left) → HaveSame start es
-all_inserted start es left none same =
-    subst (λ (fs : List Entry). HaveSame start fs) (ap (λ (ls : List Entry). es ++ ls) none ∙ append-nil es)
-    same
+all_inserted start es left none same = rw (none, append-nil es) at same
 
 -- ---- the least of the map is taken
 
@@ -185,8 +180,7 @@ least_taken old es fresh batch now rest none o is came gone put variant removal 
     go o variant removal unchanged above
   where
     same : AreApart old → HaveSame old now
-    same = subst (λ (xs : List Entry). AreApart xs → HaveSame xs now)
-        (ap (λ (xs : List Entry). es ++ xs) came ∙ sym is) put
+    same = rw (came, ← is) at put
 
     left : rest ++ none ≡ rest
     left = ap (λ (xs : List Entry). rest ++ xs) gone ∙ append-nil rest

@@ -1,5 +1,5 @@
 -- A class becomes ready.
-use Rattle.std.proofs.Common.{◌≡◌, ℕ, Bool, true, false, ◌+◌, ◌<◌, ◌≤◌, List, [], ◌∷◌, ◌++◌, length, map, slice_get, Some, ◌⊎◌, inl, inr, ◌∙◌, refl, sym, ap, subst, arith}
+use Rattle.std.proofs.Common.{◌≡◌, ℕ, Bool, true, false, ◌+◌, ◌<◌, ◌≤◌, List, [], ◌∷◌, ◌++◌, length, map, slice_get, Some, ◌⊎◌, inl, inr, ◌∙◌, refl, sym, ap, arith}
 use Rattle.std.proofs.lemmas.Bool.{cases_eq}
 use Rattle.std.proofs.lemmas.Option.{slice_get_within, slice_get-get_or}
 use Rattle.walrus_ty.specs.Definition.{Definition, rename}
@@ -43,9 +43,7 @@ module _ (task : Task) (waits : List Wait) (done after : ℕ → Bool) (before :
       (outer_written task waits done after at counts are opens more c class is none)
 
   pub pushed : IsQueue task after new_index (λ d. ready d ⊎ (d ≡ c)) newer longer
-  pushed = subst (λ (es : List (List Definition × ℕ)).
-      IsQueue task after new_index (λ d. ready d ⊎ (d ≡ c)) newer es)
-      (sym (put class (q.left c class is fresh undone)))
+  pushed = rw (put class (q.left c class is fresh undone))
       (one_queued task after new_index ready now newer queue q c class is fresh ds is_ready firsts others)
 
 -- ---- at the beginning, place after place
@@ -77,7 +75,7 @@ module _ (task : Task) (waits : List Wait) (are : AreWaits task.classes waits) (
         longer
         (pushed task waits (λ x. false) (λ x. false) [] new_index next b 0 counts are opens (λ x d. d)
         (Below place) now newer queue q place k.0 k.1 none refl
-        (λ r. (let l = r.1 in omega (arith, l))) longer put firsts others)
+        (λ r. (omega (arith, r.1))) longer put firsts others)
         (λ d r. elim r [
           | inl x ↦ (let l = x.1 in (x.0, omega (arith, l)))
           | inr e ↦ (
@@ -108,16 +106,16 @@ module _ (task : Task) (waits : List Wait) (are : AreWaits task.classes waits) (
     all_opened all = told_anew task (λ x. false) new_index (Below place) (IsReady task (λ x. false) counts)
         now
         queue q (λ d r. r.0)
-        (λ d r. (r, (let l = slice_get_within task.classes d r.0 r.1 in omega (arith, l, all))))
+        (λ d r. (r, (omega (arith, slice_get_within task.classes d r.0 r.1, all))))
 
 -- at first the queue is empty
 pub none_opened :
     (task : Task) (new_index counts : List ℕ) →
     IsQueue task (λ x. false) new_index (λ c. IsReady task (λ x. false) counts c × (c < 0)) task.classes []
 none_opened task new_index counts = record {
-  queued = λ ds c m. absurd (let low = m.1 in omega (arith, low));
-  there = λ c r. absurd (let low = r.1 in omega (arith, low));
-  once = λ ds es c m n. absurd (let low = m.1 in omega (arith, low));
+  queued = λ ds c m. absurd (omega (arith, m.1));
+  there = λ c r. absurd (omega (arith, r.1));
+  once = λ ds es c m n. absurd (omega (arith, m.1));
   firsts = λ c class is. (class, is, refl);
   left = λ c class is none undone. is;
 }

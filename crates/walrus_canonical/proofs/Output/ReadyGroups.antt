@@ -126,7 +126,7 @@ module _ (task : Task) (done : ℕ → Bool) (before : Section) (new_index : Lis
         elim (cases_lt (length some_way) (length es)) [
           | inl less ↦ absurd (
               let k = members (length some_way) less in
-              let z = comes.written.places k.0 (length some_way) k.1 in omega (arith, z))
+              omega (arith, comes.written.places k.0 (length some_way) k.1))
           | inr over ↦ omega (arith, fits, over)
         ]
 
@@ -155,7 +155,7 @@ module _ (task : Task) (done : ℕ → Bool) (before : Section) (new_index : Lis
     module _ (outer : (x : ℕ) → NamesOutside T o.head x → done (slot_of task.slots x) ≡ true) where
       space : B.count + length class.entries ≤ T.count
       space = let z = room o.head o.marked (ap done o.slot ∙ undone) outer own o.records.members in
-          let l = long in omega (arith, z, l)
+          omega (arith, z, long)
 
       abbrev again : ℕ
       again = own_base (length (map (rename r) own))
@@ -174,11 +174,9 @@ module _ (task : Task) (done : ℕ → Bool) (before : Section) (new_index : Lis
       inner_is : (p : ℕ) → p < length (map (rename r) own) →
           shown again (r (own_number (length class.entries) p)) ≡ ready_number p
       inner_is p h =
-          let s = space in
-          let few = task.well.few in
           let low : p < length class.entries = omega (arith, h, long_too) in
           let is : r (base + p) ≡ base + p = renamed_high base new_index base (base + p) (omega arith)
-          (omega (arith, low, s, few)) ∙ omega arith in
+          (omega (arith, low, space, task.well.few)) ∙ omega arith in
           ap (shown again) is ∙ (shown_high (base + p) (omega arith) ∙ omega arith)
 
       outer_is :
@@ -188,13 +186,11 @@ module _ (task : Task) (done : ℕ → Bool) (before : Section) (new_index : Lis
           let y = slot_of task.slots x in
           let fits = o.fits x u in
           let within = task.are.within x (mark_of_name task o.head x o.marked u) in
-          let size = b.one_each in
           let is : r y ≡ slot_of new_index y = renamed_low base new_index base y fits
-          ∙ get_or_default new_index y y 0 (omega (arith, within, size)) in
+          ∙ get_or_default new_index y y 0 (omega (arith, within, b.one_each)) in
           let there = there_low o.head o.marked (ap done o.slot ∙ undone) outer x u in
-          let s = space in
           let few = task.well.few in
-          ap (shown again) is ∙ shown_low (slot_of new_index y) (omega (arith, there, s, few))
+          ap (shown again) is ∙ shown_low (slot_of new_index y) (omega (arith, there, space, few))
 
       pub becomes_ready : IsReadyAs task done new_index class (shown_definitions (map (rename r) own))
       becomes_ready = record {
@@ -233,10 +229,9 @@ module _ (task : Task) (done : ℕ → Bool) (before : Section) (new_index : Lis
     settled_high p h =
         let y = 4294967296 + p in
         let e : nat_lt y 4294967296 ≡ false = grind (arith, nat_tests) in
-        let is = b.next_is in
         let small : y - 4294967296 + next ≡ p + next = omega arith in
         ap (λ (u : Bool). cond u y ((y - 4294967296 + next) % 4294967296)) e
-        ∙ (ap (λ (u : ℕ). u % 4294967296) small ∙ (stays (p + next) h ∙ omega (arith, is)))
+        ∙ (ap (λ (u : ℕ). u % 4294967296) small ∙ (stays (p + next) h ∙ omega (arith, b.next_is)))
       where
         stays : (n : ℕ) → n < 4294967296 → n % 4294967296 ≡ n
         stays n h = omega (arith, h)
@@ -245,13 +240,12 @@ module _ (task : Task) (done : ℕ → Bool) (before : Section) (new_index : Lis
     settles =
         let space = ready_room in
         let few = task.well.few in
-        let is = b.next_is in
         let index : ℕ → ℕ = λ x. slot_of new_index (slot_of task.slots x) in
         numbered_anew T ready_number (λ x y. y ≡ index x) q.head ds q.key (settled next) (λ p. B.count + p)
-        (AreEqual T B) (λ p h. settled_high p (omega (arith, h, space, few, is)))
+        (AreEqual T B) (λ p h. settled_high p (omega (arith, h, space, few, b.next_is)))
         (λ x y u e. subst (λ (v : ℕ). AreEqual T B x v)
         (sym (ap (settled next) e ∙ settled_low (index x) (
-        let z = there_low q.head q.marked undone_head q.outer x u in omega (arith, z, space, few))))
+        omega (arith, there_low q.head q.marked undone_head q.outer x u, space, few))))
         (same_there q.head q.marked undone_head q.outer x u))
 
     pub can_come : CanComeNext T task.roots B q.head settled_definitions
@@ -280,9 +274,8 @@ module _ (task : Task) (done : ℕ → Bool) (before : Section) (new_index : Lis
               let low = q.key.places x.0 m.0 m.1 in
               (m.0, is, ap (settled next) is ∙ settled_high m.0 (omega (arith, low, space, few, is_next))))
           | inr out ↦ inl (
-              let is = q.key.others x.0 y x.1 out in
               let z = there_low q.head q.marked undone_head q.outer x.0 (outside_stood x.1 out) in
-              let low : y < B.count = omega (arith, is, z) in
+              let low : y < B.count = omega (arith, q.key.others x.0 y x.1 out, z) in
               (low, settled_low y (omega (arith, low, space, few))))
         ]
 

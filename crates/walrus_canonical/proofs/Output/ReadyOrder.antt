@@ -1,5 +1,5 @@
 -- The order of groups that are ready is that in which they can be written.
-use Rattle.std.proofs.Common.{◌≡◌, ℕ, suc, ◌+◌, ◌<◌, List, [], ◌∷◌, ◌++◌, length, map, Bool, false, slice_get, Some, ◌⊎◌, inl, inr, ◌∙◌, refl, sym, ap, subst, arith}
+use Rattle.std.proofs.Common.{◌≡◌, ℕ, suc, ◌+◌, ◌<◌, List, [], ◌∷◌, ◌++◌, length, map, Bool, false, slice_get, Some, ◌⊎◌, inl, inr, ◌∙◌, refl, sym, ap, arith}
 use Rattle.std.specs.Cmp.Lexicographic.{slice_cmp}
 use Rattle.std.specs.declared.cmp.Ordering.{Ordering}
 use Rattle.std.specs.declared.cmp.Ordering.TheVariants.{Less, Equal, Greater}
@@ -95,7 +95,7 @@ records_compared ds es same =
     let m = length (map entry_definition ds) in
     let n = length (map entry_definition es) in
     let one : n ≡ m = length-map es entry_definition ∙ (sym same ∙ sym (length-map ds entry_definition)) in
-    cmp_of_maps definition_cmp entry_definition entry_definition ds es
+    sym (cmp_of_maps definition_cmp entry_definition entry_definition ds es)
     ∙ (sym (lists_alike (shown (own_base m)) (map entry_definition ds) (map entry_definition es)
     (λ p q d e k l a b x y. shown_alike (own_base m) k l (omega arith)))
     ∙ ap (λ (u : ℕ). definitions_cmp (shown_definitions (map entry_definition ds))
@@ -108,20 +108,17 @@ module _ (task : Task) where
       (c : ℕ) (class : Class) → slice_get task.classes c ≡ Some class → 0 < length class.entries
   filled c class at =
       let o = task.are.of_class c class at in
-      let z = o.records.places o.head 0 o.member in
-      let long = length-map class.entries entry_definition in omega (arith, z, long)
+      omega (arith, o.records.places o.head 0 o.member, length-map class.entries entry_definition)
 
   pub one_place :
       (b c : ℕ) (class other : Class) → slice_get task.classes b ≡ Some class →
       slice_get task.classes c ≡ Some other → class.first ≡ other.first → b ≡ c
   one_place b c class other at_b at_c e = elim (cases_lt b c) [
     | inl less ↦ absurd (
-        let z = task.are.apart b c class other less at_b at_c in
-        let f = filled b class at_b in omega (arith, z, f, e))
+        omega (arith, task.are.apart b c class other less at_b at_c, filled b class at_b, e))
     | inr over ↦ elim (cases_lt c b) [
       | inl more ↦ absurd (
-          let z = task.are.apart c b other class more at_c at_b in
-          let f = filled c other at_c in omega (arith, z, f, e))
+          omega (arith, task.are.apart c b other class more at_c at_b, filled c other at_c, e))
       | inr under ↦ omega (arith, over, under)
     ]
   ]
@@ -138,7 +135,7 @@ module _ (task : Task) (done : ℕ → Bool) (before : Section) (new_index : Lis
   few : B.count < 4294967296
   few =
       let r = ready_room task done before new_index next b class ds q undone in
-      let w = task.well.few in omega (arith, r, w)
+      omega (arith, r, task.well.few)
 
   pub order_kept :
       definitions_cmp (map (rename (settled next)) ds) (map (rename (settled next)) es) ≡
@@ -160,8 +157,7 @@ module _ (task : Task) (done : ℕ → Bool) (before : Section) (new_index : Lis
       let T = index_space task.section in
       let can = can_come task done before new_index next b class ds q undone in
       let can_too : CanComeNext T task.roots B p.head settled_first =
-      subst (λ (xs : List Definition). CanComeNext T task.roots B p.head (map (rename (settled next)) xs))
-      (sym e) (can_come task done before new_index next b other es p undone_too) in
+      rw e (can_come task done before new_index next b other es p undone_too) in
       let first = member_equal (rooted task) before b.beginning q.head settled_first can q.head 0 q.member in
       let second =
       member_equal (rooted task) before b.beginning p.head settled_first can_too p.head 0 p.member in

@@ -47,8 +47,7 @@ module _ (task : Task) (waits : List Wait) (done after : ℕ → Bool)
   low : w.waiting < length counts
   low =
       let z = slice_get_within task.classes place class waiter.at in
-      let e = opens.one_each in
-      let p = n.place_is in omega (arith, z, e, p)
+      omega (arith, z, opens.one_each, n.place_is)
 
   pub was : slice_get counts place ≡ Some (left + 1)
   was = ap (slice_get counts) (sym n.place_is)
@@ -143,7 +142,7 @@ module _ (task : Task) (waits : List Wait) (done : ℕ → Bool) (first end low 
   next_pair at place w over less is place_is =
       let below : w.named < end = (to at w is).0 less in
       let above : first ≤ w.named = elim (cases_lt w.named first) [
-        | inl under ↦ absurd (let z = (from at w is).1 under in omega (arith, z, over))
+        | inl under ↦ absurd (omega (arith, (from at w is).1 under, over))
         | inr x ↦ x
       ] in
       record {
@@ -169,6 +168,6 @@ module _ (task : Task) (waits : List Wait) (done : ℕ → Bool) (first end low 
     where
       above : (k : ℕ) (w : Wait) → slice_get waits k ≡ Some w → high ≤ k → end ≤ w.named
       above k w is behind = elim (cases_lt w.named end) [
-        | inl less ↦ absurd (let z = (to k w is).1 less in omega (arith, z, behind))
+        | inl less ↦ absurd (omega (arith, (to k w is).1 less, behind))
         | inr x ↦ x
       ]

@@ -1,15 +1,14 @@
 -- The states of a writer, from its fields.
-use Rattle.std.proofs.Common.{◌≡◌, ℕ, Bool, false, ◌+◌, ◌<◌, ◌≤◌, List, [], ◌∷◌, ◌++◌, length, map, replicate, slice_get, Some, ◌∙◌, sym, ap, subst, OnOk}
+use Rattle.std.proofs.Common.{◌≡◌, ℕ, Bool, false, ◌+◌, ◌<◌, ◌≤◌, List, [], ◌∷◌, ◌++◌, length, map, replicate, slice_get, Some, ◌∙◌, sym, ap, OnOk}
 use Rattle.std.specs.declared.result.Result.{Result}
 use Rattle.std.specs.declared.result.Result.TheVariants.{Ok, Err}
-use Rattle.walrus_ty.specs.Definition.{Definition}
 use Rattle.walrus_ty.specs.Groups.{Section}
 use Rattle.walrus_ty.specs.Records.{group_of}
 use Rattle.walrus_canonical.specs.declared.classes.Class.{Class}
 use Rattle.walrus_canonical.specs.declared.waiting.Wait.{Wait}
 use Rattle.walrus_canonical.specs.declared.write.Writer.{Writer}
 use Rattle.walrus_canonical.specs.Steps.Waits.{AreCounts, AreWaits}
-use Rattle.walrus_canonical.specs.Steps.Writing.{Task, release_of, IsBegun, IsQueue, IsReady, AreOpen, IsOpening, IsReleasing, IsWriting, CanRelease, IsNext}
+use Rattle.walrus_canonical.specs.Steps.Writing.{Task, release_of, IsQueue, IsReady, AreOpen, IsOpening, IsReleasing, IsWriting, CanRelease, IsNext}
 use Rattle.walrus_canonical.proofs.Output.FinishedSections.{nothing_begun}
 use Rattle.walrus_canonical.proofs.Waits.OpenWaits.{counts_begin}
 use Rattle.walrus_canonical.proofs.Output.PushedClasses.{queue_key, none_opened, all_opened}
@@ -22,17 +21,11 @@ pub opens_with_nothing :
     w.new_index.items ≡ replicate task.slot_count 0 → w.next ≡ 0 → w.written.items ≡ [] →
     AreCounts waits (length classes) counts → IsOpening task waits 0 w
 opens_with_nothing task waits w classes counts same is_classes is_counts none zeros zero nothing a = record {
-  begun = subst (λ (n : ℕ). IsBegun task (λ x. false) [] w.new_index.items n) (sym zero)
-      (nothing_begun task w.new_index.items zeros);
+  begun = rw zero (nothing_begun task w.new_index.items zeros);
   written = ap (map group_of) nothing;
-  counts = subst (λ (ns : List ℕ). AreOpen task waits (λ x. false) (λ x. false) 0 ns) (sym is_counts)
+  counts = rw is_counts
       (counts_begin task waits (length classes) counts (ap (λ (cs : List Class). length cs) (sym same)) a);
-  queue = subst (λ (es : List (List Definition × ℕ)).
-      IsQueue task (λ x. false) w.new_index.items
-      (λ c. IsReady task (λ x. false) w.counts.items c × (c < 0)) w.classes.items es) (sym none)
-      (subst (λ (cs : List Class). IsQueue task (λ x. false) w.new_index.items
-      (λ c. IsReady task (λ x. false) w.counts.items c × (c < 0)) cs []) (same ∙ sym is_classes)
-      (none_opened task w.new_index.items w.counts.items));
+  queue = rw (none, is_classes, ← same) (none_opened task w.new_index.items w.counts.items);
 }
 
 -- each place is passed
@@ -59,15 +52,10 @@ pub opening_kept :
     (λ c. IsReady task (λ x. false) old.counts.items c × (c < place + 1)) new.classes.items
     new.ready) → IsOpening task waits (place + 1) new
 opening_kept task waits place old new counts indices next written h queue = record {
-  begun = subst (λ (n : ℕ). IsBegun task (λ x. false) [] new.new_index.items n) (sym next)
-      (subst (λ (xs : List ℕ). IsBegun task (λ x. false) [] xs old.next) (sym indices) h.begun);
+  begun = rw (next, indices) h.begun;
   written = ap (map group_of) written ∙ h.written;
-  counts = subst (λ (ns : List ℕ). AreOpen task waits (λ x. false) (λ x. false) 0 ns) (sym counts) h.counts;
-  queue = subst (λ (ns : List ℕ). IsQueue task (λ x. false) new.new_index.items
-      (λ c. IsReady task (λ x. false) ns c × (c < place + 1)) new.classes.items new.ready) (sym counts)
-      (subst (λ (xs : List ℕ). IsQueue task (λ x. false) xs
-      (λ c. IsReady task (λ x. false) old.counts.items c × (c < place + 1)) new.classes.items
-      new.ready) (sym indices) (queue h.queue));
+  counts = rw counts h.counts;
+  queue = rw (counts, indices) (queue h.queue);
 }
 
 pub releasing_kept :
@@ -80,14 +68,10 @@ pub releasing_kept :
     IsReleasing task (release_of waits done after) before (at + 1) new
 releasing_kept task waits done after before at old new lower counts indices next written h opens queue =
     record {
-      begun = subst (λ (n : ℕ). IsBegun task after before new.new_index.items n) (sym next)
-          (subst (λ (xs : List ℕ). IsBegun task after before xs old.next) (sym indices) h.begun);
+      begun = rw (next, indices) h.begun;
       written = ap (map group_of) written ∙ h.written;
-      counts = subst (λ (ns : List ℕ). AreOpen task waits done after (at + 1) ns) (sym counts) opens;
-      queue = subst (λ (ns : List ℕ). IsQueue task after new.new_index.items (IsReady task after ns)
-          new.classes.items new.ready) (sym counts)
-          (subst (λ (xs : List ℕ). IsQueue task after xs (IsReady task after lower) new.classes.items
-          new.ready) (sym indices) queue);
+      counts = rw counts opens;
+      queue = rw (counts, indices) queue;
     }
 
 -- ---- what a call ensures of each class where it succeeds
@@ -139,10 +123,6 @@ module _ (task : Task) (waits : List Wait) (done after : ℕ → Bool) (before :
       ((m : ℕ) → slice_get old.counts.items place ≡ Some (m + 1) → ¬ (m ≡ 0)) →
       new.classes.items ≡ old.classes.items → new.ready ≡ old.ready → Now
   released_waits some classes ready = lowered
-      (subst (λ (cs : List Class). IsQueue task after old.new_index.items (IsReady task after lower) cs
-      new.ready) (sym classes)
-      (subst (λ (es : List (List Definition × ℕ)). IsQueue task after old.new_index.items
-      (IsReady task after lower) old.classes.items es) (sym ready)
-      (waits_on task waits done after can at place n old.counts.items lower h.counts long there others before
-      old.new_index.items old.next h.begun old.classes.items old.ready h.queue
-      (some count was_count))))
+      (rw (classes, ready) (waits_on task waits done after can at place n old.counts.items lower h.counts long
+      there others before old.new_index.items old.next h.begun old.classes.items old.ready h.queue
+      (some count was_count)))

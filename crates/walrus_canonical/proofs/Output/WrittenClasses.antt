@@ -62,7 +62,7 @@ module _ (task : Task) (done : ℕ → Bool) (before : Section) (new_index newer
 
   count : Q.count ≡ B.count + n
   count = let z = count_is (rooted task) before b.beginning q.head final can in
-      let s = size in omega (arith, z, s)
+      omega (arith, z, size)
 
   kept_slot : (x : ℕ) → x < task.slot_count → (x < class.first) ⊎ (end ≤ x) →
       slot_of new_index x ≡ slot_of newer x
@@ -93,14 +93,12 @@ module _ (task : Task) (done : ℕ → Bool) (before : Section) (new_index newer
 
   member : (p : ℕ) → p < n → Member p
   member p low =
-      let s = q.size in
-      let k = q.key.members p (omega (arith, low, s)) in
-      let row = task.are.row q.head p k.0 q.marked q.member k.1 in
+      let k = q.key.members p (omega (arith, low, q.size)) in
       let first = q.slot in record {
         k = k.0;
         mem = k.1;
         marked = mark_of_mate task q.head k.0 q.marked (p, k.1);
-        slot = omega (arith, row, first);
+        slot = omega (arith, task.are.row q.head p k.0 q.marked q.member k.1, first);
         there = member_equal (rooted task) before b.beginning q.head final can k.0 p k.1;
       }
 
@@ -135,9 +133,8 @@ module _ (task : Task) (done : ℕ → Bool) (before : Section) (new_index newer
               let new : slot_of newer (class.first + p) ≡ next + p =
               get_or_from_slice_get newer (class.first + p) (next + p) 0
               (gives.given p (omega (arith, over, inside))) in
-              let is = b.next_is in
               let there : slot_of newer x ≡ B.count + p = ap (slot_of newer) (sym e)
-              ∙ (new ∙ omega (arith, is)) in
+              ∙ (new ∙ omega (arith, b.next_is)) in
               subst (λ (u : ℕ). AreEqual T Q i u) (sym there)
               (equal_over T T Q i k.k (B.count + p) same k.there)
         ]
@@ -184,7 +181,7 @@ module _ (task : Task) (done : ℕ → Bool) (before : Section) (new_index newer
       AreLeast T task.roots B final → IsBegun task now after newer (next + n)
   class_written least = record {
     beginning = longer (rooted task) before b.beginning q.head final can least;
-    next_is = (let z = count in let is = b.next_is in omega (arith, z, is));
+    next_is = (omega (arith, count, b.next_is));
     one_each = long ∙ b.one_each;
     whole = λ d p other at_d low. whole_now d p other at_d low;
     equal = equal_now;
@@ -192,4 +189,4 @@ module _ (task : Task) (done : ℕ → Bool) (before : Section) (new_index newer
   }
 
   pub count_grows : B.count < Q.count
-  count_grows = let z = count in let f = filled task c class at in omega (arith, z, f)
+  count_grows = omega (arith, count, filled task c class at)

@@ -48,7 +48,7 @@ module _ (task : Task) (done : ℕ → Bool) (c : ℕ) (class : Class) (at : sli
         p < length other.entries → now (other.first + p) ≡ done (other.first + p)
     other_class d other at_d apart p low = elim (cases_lt d c) [
       | inl less ↦ same_below done class.first (class.first + length class.entries) (other.first + p) (
-          let z = task.are.apart d c other class less at_d at in omega (arith, z, low))
+          omega (arith, task.are.apart d c other class less at_d at, low))
       | inr over ↦ same_above done class.first (class.first + length class.entries) (other.first + p) (
           let z = task.are.apart c d class other (omega (arith, over, apart)) at at_d in omega (arith, z))
     ]

@@ -1,13 +1,12 @@
 -- One class after the other is written, until the queue is empty.
-use Rattle.std.proofs.Common.{◌≡◌, ℕ, Bool, ◌+◌, ◌≤◌, List, [], map, ◌⊎◌, inl, inr, sym, arith, subst}
-use Rattle.walrus_ty.specs.Definition.{Definition}
+use Rattle.std.proofs.Common.{◌≡◌, ℕ, Bool, ◌+◌, ◌≤◌, List, [], map, ◌⊎◌, inl, inr, arith}
 use Rattle.walrus_ty.specs.Groups.{Section}
 use Rattle.walrus_ty.specs.Records.{group_of}
 use Rattle.walrus_sections.specs.Section.{index_space}
 use Rattle.walrus_canonical.specs.declared.waiting.Wait.{Wait}
 use Rattle.walrus_canonical.specs.declared.write.Writer.{Writer}
 use Rattle.walrus_canonical.specs.Steps.Waits.{AreWaits}
-use Rattle.walrus_canonical.specs.Steps.Writing.{Task, IsQueue, IsReady, IsWriting, IsWrittenWhole, HasWritten}
+use Rattle.walrus_canonical.specs.Steps.Writing.{Task, IsWriting, IsWrittenWhole, HasWritten}
 use Rattle.walrus_canonical.proofs.Output.FinishedSections.{all_written}
 use Rattle.walrus_canonical.proofs.Output.LeastWritten.{none_ready}
 
@@ -37,7 +36,7 @@ next_turn task waits turn old new h (inr x) = record {
   before = x.1;
   writing = x.4;
   many = inl (elim h.many [
-    | inl few ↦ (let more = x.3 in omega (arith, few, more))
+    | inl few ↦ omega (arith, few, x.3)
     | inr none ↦ absurd (x.2 none)
   ]);
 }
@@ -53,8 +52,5 @@ last_turn task waits turn w are all h =
       | inl full ↦ none_ready task waits h.done h.before w.new_index.items w.next r.begun w.counts.items
           w.classes.items w.ready r.queue (omega (arith, all, full))
     ] in
-    subst (λ (s : Section). IsWrittenWhole task s w.new_index.items) (sym r.written)
-    (all_written task waits are h.done h.before w.new_index.items w.next r.begun w.counts.items r.counts
-    w.classes.items
-    (subst (λ (es : List (List Definition × ℕ)). IsQueue task h.done w.new_index.items
-    (IsReady task h.done w.counts.items) w.classes.items es) none r.queue))
+    rw r.written (all_written task waits are h.done h.before w.new_index.items w.next r.begun w.counts.items r.counts
+    w.classes.items (rw none at r.queue))

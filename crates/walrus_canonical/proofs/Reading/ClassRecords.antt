@@ -118,5 +118,5 @@ pub none_lack :
     ((es : List EntryAt) × (place_of known es ≡ Some c)) → place_of known class.entries ≡ Some c
 none_lack known classes lack c class is e = elim (lack.others c class is e.0 e.1) [
   | inl w ↦ w
-  | inr w ↦ absurd (let low = w.1.1 in omega (arith, low))
+  | inr w ↦ absurd (omega (arith, w.1.1))
 ]

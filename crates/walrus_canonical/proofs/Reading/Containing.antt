@@ -23,7 +23,7 @@ contained_cases xs x y (zero, w, e) = inl e
 contained_cases xs x y (suc k, w, e) = inr (k, omega (arith, w), e)
 
 pub contained_none : {X : Type 0} (x : X) → Contains [] x → ⊥
-contained_none x c = let low = c.1 in omega (arith, low)
+contained_none x c = omega (arith, c.1)
 
 -- what is in the lists of the items
 module _ {A B : Type 0} (f : A → List B) where

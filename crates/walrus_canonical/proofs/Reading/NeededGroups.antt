@@ -92,7 +92,7 @@ read_needed section roots well marks needs start ds b old h whole marked entries
           ∙ ap (λ (o : Option ℕ). unwrap_or o (length old.firsts)) some.1 in
           let k = h.keyed entries some.0 some.1 in
           let low : class < length old.firsts = (
-          let z = slice_get_within old.firsts some.0 k.0 k.1 in omega (arith, z, at)) in
+          omega (arith, slice_get_within old.firsts some.0 k.0 k.1, at)) in
           let f : first ≡ k.0 = p.old_first k.0 (ap (slice_get old.firsts) at ∙ k.1) in
           let fit = h.keys.fit entries some.0 k.0 some.1 k.1 in
           let fits : k.0 + length ds < 2 ^ 32 = fits_in start (length ds) S.count old.slot_count k.0
@@ -125,12 +125,7 @@ pub put_records :
 put_records old new ds m bound start first count list slots same made map_is b l f n =
     let long = length-map old entry_definition in
     let size : count ≡ length ds = n ∙ (sym long ∙ ap (λ (es : List Definition). length es) same) in
-    made ∙ (ap (λ (es : List Definition). map (rename m) es) same
-    ∙ (ap (λ (u : ℕ → ℕ). map (rename u) ds) map_is
-    ∙ (ap (λ (u : ℕ). map (rename (renamed u list first)) ds) b
-    ∙ (ap (λ (u : List ℕ). map (rename (renamed start u first)) ds) l
-    ∙ (ap (λ (u : ℕ). map (rename (renamed start slots u)) ds) f
-    ∙ ap (λ (u : ℕ). map (rename (renamed start slots (own_base u))) ds) size)))))
+    rw (made, same, map_is, b, l, f, size) refl
 
 pub size_of_records :
     (old : List EntryAt) (ds : List Definition) (count : ℕ) → map entry_definition old ≡ ds →

@@ -17,7 +17,7 @@ get_last [] y (suc c) f e = absurd cc
 get_last (x ∷ xs) y zero f e = inl e
 get_last (x ∷ xs) y (suc c) f e = elim (get_last xs y c f e) [
   | inl old ↦ inl old
-  | inr new ↦ inr (let z = new.0 in omega (arith, z), new.1)
+  | inr new ↦ inr (omega (arith, new.0), new.1)
 ]
 
 pub same_records : (es fs : List EntryAt) → map entry_definition es ≡ map entry_definition fs → es ≡ fs

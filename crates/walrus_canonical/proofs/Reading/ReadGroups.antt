@@ -2,7 +2,6 @@
 use Rattle.std.proofs.Common.{◌≡◌, ℕ, Bool, ◌+◌, ◌<◌, List, [], ◌∷◌, ◌++◌, length, map, slice_get, Some, inl, inr, ◌∙◌, refl, sym, ap, subst, arith}
 use Rattle.std.specs.Prelude.{◌↔◌}
 use Rattle.std.specs.List.{range_with_len}
-use Rattle.std.proofs.lemmas.Bool.{cases_lt}
 use Rattle.std.proofs.lemmas.List.{length-map}
 use Rattle.std.proofs.lemmas.Option.{same_Some, slice_get_within}
 use Rattle.walrus_ty.proofs.Basics.{slice_get-left, slice_get-right}
@@ -13,7 +12,6 @@ use Rattle.walrus_ty.specs.Records.{entry_definition}
 use Rattle.walrus_sections.specs.Section.{IndexSpace, index_space, IsWellNamed}
 use Rattle.walrus_canonical.specs.EqualTypes.{IsMember, IsInGroup, NamesOutside, AreEqual}
 use Rattle.walrus_canonical.specs.Listing.{by_group, by_name}
-use Rattle.walrus_canonical.specs.Keys.{IsKey}
 use Rattle.walrus_canonical.specs.Steps.Classes.{reading, slot_of, own_number, AreToldBySlots, AreRecordsOf, IsOfClass, HaveKeys, IsReadTo}
 use Rattle.walrus_canonical.specs.Steps.KnownClasses.{place_of}
 use Rattle.walrus_canonical.specs.Steps.Marks.{IsMarked, MarkNeeds}
@@ -22,10 +20,10 @@ use Rattle.walrus_canonical.specs.Steps.Shown.{own_base}
 use Rattle.walrus_canonical.proofs.Reading.ClassKeys.{NamesHaveSlots, equal_if_one_key, one_key_if_equal}
 use Rattle.walrus_canonical.proofs.Equality.EqualTypes.{groups_of, equal_back, equal_over, equal_mates}
 use Rattle.walrus_canonical.proofs.Equality.Members.{mate_from}
-use Rattle.walrus_canonical.proofs.Equality.Written.{said_anew}
+use Rattle.walrus_canonical.proofs.Equality.Written.{said_anew, own_written, as_many}
 use Rattle.walrus_canonical.proofs.Forms.NextGroups.{BeginsAt}
 use Rattle.walrus_canonical.proofs.Reading.RenamedKeys.{renamed_is_key, outside_low}
-use Rattle.walrus_canonical.proofs.Reading.ToldGroups.{old_slot, named_before, read_more, new_slot, new_group, grown_long, fits_in}
+use Rattle.walrus_canonical.proofs.Reading.ToldGroups.{was, named_before, new_slot, read_group}
 use Rattle.walrus_canonical.proofs.Reading.NewKeys.{IsNewKey, get_last, same_records, at_new, at_other, at_old}
 
 module _ (section : Section) (roots : List ℕ) (well : IsWellNamed section) (marks : List Bool)
@@ -60,10 +58,7 @@ module _ (section : Section) (roots : List ℕ) (well : IsWellNamed section) (ma
 
     pub records_now : AreRecordsOf S slots start entries
     records_now =
-        subst (λ (n : ℕ). IsKey S (λ p. own_base n + p) (slot_of slots) start (map entry_definition entries))
-        (sym size)
-        (subst (λ (es : List Definition). IsKey S (λ p. own_base (length ds) + p) (slot_of slots) start es)
-        (sym is) (renamed_is_key section well.below_ends start ds b slots h.one_each few_entries))
+        rw (size, is) (renamed_is_key section well.below_ends start ds b slots h.one_each few_entries)
 
     outside_here : (x : ℕ) → NamesOutside S start x → x < start
     outside_here = outside_low section well.below_ends start ds b slots h.one_each few_entries
@@ -107,8 +102,7 @@ module _ (section : Section) (roots : List ℕ) (well : IsWellNamed section) (ma
           (i t : ℕ) → i < start → IsMarked marks i → t < length ds →
           (slot_of slots i ≡ first + t) ↔ AreEqual S S i (start + t)
       known_decides i t low m ht =
-          let long = length-map entries entry_definition in
-          let r = k.records.members t (omega (arith, ht, long, size)) in
+          let r = k.records.members t (omega (arith, ht, length-map entries entry_definition, size)) in
           let is_slot : slot_of slots r.0 ≡ first + t =
           h.row k.head t r.0 k.low k.marked k.member r.1 ∙ ap (λ (u : ℕ). u + t) k.slot in
           let same = equal_mates S S k.head start t r.0 (start + t) equal_heads r.1 (b.member t ht) in
@@ -124,14 +118,8 @@ module _ (section : Section) (roots : List ℕ) (well : IsWellNamed section) (ma
           (reading (slots ++ range_with_len first (length ds)) slot_count firsts known)
       read_known class at is_first =
           let fits = h.keys.fit entries class first at is_first in
-          read_more section well.below_ends marks start (start + length ds) slots
-          (range_with_len first (length ds)) slot_count firsts known h
-          (fits_in section well.below_ends marks start ds b slots slot_count firsts known h whole first
-          known_decides)
-          (grown_long section well.below_ends marks start ds b slots slot_count firsts known h whole first
-          known_decides) whole slot_count firsts known
-          (new_group section well.below_ends marks start ds b slots slot_count firsts known h whole first
-          known_decides slot_count class firsts (omega (arith, fits, size)) is_first) (omega arith)
+          read_group section well.below_ends marks start ds b slots slot_count firsts known h whole first
+          known_decides slot_count class firsts known (omega (arith, fits, size)) is_first (omega arith)
           (omega (arith, h.few)) (λ c f e. e) h.keys (λ es c e. inl e)
 
     -- ---- these records are new
@@ -142,30 +130,17 @@ module _ (section : Section) (roots : List ℕ) (well : IsWellNamed section) (ma
           (first : ℕ) (es : List EntryAt) (k : IsOfClass S marks start slots first es) →
           AreEqual S S k.head start → length es ≡ length ds
       same_size first es k e =
-          let long = length-map es entry_definition in
-          let like = groups_of S S k.head start e in
-          elim (cases_lt (length es) (length ds)) [
-            | inl less ↦ absurd (
-                let m = like.second_places (start + length es) (length es) (b.member (length es) less) in
-                omega (arith, k.records.places m.0 (length es) m.1, long))
-            | inr over ↦ elim (cases_lt (length ds) (length es)) [
-              | inl less ↦ absurd (
-                  let m = k.records.members (length ds) (omega (arith, less, long)) in
-                  let l = like.first_places m.0 (length ds) m.1 in
-                  omega (arith, (b.only (length ds) l.0 l.1).0))
-              | inr under ↦ omega (arith, over, under)
-            ]
-          ]
+          sym (length-map es entry_definition)
+          ∙ as_many S S (own_number (length es)) (λ p. start + p) (λ x y. y ≡ slot_of slots x) (λ x y. y ≡ x)
+          k.head start (groups_of S S k.head start e) (map entry_definition es) ds k.records
+          (own_written S start ds b)
 
       not_known :
           (c first : ℕ) (es : List EntryAt) (k : IsOfClass S marks start slots first es) →
           place_of known es ≡ Some c → AreEqual S S k.head start → ⊥
       not_known c first es k at e =
           let as_long : length es ≡ length entries = omega (arith, same_size first es k e, size) in
-          let records : IsKey S (λ p. own_base (length entries) + p) (slot_of slots) k.head
-          (map entry_definition es) =
-          subst (λ (u : ℕ). IsKey S (λ p. own_base u + p) (slot_of slots) k.head (map entry_definition es))
-          as_long k.records in
+          let records = rw as_long at k.records in
           let same = one_key_if_equal S marks slots (own_base (length entries)) k.head start 0
           k.member own_start told_here (names_there k.head k.low k.marked) names_here
           (map entry_definition es) (map entry_definition entries) records records_now e in
@@ -198,7 +173,7 @@ module _ (section : Section) (roots : List ℕ) (well : IsWellNamed section) (ma
           (i t : ℕ) → i < start → IsMarked marks i → t < length ds →
           (slot_of slots i ≡ slot_count + t) ↔ AreEqual S S i (start + t)
       new_decides i t low m ht = (
-        λ e. absurd (let z = h.within i low m in omega (arith, z, e)),
+        λ e. absurd (omega (arith, h.within i low m, e)),
         λ e. absurd (none_equal i t low m ht e),
       )
 
@@ -208,13 +183,9 @@ module _ (section : Section) (roots : List ℕ) (well : IsWellNamed section) (ma
       abbrev firsts_now : List ℕ
       firsts_now = firsts ++ slot_count ∷ []
 
-      was : (x : ℕ) → NamesOutside S start x → slot_of grown x ≡ slot_of slots x
-      was x o = old_slot section well.below_ends marks start (start + length ds) slots
-          (range_with_len slot_count (length ds)) slot_count firsts known h
-          (fits_in section well.below_ends marks start ds b slots slot_count firsts known h whole slot_count
-          new_decides)
-          (grown_long section well.below_ends marks start ds b slots slot_count firsts known h whole
-          slot_count new_decides) whole x (outside_here x o)
+      outside_was : (x : ℕ) → NamesOutside S start x → slot_of grown x ≡ slot_of slots x
+      outside_was x o = was section well.below_ends marks start ds b slots slot_count firsts known h whole
+          slot_count new_decides x (outside_here x o)
 
       new_class : IsOfClass S marks (start + length ds) grown slot_count entries
       new_class = record {
@@ -229,8 +200,8 @@ module _ (section : Section) (roots : List ℕ) (well : IsWellNamed section) (ma
             slot_count new_decides 0 b.filled in omega (arith, z));
         records = said_anew S (own_number (length entries)) (λ x y. y ≡ slot_of slots x) start
             (map entry_definition entries) records_now (own_number (length entries))
-            (λ x y. y ≡ slot_of grown x) (λ p z. refl) (λ x y o e. e ∙ sym (was x o));
-        fits = λ x o. omega (arith, names_here.fits x o, was x o);
+            (λ x y. y ≡ slot_of grown x) (λ p z. refl) (λ x y o e. e ∙ sym (outside_was x o));
+        fits = λ x o. omega (arith, names_here.fits x o, outside_was x o);
       }
 
       first_is : slice_get firsts_now (length firsts) ≡ Some slot_count
@@ -278,14 +249,8 @@ module _ (section : Section) (roots : List ℕ) (well : IsWellNamed section) (ma
 
       pub read_new :
           IsReadTo S marks (start + length ds) (reading grown (slot_count + length ds) firsts_now after)
-      read_new = read_more section well.below_ends marks start (start + length ds) slots
-          (range_with_len slot_count (length ds)) slot_count firsts known h
-          (fits_in section well.below_ends marks start ds b slots slot_count firsts known h whole slot_count
-          new_decides)
-          (grown_long section well.below_ends marks start ds b slots slot_count firsts known h whole
-          slot_count new_decides) whole (slot_count + length ds) firsts_now after
-          (new_group section well.below_ends marks start ds b slots slot_count firsts known h whole
-          slot_count new_decides (slot_count + length ds) (length firsts) firsts_now (omega arith) first_is)
+      read_new = read_group section well.below_ends marks start ds b slots slot_count firsts known h whole
+          slot_count new_decides (slot_count + length ds) (length firsts) firsts_now after (omega arith) first_is
           (omega arith) (omega (arith, h.few)) (λ c f e. slice_get-left firsts (slot_count ∷ []) c f e)
           keys_now (λ es c at. elim (at_other known after entries es (length firsts) c key at) [
             | inr old ↦ inl old

@@ -111,7 +111,7 @@ module _ (section : Section) (roots : List ℕ) (marks : List Bool)
     few = h.few;
     told = h.told;
     within = λ i m. h.within i (
-        let low = marked_within marks i m in let n = needs.one_each in omega (arith, low, n)) m;
+        omega (arith, marked_within marks i m, needs.one_each)) m;
     row = λ i place k m own mem. h.row i place k (member_within section i 0 i own) m own mem;
     class_of = class_of;
     of_class = of_class;

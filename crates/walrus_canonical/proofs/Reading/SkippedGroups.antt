@@ -23,9 +23,7 @@ pub stands_begins :
     (section : Section) (start : ℕ) (g : Group) → StandsAt section start g →
     0 < length (definitions_of g) → BeginsAt (index_space section) start (definitions_of g)
 stands_begins section start g a filled =
-    subst (λ (t : Section). BeginsAt (index_space t) start (definitions_of g)) (sym a.split)
-    (subst (λ (n : ℕ). BeginsAt (index_space (a.before ++ g ∷ a.behind)) n (definitions_of g)) (sym a.count)
-    (filled_begins a.before g a.behind filled))
+    rw (a.split, a.count) (filled_begins a.before g a.behind filled)
 
 -- a group that begins before `start` is before it
 pub stands_whole :
@@ -41,9 +39,8 @@ stands_low :
     (section : Section) (start : ℕ) (g : Group) → StandsAt section start g →
     start ≤ (index_space section).count
 stands_low section start g a =
-    let c = a.count in
     let z = no_fewer a.before (g ∷ a.behind) in
-    let e = ap (λ (t : Section). (index_space t).count) a.split in omega (arith, c, z, e)
+    let e = ap (λ (t : Section). (index_space t).count) a.split in omega (arith, a.count, z, e)
 
 pub read_skipped :
     (section : Section) (well : IsWellNamed section) (marks : List Bool) (start end : ℕ) (g : Group) →
@@ -86,7 +83,7 @@ pub stands_inside :
     start + length (definitions_of g) ≤ (index_space section).count
 stands_inside section start g a = elim (cases_lt 0 (length (definitions_of g))) [
   | inl filled ↦ (stands_begins section start g a filled).inside
-  | inr empty ↦ (let z = stands_low section start g a in omega (arith, z, empty))
+  | inr empty ↦ omega (arith, stands_low section start g a, empty)
 ]
 
 -- where the group ends, as the program counts
@@ -95,8 +92,7 @@ group_ends :
     StandsAt section start g → from ≡ start → count ≡ length (definitions_of g) →
     end ≡ min (from + count) 18446744073709551615 → end ≡ start + length (definitions_of g)
 group_ends section start from count end g well a f n e =
-    let inside = stands_inside section start g a in
-    let few = well.few in omega (arith, inside, few, f, n, e)
+    omega (arith, stands_inside section start g a, well.few, f, n, e)
 
 pub found_marked :
     (section : Section) (roots : List ℕ) (marks : List Bool) (start from count end : ℕ) (g : Group) →
@@ -130,18 +126,14 @@ skipped_ends section marks start from count end g well a f n e slots slots' slot
     pushed none =
     let ends = group_ends section start from count end g well a f n e in
     let inside = stands_inside section start g a in
-    let few = well.few in
-    let is : slots' ≡ slots ++ range_with_len 0 count = pushed (omega (arith, inside, few, n)) in
+    let is : slots' ≡ slots ++ range_with_len 0 count = pushed (omega (arith, inside, well.few, n)) in
     let added = length-range_with_len 0 count in
     let both = length-append slots (range_with_len 0 count) in
     let long : length slots' ≡ start + length (range_with_len 0 count) =
     ap (λ (xs : List ℕ). length xs) is ∙ omega (arith, both, at) in
     let stop : length slots' ≡ end = omega (arith, long, added, n, ends) in
     let r = read_skipped section well marks start (length slots') g a slots (range_with_len 0 count)
-    slot_count firsts known
-    (subst (λ (u : ℕ). IsReadTo (index_space section) marks u (reading slots slot_count firsts known))
-    (sym at) h)
-    long (λ i over low. none i (omega (arith, f, over)) (omega (arith, stop, low))) in (
+    slot_count firsts known (rw at h) long (λ i over low. none i (omega (arith, f, over)) (omega (arith, stop, low))) in (
       subst (λ (xs : List ℕ). IsReadTo (index_space section) marks (length slots')
           (reading xs slot_count firsts known)) (sym is) r,
       omega (arith, long, added, n, at),

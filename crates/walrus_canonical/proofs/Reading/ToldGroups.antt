@@ -126,13 +126,13 @@ module _ (section : Section) (below : NamesBelowEnds (index_space section)) (mar
   abbrev grown : List ℕ
   grown = slots ++ added
 
-  pub grown_long : start + length ds ≡ start + length added
+  grown_long : start + length ds ≡ start + length added
   grown_long = omega (arith, length-range_with_len first (length ds))
 
-  pub fits_in : start ≤ N.count
+  fits_in : start ≤ N.count
   fits_in = omega (arith, b.inside)
 
-  was : (x : ℕ) → x < start → slot_of grown x ≡ slot_of slots x
+  pub was : (x : ℕ) → x < start → slot_of grown x ≡ slot_of slots x
   was = old_slot section below marks start (start + length ds) slots added slot_count firsts known h fits_in
       grown_long whole
 
@@ -186,7 +186,7 @@ module _ (section : Section) (below : NamesBelowEnds (index_space section)) (mar
       let m = subst (λ (u : ℕ). IsMember N start t.0 u) t.2 (b.member t.0 t.1) in
       (b.only 0 i (mate_to N start t.0 i 0 i m own)).1
 
-  pub new_group :
+  new_group :
       (count c : ℕ) (newer : List ℕ) → first + length ds ≤ count → slice_get newer c ≡ Some first →
       AreNew section below marks start (start + length ds) slots added slot_count firsts known h fits_in
       grown_long whole count newer
@@ -198,8 +198,18 @@ module _ (section : Section) (below : NamesBelowEnds (index_space section)) (mar
         let is : i ≡ start = omega (arith, head) in
         let at_k = b.only place k (subst (λ (u : ℕ). IsMember N u place k) is mem) in
         let slot_i = ap (slot_of grown) head ∙ new_slot 0 b.filled in
-        let slot_k = ap (slot_of grown) at_k.1 ∙ new_slot place at_k.0 in omega (arith, slot_i, slot_k));
+        omega (arith, slot_i, ap (slot_of grown) at_k.1 ∙ new_slot place at_k.0));
     class_of = λ i over hi own m. (
         let slot_i = ap (slot_of grown) (head_is i over hi own) ∙ new_slot 0 b.filled in
         (c, at ∙ ap (λ (u : ℕ). Some u) (omega (arith, slot_i))));
   }
+
+  pub read_group :
+      (count c : ℕ) (newer : List ℕ) (after : List (List EntryAt × ℕ)) → first + length ds ≤ count →
+      slice_get newer c ≡ Some first → slot_count ≤ count → count ≤ start + length ds →
+      ((c f : ℕ) → slice_get firsts c ≡ Some f → slice_get newer c ≡ Some f) → HaveKeys count newer after →
+      ((es : List EntryAt) (c : ℕ) → place_of after es ≡ Some c → (place_of known es ≡ Some c)
+      ⊎ ((f : ℕ) × (slice_get newer c ≡ Some f) × IsOfClass N marks (start + length ds) grown f es)) →
+      IsReadTo N marks (start + length ds) (reading grown count newer after)
+  read_group count c newer after fits at = read_more section below marks start (start + length ds) slots added
+      slot_count firsts known h fits_in grown_long whole count newer after (new_group count c newer fits at)

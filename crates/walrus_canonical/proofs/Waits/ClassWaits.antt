@@ -77,11 +77,10 @@ from_class (k ∷ cs) n w c = elim (Contains-append_cases (class_waits n k) (wai
   | inl here ↦ (
       let r = in_flat (wait_at (own_base (length k.entries)) n) (names_in k.entries) w here in
       let e = at_name (own_base (length k.entries)) n r.0 w r.2 in
-      let waiting = e.1 in
       let low = e.2 in
       let is = e.0 in (
         0,
-        omega (arith, waiting),
+        omega (arith, e.1),
         record {
           class = k;
           at = refl;
@@ -91,10 +90,9 @@ from_class (k ∷ cs) n w c = elim (Contains-append_cases (class_waits n k) (wai
       ))
   | inr there ↦ (
       let r = from_class cs (suc n) w there in
-      let waiting = r.1 in
       let s = r.2 in (
         suc r.0,
-        omega (arith, waiting),
+        omega (arith, r.1),
         record { class = s.class; at = s.at; names = s.names; low = s.low },
       ))
 ]
@@ -129,8 +127,7 @@ waits_for classes waits a w c =
     (Contains-permutation waits (waits_from 0 classes) w (IsPermutation-sym (waits_from 0 classes) waits
     a.all)
     c) in
-    let e = r.1 in
-    let same : r.0 ≡ w.waiting = omega (arith, e) in
+    let same : r.0 ≡ w.waiting = omega (arith, r.1) in
     subst (λ (p : ℕ). NamesSlot classes p w.named) same r.2
 
 pub wait_there :

@@ -15,21 +15,13 @@ abbrev part : (ℕ → Bool) → Wait → ℕ → ℕ
 part done w c = cond (nat_eq w.waiting c) (cond (done w.named) 0 1) 0
 
 part_done : (done : ℕ → Bool) (w : Wait) (c : ℕ) → done w.named ≡ true → part done w c ≡ 0
-part_done done w c d = ap (λ (b : Bool). cond (nat_eq w.waiting c) (cond b 0 1) 0) d ∙ go (nat_eq w.waiting c)
-  where
-    go : (b : Bool) → ◌≡◌ {A = ℕ} (cond b (cond true 0 1) 0) 0
-    go true = refl
-    go false = refl
+part_done done w c d = grind (arith, nat_tests, d)
 
 part_other : (done : ℕ → Bool) (w : Wait) (c : ℕ) → ¬ (w.waiting ≡ c) → part done w c ≡ 0
-part_other done w c other =
-    let e : nat_eq w.waiting c ≡ false = grind (arith, nat_tests, other) in
-    ap (λ (b : Bool). cond b (cond (done w.named) 0 1) 0) e
+part_other done w c other = grind (arith, nat_tests, other)
 
 part_open : (done : ℕ → Bool) (w : Wait) (c : ℕ) → w.waiting ≡ c → done w.named ≡ false → part done w c ≡ 1
-part_open done w c same d =
-    let e : nat_eq w.waiting c ≡ true = grind (arith, nat_tests, same) in
-    ap (λ (b : Bool). cond b (cond (done w.named) 0 1) 0) e ∙ ap (λ (b : Bool). cond b 0 1) d
+part_open done w c same d = grind (arith, nat_tests, same, d)
 
 part_agrees :
     (done after : ℕ → Bool) (w : Wait) (c : ℕ) → done w.named ≡ after w.named → part done w c ≡ part after w c
@@ -44,9 +36,8 @@ zero_open done (v ∷ ws) c none w m same = elim (contained_cases ws v w m) [
   | inl is ↦ elim (cases_Bool (done w.named)) [
     | inl d ↦ d
     | inr opens ↦ absurd (
-        let one = part_open done w c same opens in
         let here : part done v c ≡ part done w c = ap (λ (u : Wait). part done u c) is in
-        omega (arith, none, one, here))
+        omega (arith, none, part_open done w c same opens, here))
   ]
   | inr later ↦ zero_open done ws c (omega (arith, none)) w later same
 ]
@@ -67,7 +58,7 @@ open_last :
     (done : ℕ → Bool) (ws : List Wait) (w : Wait) (c : ℕ) →
     open_count done (ws ++ w ∷ []) c ≡ open_count done ws c + part done w c
 open_last done [] w c = omega arith
-open_last done (v ∷ ws) w c = let z = open_last done ws w c in omega (arith, z)
+open_last done (v ∷ ws) w c = omega (arith, open_last done ws w c)
 
 taken_more :
     (ws : List Wait) (at : ℕ) (w : Wait) → slice_get ws at ≡ Some w →
@@ -77,12 +68,7 @@ taken_more ws at w is = take_more ws at w (slice_get_within ws at w is)
 
 few_counted : (ws : List Wait) (c : ℕ) → open_count (λ x. false) ws c ≤ length ws
 few_counted [] c = omega arith
-few_counted (w ∷ ws) c = go (nat_eq w.waiting c) (few_counted ws c)
-  where
-    go : (b : Bool) → open_count (λ x. false) ws c ≤ length ws →
-        cond b 1 0 + open_count (λ x. false) ws c ≤ length (w ∷ ws)
-    go true h = omega (arith, h)
-    go false h = omega (arith, h)
+few_counted (w ∷ ws) c = let h = few_counted ws c in grind (arith, nat_tests, h)
 
 pub one_counted :
     (waits : List Wait) (at : ℕ) (w : Wait) (n : ℕ) (old new : List ℕ) → slice_get waits at ≡ Some w →
@@ -98,9 +84,8 @@ one_counted waits at w n old new is bounded a long there others = record {
         let inside = slice_get_within waits at w is in
         let short : length (take at waits) ≤ at =
         omega (arith, length-take-le at waits (omega (arith, inside))) in
-        let few = few_counted (take at waits) w.waiting in
         let now = there (count w.waiting) (a.each w.waiting (omega (arith, low, same)))
-        (omega (arith, few, short, inside, bounded)) in
+        (omega (arith, few_counted (take at waits) w.waiting, short, inside, bounded)) in
         ap (slice_get new) same ∙ (now ∙ (ap (λ (m : ℕ). Some m)
         (omega (arith, more w.waiting, part_open (λ x. false) w w.waiting refl refl))
         ∙ ap (λ (u : ℕ). Some (open_count (λ x. false) (take (at + 1) waits) u)) (sym same))))
@@ -158,13 +143,11 @@ module _ (task : Task) (waits : List Wait) (done after : ℕ → Bool) where
     each = λ c low. elim (cases_eq c w.waiting) [
       | inl same ↦ ap (slice_get newer) same ∙ (there ∙ ap (λ (u : ℕ). Some (total (at + 1) u)) (sym same))
       | inr other ↦ (
-          let here = total_here at c w is in
-          let next = total_next at c w is in
           let apart : w.waiting ≡ c → ⊥ = λ e. other (sym e) in
           let x = part_other done w c apart in
           let y = part_other after w c apart in
           others c other ∙ (a.each c (omega (arith, low, long))
-          ∙ ap (λ (n : ℕ). Some n) (omega (arith, here, next, x, y))))
+          ∙ ap (λ (n : ℕ). Some n) (omega (arith, total_here at c w is, total_next at c w is, x, y))))
     ];
   }
 
@@ -176,10 +159,9 @@ module _ (task : Task) (waits : List Wait) (done after : ℕ → Bool) where
   one_passed at w counts is alike a = record {
     one_each = a.one_each;
     each = λ c low. (
-        let here = total_here at c w is in
         let next = total_next at c w is in
         let same = part_agrees done after w c alike in
-        a.each c low ∙ ap (λ (n : ℕ). Some n) (omega (arith, here, next, same)));
+        a.each c low ∙ ap (λ (n : ℕ). Some n) (omega (arith, total_here at c w is, next, same)));
   }
 
   pub many_passed :
@@ -238,7 +220,6 @@ pub counts_begin :
 counts_begin task waits n counts is a = record {
   one_each = a.long ∙ is;
   each = λ c low. (
-      let long = a.long in
       let none : open_count (λ x. false) [] c ≡ 0 = refl in
-      a.each c (omega (arith, low, long)) ∙ ap (λ (n : ℕ). Some n) (omega (arith, none)));
+      a.each c (omega (arith, low, a.long)) ∙ ap (λ (n : ℕ). Some n) (omega (arith, none)));
 }

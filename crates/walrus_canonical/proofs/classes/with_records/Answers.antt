@@ -1,6 +1,5 @@
-use Rattle.std.proofs.Common.{◌∙◌, ℕ, List, refl, sym, subst}
-use Rattle.walrus_ty.specs.declared.records.EntryAt.{EntryAt}
-use Rattle.walrus_canonical.proofs.Reading.ClassRecords.{LackRecords, all_lack, one_less, firsts_stay, none_lack}
+use Rattle.std.proofs.Common.{◌∙◌, refl}
+use Rattle.walrus_canonical.proofs.Reading.ClassRecords.{all_lack, one_less, firsts_stay, none_lack}
 use Rattle.walrus_canonical.proofs.classes.with_records.Goals as goal
 
 pub loop-entries-init : goal.loop-entries-init
@@ -8,9 +7,7 @@ loop-entries-init c = record {
   can_next = tt;
   is_finite = tt;
   firsts = refl;
-  lack = subst (λ (es : List (List EntryAt × ℕ)). LackRecords c.args.known.entries c.args.classes.items es)
-      (sym c.into_iter-entries-iterator.ensures.into_iter_gives.0)
-      (all_lack c.args.known.entries c.args.classes.items
+  lack = rw c.into_iter-entries-iterator.ensures.into_iter_gives.0 (all_lack c.args.known.entries c.args.classes.items
       c.into_iter-entries-iterator.ensures.into_iter_gives.4);
 }
 
@@ -19,8 +16,7 @@ loop-entries-preserved c =
     let known = c.args.known.entries in
     let before = c.loop-entries.classes.items in
     let after = c.put_records.new.classes.items in
-    let lack = subst (λ (es : List (List EntryAt × ℕ)). LackRecords known before es)
-    c.in-Some.ensures.steps c.loop-entries.invariant.lack in
+    let lack = rw c.in-Some.ensures.steps at c.loop-entries.invariant.lack in
     record {
       can_next = tt;
       is_finite = tt;
@@ -30,12 +26,7 @@ loop-entries-preserved c =
           c.put_records.ensures.put c.put_records.ensures.stays;
     }
 
-pub returns-clause-firsts : goal.returns-clause-firsts
-returns-clause-firsts c = c.loop-entries.invariant.firsts
-
 pub returns-clause-records : goal.returns-clause-records
 returns-clause-records c =
     none_lack c.args.known.entries c.loop-entries.classes.items
-    (subst (λ (es : List (List EntryAt × ℕ)). LackRecords c.args.known.entries c.loop-entries.classes.items
-    es)
-    c.in-None.ensures.steps.0 c.loop-entries.invariant.lack)
+    (rw c.in-None.ensures.steps.0 at c.loop-entries.invariant.lack)

@@ -4,7 +4,6 @@ use Rattle.walrus_canonical.proofs.needed.mark_group.Goals as goal
 
 pub returns : goal.returns
 returns c =
-    let past = c.loop-at-test.false in
     marked_same _ _ (λ i. (c.args.start ≤ i) × (i < c.loop-at.at) × (i < c.args.end))
     (λ i. (c.args.start ≤ i) × (i < c.args.end)) c.loop-at.invariant (λ i h. (h.0, h.2))
-    (λ i h. (h.0, omega (arith, h.1, past), h.1))
+    (λ i h. (h.0, omega (arith, h.1, c.loop-at-test.false), h.1))

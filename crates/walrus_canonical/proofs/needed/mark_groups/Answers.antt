@@ -1,20 +1,18 @@
-use Rattle.std.proofs.Common.{◌≡◌, ℕ, List, ◌++◌, length, subst, sym, ap, ◌∙◌}
+use Rattle.std.proofs.Common.{◌≡◌, ℕ, List, ◌++◌, length, ap, ◌∙◌}
 use Rattle.std.proofs.lemmas.Iterator.Adapters.{YieldsList-from_rev_slice}
 use Rattle.std.proofs.lemmas.Iterator.Consumers.{YieldsList-turn, YieldsList-end}
 use Rattle.std.specs.List.{flat_map}
 use Rattle.walrus_ty.specs.Definition.{names_of}
 use Rattle.walrus_ty.specs.Records.{entry_definition, section_of}
 use Rattle.walrus_canonical.proofs.Needs.TurnsBack.{turn_back, all_left, none_left_to_visit, next_left, start_of}
-use Rattle.walrus_canonical.proofs.Needs.NeedsMarked.{AreMarkedFrom, none_marked_yet, all_marked, none_in_group, group_turn, found_in, none_in}
+use Rattle.walrus_canonical.proofs.Needs.NeedsMarked.{none_marked_yet, all_marked, none_in_group, group_turn, found_in, none_in}
 use Rattle.walrus_canonical.proofs.needed.mark_groups.Goals as goal
 
 pub loop-group-init : goal.loop-group-init
 loop-group-init c =
     let long : c.len-end.result ≡ length c.args.needed.now.items = cc in (
       long ∙ (c.requires.one_each ∙ all_left c.args.groups.now),
-      λ roots h. subst (λ (m : ℕ).
-          AreMarkedFrom (section_of c.args.groups.now) roots m c.args.needed.now.items)
-          (sym long) (none_marked_yet (section_of c.args.groups.now) roots _ h),
+      λ roots h. rw long (none_marked_yet (section_of c.args.groups.now) roots _ h),
     )
 
 pub loop-group-preserved-in_ok-push_names : goal.loop-group-preserved-in_ok-push_names
@@ -62,7 +60,6 @@ pub returns : goal.returns
 returns c roots h =
     let end = YieldsList-end (YieldsList-from_rev_slice c.args.groups.now cc) c.loop-group.yielded _
     c.loop-group.yielded_by _ _ c.in-None.is c.next.ensures.steps in
-    all_marked (section_of c.args.groups.now) roots _
-    (subst (λ (m : ℕ). AreMarkedFrom (section_of c.args.groups.now) roots m c.loop-group.needed.items)
-    (c.loop-group.invariant.0 ∙ none_left_to_visit c.args.groups.now (length c.loop-group.yielded) end.1)
-    (c.loop-group.invariant.1 roots h))
+    let none = c.loop-group.invariant.0
+    ∙ none_left_to_visit c.args.groups.now (length c.loop-group.yielded) end.1 in
+    all_marked (section_of c.args.groups.now) roots _ (rw none at c.loop-group.invariant.1 roots h)

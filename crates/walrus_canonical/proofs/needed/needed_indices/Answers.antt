@@ -1,8 +1,6 @@
-use Rattle.std.proofs.Common.{ℕ, List, Option, OnOk, Bor, ap, subst, sym}
+use Rattle.std.proofs.Common.{ap}
 use Rattle.std.specs.Prelude.{option_copied}
 use Rattle.walrus_ty.specs.Records.{section_of}
-use Rattle.walrus_canonical.specs.Listing.{AreIndices}
-use Rattle.walrus_canonical.specs.Roots.{roots_or_all}
 use Rattle.walrus_canonical.proofs.Needs.NeedsMarked.{all_are_indices, all_marked_at_once}
 use Rattle.walrus_canonical.proofs.needed.needed_indices.Goals as goal
 
@@ -18,8 +16,4 @@ returns-in_ok-vec-in-None-clause-needed c =
     (c.in_ok-vec-in-None.ensures.items_if_clones_equal (λ y e. e))
 
 pub returns-in-Some-clause-known : goal.returns-in-Some-clause-known
-returns-in-Some-clause-known c =
-    subst (λ (o : Option (Bor (List ℕ))). OnOk c.needed_by.result
-    (AreIndices (section_of c.args.groups.now) (roots_or_all (section_of c.args.groups.now)
-    (option_copied o))))
-    (sym c.in-Some.is) c.needed_by.ensures.known
+returns-in-Some-clause-known c = rw c.in-Some.is c.needed_by.ensures.known

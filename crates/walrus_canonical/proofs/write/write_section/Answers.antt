@@ -1,5 +1,4 @@
-use Rattle.std.proofs.Common.{ℕ, List, refl, subst, arith}
-use Rattle.walrus_canonical.specs.Steps.WrittenIndices.{AreIndicesBySlot}
+use Rattle.std.proofs.Common.{refl, arith}
 use Rattle.walrus_canonical.specs.Steps.Writing.{Task}
 use Rattle.walrus_canonical.proofs.write.write_section.Goals as goal
 
@@ -17,9 +16,5 @@ returns c = λ section roots well known needs are. (
       needs = needs;
       are = are;
     } in
-    let one_each = are.one_each in
-    c.in_ok-written.ensures task refl refl (omega (arith, one_each)) c.in_ok-map.map.items
-    (subst (λ (xs : List ℕ). AreIndicesBySlot xs c.args.needed.now c.in_ok-written.new_index.items
-    c.in_ok-map.map.items) c.as_slice.ensures.value
-    (subst (λ (ys : List ℕ). AreIndicesBySlot c.as_slice.result.now c.args.needed.now ys
-    c.in_ok-map.map.items) c.as_slice-2.ensures.value c.in_ok-map.ensures)))
+    c.in_ok-written.ensures task refl refl (omega (arith, are.one_each)) c.in_ok-map.map.items
+    (rw (c.as_slice.ensures.value, c.as_slice-2.ensures.value) at c.in_ok-map.ensures))

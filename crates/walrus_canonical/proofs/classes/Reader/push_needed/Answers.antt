@@ -22,8 +22,6 @@ returns c marks marked filled section roots well needs stands h =
     let start = length c.args.self.now.slots.items in
     let classes = c.args.self.now.classes.items in
     let b = stands_begins section start (group_of c.args.group) stands filled in
-    let inside = b.inside in
-    let few = well.few in
     let len_start : c.len.result ≡ start = cc in
     let len_next : c.len-2.result ≡ length classes = len_is c.args.self.now.classes c.len-2.result
     c.len-2.ensures in
@@ -31,7 +29,7 @@ returns c marks marked filled section roots well needs stands h =
     let size = size_of_records c.in_ok-entries.entries ds c.len-count.result c.in_ok-entries.ensures
     c.len-count.ensures in
     let bound : c.number_after.result ≡ start =
-    c.number_after.ensures (omega (arith, len_start, inside, few)) ∙ omega (arith, len_start) in
+    c.number_after.ensures (omega (arith, len_start, b.inside, well.few)) ∙ omega (arith, len_start) in
     let is = put_records c.in_ok-entries.entries c.rename_entries.new.entries ds _ c.number_after.result start
     c.own_base.result c.len-count.result c.as_slice.result.now c.args.self.now.slots.items
     c.in_ok-entries.ensures c.rename_entries.ensures c.new.ensures bound c.as_slice.ensures.value

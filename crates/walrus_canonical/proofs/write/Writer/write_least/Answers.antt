@@ -1,15 +1,13 @@
-use Rattle.std.proofs.Common.{◌≡◌, ◌∙◌, ◌++◌, ◌∷◌, [], ℕ, List, length, map, slice_get, inl, refl, ap, sym, subst}
-use Rattle.std.specs.Prelude.{Option}
+use Rattle.std.proofs.Common.{◌≡◌, ◌∙◌, ◌++◌, ◌∷◌, [], List, length, map, slice_get, inl, refl, ap}
 use Rattle.std.proofs.lemmas.Result.{on_ok_weaker}
-use Rattle.walrus_ty.specs.Definition.{Definition, rename}
+use Rattle.walrus_ty.specs.Definition.{rename}
 use Rattle.walrus_ty.specs.Groups.{Section}
 use Rattle.walrus_ty.specs.Records.{entry_definition}
 use Rattle.walrus_canonical.specs.declared.classes.Class.{Class}
 use Rattle.walrus_canonical.specs.Greedy.{plain_group}
 use Rattle.walrus_canonical.specs.Steps.Renamings.{renamed}
-use Rattle.walrus_canonical.specs.Steps.Queues.{TakesLeast}
 use Rattle.walrus_canonical.specs.Steps.Shown.{own_base}
-use Rattle.walrus_canonical.specs.Steps.Writing.{IsQueue, IsReady}
+use Rattle.walrus_canonical.specs.Steps.Writing.{IsReady}
 use Rattle.walrus_canonical.proofs.Output.LeastWritten.{outcome}
 use Rattle.walrus_canonical.proofs.Output.OrderedQueues.{not_none}
 use Rattle.walrus_canonical.proofs.Output.Queues.{queue_apart, queued_anew}
@@ -25,8 +23,7 @@ returns-in_ok-write_group-in-Some c =
     on_ok_weaker c.release.result (λ released task done before are h.
     let apart = queue_apart task done before old.new_index.items old.next h.begun old.counts.items
     old.classes.items old.ready h.queue in
-    let taken = subst (λ (o : Option (List Definition × ℕ)). TakesLeast old.ready rest o) c.in-Some.is
-    c.in_ok-group.ensures apart in
+    let taken = (rw c.in-Some.is at c.in_ok-group.ensures) apart in
     let queue = queued_anew task done old.new_index.items (IsReady task done old.counts.items)
     old.classes.items old.ready ((c.in-Some.group, c.in-Some.place) ∷ rest) h.queue taken.0 in
     outcome task c.args.waits.now are done before old.new_index.items old.next h.begun old.counts.items
@@ -51,8 +48,7 @@ returns-in-None c = λ task done before are h. (
     let old = c.args.self.now in
     let apart = queue_apart task done before old.new_index.items old.next h.begun old.counts.items
     old.classes.items old.ready h.queue in
-    let none = subst (λ (o : Option (List Definition × ℕ)). TakesLeast old.ready c.pop_least.new.self o)
-    c.in-None.is c.in_ok-group.ensures apart in
+    let none = (rw c.in-None.is at c.in_ok-group.ensures) apart in
     inl (
       none.0,
       none.1,
@@ -60,7 +56,6 @@ returns-in-None c = λ task done before are h. (
         begun = h.begun;
         written = h.written;
         counts = h.counts;
-        queue = subst (λ (es : List (List Definition × ℕ)). IsQueue task done old.new_index.items
-            (IsReady task done old.counts.items) old.classes.items es) (none.0 ∙ sym none.1) h.queue;
+        queue = rw (none.1, ← none.0) h.queue;
       },
     ))
