@@ -32,6 +32,9 @@ pub bind_ok : {A B : Type 0} (r : Result A Fault) (f : A → Result B Fault) (y 
 bind_ok (Ok x) f y e = (x, refl, e)
 bind_ok (Err d) f y e = absurd cc
 
+pub not_both : {A : Type 0} (x : Result A Fault) (f : Fault) (y : A) → x ≡ Err f → x ≡ Ok y → ⊥
+not_both x f y e h = absurd cc
+
 -- which way a test went
 pub chosen : {A : Type 0} (b : Bool) (x y z : A) → cond b x y ≡ z → ((b ≡ true) × (x ≡ z))
     ⊎ ((b ≡ false) × (y ≡ z))

@@ -1,6 +1,6 @@
 -- Where reading stops: whatever comes behind the byte there, no text goes on, and with the bytes before it
 -- a text does. Only a count of two supertypes or more may be begun behind bytes that go on.
-use Rattle.std.proofs.Common.{◌≡◌, ℕ, ◌^◌, ◌<◌, ◌≤◌, ◌+◌, ◌-◌, Bool, true, nat_eq, eqb-true, List, [], ◌∷◌, ◌++◌, length, take, drop, Ok, Err, refl, sym, ap, subst, ◌∙◌, append_assoc, append-nil, length-append, take_at, drop_at, arith}
+use Rattle.std.proofs.Common.{◌≡◌, ℕ, ◌^◌, ◌<◌, ◌≤◌, ◌+◌, ◌-◌, Bool, true, nat_eq, eqb-true, List, [], ◌∷◌, ◌++◌, length, take, drop, Result, Ok, Err, refl, sym, ap, subst, ◌∙◌, append_assoc, append-nil, length-append, take_at, drop_at, arith}
 use Rattle.walrus_ty.specs.declared.ty.value.Heap.{Heap}
 use Rattle.walrus_ty.specs.declared.ty.value.Reference.{Reference}
 use Rattle.walrus_ty.specs.declared.records.CompAt.{CompAt}
@@ -45,15 +45,12 @@ pub map_err : {A B : Type 0} (r : Reading A) (g : A → B) (f : Fault) →
 map_err (Ok x) g f e = absurd cc
 map_err {A = A} {B = B} (Err d) g f e = let same : d ≡ f = cc in ap (λ k. failed {A = A} k) same
 
-err_same : {A B : Type 0} (d f : Fault) → failed {A = A} d ≡ failed f → failed {A = B} d ≡ failed f
-err_same {A = A} {B = B} d f e = let same : d ≡ f = cc in ap (λ k. failed {A = B} k) same
-
 -- which part failed
-pub step_err : {A B P : Type 0} (r : Reading A) (g : A × List ℕ → Reading B) (f : Fault) →
-    (r >>= g) ≡ failed f → (r ≡ failed f → P) →
-    ((x : A) (rest : List ℕ) → r ≡ Ok (x, rest) → g (x, rest) ≡ failed f → P) → P
+pub step_err : {A C P : Type 0} (r : Reading A) (g : A × List ℕ → Result C Fault) (f : Fault) →
+    (r >>= g) ≡ Err f → (r ≡ failed f → P) →
+    ((x : A) (rest : List ℕ) → r ≡ Ok (x, rest) → g (x, rest) ≡ Err f → P) → P
 step_err (Ok x) g f e h k = k x.0 x.1 refl e
-step_err {A = A} {B = B} (Err d) g f e h k = h (err_same {A = B} {B = A} d f e)
+step_err {A = A} (Err d) g f e h k = h (let same : d ≡ f = cc in ap (λ k. failed {A = A} k) same)
 
 -- ---- what goes on
 

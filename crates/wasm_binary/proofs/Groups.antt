@@ -63,6 +63,10 @@ supertype_sound bytes v rest e =
       parts = s.parts ∙ ap (λ (u : List ℕ). s.text ++ u) t.parts ∙ sym (append_assoc s.text t.text rest);
     }
 
+no_item : (text : List ℕ) (items : List ℕ) → items ≡ [] → AreItems IsU32 text items → text ≡ []
+no_item _ _ is none = refl
+no_item _ _ is (next text others item items h hs) = absurd cc
+
 -- what was read of one item is that item
 one_item : (text : List ℕ) (items : List ℕ) (k : ℕ) (rest : List ℕ) → items ≡ k ∷ [] →
     AreItems IsU32 text items → u32_at (text ++ rest) ≡ Ok (k, rest)
@@ -70,16 +74,8 @@ one_item _ _ k rest is none = absurd cc
 one_item _ _ k rest is (next text others item items h hs) =
     let first : item ≡ k = ap (elim [ [] ↦ k | x ∷ xs ↦ x ]) is in
     let last : items ≡ [] = ap (elim [ [] ↦ [] | x ∷ xs ↦ xs ]) is in
-    let empty : others ≡ [] = no_text others items last hs in
+    let empty : others ≡ [] = no_item others items last hs in
     rw (empty, append-nil text, ← first) (u32_complete text item rest h)
-  where
-    no_text : (others items : List ℕ) → items ≡ [] → AreItems IsU32 others items → others ≡ []
-    no_text _ _ is none = refl
-    no_text _ _ is (next text others item items h hs) = absurd cc
-
-no_item : (text : List ℕ) (items : List ℕ) → items ≡ [] → AreItems IsU32 text items → text ≡ []
-no_item _ _ is none = refl
-no_item _ _ is (next text others item items h hs) = absurd cc
 
 supertype_again : (count texts items : List ℕ) (v : Option ℕ) (rest : List ℕ) → items ≡ supertype_names v →
     IsU32 count (length items) → AreItems IsU32 texts items →

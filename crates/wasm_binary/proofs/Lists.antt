@@ -8,6 +8,18 @@ use Rattle.wasm_binary.specs.Steps.Reading.{◌>>=◌, Fails, u32_at, items_at, 
 use Rattle.wasm_binary.proofs.Basics.{Reading, Takes, IsSound, IsComplete, bind_ok, value_is, rest_is}
 use Rattle.wasm_binary.proofs.Integers.{u32_sound, u32_complete}
 
+pub one_item : {A : Type 0} (IsText : List ℕ → A → Type 0) (text : List ℕ) (x : A) → IsText text x →
+    AreItems IsText text (x ∷ [])
+one_item IsText text x h = subst (λ (u : List ℕ). AreItems IsText u (x ∷ [])) (append-nil text)
+    (next text [] x [] h none)
+
+pub joined : {A : Type 0} (IsText : List ℕ → A → Type 0) (a b : List ℕ) (xs ys : List A) → AreItems IsText a xs →
+    AreItems IsText b ys → AreItems IsText (a ++ b) (xs ++ ys)
+joined IsText _ b _ ys none k = k
+joined IsText _ b _ ys (next text others x xs h hs) k =
+    subst (λ (u : List ℕ). AreItems IsText u (x ∷ (xs ++ ys))) (sym (append_assoc text others b))
+    (next text (others ++ b) x (xs ++ ys) h (joined IsText others b xs ys hs k))
+
 -- what was read before, and what is still read
 abbrev pub with_prefix : {A : Type 0} → List A → Reading (List A) → Reading (List A)
 with_prefix prefix read = read >>= (λ x. Ok (prefix ++ x.0, x.1))

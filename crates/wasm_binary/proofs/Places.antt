@@ -9,7 +9,7 @@ use Rattle.wasm_binary.specs.declared.error.Fault.{Fault}
 use Rattle.wasm_binary.specs.Leb128.{IsU32}
 use Rattle.wasm_binary.specs.Grammar.{AreItems, none, next, IsValType, IsFieldType, sub_code, IsSubType, IsRecType}
 use Rattle.wasm_binary.specs.Places.{IsBeforeItem, counted, IsBeforeSubType, alone, in_group, IsBeforeCompType, plain, declared, IsBeforeValType, param, result, field, element, IsBeforeHeapType, referred}
-use Rattle.wasm_binary.specs.Faults.{IsUnsupportedComp, shared_comp, continuation_comp, describing_comp, described_comp, IsUnsupportedHeap, shared_heap, continuation_heap, no_continuation_heap, BeginsUnsupported, supertypes_begin, comp_begins, heap_begins, ref_begins, HasNothingUnsupported}
+use Rattle.wasm_binary.specs.Faults.{IsUnsupportedComp, shared_comp, IsUnsupportedHeap, shared_heap, BeginsUnsupported, supertypes_begin, comp_begins, heap_begins, ref_begins, HasNothingUnsupported}
 use Rattle.wasm_binary.specs.Steps.Reading.{items_at, vec_at, heap_type_of, index_at, heap_at, reference_at, val_at, storage_at, field_at, function_at, comp_at, supertype_at, declared_at, entry_at, group_at, types_at}
 use Rattle.wasm_binary.proofs.Basics.{Reading, IsComplete}
 use Rattle.wasm_binary.proofs.Integers.{u32_complete}
@@ -166,24 +166,20 @@ comp_fails _ _ others v = refl
 
 comp_begins_so : (what : NotHeld) (code : ℕ) → IsUnsupportedComp what code → BeginsComp code
 comp_begins_so _ _ shared_comp = record { no_group = refl; no_sub = refl; no_final_sub = refl }
-comp_begins_so _ _ continuation_comp = record { no_group = refl; no_sub = refl; no_final_sub = refl }
-comp_begins_so _ _ describing_comp = record { no_group = refl; no_sub = refl; no_final_sub = refl }
-comp_begins_so _ _ described_comp = record { no_group = refl; no_sub = refl; no_final_sub = refl }
+comp_begins_so _ _ v = record { no_group = refl; no_sub = refl; no_final_sub = refl }
 
 heap_fails : (what : NotHeld) (code : ℕ) (others : List ℕ) → IsUnsupportedHeap what code →
     heap_at (code ∷ others) ≡ failed (unsupported (code ∷ others) what)
 unfolding heap_at heap_type_of index_at
 heap_fails _ _ others shared_heap = refl
-heap_fails _ _ others continuation_heap = refl
-heap_fails _ _ others no_continuation_heap = refl
+heap_fails _ _ others v = refl
 
 val_fails : (what : NotHeld) (code : ℕ) (others : List ℕ) → IsUnsupportedHeap what code →
     (nat_eq code 0x78 ≡ false) × (nat_eq code 0x77 ≡ false)
     × (val_at (code ∷ others) ≡ failed (unsupported (code ∷ others) what))
 unfolding val_at reference_at heap_type_of
 val_fails _ _ others shared_heap = (refl, refl, refl)
-val_fails _ _ others continuation_heap = (refl, refl, refl)
-val_fails _ _ others no_continuation_heap = (refl, refl, refl)
+val_fails _ _ others v = (refl, refl, refl)
 
 unsupported_fails : (what : NotHeld) (prefix others : List ℕ) → BeginsUnsupported what prefix others →
     types_at (prefix ++ others) ≡ read_failed (unsupported others what)

@@ -18,12 +18,12 @@ use Rattle.walrus_ty.specs.declared.ty.value.AbstractHeapType.TheVariants as abs
 use Rattle.walrus_ty.specs.declared.ty.value.Heap.TheVariants as heap
 use Rattle.wasm_binary.specs.Grammar.{abstract_type, reference, abbreviated, sub_code, IsRecType, IsTypes}
 use Rattle.wasm_binary.specs.Faults.{IsNoText, BeginsNoText, GoesOn, IsFirstBad, IsBegun, begins_text, begins_several_supertypes, IsUnsupported, several_supertypes, comp_type, heap_type, ref_type, HasNothingUnsupported, IsSeenThere, error_offset, NamesUnsupported}
-use Rattle.wasm_binary.specs.Steps.Reading.{◌>>=◌, Fails, expected_error, vec_at, group_at, types_at, IsSeenAtOnce}
+use Rattle.wasm_binary.specs.Steps.Reading.{Fails, expected_error, vec_at, group_at, types_at, IsSeenAtOnce}
 use Rattle.wasm_binary.specs.Steps.Refusals.{with_reason, refusal, IsWithin, error_refusal}
-use Rattle.wasm_binary.proofs.Basics.{Reading, which, rest_is}
+use Rattle.wasm_binary.proofs.Basics.{not_both, which, rest_is}
 use Rattle.wasm_binary.proofs.Lists.{vec_sound, vec_complete}
 use Rattle.wasm_binary.proofs.Groups.{group_sound, group_complete, types_again}
-use Rattle.wasm_binary.proofs.Faults.{failed, DoesNotRead, stop, Tail, nothing, sub_of_several, before_comp, before_heap, before_ref, supertypes, tail_bytes, Fills, Begins, counts_several, comp_code, heap_code, ref_code, IsExpected, Names, names_said, by_integer, BeginAlike, some_alike, Stops, place_within, cut_there, stuck_there, inside, ends_with}
+use Rattle.wasm_binary.proofs.Faults.{DoesNotRead, stop, Tail, nothing, sub_of_several, before_comp, before_heap, before_ref, supertypes, tail_bytes, Fills, Begins, counts_several, comp_code, heap_code, ref_code, IsExpected, Names, names_said, by_integer, BeginAlike, some_alike, Stops, place_within, cut_there, stuck_there, step_err, inside, ends_with}
 use Rattle.wasm_binary.proofs.FirstFaults.{made_entry, empty_struct_type, empty_struct, is_sub_entry, groups_halt}
 use Rattle.wasm_binary.proofs.Places.{nothing_unsupported}
 
@@ -47,15 +47,6 @@ no_longer_text bytes more a b h k =
 
 -- ---- where reading stops
 
-whole_err : {P : Type 0} (r : Reading (List GroupAt)) (g : List GroupAt × List ℕ →
-    Result (List GroupAt) Fault) (f : Fault) → (r >>= g) ≡ Err f → (r ≡ failed f → P) →
-    ((x : List GroupAt) (rest : List ℕ) → r ≡ Ok (x, rest) → g (x, rest) ≡ Err f → P) → P
-whole_err (Ok x) g f e h k = k x.0 x.1 refl e
-whole_err (Err d) g f e h k = h (let same : d ≡ f = cc in ap (λ k. failed {A = List GroupAt} k) same)
-
-not_both : (x : Result (List GroupAt) Fault) (f : Fault) (gs : List GroupAt) → x ≡ Err f → x ≡ Ok gs → ⊥
-not_both x f gs e h = absurd cc
-
 types_fail : (bytes : List ℕ) → DoesNotRead (vec_at group_at) bytes → IsNoText bytes
 unfolding types_at
 types_fail bytes n gs h = not_both (types_at bytes) n.0 gs (rw n.1 refl) (types_again bytes gs h)
@@ -77,7 +68,7 @@ trailing text gs (b ∷ others) h some more k =
 types_stop : (bytes : List ℕ) (f : Fault) → types_at bytes ≡ Err f → Stops Names IsTypes IsNoText bytes f
 unfolding types_at
 types_stop bytes f e =
-    whole_err (vec_at group_at bytes) _ f e
+    step_err (vec_at group_at bytes) _ f e
     (λ h. inside IsTypes IsTypes [] (λ gs. gs) (λ t gs k. k) bytes bytes f refl
     (λ xs begins n. types_fail xs n) (groups_halt bytes f h))
     (λ gs rest h q. which (nat_eq (length rest) 0) (Ok gs) (expected_error rest expected.End) (Err f) q
@@ -151,14 +142,11 @@ unsupported prefix _ _ _ (counts_several is_final count others n h le) stuck goe
     (λ more. subst IsNoText (sym (append_assoc behind count more))
     (stuck (count ++ more) (by_integer count others more n h)))
 unsupported prefix _ _ _ (comp_code what code others h) stuck goes_on =
-    subst (λ (u : List ℕ). IsUnsupported what u (code ∷ others)) (sym (append-nil prefix))
-    (comp_type prefix others what code (λ text c k. goes_on text (c, k)) h)
+    rw (append-nil prefix) (comp_type prefix others what code (λ text c k. goes_on text (c, k)) h)
 unsupported prefix _ _ _ (heap_code what code others h) stuck goes_on =
-    subst (λ (u : List ℕ). IsUnsupported what u (code ∷ others)) (sym (append-nil prefix))
-    (heap_type prefix others what code (λ text c k. goes_on text (c, k)) h)
+    rw (append-nil prefix) (heap_type prefix others what code (λ text c k. goes_on text (c, k)) h)
 unsupported prefix _ _ _ (ref_code what code others h) stuck goes_on =
-    subst (λ (u : List ℕ). IsUnsupported what u (code ∷ others)) (sym (append-nil prefix))
-    (ref_type prefix others what code (λ text c k. goes_on text (c, k)) h)
+    rw (append-nil prefix) (ref_type prefix others what code (λ text c k. goes_on text (c, k)) h)
 
 -- ---- what an error says
 
@@ -196,9 +184,7 @@ refuses bytes front left n (reason.NotHeld w) parts is refuted begun stuck names
       stuck = λ seen lt. stuck_there IsNoText bytes front left n (reason.NotHeld w) parts is
           (seen_at_once (length bytes - n) (reason.NotHeld w) seen) stuck (omega (arith, lt));
       begun = subst IsBegun (sym cut.0) begun;
-      unsupported =
-          subst (λ (u : List ℕ). IsUnsupported w u (drop (length bytes - n) bytes)) (sym cut.0)
-          (subst (λ (u : List ℕ). IsUnsupported w front u) (sym cut.1) (names w refl));
+      unsupported = rw (cut.0, cut.1) (names w refl);
     }
 
 pub fault_refuses : (bytes : List ℕ) (f : Fault) → types_at bytes ≡ Err f →

@@ -1,7 +1,8 @@
 -- What is written is a text of it, where its parts are texts.
-use Rattle.std.proofs.Common.{◌≡◌, ℕ, suc, get_or, take-suc, drop-cons, take-append-drop, is_some, not, ◌+◌, ◌<◌, ◌^◌, Bool, true, false, List, [], ◌∷◌, ◌++◌, length, take, drop, Option, Some, None, refl, sym, ap, subst, ◌∙◌, append_assoc, append-nil, arith}
+use Rattle.std.proofs.Common.{◌≡◌, ℕ, get_or, take-append-drop, is_some, not, ◌+◌, ◌<◌, ◌^◌, Bool, true, false, List, [], ◌∷◌, ◌++◌, length, take, drop, Option, Some, None, refl, sym, ap, subst, ◌∙◌, append_assoc, append-nil, arith}
 use Rattle.std.specs.List.{flat_map}
-use Rattle.std.proofs.lemmas.List.Concat.{flat_map-cons}
+use Rattle.std.proofs.lemmas.Grind.{flat_map-append}
+use Rattle.std.proofs.lemmas.List.{take_more, drop_more}
 use Rattle.walrus_ty.specs.Definition.{supertype_names}
 use Rattle.walrus_ty.specs.declared.ty.value.Heap.{Heap}
 use Rattle.walrus_ty.specs.declared.ty.value.Heap.TheVariants as heap
@@ -13,34 +14,18 @@ use Rattle.walrus_ty.specs.declared.records.CompAt.TheVariants as comp
 use Rattle.walrus_ty.specs.declared.records.GroupAt.TheVariants as group
 use Rattle.walrus_ty.specs.declared.records.EntryAt.{EntryAt}
 use Rattle.wasm_binary.specs.Leb128.{last, IsU32}
-use Rattle.wasm_binary.specs.Grammar.{AreItems, none, next, IsVec, counted, IsHeapType, reference, IsRefType, written_out, abbreviated, IsValType, IsFieldType, IsCompType, struct, function, IsSubType, declared, plain, IsRecType, rec}
+use Rattle.wasm_binary.specs.Grammar.{AreItems, none, IsVec, counted, IsHeapType, reference, IsRefType, written_out, abbreviated, IsValType, IsFieldType, IsCompType, struct, function, IsSubType, declared, plain, IsRecType, rec}
 use Rattle.wasm_binary.specs.Steps.Writing.{u32_text, s33_text, vec_text, heap_text, nullable_text, reference_text, val_text, field_text, comp_text, supertype_text, entry_text, group_text}
 use Rattle.wasm_binary.specs.Faults.{HasNoText}
+use Rattle.wasm_binary.proofs.Lists.{one_item, joined}
 use Rattle.wasm_binary.proofs.NoTexts.{no_items}
 
 -- ---- lists
 
-one_item : {A : Type 0} (IsText : List ℕ → A → Type 0) (text : List ℕ) (x : A) → IsText text x →
-    AreItems IsText text (x ∷ [])
-one_item IsText text x h = subst (λ (u : List ℕ). AreItems IsText u (x ∷ [])) (append-nil text)
-    (next text [] x [] h none)
-
--- one more item at the end
-snoc : {A : Type 0} (IsText : List ℕ → A → Type 0) (texts : List ℕ) (items : List A) (text : List ℕ) (x : A) →
-    AreItems IsText texts items → IsText text x → AreItems IsText (texts ++ text) (items ++ x ∷ [])
-snoc IsText _ _ text x none h = one_item IsText text x h
-snoc IsText _ _ text x (next first others item items k ks) h =
-    subst (λ (u : List ℕ). AreItems IsText u (item ∷ (items ++ x ∷ [])))
-    (sym (append_assoc first others text))
-    (next first (others ++ text) item (items ++ x ∷ []) k (snoc IsText others items text x ks h))
-
 flat_snoc : {A : Type 0} (text : A → List ℕ) (xs : List A) (x : A) →
     flat_map text (xs ++ x ∷ []) ≡ flat_map text xs ++ text x
-flat_snoc text [] x = flat_map-cons text x [] ∙ append-nil (text x)
-flat_snoc text (y ∷ xs) x =
-    flat_map-cons text y (xs ++ x ∷ []) ∙ ap (λ (u : List ℕ). text y ++ u) (flat_snoc text xs x)
-    ∙ sym (append_assoc (text y) (flat_map text xs) (text x))
-    ∙ ap (λ (u : List ℕ). u ++ text x) (sym (flat_map-cons text y xs))
+flat_snoc text xs x =
+    flat_map-append text xs (x ∷ []) ∙ ap (λ (u : List ℕ). flat_map text xs ++ u) (append-nil (text x))
 
 pub more_written : {A : Type 0} (text : A → List ℕ) (old mid new : List ℕ) (xs ys : List A) (x : A) →
     ys ≡ xs ++ x ∷ [] → mid ≡ old ++ flat_map text xs → new ≡ mid ++ text x → new ≡ old ++ flat_map text ys
@@ -52,25 +37,21 @@ pub more_items : {A : Type 0} (IsText : List ℕ → A → Type 0) (text : A →
     ys ≡ xs ++ x ∷ [] → AreItems IsText (flat_map text xs) xs → IsText (text x) x →
     AreItems IsText (flat_map text ys) ys
 more_items IsText text xs ys x is h k =
-    rw (is, flat_snoc text xs x) (snoc IsText (flat_map text xs) xs (text x) x h k)
+    rw (is, flat_snoc text xs x) (joined IsText (flat_map text xs) (text x) xs (x ∷ []) h
+    (one_item IsText (text x) x k))
 
 -- the item at a place
 pub taken : {A : Type 0} (xs : List A) (i : ℕ) (x : A) → i < length xs → x ≡ get_or xs i x →
     take (i + 1) xs ≡ take i xs ++ x ∷ []
-taken xs i x lt is =
-    let next-is : i + 1 ≡ suc i = omega arith in
-    ap (λ k. take k xs) next-is ∙ take-suc xs i x lt ∙ ap (λ y. take i xs ++ y ∷ []) (sym is)
+taken xs i x lt is = take_more xs i x lt ∙ ap (λ y. take i xs ++ y ∷ []) (sym is)
 
 -- a list with an item that has no text
 pub no_list : {A : Type 0} (IsText : List ℕ → A → Type 0) (xs : List A) (i : ℕ) (x : A) → i < length xs →
     x ≡ get_or xs i x → HasNoText IsText x → HasNoText (AreItems IsText) xs
 no_list IsText xs i x lt is bad =
-    let from : drop i xs ≡ x ∷ drop (suc i) xs = drop-cons xs i x lt
-    ∙ ap (λ y. y ∷ drop (suc i) xs) (sym is) in
-    let whole : xs ≡ take i xs ++ x ∷ drop (suc i) xs = sym (take-append-drop i xs)
-    ∙ ap (λ ys. take i xs ++ ys) from in
-    subst (λ ys. HasNoText (AreItems IsText) ys) (sym whole)
-    (no_items IsText (take i xs) x (drop (suc i) xs) bad)
+    let from : drop i xs ≡ x ∷ drop (i + 1) xs = drop_more xs i x lt
+    ∙ ap (λ y. y ∷ drop (i + 1) xs) (sym is) in
+    rw (← take-append-drop i xs, from) (no_items IsText (take i xs) x (drop (i + 1) xs) bad)
 
 pub vec_is : {A : Type 0} (IsText : List ℕ → A → Type 0) (text : A → List ℕ) (items : List A) (count : ℕ) →
     count ≡ length items → IsU32 (u32_text count) count → AreItems IsText (flat_map text items) items →

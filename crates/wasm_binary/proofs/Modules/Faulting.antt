@@ -1,6 +1,6 @@
 -- Where the reading of a module stops, no module goes on with the byte there, and one does with the bytes
 -- before it.
-use Rattle.std.proofs.Common.{◌≡◌, ℕ, ◌^◌, ◌+◌, ◌-◌, ◌<◌, ◌≤◌, nat_eq, nat_lt, nat_le, false, eqb-true, eq-eqb, inl, inr, List, [], ◌∷◌, ◌++◌, length, take, Ok, Err, refl, sym, ap, subst, ◌∙◌, arith, append_assoc, append-nil, length-append}
+use Rattle.std.proofs.Common.{◌≡◌, ℕ, ◌^◌, ◌+◌, ◌-◌, ◌<◌, ◌≤◌, nat_eq, nat_lt, nat_le, false, eqb-true, eq-eqb, inl, inr, List, [], ◌∷◌, ◌++◌, length, take, Err, refl, sym, ap, subst, ◌∙◌, arith, append_assoc, append-nil, length-append}
 use Rattle.std.proofs.Math.ListN.{replicate}
 use Rattle.std.proofs.lemmas.Bool.{leb-false}
 use Rattle.std.proofs.lemmas.List.{append_cancel_left, map-append, length-replicate}
@@ -16,13 +16,14 @@ use Rattle.wasm_binary.specs.Leb128.IsInteger.{last as byte_last}
 use Rattle.wasm_binary.specs.Modules.{Section, IsSection, section, ids, AreInOrder, no_more, magic, version, header, IsModule, framed, IsNoModule, BeginsNoModule}
 use Rattle.wasm_binary.specs.Steps.Reading.{u32_at, IsSeenAtOnce}
 use Rattle.wasm_binary.specs.Steps.Framing.{HasPassed, literal_at, header_at, place_of, place_after, id_at, content_at, section_at}
-use Rattle.wasm_binary.proofs.Basics.{Reading, which}
+use Rattle.wasm_binary.proofs.Basics.{not_both, which}
 use Rattle.wasm_binary.proofs.Integers.{u32_sound}
 use Rattle.wasm_binary.proofs.Faults.{failed, DoesNotRead, left_is, step_err, Tail, tail_bytes, Fills, IsExpected, Expects, expects_said, expected_here, some_alike, Stops, HaltsBy, place_within, cut_there, stuck_there, within, inside, ends_with, at_end, at_first, pair_halts}
 use Rattle.wasm_binary.proofs.ListFaults.{u32_halts}
+use Rattle.wasm_binary.proofs.Lists.{one_item, joined}
 use Rattle.wasm_binary.proofs.Modules.Orders.{order_on}
 use Rattle.wasm_binary.proofs.Modules.Readings.{IsLiteral, literal_sound, literal_complete, IsHeader, both, header_complete, IsNextId, id_sound, id_complete, IsContent, IsNextSection, next_section}
-use Rattle.wasm_binary.proofs.Modules.Passed.{AreBehind, begins, joined, one_text}
+use Rattle.wasm_binary.proofs.Modules.Passed.{AreBehind, begins}
 
 -- ---- the header
 
@@ -135,9 +136,6 @@ faulty bytes f refuted s =
       begun = subst (GoesOn IsModule) (sym (cut_there bytes front s.left f.left s.parts s.place).0) begun;
     }
 
-not_both : {A : Type 0} (x : Reading A) (f : Fault) (y : A × List ℕ) → x ≡ failed f → x ≡ Ok y → ⊥
-not_both x f y e h = absurd cc
-
 abbrev pub ModuleParts : List ℕ → List Section → Type 0
 ModuleParts bytes sections = (texts : List ℕ) × (bytes ≡ header ++ texts) × AreBehind 0 texts sections
 
@@ -180,7 +178,7 @@ with_section bytes rest last p text s h =
     (order_on last s.id [] h.1 (no_more (place_after last s.id)))) in
     subst (λ (u : List ℕ). IsModule u (p.before ++ s ∷ [])) (sym (append_assoc header p.texts text))
     (framed (p.texts ++ text) (p.before ++ s ∷ [])
-    (joined p.texts text p.before (s ∷ []) p.are (one_text text s h.0)) order)
+    (joined IsSection p.texts text p.before (s ∷ []) p.are (one_item IsSection text s h.0)) order)
 
 some_first : (rest : List ℕ) → false ≡ nat_eq (length rest) 0 →
     (b : ℕ) × (others : List ℕ) × (rest ≡ b ∷ others)

@@ -8,7 +8,8 @@ use Rattle.wasm_binary.specs.Leb128.{IsU32}
 use Rattle.wasm_binary.specs.Grammar.{AreItems, none}
 use Rattle.wasm_binary.specs.Modules.{Section, section, ids, IsSection, sized, AreInOrder, no_more, header, IsModule, framed, around, IsOther, IsTypeSectionAt, HasNoTypeSection}
 use Rattle.wasm_binary.specs.Steps.Framing.{HasPassed, place_after, header_at, section_at}
-use Rattle.wasm_binary.proofs.Modules.Passed.{joined, one_text, none_passed, one_more}
+use Rattle.wasm_binary.proofs.Lists.{one_item, joined}
+use Rattle.wasm_binary.proofs.Modules.Passed.{none_passed, one_more}
 use Rattle.wasm_binary.proofs.Modules.Readings.{section_sound}
 
 -- ---- the type section among those that were read
@@ -44,7 +45,7 @@ found_on texts text before s start stop h f =
       first = f.first;
       second = f.second ++ s ∷ [];
       prefix_is = f.prefix_is;
-      back_is = joined f.back text f.second (s ∷ []) f.back_is (one_text text s h);
+      back_is = joined IsSection f.back text f.second (s ∷ []) f.back_is (one_item IsSection text s h);
       sized = f.sized;
       parts =
           ap (λ (u : List ℕ). u ++ text) f.parts ∙ append_assoc (f.prefix ++ 1 ∷ f.size) (f.content ++ f.back)

@@ -1,14 +1,14 @@
 -- What is known of a module after some of its sections.
-use Rattle.std.proofs.Common.{◌≡◌, ℕ, ◌<◌, ◌⊎◌, inl, inr, List, [], ◌∷◌, ◌++◌, length, Ok, Err, refl, sym, ap, subst, ◌∙◌, arith, append_assoc, append-nil, length-append}
+use Rattle.std.proofs.Common.{◌≡◌, ℕ, ◌<◌, ◌⊎◌, inl, inr, List, [], ◌∷◌, ◌++◌, length, Ok, Err, refl, sym, ap, subst, ◌∙◌, arith, append_assoc, length-append}
 use Rattle.std.proofs.lemmas.List.{map-append}
 use Rattle.wasm_binary.specs.declared.error.Expected.TheVariants as expected
 use Rattle.wasm_binary.specs.declared.error.Reason.TheVariants as reason
-use Rattle.wasm_binary.specs.declared.error.Fault.{Fault}
 use Rattle.wasm_binary.specs.Grammar.{AreItems, none, next}
 use Rattle.wasm_binary.specs.Modules.{Section, section, ids, IsSection, sized, AreInOrder, header}
 use Rattle.wasm_binary.specs.Steps.Framing.{HasPassed, place_after, header_at, id_at, section_at}
-use Rattle.wasm_binary.proofs.Basics.{Reading, Takes, value_is, rest_is}
+use Rattle.wasm_binary.proofs.Basics.{Takes, not_both, value_is, rest_is}
 use Rattle.wasm_binary.proofs.Faults.{stop}
+use Rattle.wasm_binary.proofs.Lists.{one_item, joined}
 use Rattle.wasm_binary.proofs.Modules.Orders.{order_on, order_parts}
 use Rattle.wasm_binary.proofs.Modules.Readings.{IsNextSection, header_sound, section_sound, section_complete}
 
@@ -39,21 +39,6 @@ begins last _ _ (next text others s sections h hs) o =
       behind = (hs, parts.1);
     })
 
-pub one_text : (text : List ℕ) (s : Section) → IsSection text s → AreItems IsSection text (s ∷ [])
-one_text text s h = subst (λ (u : List ℕ). AreItems IsSection u (s ∷ [])) (append-nil text)
-    (next text [] s [] h none)
-
-pub joined : (a b : List ℕ) (xs ys : List Section) → AreItems IsSection a xs → AreItems IsSection b ys →
-    AreItems IsSection (a ++ b) (xs ++ ys)
-joined _ b _ ys none k = k
-joined _ b _ ys (next text others s sections h hs) k =
-    subst (λ (u : List ℕ). AreItems IsSection u (s ∷ (sections ++ ys))) (sym (append_assoc text others b))
-    (next text (others ++ b) s (sections ++ ys) h (joined others b sections ys hs k))
-
-no_reading : (f : Fault) (s : Section) (rest : List ℕ) (x : Reading Section) → x ≡ Err f → x ≡ Ok (s, rest) →
-    ⊥
-no_reading f s rest x e h = absurd cc
-
 nothing : (last : ℕ) → section_at last [] ≡ Err (stop [] (reason.Expected expected.SectionId))
 unfolding section_at id_at
 nothing last = refl
@@ -61,7 +46,7 @@ nothing last = refl
 pub nothing_reads : (last : ℕ) (bytes : List ℕ) (s : Section) (rest : List ℕ) → bytes ≡ [] →
     section_at last bytes ≡ Ok (s, rest) → ⊥
 nothing_reads last bytes s rest e h =
-    no_reading (stop [] (reason.Expected expected.SectionId)) s rest (section_at last []) (nothing last)
+    not_both (section_at last []) (stop [] (reason.Expected expected.SectionId)) (s, rest) (nothing last)
     (ap (section_at last) (sym e) ∙ h)
 
 -- the sections after one that is read
@@ -105,7 +90,7 @@ one_more bytes rest after last s p t =
       before = p.before ++ s ∷ [];
       whole = p.whole ∙ ap (λ (u : List ℕ). header ++ u) (ap (λ (u : List ℕ). p.texts ++ u) t.parts
           ∙ sym (append_assoc p.texts t.text after));
-      are = joined p.texts t.text p.before (s ∷ []) p.are (one_text t.text s t.is_text.0);
+      are = joined IsSection p.texts t.text p.before (s ∷ []) p.are (one_item IsSection t.text s t.is_text.0);
       joins = λ ks o.
           subst (λ (u : List ℕ). AreInOrder 0 u) (sym (ap (λ (u : List ℕ). u ++ ks) ids-are
           ∙ append_assoc (ids p.before) (s.id ∷ []) ks))

@@ -7,7 +7,8 @@ use Rattle.wasm_binary.specs.Steps.Framing.{place_after}
 use Rattle.wasm_binary.proofs.Basics.{value_is, rest_is}
 use Rattle.wasm_binary.proofs.Modules.Orders.{order_parts}
 use Rattle.wasm_binary.proofs.Modules.Readings.{section_complete}
-use Rattle.wasm_binary.proofs.Modules.Passed.{AreBehind, begins, nothing_reads, joined}
+use Rattle.wasm_binary.proofs.Lists.{joined}
+use Rattle.wasm_binary.proofs.Modules.Passed.{AreBehind, begins, nothing_reads}
 use Rattle.wasm_binary.proofs.Modules.Faulting.{module_parts}
 
 same_sections : (last : ℕ) (bytes : List ℕ) (a b : List Section) → AreItems IsSection bytes a →
@@ -47,7 +48,7 @@ types_among : (prefix size content back : List ℕ) → AreAroundTypes prefix ba
     (before ++ section 1 content ∷ after)
 types_among _ size content _ (around texts back before after h k o) t =
     let text : List ℕ = 1 ∷ (size ++ content) in
-    let all = joined texts (text ++ back) before (section 1 content ∷ after) h
+    let all = joined IsSection texts (text ++ back) before (section 1 content ∷ after) h
     (next text back (section 1 content) after t k) in
     let order = subst (λ (u : List ℕ). AreInOrder 0 u)
     (sym (map-append (λ (s : Section). s.id) before (section 1 content ∷ after))) o in

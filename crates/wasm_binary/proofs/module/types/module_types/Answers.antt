@@ -34,14 +34,16 @@ shift_offset-requires c =
     place_fits c.args.bytes.now c.in-Some.range.start c.in-Some.range.end c.in-Err.error there (search rules)
     c.in-Err.ensures.place
 
-pub returns-in-Err-clause-refused : goal.returns-in-Err-clause-refused
-returns-in-Err-clause-refused c =
+pub returns-in-Err-clause-reason : goal.returns-in-Err-clause-reason
+returns-in-Err-clause-reason c =
     let there : IsTypeSectionAt c.args.bytes.now c.in-Some.range.start c.in-Some.range.end =
     rw c.in-Some.is at c.in_ok-range.ensures.found in
     let says = c.in-Err.ensures in
-    rw c.shift_offset.ensures (refused_if c.args.bytes.now _
-    (content_bad c.args.bytes.now c.in-Some.range.start c.in-Some.range.end c.in-Err.error there
-    says.refused says.place says.stuck says.begun says.unsupported))
+    rw c.shift_offset.ensures (content_bad c.args.bytes.now c.in-Some.range.start c.in-Some.range.end
+    c.in-Err.error there says.refused says.place says.stuck says.begun says.unsupported)
+
+pub returns-in-Err-clause-refused : goal.returns-in-Err-clause-refused
+returns-in-Err-clause-refused c = refused_if c.args.bytes.now _ (returns-in-Err-clause-reason c)
 
 pub returns-in-Err-clause-place : goal.returns-in-Err-clause-place
 returns-in-Err-clause-place c =
@@ -53,18 +55,4 @@ returns-in-Err-clause-place c =
     says.refused says.place says.stuck says.begun says.unsupported))
 
 pub returns-in-Err-clause-stuck : goal.returns-in-Err-clause-stuck
-returns-in-Err-clause-stuck c =
-    let there : IsTypeSectionAt c.args.bytes.now c.in-Some.range.start c.in-Some.range.end =
-    rw c.in-Some.is at c.in_ok-range.ensures.found in
-    let says = c.in-Err.ensures in
-    rw c.shift_offset.ensures (stuck_if c.args.bytes.now _
-    (content_bad c.args.bytes.now c.in-Some.range.start c.in-Some.range.end c.in-Err.error there
-    says.refused says.place says.stuck says.begun says.unsupported))
-
-pub returns-in-Err-clause-reason : goal.returns-in-Err-clause-reason
-returns-in-Err-clause-reason c =
-    let there : IsTypeSectionAt c.args.bytes.now c.in-Some.range.start c.in-Some.range.end =
-    rw c.in-Some.is at c.in_ok-range.ensures.found in
-    let says = c.in-Err.ensures in
-    rw c.shift_offset.ensures (content_bad c.args.bytes.now c.in-Some.range.start c.in-Some.range.end
-    c.in-Err.error there says.refused says.place says.stuck says.begun says.unsupported)
+returns-in-Err-clause-stuck c = stuck_if c.args.bytes.now _ (returns-in-Err-clause-reason c)
