@@ -13,8 +13,8 @@ pub one_item : {A : Type 0} (IsText : List ℕ → A → Type 0) (text : List �
 one_item IsText text x h = subst (λ (u : List ℕ). AreItems IsText u (x ∷ [])) (append-nil text)
     (next text [] x [] h none)
 
-pub joined : {A : Type 0} (IsText : List ℕ → A → Type 0) (a b : List ℕ) (xs ys : List A) → AreItems IsText a xs →
-    AreItems IsText b ys → AreItems IsText (a ++ b) (xs ++ ys)
+pub joined : {A : Type 0} (IsText : List ℕ → A → Type 0) (a b : List ℕ) (xs ys : List A) →
+    AreItems IsText a xs → AreItems IsText b ys → AreItems IsText (a ++ b) (xs ++ ys)
 joined IsText _ b _ ys none k = k
 joined IsText _ b _ ys (next text others x xs h hs) k =
     subst (λ (u : List ℕ). AreItems IsText u (x ∷ (xs ++ ys))) (sym (append_assoc text others b))

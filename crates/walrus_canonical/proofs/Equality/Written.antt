@@ -283,8 +283,8 @@ module _ (s t : IndexSpace) (inner inner' : ℕ → ℕ) (Outer Outer' : ℕ →
 
 -- a group with a member for each member of another has no fewer definitions
 no_fewer :
-    (s t : IndexSpace) (inner inner' : ℕ → ℕ) (Outer Outer' : ℕ → ℕ → Type 0) (i j : ℕ) (ds es : List Definition) →
-    IsWrittenBy s inner Outer i ds → IsWrittenBy t inner' Outer' j es →
+    (s t : IndexSpace) (inner inner' : ℕ → ℕ) (Outer Outer' : ℕ → ℕ → Type 0) (i j : ℕ)
+    (ds es : List Definition) → IsWrittenBy s inner Outer i ds → IsWrittenBy t inner' Outer' j es →
     ((k place : ℕ) → IsMember s i place k → (l : ℕ) × IsMember t j place l) → length ds ≤ length es
 no_fewer s t inner inner' Outer Outer' i j ds es v w places = elim (cases_lt (length es) (length ds)) [
   | inr over ↦ over

@@ -208,7 +208,8 @@ module _ (section : Section) (roots : List ℕ) (below : NamesBelowEnds (index_s
     names_marked : (i k : ℕ) → start ≤ i → i < stop → Names (S.definition i) k → IsMarked c k
     names_marked i k over low n =
         let z = here i over low in
-        let cont = flat_in names_of ds (S.definition i) k (contained_from ds (S.definition i) z.t z.definition) n in
+        let cont = flat_in names_of ds (S.definition i) k
+        (contained_from ds (S.definition i) z.t z.definition) n in
         names.marked k (within_b k (named_low k (user_of k cont))) cont
 
     pub whole_group : AreMarkedFrom section roots start c

@@ -77,8 +77,8 @@ ranks_stay n r f same xs =
     let us = after_first r zs in
     let after = after_stays r f same in
     let first = first_stays r f same in
-    rw (after xs, after ys, after zs, after us, first xs, first ys, first zs, first us, first (after_first r us))
-    refl
+    let vs = after_first r us in
+    rw (after xs, after ys, after zs, after us, first xs, first ys, first zs, first us, first vs) refl
 
 items_renamed :
     (m : ℕ → ℕ) (ps rs : List (Val ℕ)) →

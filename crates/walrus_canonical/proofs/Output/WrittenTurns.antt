@@ -52,5 +52,5 @@ last_turn task waits turn w are all h =
       | inl full ↦ none_ready task waits h.done h.before w.new_index.items w.next r.begun w.counts.items
           w.classes.items w.ready r.queue (omega (arith, all, full))
     ] in
-    rw r.written (all_written task waits are h.done h.before w.new_index.items w.next r.begun w.counts.items r.counts
-    w.classes.items (rw none at r.queue))
+    rw r.written (all_written task waits are h.done h.before w.new_index.items w.next r.begun w.counts.items
+    r.counts w.classes.items (rw none at r.queue))

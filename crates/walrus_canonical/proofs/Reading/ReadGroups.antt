@@ -250,8 +250,8 @@ module _ (section : Section) (roots : List ℕ) (well : IsWellNamed section) (ma
       pub read_new :
           IsReadTo S marks (start + length ds) (reading grown (slot_count + length ds) firsts_now after)
       read_new = read_group section well.below_ends marks start ds b slots slot_count firsts known h whole
-          slot_count new_decides (slot_count + length ds) (length firsts) firsts_now after (omega arith) first_is
-          (omega arith) (omega (arith, h.few)) (λ c f e. slice_get-left firsts (slot_count ∷ []) c f e)
+          slot_count new_decides (slot_count + length ds) (length firsts) firsts_now after (omega arith)
+          first_is (omega arith) (omega (arith, h.few)) (λ c f e. slice_get-left firsts (slot_count ∷ []) c f e)
           keys_now (λ es c at. elim (at_other known after entries es (length firsts) c key at) [
             | inr old ↦ inl old
             | inl new ↦ inr (

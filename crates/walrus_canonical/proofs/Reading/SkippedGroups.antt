@@ -133,7 +133,8 @@ skipped_ends section marks start from count end g well a f n e slots slots' slot
     ap (λ (xs : List ℕ). length xs) is ∙ omega (arith, both, at) in
     let stop : length slots' ≡ end = omega (arith, long, added, n, ends) in
     let r = read_skipped section well marks start (length slots') g a slots (range_with_len 0 count)
-    slot_count firsts known (rw at h) long (λ i over low. none i (omega (arith, f, over)) (omega (arith, stop, low))) in (
+    slot_count firsts known (rw at h) long
+    (λ i over low. none i (omega (arith, f, over)) (omega (arith, stop, low))) in (
       subst (λ (xs : List ℕ). IsReadTo (index_space section) marks (length slots')
           (reading xs slot_count firsts known)) (sym is) r,
       omega (arith, long, added, n, at),

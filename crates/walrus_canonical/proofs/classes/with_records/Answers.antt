@@ -7,7 +7,8 @@ loop-entries-init c = record {
   can_next = tt;
   is_finite = tt;
   firsts = refl;
-  lack = rw c.into_iter-entries-iterator.ensures.into_iter_gives.0 (all_lack c.args.known.entries c.args.classes.items
+  lack = rw c.into_iter-entries-iterator.ensures.into_iter_gives.0
+      (all_lack c.args.known.entries c.args.classes.items
       c.into_iter-entries-iterator.ensures.into_iter_gives.4);
 }
 

@@ -9,6 +9,6 @@ pub loop-at-preserved : goal.loop-at-preserved
 loop-at-preserved c =
     let item = c.index_mut.result.now in
     ap (slice_set c.loop-at.fields c.loop-at.at) c.rename_field.ensures
-    ∙ map_over_more (rename_field (index_map c.args.renaming.now)) c.args.fields.now c.loop-at.fields c.loop-at.at
-    item (omega arith) c.loop-at.invariant
+    ∙ map_over_more (rename_field (index_map c.args.renaming.now)) c.args.fields.now c.loop-at.fields
+    c.loop-at.at item (omega arith) c.loop-at.invariant
     (sym (get_or_from_slice_get c.loop-at.fields c.loop-at.at item item c.index_mut.ensures.value))
