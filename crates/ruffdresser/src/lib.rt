@@ -216,10 +216,9 @@ pub use wasm_binary::{
 };
 pub use wasm_module::{
     DescriptionKind, RenameError, ScanError, Section, SectionIter, Widths, body_types,
-    check_module, description_kind, expression_types, find_description, find_outdated,
-    find_unknown_custom, find_unread_names, laws as module_laws, named_types, rename_body,
-    rename_custom_section, rename_expression, rename_module, rename_section, section_types,
-    sections, strip_descriptions,
+    check_module, description_kind, expression_types, find_outdated, find_unknown_custom,
+    find_unread_names, laws as module_laws, named_types, rename_body, rename_custom_section,
+    rename_expression, rename_module, rename_section, section_types, sections, strip_descriptions,
 };
 pub use wasm_normalise::{
     Descriptions, Hazard, NormaliseModuleError, NormaliseOptions, StrictError, UnusedTypes,

@@ -6,7 +6,6 @@ use Rattle.std.proofs.lemmas.Slice.Eq.{starts_is}
 use Rattle.std.proofs.lemmas.Bool.Decides.{Decides-eqb}
 use Rattle.wasm_binary.specs.Modules.{Section, section, IsSection}
 use Rattle.wasm_module.specs.Customs.{IsDescriptionName, external_debug_info, linking, signature, source_mapping_url, debug, code_metadata, relocations, HasName, IsDescription, IsStrippedSection, left_out, kept, AreStripped, none, next}
-use Rattle.wasm_module.specs.Sections.{PlacedSection}
 use Rattle.wasm_module.specs.Steps.Customs.{BeginsWith}
 use Rattle.wasm_module.specs.Steps.NameSections.{TakesSized, BeginsUnsized}
 use Rattle.wasm_module.specs.Steps.Renaming.{Appends}
@@ -96,7 +95,3 @@ pub section_kept : (text out new_out : List ℕ) (s : Section) → IsSection tex
     new_out ≡ out ++ text → Appends (IsStrippedSection text) out new_out
 section_kept text out new_out s h fails e =
     record { text = text; is_text = kept text s h fails; parts = e }
-
--- a section that is none of them
-abbrev pub IsNoDescription : PlacedSection → Type 0
-IsNoDescription s = IsDescription s.framed → ⊥

@@ -87,11 +87,3 @@ pub record HasFirstAt (Is : Section → Type 0) (bytes : List ℕ) (offset : ℕ
   pub none_before : All (λ s. Is s.framed → ⊥) before
   pub is : Is first.framed
   pub place : first.offset ≡ offset
-
--- no section of the module describes other bytes
-abbrev pub HasNoDescription : List ℕ → Type 0
-HasNoDescription = HasNone IsDescription
-
--- the first section of the module that describes other bytes begins at this place
-abbrev pub HasDescriptionAt : List ℕ → ℕ → Type 0
-HasDescriptionAt = HasFirstAt IsDescription

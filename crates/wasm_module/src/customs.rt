@@ -2,10 +2,10 @@
 //!
 //! WebAssembly core specification, "Binary Format", "Custom Section". The names of these sections
 //! are conventions of tools.
-ghost use Rattle.std.specs.Prelude.{◌≡◌, ◌++◌, List, false, length, drop, IsTrue, IfOk, IfErr, IfNone, IfSome, OnOk};
+ghost use Rattle.std.specs.Prelude.{◌≡◌, ◌++◌, List, false, length, drop, IsTrue, IfOk, IfErr, IfSome, OnOk};
 ghost use Rattle.wasm_binary.specs.Faults.{error_offset};
 ghost use Rattle.wasm_binary.specs.Modules.{section, IsNoModule};
-ghost use Rattle.wasm_module.specs.Customs.{IsDescription, IsDescriptionName, IsStrippedSection, IsStripped, HasSections, HasNoDescription, HasDescriptionAt};
+ghost use Rattle.wasm_module.specs.Customs.{IsDescription, IsDescriptionName, IsStrippedSection, IsStripped, HasSections};
 ghost use Rattle.wasm_module.specs.Steps.Customs.{BeginsWith};
 ghost use Rattle.wasm_module.specs.Steps.RenamedModules.{IsWhole};
 ghost use Rattle.wasm_module.specs.Steps.Renaming.{Appends};
@@ -76,32 +76,6 @@ fn copy_other(section: Section<'_>, text: &[u8], out: &mut Vec<u8>) -> Result<()
     }
     out.extend_from_slice(text)?;
     Ok(())
-}
-
-/// Returns the place of the first custom section that describes other bytes of its module: that of
-/// its id, counted from 0 in bytes. Which sections these are is said at [`strip_descriptions`].
-///
-/// # Errors
-///
-/// [`DecodeError::Malformed`] says at which byte the bytes stop being a module. It is the error of
-/// [`sections`]. No memory is taken.
-pub fn find_description(bytes: &[u8]) -> Result<Option<usize>, DecodeError>
-    // The bytes are a module, whose first such section begins there.
-    ensures found { IfOk result (λ found. IfSome found (λ offset.
-        HasDescriptionAt bytes.now offset)) }
-    // Or they are a module without such sections.
-    ensures none { IfOk result (λ found. IfNone found (HasNoDescription bytes.now)) }
-    // Bytes that are refused are no module.
-    ensures refused { IfErr result (λ e. IsNoModule bytes.now) }
-{
-    let found = sections(bytes)?;
-    let mut left = found;
-    while let Some(section) = left.next() {
-        if is_description(section.id, section.content) {
-            return Ok(Some(section.offset));
-        }
-    }
-    Ok(None)
 }
 
 /// Whether a section describes other bytes of its module.

@@ -11,7 +11,7 @@
 //! - [`check_module`] says whether the contents of a module's sections can be read, and otherwise
 //!   where not.
 //! - [`strip_descriptions`] returns a module without the custom sections that describe its other
-//!   bytes, such as debug data, and [`find_description`] the place of the first one.
+//!   bytes, such as debug data.
 //! - [`find_outdated`] returns the place of the first of these sections that no longer fits where
 //!   the module is written again. [`description_kind`] says what a section describes.
 //! - [`find_unknown_custom`] returns the place of the first custom section of an unknown kind, and
@@ -49,7 +49,7 @@ mod unknown_customs;
 mod unread_names;
 
 pub use bodies::{body_types, expression_types};
-pub use customs::{find_description, strip_descriptions};
+pub use customs::strip_descriptions;
 pub use description_kinds::{DescriptionKind, description_kind};
 pub use framing::{Section, SectionIter, sections};
 pub use name_section::rename_custom_section;

@@ -4,7 +4,7 @@ use crate::assertions::assert_equal;
 use std::alloc::{AllocError, Global};
 use std::test::*;
 use wasm_binary::{DecodeError, Expected};
-use wasm_module::{find_description, strip_descriptions};
+use wasm_module::strip_descriptions;
 
 pub const HEADER: [u8; 8] = [0, 0x61, 0x73, 0x6D, 1, 0, 0, 0];
 
@@ -24,24 +24,18 @@ fn becomes(alloc: Global, bytes: &[u8], expected: &[u8]) -> bool {
     }
 }
 
-/// Whether the section is found and left out.
+/// Whether the section is left out.
 fn is_left_out(alloc: Global, section: &[u8]) -> bool {
     match module_of(alloc, section) {
-        Ok(bytes) => {
-            find_description(bytes.as_slice()) == Ok(Some(8))
-                && becomes(alloc, bytes.as_slice(), &HEADER)
-        }
+        Ok(bytes) => becomes(alloc, bytes.as_slice(), &HEADER),
         Err(_) => false,
     }
 }
 
-/// Whether the section is not found, and kept.
+/// Whether the section is kept.
 fn is_kept(alloc: Global, section: &[u8]) -> bool {
     match module_of(alloc, section) {
-        Ok(bytes) => {
-            find_description(bytes.as_slice()) == Ok(None)
-                && becomes(alloc, bytes.as_slice(), bytes.as_slice())
-        }
+        Ok(bytes) => becomes(alloc, bytes.as_slice(), bytes.as_slice()),
         Err(_) => false,
     }
 }
@@ -97,18 +91,7 @@ fn all_else_stays_byte_for_byte(rt: HostRuntime) {
     ];
     assert!(rt; becomes(rt.alloc(), &bytes, &expected));
     assert!(rt; becomes(rt.alloc(), &expected, &expected));
-    assert!(rt; find_description(&bytes) == Ok(Some(8)));
-    assert!(rt; find_description(&bytes[..8]) == Ok(None));
-}
-
-#[test]
-fn the_first_is_found_behind_others(rt: HostRuntime) {
-    // types, `x`, `linking` twice
-    let bytes = [
-        0, 0x61, 0x73, 0x6D, 1, 0, 0, 0, 1, 4, 1, 0x60, 0, 0, 0, 2, 1, 0x78, 0, 8, 7, 0x6C, 0x69,
-        0x6E, 0x6B, 0x69, 0x6E, 0x67, 0, 8, 7, 0x6C, 0x69, 0x6E, 0x6B, 0x69, 0x6E, 0x67,
-    ];
-    assert!(rt; find_description(&bytes) == Ok(Some(18)));
+    assert!(rt; becomes(rt.alloc(), &bytes[..8], &bytes[..8]));
 }
 
 #[test]
@@ -118,7 +101,6 @@ fn a_section_of_another_id_is_kept(rt: HostRuntime) {
         0, 0x61, 0x73, 0x6D, 1, 0, 0, 0, 11, 8, 7, 0x6C, 0x69, 0x6E, 0x6B, 0x69, 0x6E, 0x67,
     ];
     assert!(rt; becomes(rt.alloc(), &bytes, &bytes));
-    assert!(rt; find_description(&bytes) == Ok(None));
 }
 
 #[test]
@@ -129,7 +111,6 @@ fn a_section_without_a_whole_name_is_kept(rt: HostRuntime) {
         0x6E,
     ];
     assert!(rt; becomes(rt.alloc(), &bytes, &bytes));
-    assert!(rt; find_description(&bytes) == Ok(None));
 }
 
 #[test]
@@ -140,7 +121,6 @@ fn what_is_no_module_is_refused(rt: HostRuntime) {
     ];
     let (offset, expected) = (21, Expected::Content);
     let error = Some(DecodeError::Malformed { offset, expected });
-    assert_equal(&rt, find_description(&bytes).err(), error);
     let stripped = strip_descriptions(rt.alloc(), &bytes);
     assert_equal(&rt, stripped.err(), error);
 }
