@@ -4,7 +4,8 @@ use Rattle.std.specs.Prelude.{codes, nat_eq, cond, IfNone}
 use Rattle.wasm_binary.specs.Modules.{section}
 use Rattle.wasm_module.specs.declared.description_kinds.DescriptionKind.{DescriptionKind}
 use Rattle.wasm_module.specs.declared.description_kinds.DescriptionKind.TheVariants as kind
-use Rattle.wasm_module.specs.Outdated.{IsNameOf, external_debug_info, debug, code_metadata, source_mapping_url, linking, relocations, signature, IsDescriptionOf}
+use Rattle.wasm_module.specs.Customs.{IsNameOf, external_debug_info, debug, code_metadata, source_mapping_url, linking, relocations, signature, IsDescriptionOf, IsDescription}
+use Rattle.wasm_module.specs.NameSections.{name_bytes}
 use Rattle.wasm_module.specs.Steps.Customs.{BeginsWith}
 use Rattle.wasm_module.specs.Steps.NameSections.{TakesSized, BeginsUnsized}
 use Rattle.wasm_module.proofs.Descriptions.{name_taken}
@@ -40,14 +41,15 @@ no_name _ a b c d e f g _ linking = e refl
 no_name _ a b c d e f g _ (relocations rest) = f (rest, refl)
 no_name _ a b c d e f g _ signature = g refl
 
--- the kind of a name, by its first byte or its second
-abbrev kind_at : List ℕ → DescriptionKind
+-- the kind of a name, by its first byte or its second; the name `name` has none
+abbrev kind_at : List ℕ → Option DescriptionKind
 kind_at (x ∷ y ∷ name) =
-    cond (nat_eq x 0x73) (cond (nat_eq y 0x69) kind.AllBytes kind.FileOffsets)
-    (cond (nat_eq x 0x6C) kind.CodeAndData (cond (nat_eq x 0x72) kind.CodeAndData kind.CodeOffsets))
-kind_at _ = kind.CodeOffsets
+    cond (nat_eq x 0x73) (Some (cond (nat_eq y 0x69) kind.AllBytes kind.FileOffsets))
+    (cond (nat_eq x 0x6C) (Some kind.CodeAndData) (cond (nat_eq x 0x72) (Some kind.CodeAndData)
+    (cond (nat_eq x 0x6E) None (Some kind.CodeOffsets))))
+kind_at _ = None
 
-kind_is : (k : DescriptionKind) (name : List ℕ) → IsNameOf k name → kind_at name ≡ k
+kind_is : (k : DescriptionKind) (name : List ℕ) → IsNameOf k name → kind_at name ≡ Some k
 kind_is _ _ external_debug_info = refl
 kind_is _ _ (debug rest) = refl
 kind_is _ _ (code_metadata rest) = refl
@@ -58,22 +60,35 @@ kind_is _ _ signature = refl
 
 -- ---- sections
 
-pub one_kind : (id : ℕ) (content : List ℕ) (j k : DescriptionKind) → IsDescriptionOf j (section id content) →
-    IsDescriptionOf k (section id content) → j ≡ k
-one_kind id content j k d f =
-    let same = same_content content d.name d.has_name.follows f.name f.has_name.follows
-    (name_taken d.name content d.has_name) (name_taken f.name content f.has_name) in
-    sym (kind_is j f.name (subst (IsNameOf j) same.0 d.is_name)) ∙ kind_is k f.name f.is_name
+module _ (id : ℕ) (content : List ℕ) where
+  -- the name that a section begins with is one of what it describes
+  name_of : (k : DescriptionKind) (name rest : List ℕ) → TakesSized name content rest →
+      IsDescriptionOf k (section id content) → IsNameOf k name
+  name_of k name rest t d =
+      subst (IsNameOf k)
+      (same_content content d.name d.has_name.follows name rest (name_taken d.name content d.has_name) t).0
+      d.is_name
 
-pub no_kind_of_name : (id : ℕ) (content name rest : List ℕ) (o : Option DescriptionKind) →
-    TakesSized name content rest → IfNone o ((k : DescriptionKind) → IsNameOf k name → ⊥)
-    → IfNone o ((k : DescriptionKind) → IsDescriptionOf k (section id content) → ⊥)
-no_kind_of_name id content name rest (Some k) t h = tt
-no_kind_of_name id content name rest None t h = λ k d.
-    let same = same_content content d.name d.has_name.follows name rest
-    (name_taken d.name content d.has_name) t in
-    h k (subst (IsNameOf k) same.0 d.is_name)
+  pub one_kind : (j k : DescriptionKind) → IsDescriptionOf j (section id content) →
+      IsDescriptionOf k (section id content) → j ≡ k
+  one_kind j k d f =
+      let same : Some j ≡ Some k = sym (kind_is j f.name (name_of j f.name f.has_name.follows
+      (name_taken f.name content f.has_name) d)) ∙ kind_is k f.name f.is_name in
+      cc
 
-pub nameless : (id : ℕ) (content : List ℕ) → BeginsUnsized content → (k : DescriptionKind) →
-    IsDescriptionOf k (section id content) → ⊥
-nameless id content unsized k d = unsized d.name d.has_name.follows (name_taken d.name content d.has_name)
+  pub no_kind_of_name : (name rest : List ℕ) (o : Option DescriptionKind) → TakesSized name content rest →
+      IfNone o ((k : DescriptionKind) → IsNameOf k name → ⊥)
+      → IfNone o ((k : DescriptionKind) → IsDescriptionOf k (section id content) → ⊥)
+  no_kind_of_name name rest (Some k) t h = tt
+  no_kind_of_name name rest None t h = λ k d. h k (name_of k name rest t d)
+
+  pub nameless : BeginsUnsized content → (k : DescriptionKind) → IsDescriptionOf k (section id content) → ⊥
+  nameless unsized k d = unsized d.name d.has_name.follows (name_taken d.name content d.has_name)
+
+  -- a section `name` describes nothing
+  pub names_describe_nothing : (rest : List ℕ) → TakesSized name_bytes content rest →
+      IsDescription (section id content) → ⊥
+  names_describe_nothing rest t d =
+      let none : None ≡ Some d.kind = kind_is d.kind name_bytes (name_of d.kind name_bytes rest t d.describes)
+      in
+      absurd cc

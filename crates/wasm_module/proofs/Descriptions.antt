@@ -1,16 +1,15 @@
 -- Custom sections that describe other bytes, and modules without them.
-use Rattle.std.proofs.Common.{◌≡◌, ℕ, ◌+◌, Bool, true, false, List, [], ◌++◌, length, take, drop, refl, sym, subst, ◌∙◌, append_assoc, append-nil}
+use Rattle.std.proofs.Common.{◌≡◌, ℕ, ◌+◌, Bool, true, false, List, [], ◌++◌, length, take, drop, sym, subst, ◌∙◌, append_assoc, append-nil}
 use Rattle.std.specs.Cmp.Lexicographic.{pointwise}
-use Rattle.std.specs.Prelude.{nat_eq, codes}
+use Rattle.std.specs.Prelude.{nat_eq}
 use Rattle.std.proofs.lemmas.Slice.Eq.{starts_is}
 use Rattle.std.proofs.lemmas.Bool.Decides.{Decides-eqb}
-use Rattle.wasm_binary.specs.Modules.{Section, section, IsSection}
-use Rattle.wasm_module.specs.Customs.{IsDescriptionName, external_debug_info, linking, signature, source_mapping_url, debug, code_metadata, relocations, HasName, IsDescription, IsStrippedSection, left_out, kept, AreStripped, none, next}
+use Rattle.wasm_binary.specs.Modules.{Section, IsSection}
+use Rattle.wasm_module.specs.Customs.{HasName, IsDescription, IsStrippedSection, left_out, kept, AreStripped, none, next}
 use Rattle.wasm_module.specs.Steps.Customs.{BeginsWith}
-use Rattle.wasm_module.specs.Steps.NameSections.{TakesSized, BeginsUnsized}
+use Rattle.wasm_module.specs.Steps.NameSections.{TakesSized}
 use Rattle.wasm_module.specs.Steps.Renaming.{Appends}
 use Rattle.wasm_module.proofs.RenamedModules.{Passing}
-use Rattle.wasm_module.proofs.SizedContents.{same_content}
 
 -- ---- names
 
@@ -25,45 +24,10 @@ does_not_begin bytes prefix r is fails b =
     let k : true ≡ false = sym holds ∙ fails in
     cc
 
-pub no_description_name : (name : List ℕ) → (name ≡ codes "external_debug_info" → ⊥)
-    → (name ≡ codes "linking" → ⊥) → (name ≡ codes "signature" → ⊥) → (name ≡ codes "sourceMappingURL" → ⊥)
-    → (BeginsWith (codes ".debug_") name → ⊥) → (BeginsWith (codes "metadata.code.") name → ⊥)
-    → (BeginsWith (codes "reloc.") name → ⊥) → IsDescriptionName name → ⊥
-no_description_name _ a b c d e f g external_debug_info = a refl
-no_description_name _ a b c d e f g linking = b refl
-no_description_name _ a b c d e f g signature = c refl
-no_description_name _ a b c d e f g source_mapping_url = d refl
-no_description_name _ a b c d e f g (debug rest) = e (rest, refl)
-no_description_name _ a b c d e f g (code_metadata rest) = f (rest, refl)
-no_description_name _ a b c d e f g (relocations rest) = g (rest, refl)
-
--- a name that is another one is of its kind
-pub named : (name other : List ℕ) → name ≡ other → IsDescriptionName other → IsDescriptionName name
-named name other e is = subst IsDescriptionName (sym e) is
-
-pub debug_name : (name : List ℕ) → BeginsWith (codes ".debug_") name → IsDescriptionName name
-debug_name name b = named name (codes ".debug_" ++ b.0) b.1 (debug b.0)
-
-pub code_metadata_name : (name : List ℕ) → BeginsWith (codes "metadata.code.") name → IsDescriptionName name
-code_metadata_name name b = named name (codes "metadata.code." ++ b.0) b.1 (code_metadata b.0)
-
-pub relocation_name : (name : List ℕ) → BeginsWith (codes "reloc.") name → IsDescriptionName name
-relocation_name name b = named name (codes "reloc." ++ b.0) b.1 (relocations b.0)
-
 -- ---- sections
 
 pub name_taken : (name content : List ℕ) (h : HasName name content) → TakesSized name content h.follows
 name_taken name content h = record { size = h.size; is_size = h.is_size; parts = h.parts }
-
-pub other_name : (id : ℕ) (content name rest : List ℕ) → TakesSized name content rest →
-    (IsDescriptionName name → ⊥) → IsDescription (section id content) → ⊥
-other_name id content name rest t fails d =
-    let same = same_content content d.name d.has_name.follows name rest
-    (name_taken d.name content d.has_name) t in
-    fails (subst IsDescriptionName same.0 d.is_description)
-
-pub nameless : (id : ℕ) (content : List ℕ) → BeginsUnsized content → IsDescription (section id content) → ⊥
-nameless id content unsized d = unsized d.name d.has_name.follows (name_taken d.name content d.has_name)
 
 -- ---- modules without such sections
 

@@ -4,8 +4,8 @@ use denote.Enum.Bare.{sameb, same_true}
 use Rattle.std.proofs.lemmas.List.Elements.{All-contains}
 use Rattle.wasm_module.specs.declared.description_kinds.DescriptionKind.{DescriptionKind}
 use Rattle.wasm_module.specs.contracts.description_kinds.DescriptionKind.{the_type as kind_type}
-use Rattle.wasm_module.specs.Customs.{HasSections}
-use Rattle.wasm_module.specs.Outdated.{IsDescriptionOf, HaveSame, Stays, Fits, AllFit}
+use Rattle.wasm_module.specs.Customs.{IsDescriptionOf, HasSections}
+use Rattle.wasm_module.specs.Outdated.{HaveSame, Stays, Fits, AllFit}
 use Rattle.wasm_module.specs.Sections.{PlacedSection}
 use Rattle.wasm_module.specs.Steps.Outdated.{AllStay}
 use Rattle.wasm_module.proofs.DescriptionNames.{one_kind}

@@ -15,17 +15,17 @@ use Rattle.wasm_binary.proofs.Modules.Uniqueness.{one_module}
 use Rattle.wasm_module.specs.declared.renaming.Widths.{Widths}
 use Rattle.wasm_module.specs.Changes.{stays, resized, ChangeAll}
 use Rattle.wasm_module.specs.Changes.ChangeAll.{none as no_change, next as next_change}
-use Rattle.wasm_module.specs.Customs.{IsDescriptionName, external_debug_info, linking, signature, source_mapping_url, debug, code_metadata, relocations, IsDescription, IsStrippedSection, left_out, kept, AreStripped, none, next, IsStripped}
+use Rattle.wasm_module.specs.Customs.{IsDescription, IsStrippedSection, left_out, kept, AreStripped, none, next, IsStripped}
 use Rattle.wasm_module.specs.NameSections.{name_bytes, RenamesCustom, name_section, unread}
 use Rattle.wasm_module.specs.NameSections.RenamesCustom.{other as other_name}
 use Rattle.wasm_module.specs.RenamedModules.{RenamesAny, RenamesSection, RenamesModule}
 use Rattle.wasm_module.specs.RenamedModules.RenamesAny.{custom, other as other_content}
 use Rattle.wasm_module.specs.RenamedModules.RenamesSection.{type_section, other as other_section}
 use Rattle.wasm_module.specs.Renaming.{NewIndices}
+use Rattle.wasm_module.proofs.DescriptionNames.{names_describe_nothing}
 use Rattle.wasm_module.proofs.ModuleLaws.{pairs, not_empty, same_ids, have_same_ids}
 use Rattle.wasm_module.proofs.RenamedModules.{sized_pair, pair, same_section}
 use Rattle.wasm_module.proofs.NumberTexts.{cancel}
-use Rattle.wasm_module.proofs.SizedContents.{same_content}
 use Rattle.wasm_module.proofs.SameTexts.{named}
 
 -- ---- one result
@@ -97,14 +97,14 @@ pub record AreLeft (texts new : List ℕ) : Type 0 where
 one_left : (text new texts new_texts : List ℕ) → IsStrippedSection text new → AreLeft texts new_texts →
     AreLeft (text ++ texts) (new ++ new_texts)
 one_left _ _ texts new_texts (left_out text s is d) l =
-    let is-other : IsOther s = λ one. let zero-is : 0 ≡ 1 = sym d.is_custom ∙ one in
+    let is-other : IsOther s = λ one. let zero-is : 0 ≡ 1 = sym d.describes.is_custom ∙ one in
     omega (arith, zero-is) in
     record {
       all = s ∷ l.all;
       others = l.others;
       before = next_item text texts s l.all is l.before;
       after = l.after;
-      order = λ last h. l.order last (subst (λ k. AreInOrder (place_after last k) (ids l.all)) d.is_custom
+      order = λ last h. l.order last (subst (λ k. AreInOrder (place_after last k) (ids l.all)) d.describes.is_custom
           (order_parts last (s.id ∷ ids l.all) h).1);
       types = λ k. All-cons IsOther s l.all is-other (l.types k);
       undescribed = l.undescribed;
@@ -168,18 +168,6 @@ undescribed_stay _ _ (next_item text texts s sections h hs) fails =
     next text text texts texts (kept text s h (All-head DescribesNothing s sections fails))
     (undescribed_stay texts sections hs (All-tail DescribesNothing s sections fails))
 
-no_such_name : IsDescriptionName name_bytes → ⊥
-no_such_name d = absurd (names_fail name_bytes d refl)
-  where
-    names_fail : (name : List ℕ) → IsDescriptionName name → name ≡ name_bytes → ⊥
-    names_fail _ external_debug_info e = absurd cc
-    names_fail _ linking e = absurd cc
-    names_fail _ signature e = absurd cc
-    names_fail _ source_mapping_url e = absurd cc
-    names_fail _ (debug rest) e = absurd cc
-    names_fail _ (code_metadata rest) e = absurd cc
-    names_fail _ (relocations rest) e = absurd cc
-
 -- one of these sections describes other bytes where the other one does
 abbrev pub DescribeAlike : Section → Section → Type 0
 DescribeAlike s t = (IsDescription s → IsDescription t) × (IsDescription t → IsDescription s)
@@ -187,10 +175,8 @@ DescribeAlike s t = (IsDescription s → IsDescription t) × (IsDescription t �
 name_section_fails : (id : ℕ) (size follows : List ℕ) → IsU32 size (length name_bytes) →
     IsDescription (section id (size ++ (name_bytes ++ follows))) → ⊥
 name_section_fails id size follows h d =
-    let c = same_content (size ++ (name_bytes ++ follows)) name_bytes follows d.name d.has_name.follows
-    (named size name_bytes follows _ h refl)
-    (named d.has_name.size d.name d.has_name.follows _ d.has_name.is_size d.has_name.parts) in
-    no_such_name (subst (λ (u : List ℕ). IsDescriptionName u) (sym c.0) d.is_description)
+    names_describe_nothing id (size ++ (name_bytes ++ follows)) follows (named size name_bytes follows _ h refl)
+    d
 
 custom_alike : (m : NewIndices) (w : Widths) (id : ℕ) (content new names : List ℕ) →
     RenamesCustom m w content new names → DescribeAlike (section id content) (section id new)
@@ -205,10 +191,10 @@ any_alike : (m : NewIndices) (w : Widths) (id : ℕ) (content new names : List �
     RenamesAny id m w content new names → DescribeAlike (section id content) (section id new)
 any_alike m w id _ _ _ (custom content new names is h) = custom_alike m w id content new names h
 any_alike m w id _ _ _ (other_content content new names fails h) =
-    ((λ d. absurd (fails d.is_custom)), (λ d. absurd (fails d.is_custom)))
+    ((λ d. absurd (fails d.describes.is_custom)), (λ d. absurd (fails d.describes.is_custom)))
 
 types_describe_nothing : (content : List ℕ) → IsDescription (section 1 content) → ⊥
-types_describe_nothing content d = let e : 1 ≡ 0 = d.is_custom in omega (arith, e)
+types_describe_nothing content d = let e : 1 ≡ 0 = d.describes.is_custom in omega (arith, e)
 
 -- so do a section and what it becomes
 pub pair_alike : (types : List ℕ) (m : NewIndices) (w : Widths) (text new names : List ℕ)

@@ -5,21 +5,28 @@ use Rattle.std.specs.Prelude.{◌≡◌, ℕ, List, [], ◌∷◌, ◌++◌, len
 use Rattle.std.specs.List.{All}
 use Rattle.wasm_binary.specs.Leb128.{IsU32}
 use Rattle.wasm_binary.specs.Modules.{Section, IsSection, IsModule, header}
+use Rattle.wasm_module.specs.declared.description_kinds.DescriptionKind.{DescriptionKind}
+use Rattle.wasm_module.specs.declared.description_kinds.DescriptionKind.TheVariants as kind
 use Rattle.wasm_module.specs.Sections.{PlacedSection, ArePlaced, framing}
 
 -- ---- names
 
--- Sections of these names describe other bytes of their module: debug data elsewhere, linking,
--- signatures and source maps, debug data, branch hints and other annotations of code, and
--- relocations.
-pub data IsDescriptionName : List ℕ → Type 0 where
-  external_debug_info : IsDescriptionName (codes "external_debug_info")
-  linking : IsDescriptionName (codes "linking")
-  signature : IsDescriptionName (codes "signature")
-  source_mapping_url : IsDescriptionName (codes "sourceMappingURL")
-  debug : (rest : List ℕ) → IsDescriptionName (codes ".debug_" ++ rest)
-  code_metadata : (rest : List ℕ) → IsDescriptionName (codes "metadata.code." ++ rest)
-  relocations : (rest : List ℕ) → IsDescriptionName (codes "reloc." ++ rest)
+-- Sections of these names describe this: debug data and annotations of code, such as branch hints,
+-- have places in the code section; source maps have places in the file up to the end of the code;
+-- linking data and relocations describe the contents of code and data; a signature is of all bytes.
+pub data IsNameOf : DescriptionKind → List ℕ → Type 0 where
+  external_debug_info : IsNameOf kind.CodeOffsets (codes "external_debug_info")
+  debug : (rest : List ℕ) → IsNameOf kind.CodeOffsets (codes ".debug_" ++ rest)
+  code_metadata : (rest : List ℕ) → IsNameOf kind.CodeOffsets (codes "metadata.code." ++ rest)
+  source_mapping_url : IsNameOf kind.FileOffsets (codes "sourceMappingURL")
+  linking : IsNameOf kind.CodeAndData (codes "linking")
+  relocations : (rest : List ℕ) → IsNameOf kind.CodeAndData (codes "reloc." ++ rest)
+  signature : IsNameOf kind.AllBytes (codes "signature")
+
+-- sections of this name describe other bytes of their module
+pub record IsDescriptionName (name : List ℕ) : Type 0 where
+  pub kind : DescriptionKind
+  pub is_name : IsNameOf kind name
 
 -- ---- sections
 
@@ -30,12 +37,17 @@ pub record HasName (name content : List ℕ) : Type 0 where
   pub is_size : IsU32 size (length name)
   pub parts : content ≡ size ++ (name ++ follows)
 
--- a custom section that describes other bytes of its module
-pub record IsDescription (s : Section) : Type 0 where
+-- a custom section that describes this
+pub record IsDescriptionOf (kind : DescriptionKind) (s : Section) : Type 0 where
   pub is_custom : s.id ≡ 0
   pub name : List ℕ
   pub has_name : HasName name s.content
-  pub is_description : IsDescriptionName name
+  pub is_name : IsNameOf kind name
+
+-- a custom section that describes other bytes of its module
+pub record IsDescription (s : Section) : Type 0 where
+  pub kind : DescriptionKind
+  pub describes : IsDescriptionOf kind s
 
 -- ---- modules without them
 

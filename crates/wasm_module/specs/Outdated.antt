@@ -2,39 +2,17 @@
 -- written again.
 -- WebAssembly core specification, "Binary Format", "Custom Section". The names are conventions of
 -- tools.
-use Rattle.std.specs.Prelude.{◌≡◌, ℕ, List, ◌∷◌, ◌++◌, codes}
+use Rattle.std.specs.Prelude.{◌≡◌, ℕ, List, ◌∷◌, ◌++◌}
 use Rattle.std.specs.List.{All}
-use Rattle.wasm_binary.specs.Modules.{Section}
 use Rattle.wasm_module.specs.declared.description_kinds.DescriptionKind.{DescriptionKind}
 use Rattle.wasm_module.specs.declared.description_kinds.DescriptionKind.TheVariants as kind
 use Rattle.wasm_module.specs.declared.renaming.Widths.{Widths}
-use Rattle.wasm_module.specs.Customs.{HasName, HasSections}
+use Rattle.wasm_module.specs.Customs.{IsDescriptionOf, HasSections}
 use Rattle.wasm_module.specs.Lengths.{HasContent, HasLengthsInCode, HasLengthsToCodeEnd}
 use Rattle.wasm_module.specs.NamedTypes.{code_id}
 use Rattle.wasm_module.specs.RenamedModules.{RenamesModule}
 use Rattle.wasm_module.specs.Renaming.{NewIndices}
 use Rattle.wasm_module.specs.Sections.{PlacedSection}
-
--- ---- what sections describe
-
--- Sections of these names describe this: debug data and annotations of code, such as branch hints,
--- have places in the code section; source maps have places in the file up to the end of the code;
--- linking data and relocations describe the contents of code and data; a signature is of all bytes.
-pub data IsNameOf : DescriptionKind → List ℕ → Type 0 where
-  external_debug_info : IsNameOf kind.CodeOffsets (codes "external_debug_info")
-  debug : (rest : List ℕ) → IsNameOf kind.CodeOffsets (codes ".debug_" ++ rest)
-  code_metadata : (rest : List ℕ) → IsNameOf kind.CodeOffsets (codes "metadata.code." ++ rest)
-  source_mapping_url : IsNameOf kind.FileOffsets (codes "sourceMappingURL")
-  linking : IsNameOf kind.CodeAndData (codes "linking")
-  relocations : (rest : List ℕ) → IsNameOf kind.CodeAndData (codes "reloc." ++ rest)
-  signature : IsNameOf kind.AllBytes (codes "signature")
-
--- a custom section that describes this
-pub record IsDescriptionOf (kind : DescriptionKind) (s : Section) : Type 0 where
-  pub is_custom : s.id ≡ 0
-  pub name : List ℕ
-  pub has_name : HasName name s.content
-  pub is_name : IsNameOf kind name
 
 -- ---- what changes of a module
 

@@ -2,22 +2,19 @@
 //!
 //! WebAssembly core specification, "Binary Format", "Custom Section". The names of these sections
 //! are conventions of tools.
-ghost use Rattle.std.specs.Prelude.{◌≡◌, ◌++◌, List, false, length, drop, IsTrue, IfOk, IfErr, IfSome, OnOk};
+ghost use Rattle.std.specs.Prelude.{◌≡◌, false, IsTrue, IfOk, IfErr, IfSome, OnOk};
 ghost use Rattle.wasm_binary.specs.Faults.{error_offset};
-ghost use Rattle.wasm_binary.specs.Modules.{section, IsNoModule};
-ghost use Rattle.wasm_module.specs.Customs.{IsDescription, IsDescriptionName, IsStrippedSection, IsStripped, HasSections};
+ghost use Rattle.wasm_binary.specs.Modules.{IsNoModule};
+ghost use Rattle.wasm_module.specs.Customs.{IsStrippedSection, IsStripped, HasSections};
 ghost use Rattle.wasm_module.specs.Steps.Customs.{BeginsWith};
 ghost use Rattle.wasm_module.specs.Steps.RenamedModules.{IsWhole};
 ghost use Rattle.wasm_module.specs.Steps.Renaming.{Appends};
 
+use crate::description_kinds::description_kind;
 use crate::framing::{HEADER_LENGTH, Section, SectionIter, sections};
-use crate::name_maps::take_sized;
 use crate::renamed_module::section_text;
 use std::alloc::{AllocError, Global};
 use wasm_binary::DecodeError;
-
-/// The id of a custom section.
-const CUSTOM: u8 = 0;
 
 /// Returns a module without the custom sections that describe other bytes of their module. All else
 /// stays byte for byte (WebAssembly core specification, "Binary Format", "Custom Section").
@@ -71,53 +68,13 @@ fn copy_other(section: Section<'_>, text: &[u8], out: &mut Vec<u8>) -> Result<()
     requires { IsWhole text.now section.id section.content.now }
     ensures { OnOk result (Appends (IsStrippedSection text.now) out.old.items out.new.items) }
 {
-    if is_description(section.id, section.content) {
-        return Ok(());
+    match description_kind(section.id, section.content) {
+        Some(_) => Ok(()),
+        None => {
+            out.extend_from_slice(text)?;
+            Ok(())
+        }
     }
-    out.extend_from_slice(text)?;
-    Ok(())
-}
-
-/// Whether a section describes other bytes of its module.
-pub fn is_description(id: u8, content: &[u8]) -> bool
-    ensures yes { IsTrue result → IsDescription (section id content.now) }
-    ensures no { result ≡ false → ¬ IsDescription (section id content.now) }
-{
-    if id != CUSTOM {
-        return false;
-    }
-    let mut rest = content;
-    match take_sized(&mut rest) {
-        Some(name) => is_description_name(name),
-        None => false,
-    }
-}
-
-/// Whether custom sections of a name describe other bytes of their module.
-#[tactic(auto, using(crate::proofs::Descriptions::no_description_name))]
-pub fn is_description_name(name: &[u8]) -> bool
-    ensures yes { IsTrue result → IsDescriptionName name.now }
-    ensures no { result ≡ false → ¬ IsDescriptionName name.now }
-{
-    if is_name(name, b"external_debug_info") {
-        return true;
-    }
-    if is_name(name, b"linking") {
-        return true;
-    }
-    if is_name(name, b"signature") {
-        return true;
-    }
-    if is_name(name, b"sourceMappingURL") {
-        return true;
-    }
-    if begins_with(name, b".debug_") {
-        return true;
-    }
-    if begins_with(name, b"metadata.code.") {
-        return true;
-    }
-    begins_with(name, b"reloc.")
 }
 
 /// Whether bytes are this name.

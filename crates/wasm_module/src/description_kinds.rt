@@ -4,7 +4,7 @@
 //! are conventions of tools.
 ghost use Rattle.std.specs.Prelude.{IfSome, IfNone};
 ghost use Rattle.wasm_binary.specs.Modules.{section};
-ghost use Rattle.wasm_module.specs.Outdated.{IsNameOf, IsDescriptionOf};
+ghost use Rattle.wasm_module.specs.Customs.{IsNameOf, IsDescriptionOf};
 ghost use Rattle.wasm_module.specs.declared.description_kinds.DescriptionKind.{DescriptionKind};
 
 use crate::customs::{begins_with, is_name};
@@ -50,7 +50,7 @@ pub fn description_kind(id: u8, content: &[u8]) -> Option<DescriptionKind>
 }
 
 /// What custom sections of a name describe.
-fn kind_of_name(name: &[u8]) -> Option<DescriptionKind>
+pub fn kind_of_name(name: &[u8]) -> Option<DescriptionKind>
     ensures found { IfSome result (λ kind. IsNameOf kind name.now) }
     ensures none { IfNone result ((kind : DescriptionKind) → IsNameOf kind name.now → ⊥) }
 {

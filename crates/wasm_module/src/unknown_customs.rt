@@ -7,7 +7,8 @@ ghost use Rattle.std.specs.List.{Any};
 ghost use Rattle.wasm_binary.specs.Modules.{section, IsNoModule};
 ghost use Rattle.wasm_module.specs.UnknownCustoms.{known_names, IsKnownName, IsUnknownCustom, HasUnknownCustomAt, HasNoUnknownCustom};
 
-use crate::customs::{begins_with, is_description_name};
+use crate::customs::begins_with;
+use crate::description_kinds::kind_of_name;
 use crate::framing::sections;
 use crate::name_maps::take_sized;
 use wasm_binary::DecodeError;
@@ -100,7 +101,10 @@ fn is_known_name(name: &[u8], allowed: &[&[u8]]) -> bool
     if begins_with(name, b"component-type") {
         return true;
     }
-    is_description_name(name)
+    match kind_of_name(name) {
+        Some(_) => true,
+        None => false,
+    }
 }
 
 /// Whether a name is one of these.

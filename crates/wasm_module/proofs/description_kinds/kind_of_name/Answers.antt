@@ -1,5 +1,5 @@
 use Rattle.std.proofs.Common.{refl}
-use Rattle.wasm_module.specs.Outdated.{external_debug_info, source_mapping_url, linking, signature}
+use Rattle.wasm_module.specs.Customs.{external_debug_info, source_mapping_url, linking, signature}
 use Rattle.wasm_module.proofs.DescriptionNames.{named, debug_name, code_metadata_name, relocation_name, no_name}
 use Rattle.wasm_module.proofs.description_kinds.kind_of_name.Goals as goal
 

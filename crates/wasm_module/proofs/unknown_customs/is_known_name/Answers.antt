@@ -15,14 +15,15 @@ pub returns-then-begins_with-clause-yes : goal.returns-then-begins_with-clause-y
 returns-then-begins_with-clause-yes c = λ _. component_known c.args.allowed.now c.args.name.now
     (c.if-begins_with.ensures.yes refl)
 
-pub returns-clause-yes : goal.returns-clause-yes
-returns-clause-yes c = λ holds. description c.args.name.now (c.is_description_name.ensures.yes holds)
+pub returns-in-Some-clause-yes : goal.returns-in-Some-clause-yes
+returns-in-Some-clause-yes c = λ _. description c.args.name.now
+    (record { kind = c.in-Some.field-0; is_name = c.in-Some.ensures.found })
 
-pub returns-clause-no : goal.returns-clause-no
-returns-clause-no c = λ fails. no_known_name c.args.allowed.now c.args.name.now
+pub returns-in-None-clause-no : goal.returns-in-None-clause-no
+returns-in-None-clause-no c = λ _. no_known_name c.args.allowed.now c.args.name.now
     (λ any. let wrong : false ≡ true = c.if-is_listed.ensures.1
     (subst (λ u. Any (λ k. k ≡ c.args.name.now) u) (sym c.known_names.ensures) any) in
     let k : ⊥ = cc in k)
     (λ any. let wrong : false ≡ true = c.if-is_listed-2.ensures.1 any in
     let k : ⊥ = cc in k)
-    (c.if-begins_with.ensures.no refl) (c.is_description_name.ensures.no fails)
+    (c.if-begins_with.ensures.no refl) (λ d. c.in-None.ensures.none d.kind d.is_name)
