@@ -163,5 +163,5 @@ section_unread new_indices widths content subsections unwritten rest out s t som
     } in
     let same = same_content content name_bytes (u.texts ++ rest) name_bytes subsections it t in
     let r = renamed_read new_indices widths s.count u.texts u.new u.names u.so_far in
-    let k = next_subsection (length new_indices) u.texts r.0 subsections a.ids rest r.1 a.are same.1 some in
+    let k = next_subsection (length new_indices) u.texts r.ids subsections a.ids rest r.are a.are same.1 some in
     h k.0 k.1

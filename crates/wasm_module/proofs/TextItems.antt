@@ -13,6 +13,13 @@ abbrev pub IsPrefixFree : (List ℕ → Type 0) → Type 0
 IsPrefixFree IsText =
     (a b rest after : List ℕ) → IsText a → IsText b → a ++ rest ≡ b ++ after → rest ≡ after
 
+-- texts of items are texts of what these are too
+pub items_as : {A : Type 0} (P Q : List ℕ → A → Type 0) → ((text : List ℕ) (x : A) → P text x → Q text x) →
+    (texts : List ℕ) (xs : List A) → AreItems P texts xs → AreItems Q texts xs
+items_as P Q turn _ _ none = none
+items_as P Q turn _ _ (next text others x xs h hs) =
+    next text others x xs (turn text x h) (items_as P Q turn others xs hs)
+
 module _ {A : Type 0} (IsText : List ℕ → A → Type 0) where
   any : (text : List ℕ) (x : A) → IsText text x → IsAny IsText text
   any text x h = record { item = x; is_text = h }

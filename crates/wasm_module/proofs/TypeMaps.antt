@@ -17,7 +17,7 @@ use Rattle.wasm_module.specs.Steps.NameSections.{Takes, BeginsNone, TakesEntry, 
 use Rattle.wasm_module.proofs.NameMaps.{entry_free, no_count}
 use Rattle.wasm_module.proofs.KeptEntries.{none_kept, deleted_goes}
 use Rattle.wasm_module.proofs.Searching.{integer_short}
-use Rattle.wasm_module.proofs.TextItems.{IsPrefixFree, same_items, item_on, no_items, items_on, items_cut_off, vec_free, vec_items}
+use Rattle.wasm_module.proofs.TextItems.{IsPrefixFree, items_as, same_items, item_on, no_items, items_on, items_cut_off, vec_free, vec_items}
 
 module _ (Follows : List ℕ → Type 0) (count : ℕ) where
   pub is_known : (text : List ℕ) (e : TypeEntry) → IsKnownEntry Follows count text e → e.index < count
@@ -26,11 +26,9 @@ module _ (Follows : List ℕ → Type 0) (count : ℕ) where
   is_entry : (text : List ℕ) (e : TypeEntry) → IsKnownEntry Follows count text e → IsEntry Follows text e
   is_entry _ _ (known text e h less) = h
 
-  are_entries : (text : List ℕ) (es : List TypeEntry) → AreItems (IsKnownEntry Follows count) text es →
+  pub are_entries : (text : List ℕ) (es : List TypeEntry) → AreItems (IsKnownEntry Follows count) text es →
       AreItems (IsEntry Follows) text es
-  are_entries _ _ none = none
-  are_entries _ _ (next text others e es h hs) =
-      next text others e es (is_entry text e h) (are_entries others es hs)
+  are_entries = items_as (IsKnownEntry Follows count) (IsEntry Follows) is_entry
 
 module _ (Follows : List ℕ → Type 0) (new_indices : NewIndices) where
   abbrev IsKnown : List ℕ → TypeEntry → Type 0
