@@ -1,5 +1,5 @@
 -- What is written in place of code that names types.
-use Rattle.std.proofs.Common.{◌≡◌, ℕ, ◌+◌, ◌-◌, ◌^◌, ◌≤◌, Bool, true, false, List, [], ◌∷◌, ◌++◌, length, take, Option, Some, None, IfSome, IfNone, Result, Ok, Err, cond, is_some, refl, sym, ap, subst, ◌∙◌, append_assoc, append-nil, length-append, take_at, arith}
+use Rattle.std.proofs.Common.{◌≡◌, ℕ, ◌+◌, ◌-◌, ◌^◌, ◌≤◌, Bool, true, false, List, [], ◌∷◌, ◌++◌, length, take, Option, Some, None, IfSome, IfNone, IsErrAnd, Result, Ok, Err, cond, is_some, refl, sym, ap, subst, ◌∙◌, append_assoc, append-nil, length-append, take_at, arith}
 use Rattle.std.specs.Prelude.{IsSome}
 use Rattle.std.specs.List.{All}
 use Rattle.std.proofs.lemmas.Grind.{flat_map-append}
@@ -367,9 +367,14 @@ is_malformed (scan.Malformed at) place h = ap scan.Malformed (same_place at plac
     same_place a b e = cc
 is_malformed scan.Memory place h = absurd cc
 
-pub same_failure : {T E : Type 0} (r : Result T E) (x y : E) → r ≡ Err x → r ≡ Err y → x ≡ y
-same_failure (Ok v) x y e f = absurd cc
-same_failure (Err z) x y e f = cc
+-- the error that a `?` passes on is the one that came
+pub failure_is : {T E : Type 0} {x y : E} (r : Result T E) → IsErrAnd r (λ z. z ≡ x) → r ≡ Err y → x ≡ y
+failure_is (Ok v) h e = absurd h
+failure_is (Err z) h e = cc
+
+pub error_came : {T U E : Type 0} {x y : E} (r : Result T E) → IsErrAnd r (λ z. z ≡ x) → r ≡ Err y →
+    ◌≡◌ {A = Result U E} (Err x) (Err y)
+error_came r h e = ap (λ z. Err z) (failure_is r h e)
 
 -- ---- whole texts
 

@@ -1,10 +1,8 @@
-use Rattle.std.proofs.Common.{◌∙◌, ◌-◌, Err, length, refl, sym, ap, subst, arith}
-use Rattle.std.proofs.lemmas.Result.{err_from_is_err_and}
-use Rattle.wasm_module.specs.declared.name_maps.NamesError.TheVariants as names
+use Rattle.std.proofs.Common.{◌-◌, length, refl, subst, arith}
 use Rattle.wasm_module.specs.Steps.NameSections.{IsFollowing, IsNewMap}
 use Rattle.wasm_module.proofs.Taking.{u32_shorter}
 use Rattle.wasm_module.proofs.NameMaps.{following_free}
-use Rattle.wasm_module.proofs.Rewriting.{same_failure}
+use Rattle.wasm_module.proofs.Rewriting.{error_came}
 use Rattle.wasm_module.proofs.TypeMaps.{kept_narrow, count_short, map_stays, map_changes, map_countless, map_unread, map_left_over, least_short}
 use Rattle.wasm_module.proofs.WholeTexts.{empty, not_empty}
 use Rattle.wasm_module.proofs.name_maps.rename_map.Goals as goal
@@ -20,10 +18,9 @@ overflow_sub-width c =
 
 pub returns-in_err-kept-clause-unread : goal.returns-in_err-kept-clause-unread
 returns-in_err-kept-clause-unread c =
-    let p = err_from_is_err_and c.from_residual.result c.from_residual.ensures.1 in
-    λ e. let is = sym p.2 ∙ same_failure c.from_residual.result p.0 names.Unread p.1 e in
-    map_unread (IsFollowing c.args.follows) (length c.args.new_indices.now) c.args.content.now c.in-Some.count
-    c.read_u32.new.input.now c.in-Some.ensures (c.in_err-kept.ensures.unread (ap (λ x. Err x) is))
+    let r = c.from_residual in
+    λ e. map_unread (IsFollowing c.args.follows) (length c.args.new_indices.now) c.args.content.now c.in-Some.count
+    c.read_u32.new.input.now c.in-Some.ensures (c.in_err-kept.ensures.unread (error_came r.result r.ensures.1 e))
 
 pub returns-then-not-is_empty-clause-unread : goal.returns-then-not-is_empty-clause-unread
 returns-then-not-is_empty-clause-unread c = λ e.

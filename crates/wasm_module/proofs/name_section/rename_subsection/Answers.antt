@@ -1,9 +1,7 @@
-use Rattle.std.proofs.Common.{rules, ◌∙◌, Err, length, slice_index_or, sym, ap, arith}
-use Rattle.std.proofs.lemmas.Result.{err_from_is_err_and}
-use Rattle.wasm_module.specs.declared.name_maps.NamesError.TheVariants as names
+use Rattle.std.proofs.Common.{rules, length, slice_index_or, arith}
 use Rattle.wasm_module.specs.Changes.{BecomesTooLong}
 use Rattle.wasm_module.specs.NameSections.{RenamesNames}
-use Rattle.wasm_module.proofs.Rewriting.{same_failure}
+use Rattle.wasm_module.proofs.Rewriting.{error_came}
 use Rattle.wasm_module.proofs.TypeMaps.{least_short}
 use Rattle.wasm_module.proofs.Taking.{first_apart}
 use Rattle.wasm_module.proofs.Changing.{if_some}
@@ -17,11 +15,10 @@ returns-in_default-take_sized-clause-unread c = λ e.
 
 pub returns-in_err-new-clause-unread : goal.returns-in_err-new-clause-unread
 returns-in_err-new-clause-unread c =
-    let p = err_from_is_err_and c.from_residual.result c.from_residual.ensures.1 in
-    λ e. let is = sym p.2 ∙ same_failure c.from_residual.result p.0 names.Unread p.1 e in
-    unread_subsection (length c.args.new_indices.now) c.args.rest.now.now _ _ c.in-Some.content.now
+    let r = c.from_residual in
+    λ e. unread_subsection (length c.args.new_indices.now) c.args.rest.now.now _ _ c.in-Some.content.now
     c.take_sized.new.input.now (first_apart c.args.rest.now.now c.in-len1-up.len_at_least)
-    c.in-Some.ensures.taken (c.in_err-new.ensures.unread (ap (λ x. Err x) is))
+    c.in-Some.ensures.taken (c.in_err-new.ensures.unread (error_came r.result r.ensures.1 e))
 
 pub returns-in_default-2-clause-renamed : goal.returns-in_default-2-clause-renamed
 returns-in_default-2-clause-renamed c = λ count header content u.

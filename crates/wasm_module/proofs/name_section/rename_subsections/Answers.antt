@@ -1,9 +1,7 @@
-use Rattle.std.proofs.Common.{◌≡◌, ◌∙◌, ◌+◌, ◌++◌, nat_eq, true, false, Err, sym, ap, subst}
-use Rattle.std.proofs.lemmas.Result.{err_from_is_err_and}
-use Rattle.wasm_module.specs.declared.name_maps.NamesError.TheVariants as names
+use Rattle.std.proofs.Common.{◌≡◌, ◌+◌, ◌++◌, nat_eq, true, false, subst}
 use Rattle.wasm_module.specs.Changes.{BecomesTooLong}
 use Rattle.wasm_module.specs.NameSections.{RenamesNames, name_bytes}
-use Rattle.wasm_module.proofs.Rewriting.{same_failure}
+use Rattle.wasm_module.proofs.Rewriting.{error_came}
 use Rattle.wasm_module.proofs.WholeTexts.{empty, not_empty}
 use Rattle.wasm_module.proofs.NameSections.{section_begun, section_stays, section_changes, section_first, section_unread}
 use Rattle.wasm_module.proofs.name_section.rename_subsections.Goals as goal
@@ -27,22 +25,20 @@ loop-rest-preserved c =
 pub returns-in_err-rename_subsection-clause-unread : goal.returns-in_err-rename_subsection-clause-unread
 returns-in_err-rename_subsection-clause-unread c =
     let l = c.loop-rest in
-    let p = err_from_is_err_and c.from_residual.result c.from_residual.ensures.1 in
-    λ e. let is = sym p.2 ∙ same_failure c.from_residual.result p.0 names.Unread p.1 e in
-    section_unread c.args.new_indices.now c.args.widths c.args.content.now c.args.subsections.now
+    let r = c.from_residual in
+    λ e. section_unread c.args.new_indices.now c.args.widths c.args.content.now c.args.subsections.now
     l.unwritten.now l.rest.now l.out.items l.invariant c.requires
     (not_empty l.rest.now c.loop-rest-test.ensures)
-    (c.in_err-rename_subsection.ensures.unread (ap (λ x. Err x) is))
+    (c.in_err-rename_subsection.ensures.unread (error_came r.result r.ensures.1 e))
 
 pub returns-in_err-rename_subsection-clause-too_long : goal.returns-in_err-rename_subsection-clause-too_long
 returns-in_err-rename_subsection-clause-too_long c =
     let l = c.loop-rest in
-    let p = err_from_is_err_and c.from_residual.result c.from_residual.ensures.1 in
-    λ e. let is = sym p.2 ∙ same_failure c.from_residual.result p.0 names.TooLong p.1 e in
-    section_first c.args.new_indices.now c.args.widths
+    let r = c.from_residual in
+    λ e. section_first c.args.new_indices.now c.args.widths
     (λ id. BecomesTooLong (RenamesNames id c.args.new_indices.now c.args.widths)) c.args.content.now
     l.unwritten.now l.rest.now l.out.items l.invariant
-    (c.in_err-rename_subsection.ensures.too_long (ap (λ x. Err x) is))
+    (c.in_err-rename_subsection.ensures.too_long (error_came r.result r.ensures.1 e))
 
 pub returns-then-is_empty-clause-stays : goal.returns-then-is_empty-clause-stays
 returns-then-is_empty-clause-stays c =

@@ -1,6 +1,4 @@
-use Rattle.std.proofs.Common.{◌≡◌, ◌∙◌, ◌+◌, ◌++◌, List, [], ℕ, Err, refl, sym, ap, subst, arith}
-use Rattle.std.proofs.lemmas.Result.{err_from_is_err_and}
-use Rattle.wasm_module.specs.declared.renaming.RenameError.TheVariants as rename
+use Rattle.std.proofs.Common.{◌≡◌, ◌∙◌, ◌+◌, ◌++◌, List, [], ℕ, refl, sym, ap, subst, arith}
 use Rattle.wasm_module.specs.declared.scan.ScanError.TheVariants as scan
 use Rattle.wasm_module.specs.Bodies.{body}
 use Rattle.wasm_module.specs.Changes.{ChangeAll, BecomesTooLong, InSized}
@@ -9,7 +7,7 @@ use Rattle.wasm_module.specs.Renaming.{NamesUnknown}
 use Rattle.wasm_module.proofs.Changing.{if_none, if_some, changed_none, changed_is, changed_passed, changed_on, passed_before, changed_first, all_stayed, all_changed}
 use Rattle.wasm_module.proofs.ChangedCode.{changed_some, begins_with}
 use Rattle.wasm_module.proofs.CodeSections.{bodies_malformed}
-use Rattle.wasm_module.proofs.Rewriting.{same_failure}
+use Rattle.wasm_module.proofs.Rewriting.{error_came}
 use Rattle.wasm_module.proofs.WholeTexts.{empty, not_empty}
 use Rattle.wasm_module.specs.Steps.Changes.{KeepsPrefix, ChangesPrefix}
 use Rattle.wasm_module.proofs.renamed_code.rename_bodies.Goals.{in-Some+in_ok-append_prefix+in_ok-extend_from_slice, in_default}
@@ -24,35 +22,29 @@ pub returns-in_err-new-clause-malformed : goal.returns-in_err-new-clause-malform
 returns-in_err-new-clause-malformed c =
     let l = c.loop in
     let r = c.from_residual in
-    let p = err_from_is_err_and r.result r.ensures.1 in
-    λ place e. let is = sym p.2 ∙ same_failure r.result p.0 (rename.Malformed place) p.1 e in
-    bodies_malformed c.args.count l.counter c.args.input.now.now l.input.now l.invariant.names
+    λ place e. bodies_malformed c.args.count l.counter c.args.input.now.now l.input.now l.invariant.names
     (scan.Malformed place)
     (begins_with c.args.new_indices.now c.args.widths l.counter c.args.input.now.now l.invariant.texts
     l.input.now l.invariant.new l.invariant.names l.invariant.parts l.invariant.so_far) c.loop-test.true
-    (c.in_err-new.ensures.malformed place (ap (λ x. Err x) is))
+    (c.in_err-new.ensures.malformed place (error_came r.result r.ensures.1 e))
 
 pub returns-in_err-new-clause-unknown : goal.returns-in_err-new-clause-unknown
 returns-in_err-new-clause-unknown c =
     let l = c.loop in
     let r = c.from_residual in
-    let p = err_from_is_err_and r.result r.ensures.1 in
-    λ k place e. let is = sym p.2 ∙ same_failure r.result p.0 (rename.UnknownType k place) p.1 e in
-    changed_first (RenamesBody c.args.new_indices.now c.args.widths)
+    λ k place e. changed_first (RenamesBody c.args.new_indices.now c.args.widths)
     (InSized (λ b. NamesUnknown c.args.new_indices.now body b k)) c.args.count l.counter
     c.args.input.now.now l.input.now l.unwritten.now l.out.items l.invariant c.loop-test.true
-    (c.in_err-new.ensures.unknown k place (ap (λ x. Err x) is))
+    (c.in_err-new.ensures.unknown k place (error_came r.result r.ensures.1 e))
 
 pub returns-in_err-new-clause-too_long : goal.returns-in_err-new-clause-too_long
 returns-in_err-new-clause-too_long c =
     let l = c.loop in
     let r = c.from_residual in
-    let p = err_from_is_err_and r.result r.ensures.1 in
-    λ e. let is = sym p.2 ∙ same_failure r.result p.0 rename.TooLong p.1 e in
-    changed_first (RenamesBody c.args.new_indices.now c.args.widths)
+    λ e. changed_first (RenamesBody c.args.new_indices.now c.args.widths)
     (InSized (BecomesTooLong (RenamesTexts c.args.new_indices.now c.args.widths body))) c.args.count
     l.counter c.args.input.now.now l.input.now l.unwritten.now l.out.items l.invariant c.loop-test.true
-    (c.in_err-new.ensures.too_long (ap (λ x. Err x) is))
+    (c.in_err-new.ensures.too_long (error_came r.result r.ensures.1 e))
 
 pub loop-preserved : goal.loop-preserved
 loop-preserved c =

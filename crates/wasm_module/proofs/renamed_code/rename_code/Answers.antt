@@ -1,6 +1,3 @@
-use Rattle.std.proofs.Common.{◌∙◌, Err, sym, ap}
-use Rattle.std.proofs.lemmas.Result.{err_from_is_err_and}
-use Rattle.wasm_module.specs.declared.renaming.RenameError.TheVariants as rename
 use Rattle.wasm_module.specs.declared.scan.ScanError.TheVariants as scan
 use Rattle.wasm_module.specs.Bodies.{body}
 use Rattle.wasm_module.specs.Changes.{ChangeAll, BecomesTooLong}
@@ -11,7 +8,7 @@ use Rattle.wasm_module.specs.Steps.Contents.{IsNoCode}
 use Rattle.wasm_module.proofs.Changing.{in_both, if_none, if_some}
 use Rattle.wasm_module.proofs.ChangedCode.{begins_with, count_fits, code_stays, code_changes, code_first}
 use Rattle.wasm_module.proofs.CodeSections.{code_countless, code_malformed, code_left_over}
-use Rattle.wasm_module.proofs.Rewriting.{same_failure}
+use Rattle.wasm_module.proofs.Rewriting.{error_came}
 use Rattle.wasm_module.proofs.WholeTexts.{empty, not_empty}
 use Rattle.wasm_module.proofs.renamed_code.rename_code.Goals as goal
 
@@ -22,30 +19,24 @@ returns-in_default-clause-malformed c =
 pub returns-in_err-new_bodies-clause-malformed : goal.returns-in_err-new_bodies-clause-malformed
 returns-in_err-new_bodies-clause-malformed c =
     let r = c.from_residual in
-    let p = err_from_is_err_and r.result r.ensures.1 in
-    λ place e. let is = sym p.2 ∙ same_failure r.result p.0 (rename.Malformed place) p.1 e in
-    code_malformed c.args.content.now c.in-Some.count c.read_u32.new.input.now (scan.Malformed place)
+    λ place e. code_malformed c.args.content.now c.in-Some.count c.read_u32.new.input.now (scan.Malformed place)
     c.in-Some.ensures
-    (c.in_err-new_bodies.ensures.malformed place (ap (λ x. Err x) is))
+    (c.in_err-new_bodies.ensures.malformed place (error_came r.result r.ensures.1 e))
 
 pub returns-in_err-new_bodies-clause-unknown : goal.returns-in_err-new_bodies-clause-unknown
 returns-in_err-new_bodies-clause-unknown c =
     let r = c.from_residual in
-    let p = err_from_is_err_and r.result r.ensures.1 in
-    λ k place e. let is = sym p.2 ∙ same_failure r.result p.0 (rename.UnknownType k place) p.1 e in
-    code_first c.args.new_indices.now c.args.widths
+    λ k place e. code_first c.args.new_indices.now c.args.widths
     (λ b. NamesUnknown c.args.new_indices.now body b k) c.args.content.now c.in-Some.count
-    c.read_u32.new.input.now c.in-Some.ensures (c.in_err-new_bodies.ensures.unknown k place (ap (λ x. Err x) is))
+    c.read_u32.new.input.now c.in-Some.ensures (c.in_err-new_bodies.ensures.unknown k place (error_came r.result r.ensures.1 e))
 
 pub returns-in_err-new_bodies-clause-too_long : goal.returns-in_err-new_bodies-clause-too_long
 returns-in_err-new_bodies-clause-too_long c =
     let r = c.from_residual in
-    let p = err_from_is_err_and r.result r.ensures.1 in
-    λ e. let is = sym p.2 ∙ same_failure r.result p.0 rename.TooLong p.1 e in
-    code_first c.args.new_indices.now c.args.widths
+    λ e. code_first c.args.new_indices.now c.args.widths
     (BecomesTooLong (RenamesTexts c.args.new_indices.now c.args.widths body)) c.args.content.now
     c.in-Some.count c.read_u32.new.input.now c.in-Some.ensures
-    (c.in_err-new_bodies.ensures.too_long (ap (λ x. Err x) is))
+    (c.in_err-new_bodies.ensures.too_long (error_came r.result r.ensures.1 e))
 
 pub returns-then-not-is_empty-clause-malformed : goal.returns-then-not-is_empty-clause-malformed
 returns-then-not-is_empty-clause-malformed c =

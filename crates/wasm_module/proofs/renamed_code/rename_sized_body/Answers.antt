@@ -1,6 +1,4 @@
-use Rattle.std.proofs.Common.{◌∙◌, ◌≤◌, ◌-◌, ◌^◌, ℕ, List, Err, length, sym, ap, subst, arith}
-use Rattle.std.proofs.lemmas.Result.{err_from_is_err_and}
-use Rattle.wasm_module.specs.declared.renaming.RenameError.TheVariants as rename
+use Rattle.std.proofs.Common.{◌≤◌, ◌-◌, ◌^◌, ℕ, List, length, sym, subst, arith}
 use Rattle.wasm_module.specs.declared.scan.ScanError.TheVariants as scan
 use Rattle.wasm_module.specs.Bodies.{body}
 use Rattle.wasm_module.specs.Changes.{Changes, BecomesTooLong}
@@ -11,7 +9,7 @@ use Rattle.wasm_module.specs.Steps.Renaming.{Appends}
 use Rattle.wasm_module.proofs.Changing.{if_none, if_some}
 use Rattle.wasm_module.proofs.ChangedCode.{cut_at, size_fits, sized_stays, sized_changes, sized_so, too_long}
 use Rattle.wasm_module.proofs.CodeSections.{body_sizeless, body_cut_off, body_malformed}
-use Rattle.wasm_module.proofs.Rewriting.{same_failure}
+use Rattle.wasm_module.proofs.Rewriting.{error_came}
 use Rattle.wasm_module.proofs.renamed_code.rename_sized_body.Goals as goal
 
 pub returns-in_default-clause-malformed : goal.returns-in_default-clause-malformed
@@ -26,9 +24,7 @@ returns-then-size-behind-clause-malformed c =
 pub returns-in_err-new_body-clause-malformed : goal.returns-in_err-new_body-clause-malformed
 returns-in_err-new_body-clause-malformed c =
     let r = c.from_residual in
-    let p = err_from_is_err_and r.result r.ensures.1 in
-    λ place e. let is = sym p.2 ∙ same_failure r.result p.0 (rename.Malformed place) p.1 e in
-    let no_text = c.in_err-new_body.ensures.malformed place (ap (λ x. Err x) is) in
+    λ place e. let no_text = c.in_err-new_body.ensures.malformed place (error_came r.result r.ensures.1 e) in
     body_malformed c.args.input.now.now c.in-Some.size c.read_u32.new.input.now c.split_at.result.0.now
     (scan.Malformed place) c.in-Some.ensures c.split_at.ensures.front (λ names n. no_text n.tokens n.are)
 
@@ -38,11 +34,9 @@ returns-in_err-new_body-clause-unknown c =
     c.split_at.result.1.now c.in-Some.ensures (omega (arith, c.if-size-behind.false))
     c.split_at.ensures.front c.split_at.ensures.back in
     let r = c.from_residual in
-    let p = err_from_is_err_and r.result r.ensures.1 in
-    λ k place e. let is = sym p.2 ∙ same_failure r.result p.0 (rename.UnknownType k place) p.1 e in
-    sized_so (λ b. NamesUnknown c.args.new_indices.now body b k) c.args.input.now.now
+    λ k place e. sized_so (λ b. NamesUnknown c.args.new_indices.now body b k) c.args.input.now.now
     c.split_at.result.0.now c.split_at.result.1.now c.read_u32.new.input.now cut
-    (c.in_err-new_body.ensures.unknown k place (ap (λ x. Err x) is))
+    (c.in_err-new_body.ensures.unknown k place (error_came r.result r.ensures.1 e))
 
 pub returns-in_default-new_body-clause-stays : goal.returns-in_default-new_body-clause-stays
 returns-in_default-new_body-clause-stays c =
@@ -76,14 +70,12 @@ returns-in_err-push_sized-clause-too_long c =
     c.split_at.result.1.now c.in-Some.ensures (omega (arith, c.if-size-behind.false))
     c.split_at.ensures.front c.split_at.ensures.back in
     let r = c.from_residual-in_err-push_sized in
-    let p = err_from_is_err_and r.result r.ensures.1 in
     let Texts = RenamesTexts c.args.new_indices.now c.args.widths body in
     let changes = if_some c.in_ok-new_body.new_body c.in-Some-new_body.new_body
     (λ x. Changes Texts c.split_at.result.0.now x.items) c.in-Some-new_body.is
     c.in_ok-new_body.ensures.changes in
-    λ e. let is = sym p.2 ∙ same_failure r.result p.0 rename.TooLong p.1 e in
-    let long = subst (λ (u : List ℕ). 2 ^ 32 ≤ length u) c.deref.ensures.value
-    (c.in_err-push_sized.ensures.too_long (ap (λ x. Err x) is)) in
+    λ e. let long = subst (λ (u : List ℕ). 2 ^ 32 ≤ length u) c.deref.ensures.value
+    (c.in_err-push_sized.ensures.too_long (error_came r.result r.ensures.1 e)) in
     sized_so (BecomesTooLong Texts) c.args.input.now.now c.split_at.result.0.now c.split_at.result.1.now
     c.read_u32.new.input.now cut
     (too_long Texts c.split_at.result.0.now c.in-Some-new_body.new_body.items changes long)

@@ -1,8 +1,6 @@
-use Rattle.std.proofs.Common.{◌∙◌, Err, sym, ap, rules}
-use Rattle.std.proofs.lemmas.Result.{err_from_is_err_and}
-use Rattle.wasm_module.specs.declared.renaming.RenameError.TheVariants as rename
+use Rattle.std.proofs.Common.{rules}
 use Rattle.wasm_module.specs.Sections.{placed}
-use Rattle.wasm_module.proofs.Rewriting.{same_failure}
+use Rattle.wasm_module.proofs.Rewriting.{error_came}
 use Rattle.wasm_module.proofs.RenamedModules.{Renamed, section_placed, section_whole, walk_begun, none_renamed, module_on, module_renamed, module_malformed, module_unknown, module_too_long}
 use Rattle.wasm_module.proofs.renamed_module.rename_module.Goals as goal
 
@@ -59,35 +57,29 @@ pub returns-in_err-write_section-clause-malformed : goal.returns-in_err-write_se
 returns-in_err-write_section-clause-malformed c =
     let s = c.in-Some.section in
     let r = c.from_residual-in_err-write_section in
-    let p = err_from_is_err_and r.result r.ensures.1 in
-    λ place e. let is = sym p.2 ∙ same_failure r.result p.0 (rename.Malformed place) p.1 e in
-    module_malformed c.args.types.now c.args.new_indices.now c.args.widths c.args.bytes.now c.in-Ok.found
+    λ place e. module_malformed c.args.types.now c.args.new_indices.now c.args.widths c.args.bytes.now c.in-Ok.found
     c.loop-section.left c.next.new.self c.loop-section.out.items
     (placed s.offset s.content_offset s.id s.content.now) c.in-Ok.ensures.module c.loop-section.invariant.2
-    c.in-Some.ensures.steps (c.in_err-write_section.ensures.malformed place (ap (λ x. Err x) is))
+    c.in-Some.ensures.steps (c.in_err-write_section.ensures.malformed place (error_came r.result r.ensures.1 e))
 
 pub returns-in_err-write_section-clause-unknown : goal.returns-in_err-write_section-clause-unknown
 returns-in_err-write_section-clause-unknown c =
     let s = c.in-Some.section in
     let r = c.from_residual-in_err-write_section in
-    let p = err_from_is_err_and r.result r.ensures.1 in
-    λ k place e. let is = sym p.2 ∙ same_failure r.result p.0 (rename.UnknownType k place) p.1 e in
-    module_unknown c.args.types.now c.args.new_indices.now c.args.widths k c.args.bytes.now c.in-Ok.found
+    λ k place e. module_unknown c.args.types.now c.args.new_indices.now c.args.widths k c.args.bytes.now c.in-Ok.found
     c.loop-section.left c.next.new.self c.loop-section.out.items
     (placed s.offset s.content_offset s.id s.content.now) c.in-Ok.ensures.module c.loop-section.invariant.2
-    c.in-Some.ensures.steps (c.in_err-write_section.ensures.unknown k place (ap (λ x. Err x) is))
+    c.in-Some.ensures.steps (c.in_err-write_section.ensures.unknown k place (error_came r.result r.ensures.1 e))
 
 pub returns-in_err-write_section-clause-too_long : goal.returns-in_err-write_section-clause-too_long
 returns-in_err-write_section-clause-too_long c =
     let s = c.in-Some.section in
     let r = c.from_residual-in_err-write_section in
-    let p = err_from_is_err_and r.result r.ensures.1 in
-    λ e. let is = sym p.2 ∙ same_failure r.result p.0 rename.TooLong p.1 e in
-    module_too_long c.args.types.now c.args.new_indices.now c.args.widths c.args.bytes.now c.in-Ok.found
+    λ e. module_too_long c.args.types.now c.args.new_indices.now c.args.widths c.args.bytes.now c.in-Ok.found
     c.loop-section.left c.next.new.self c.loop-section.out.items
     (placed s.offset s.content_offset s.id s.content.now) c.section_text-text.result.now
     c.in-Ok.ensures.module c.loop-section.invariant.2 c.in-Some.ensures.steps c.section_text-text.ensures
-    (c.in_err-write_section.ensures.too_long (ap (λ x. Err x) is))
+    (c.in_err-write_section.ensures.too_long (error_came r.result r.ensures.1 e))
 
 pub returns-clause-renamed : goal.returns-clause-renamed
 returns-clause-renamed c =

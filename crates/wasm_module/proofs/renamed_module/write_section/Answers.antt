@@ -1,10 +1,9 @@
-use Rattle.std.proofs.Common.{◌∙◌, Err, sym, ap, arith}
-use Rattle.std.proofs.lemmas.Result.{IfOk-weaker, err_from_is_err_and}
-use Rattle.wasm_module.specs.declared.renaming.RenameError.TheVariants as rename
+use Rattle.std.proofs.Common.{arith}
+use Rattle.std.proofs.lemmas.Result.{IfOk-weaker}
 use Rattle.wasm_module.specs.Changes.{Changes}
 use Rattle.wasm_module.specs.RenamedModules.{RenamesAny}
 use Rattle.wasm_module.proofs.Changing.{if_some}
-use Rattle.wasm_module.proofs.Rewriting.{same_failure}
+use Rattle.wasm_module.proofs.Rewriting.{error_came}
 use Rattle.wasm_module.proofs.RenamedSections.{none_is, least_short, types_written, changed_written, kept_written, types_too_long, part_too_long, whole_too_long}
 use Rattle.wasm_module.proofs.renamed_module.write_section.Goals as goal
 
@@ -24,11 +23,9 @@ returns-then-section-eq-TYPES-clause-too_long c = λ e. types_too_long c.args.ty
 pub returns-in_err-new-clause-too_long : goal.returns-in_err-new-clause-too_long
 returns-in_err-new-clause-too_long c =
     let r = c.from_residual in
-    let p = err_from_is_err_and r.result r.ensures.1 in
-    λ e. let is = sym p.2 ∙ same_failure r.result p.0 rename.TooLong p.1 e in
-    part_too_long c.args.types.now c.args.new_indices.now c.args.widths c.args.text.now c.args.section.id
+    λ e. part_too_long c.args.types.now c.args.new_indices.now c.args.widths c.args.text.now c.args.section.id
     c.args.section.content.now c.requires (λ k. omega (arith, k, c.if-section-eq-TYPES.false))
-    (c.in_err-new.ensures.too_long (ap (λ x. Err x) is))
+    (c.in_err-new.ensures.too_long (error_came r.result r.ensures.1 e))
 
 pub push_new_section-requires : goal.push_new_section-requires
 push_new_section-requires c =

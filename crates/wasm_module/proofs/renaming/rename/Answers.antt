@@ -1,10 +1,9 @@
-use Rattle.std.proofs.Common.{◌≡◌, ◌∙◌, ℕ, List, Err, length, sym, ap, subst, arith}
-use Rattle.std.proofs.lemmas.Result.{err_from_is_err_and}
+use Rattle.std.proofs.Common.{◌≡◌, ◌∙◌, ℕ, List, length, sym, ap, subst, arith}
 use Rattle.wasm_module.specs.declared.renaming.RenameError.TheVariants as rename
 use Rattle.wasm_module.specs.Renaming.{least_width}
 use Rattle.wasm_module.specs.Steps.Scans.{IsRefused}
 use Rattle.wasm_module.proofs.Searching.{found_type, found_none, passes_shorter}
-use Rattle.wasm_module.proofs.Rewriting.{written_begun, written_on, written_stays, written_shorter, written_ended, rename_malformed, names_unknown, is_malformed, same_failure}
+use Rattle.wasm_module.proofs.Rewriting.{written_begun, written_on, written_stays, written_shorter, written_ended, rename_malformed, names_unknown, is_malformed, failure_is, error_came}
 use Rattle.wasm_module.proofs.WholeTexts.{empty, not_empty}
 use Rattle.wasm_module.proofs.renaming.rename.Goals as goal
 
@@ -16,9 +15,8 @@ loop-stack-init c =
 pub returns-in_err-found-clause-malformed : goal.returns-in_err-found-clause-malformed
 returns-in_err-found-clause-malformed c =
     let l = c.loop-stack in
-    let p = err_from_is_err_and c.from_residual.result c.from_residual.ensures.1 in
-    λ place e. let is = is_malformed c.in_err-found.field-0.0 place (sym p.2
-    ∙ same_failure c.from_residual.result p.0 (rename.Malformed place) p.1 e) in
+    let r = c.from_residual in
+    λ place e. let is = is_malformed c.in_err-found.field-0.0 place (failure_is r.result r.ensures.1 e) in
     rename_malformed place c.args.new_indices.now (least_width c.args.widths) c.args.kinds c.args.input.now.now
     l.input.now l.stack l.out.items l.invariant.so_far
     (subst (λ x. IsRefused l.stack l.input.now x) is c.in_err-found.ensures.refused)
@@ -56,11 +54,9 @@ returns-in_err-write_index-clause-unknown c =
     let h = found_type c.in_ok-found.field-0 c.in-Some.found l.stack n.stack l.input.now n.input.now
     c.in-Some.is c.in_ok-found.ensures.passed in
     let r = c.from_residual-in_err-write_index in
-    let p = err_from_is_err_and r.result r.ensures.1 in
-    λ k place e. let is = sym p.2 ∙ same_failure r.result p.0 (rename.UnknownType k place) p.1 e in
-    names_unknown c.args.new_indices.now (least_width c.args.widths) c.args.kinds c.args.input.now.now
+    λ k place e. names_unknown c.args.new_indices.now (least_width c.args.widths) c.args.kinds c.args.input.now.now
     l.input.now n.input.now l.stack n.stack l.out.items c.in-Some.found k l.invariant.so_far h
-    (c.in_err-write_index.ensures.unknown k place (ap (λ x. Err x) is))
+    (c.in_err-write_index.ensures.unknown k place (error_came r.result r.ensures.1 e))
 
 pub loop-stack-smaller : goal.loop-stack-smaller
 loop-stack-smaller c =

@@ -1,19 +1,15 @@
-use Rattle.std.proofs.Common.{◌∙◌, Err, sym, ap}
-use Rattle.std.proofs.lemmas.Result.{err_from_is_err_and}
 use Rattle.wasm_module.specs.declared.renaming.RenameError.TheVariants as rename
 use Rattle.wasm_module.specs.RenamedSections.{RenamesTexts}
 use Rattle.wasm_module.specs.Renaming.{IsNoText}
 use Rattle.wasm_module.proofs.Changing.{in_both, none_weaker, some_weaker, whole_stays, whole_changes}
-use Rattle.wasm_module.proofs.Rewriting.{same_failure, none_whole, stays_trailed, changes_trailed}
+use Rattle.wasm_module.proofs.Rewriting.{error_came, none_whole, stays_trailed, changes_trailed}
 use Rattle.wasm_module.proofs.WholeTexts.{empty, not_empty}
 use Rattle.wasm_module.proofs.renaming.rename_whole.Goals as goal
 
 pub returns-in_err-new-clause-malformed : goal.returns-in_err-new-clause-malformed
 returns-in_err-new-clause-malformed c =
     let r = c.from_residual in
-    let p = err_from_is_err_and r.result r.ensures.1 in
-    λ place e. let is = sym p.2 ∙ same_failure r.result p.0 (rename.Malformed place) p.1 e in
-    none_whole c.args.kinds c.args.bytes.now (c.in_err-new.ensures.malformed place (ap (λ x. Err x) is))
+    λ place e. none_whole c.args.kinds c.args.bytes.now (c.in_err-new.ensures.malformed place (error_came r.result r.ensures.1 e))
 
 pub returns-then-not-is_empty-clause-malformed : goal.returns-then-not-is_empty-clause-malformed
 returns-then-not-is_empty-clause-malformed c =
