@@ -12,14 +12,15 @@ use Rattle.wasm_module.specs.declared.scan.ScanError.TheVariants as scan
 use Rattle.wasm_module.specs.declared.renaming.RenameError.TheVariants as rename
 use Rattle.wasm_module.specs.declared.renaming.Widths.{Widths}
 use Rattle.wasm_module.specs.declared.scan.TypeIndex.{TypeIndex}
-use Rattle.wasm_module.specs.Immediates.{Token, unsigned, signed, type_name, stop, AreTexts, names_of, type_names}
+use Rattle.wasm_module.specs.Immediates.{Token, unsigned, signed, type_name, AreTexts, names_of, type_names}
 use Rattle.wasm_module.specs.Bodies.{Names}
 use Rattle.wasm_module.specs.RenamedSections.{RenamesTexts}
 use Rattle.wasm_module.specs.Renaming.{NewIndices, new_index, type_maps, least_width, IsTextOf, text_of, Becomes, stays, u32, s33, IsRenamed, Renames, RenamesPrefix, BeginsNoText, IsNoText, NamesUnknown}
 use Rattle.wasm_module.specs.Steps.Changes.{KeepsPrefix, ChangesPrefix}
 use Rattle.wasm_module.specs.Steps.Renaming.{Appends, index_end, IsNewIndex, same_error}
 use Rattle.wasm_module.specs.Steps.Scans.{IsRefused, Reads, token_of, PassesType, PassesNone}
-use Rattle.wasm_module.proofs.Searching.{reads_join, passed_names, type_names_append, refused_behind}
+use Rattle.wasm_module.proofs.Scanning.{none_read, reads_join}
+use Rattle.wasm_module.proofs.Searching.{passed_names, type_names_append, refused_behind}
 use Rattle.wasm_module.proofs.WholeTexts.{left_over}
 use Rattle.wasm_module.proofs.Changing.{prefix_empty, back_empty, before}
 use Rattle.wasm_module.proofs.Padding.{integer_some}
@@ -123,7 +124,7 @@ named_some : (t : TypeIndex) (stack left : List Kind) (rest after : List ℕ) (t
 named_some t stack left rest after tokens h e =
     let last = back_empty (type_names tokens) (type_names (h.passed ++ token_of t h.text ∷ []))
     (sym (type_names_append tokens (h.passed ++ token_of t h.text ∷ [])) ∙ e) in
-    one_some t.index (sym (passed_names t stack left rest after h) ∙ last)
+    one_some t.index (sym (passed_names h) ∙ last)
 
 rename_on : (new_indices : NewIndices) (least : ℕ → ℕ) (start : List Kind) (bytes rest after : List ℕ)
     (stack left : List Kind) (out mid new text : List ℕ) (n : ℕ) (t : TypeIndex)
@@ -140,7 +141,7 @@ rename_on new_indices least start bytes rest after stack left out mid new text n
     ∙ append_assoc out (texts_of h.passed) text in (
       record {
         tokens = s.tokens ++ (h.passed ++ last);
-        reads = reads_join start stack left s.tokens (h.passed ++ last) bytes rest after s.reads h.reads;
+        reads = reads_join s.reads h.reads;
         renamed = subst (λ (u : List ℕ). AreItems IsText u (s.tokens ++ (h.passed ++ last))) (sym is)
             (items_join IsText out (texts_of h.passed ++ text) s.tokens (h.passed ++ last) s.renamed
             (items_join IsText (texts_of h.passed) text h.passed last
@@ -175,7 +176,7 @@ rename_ended : (new_indices : NewIndices) (widths : Widths) (start : List Kind) 
     → n ≡ length rest - length after → new ≡ out ++ take n rest
     → ChangesPrefix (RenamesTexts new_indices widths start) bytes after new
 rename_ended new_indices widths start bytes rest after stack left out new n s some h n-is new-is =
-    let r = reads_join start stack [] s.tokens h.passed bytes rest after s.reads h.reads in
+    let r = reads_join s.reads h.reads in
     let IsText = Becomes (type_maps new_indices) (least_width widths) in
     let long : length rest ≡ length h.reads.text + length after = ap (λ (u : List ℕ). length u) h.reads.parts
     ∙ length-append h.reads.text after in
@@ -205,12 +206,12 @@ rename_ended new_indices widths start bytes rest after stack left out new n s so
 
 -- ---- what is refused
 
-pub rename_malformed : (place : ℕ) (new_indices : NewIndices) (least : ℕ → ℕ) (start : List Kind) (bytes rest : List ℕ)
-    (stack : List Kind) (out : List ℕ) → Renaming new_indices least start bytes rest stack out →
-    IsRefused stack rest (scan.Malformed place) → BeginsNoText start bytes
-rename_malformed place new_indices least start bytes rest stack out s h =
-    let k = refused_behind start stack s.tokens bytes rest (scan.Malformed place) s.reads h in
-    λ text after parts tokens are. k text after tokens parts are
+module _ {new_indices : NewIndices} {least : ℕ → ℕ} {start stack : List Kind} {bytes rest out : List ℕ}
+    (s : Renaming new_indices least start bytes rest stack out) where
+  pub rename_malformed : (place : ℕ) → IsRefused stack rest (scan.Malformed place) → BeginsNoText start bytes
+  rename_malformed place h =
+      let k = refused_behind start stack s.tokens bytes rest (scan.Malformed place) s.reads h in
+      λ text after parts tokens are. k text after tokens parts are
 
 abbrev pub some_map : (ℕ → Option ℕ) → Option (ℕ → Option ℕ)
 some_map m = Some m
@@ -256,27 +257,27 @@ all_known new_indices least _ _ (next text others p tokens h hs) =
     known_next (HasNew new_indices) (type_name p) (type_names tokens)
     (becomes_known new_indices least p text (view p) h) (all_known new_indices least tokens others hs)
 
-pub names_unknown : (new_indices : NewIndices) (least : ℕ → ℕ) (start : List Kind) (bytes rest after : List ℕ)
-    (stack left : List Kind) (out : List ℕ) (t : TypeIndex) (k : ℕ)
-    → Renaming new_indices least start bytes rest stack out → PassesType t stack left rest after
-    → (k ≡ t.index) × (new_index new_indices k ≡ None) → NamesUnknown new_indices start bytes k
-names_unknown new_indices least start bytes rest after stack left out t k s h u =
-    let last = token_of t h.text ∷ [] in
-    let r = reads_join start stack left s.tokens (h.passed ++ last) bytes rest after s.reads h.reads in
-    record {
-      text = r.text;
-      rest = after;
-      parts = r.parts;
-      tokens = s.tokens ++ (h.passed ++ last);
-      left = left;
-      runs = r.runs;
-      known = type_names s.tokens;
-      names = type_names_append s.tokens (h.passed ++ last)
-          ∙ ap (λ (u : List ℕ). type_names s.tokens ++ u) (passed_names t stack left rest after h
-          ∙ ap (λ j. j ∷ []) (sym u.0));
-      are_known = all_known new_indices least s.tokens out s.renamed;
-      unknown = u.1;
-    }
+module _ {new_indices : NewIndices} {least : ℕ → ℕ} {start stack left : List Kind}
+    {bytes rest after out : List ℕ} {t : TypeIndex}
+    (s : Renaming new_indices least start bytes rest stack out) (h : PassesType t stack left rest after) where
+  pub names_unknown : (k : ℕ) → (k ≡ t.index) × (new_index new_indices k ≡ None) →
+      NamesUnknown new_indices start bytes k
+  names_unknown k u =
+      let last = token_of t h.text ∷ [] in
+      let r = reads_join s.reads h.reads in
+      record {
+        text = r.text;
+        rest = after;
+        parts = r.parts;
+        tokens = s.tokens ++ (h.passed ++ last);
+        left = left;
+        runs = r.runs;
+        known = type_names s.tokens;
+        names = type_names_append s.tokens (h.passed ++ last)
+            ∙ ap (λ (u : List ℕ). type_names s.tokens ++ u) (passed_names h ∙ ap (λ j. j ∷ []) (sym u.0));
+        are_known = all_known new_indices least s.tokens out s.renamed;
+        unknown = u.1;
+      }
 
 -- ---- the function
 
@@ -295,7 +296,7 @@ written_begun new_indices least start bytes out e =
     record {
       so_far = record {
         tokens = [];
-        reads = record { text = []; parts = refl; runs = stop start };
+        reads = none_read start bytes;
         renamed = subst (λ (u : List ℕ). IsRenamed (type_maps new_indices) least [] u) (sym e) none;
       };
       here = refl;
@@ -303,62 +304,63 @@ written_begun new_indices least start bytes out e =
       named = λ some h. some e;
     }
 
-pub written_on : (new_indices : NewIndices) (least : ℕ → ℕ) (start : List Kind)
-    (bytes rest after unwritten : List ℕ) (stack left : List Kind) (out mid new : List ℕ) (t : TypeIndex)
-    → IsWritten new_indices least start bytes rest unwritten stack out → PassesType t stack left rest after
-    → mid ≡ out ++ take (length unwritten - length after - t.length) unwritten
-    → Appends (λ text. IsNewIndex new_indices least t text) mid new
-    → IsWritten new_indices least start bytes after after left new
-written_on new_indices least start bytes rest after unwritten stack left out mid new t w h e a =
-    let n : ℕ = length unwritten - length after - t.length in
-    let r = rename_on new_indices least start bytes rest after stack left out mid new a.text n t w.so_far h
-    (ap (λ (u : List ℕ). length u - length after - t.length) w.here)
-    (e ∙ ap (λ (u : List ℕ). out ++ take n u) w.here) a.is_text a.parts in
-    record {
-      so_far = r.0;
-      here = refl;
-      bare = λ nothing. absurd (index_some new_indices least t a.text a.is_text
-          (back_empty mid a.text (sym a.parts ∙ nothing)));
-      named = λ some. r.1;
-    }
+module _ {new_indices : NewIndices} {least : ℕ → ℕ} {start stack left : List Kind}
+    {bytes rest after unwritten out : List ℕ} {t : TypeIndex}
+    (w : IsWritten new_indices least start bytes rest unwritten stack out)
+    (h : PassesType t stack left rest after) where
+  pub written_fits : length after + t.length ≤ length unwritten
+  written_fits = let here = ap (λ (u : List ℕ). length u) w.here in omega (arith, h.fits, here)
 
-pub written_stays : (new_indices : NewIndices) (widths : Widths) (start : List Kind)
-    (bytes rest after unwritten : List ℕ) (stack left : List Kind) (out : List ℕ)
-    → IsWritten new_indices (least_width widths) start bytes rest unwritten stack out
-    → PassesNone stack left rest after → out ≡ []
-    → KeepsPrefix (RenamesTexts new_indices widths start) bytes after
-written_stays new_indices widths start bytes rest after unwritten stack left out w h e =
-    let s = w.so_far in
-    let r = reads_join start stack [] s.tokens h.passed bytes rest after s.reads h.reads in
-    let unnamed : type_names (s.tokens ++ h.passed) ≡ [] = type_names_append s.tokens h.passed
-    ∙ ap (λ (u : List ℕ). u ++ type_names h.passed) (w.bare e) ∙ h.none in
-    record {
-      text = r.text;
-      parts = r.parts;
-      stays = texts_stay new_indices widths start r.text (s.tokens ++ h.passed) r.runs unnamed;
-    }
+  pub written_on : {mid new : List ℕ} → mid ≡ out ++ take (length unwritten - length after - t.length) unwritten
+      → Appends (λ text. IsNewIndex new_indices least t text) mid new
+      → IsWritten new_indices least start bytes after after left new
+  written_on {mid = mid} {new = new} e a =
+      let n : ℕ = length unwritten - length after - t.length in
+      let r = rename_on new_indices least start bytes rest after stack left out mid new a.text n t w.so_far h
+      (ap (λ (u : List ℕ). length u - length after - t.length) w.here)
+      (e ∙ ap (λ (u : List ℕ). out ++ take n u) w.here) a.is_text a.parts in
+      record {
+        so_far = r.0;
+        here = refl;
+        bare = λ nothing. absurd (index_some new_indices least t a.text a.is_text
+            (back_empty mid a.text (sym a.parts ∙ nothing)));
+        named = λ some. r.1;
+      }
 
-pub written_ended : (new_indices : NewIndices) (widths : Widths) (start : List Kind)
-    (bytes rest after unwritten : List ℕ) (stack left : List Kind) (out new : List ℕ)
-    → IsWritten new_indices (least_width widths) start bytes rest unwritten stack out → (out ≡ [] → ⊥)
-    → PassesNone stack left rest after → new ≡ out ++ take (length unwritten - length after) unwritten
-    → ChangesPrefix (RenamesTexts new_indices widths start) bytes after new
-written_ended new_indices widths start bytes rest after unwritten stack left out new w some h e =
-    let n : ℕ = length unwritten - length after in
-    rename_ended new_indices widths start bytes rest after stack left out new n w.so_far (w.named some) h
-    (ap (λ (u : List ℕ). length u - length after) w.here)
-    (e ∙ ap (λ (u : List ℕ). out ++ take n u) w.here)
+module _ {new_indices : NewIndices} {start stack left : List Kind} {bytes rest after unwritten out : List ℕ} where
+  pub written_stays : (widths : Widths) →
+      IsWritten new_indices (least_width widths) start bytes rest unwritten stack out →
+      PassesNone stack left rest after → out ≡ [] →
+      KeepsPrefix (RenamesTexts new_indices widths start) bytes after
+  written_stays widths w h e =
+      let s = w.so_far in
+      let r = reads_join s.reads h.reads in
+      let unnamed : type_names (s.tokens ++ h.passed) ≡ [] = type_names_append s.tokens h.passed
+      ∙ ap (λ (u : List ℕ). u ++ type_names h.passed) (w.bare e) ∙ h.none in
+      record {
+        text = r.text;
+        parts = r.parts;
+        stays = texts_stay new_indices widths start r.text (s.tokens ++ h.passed) r.runs unnamed;
+      }
 
--- what is left is no longer than the bytes
-pub written_shorter : (new_indices : NewIndices) (least : ℕ → ℕ) (start : List Kind)
-    (bytes rest after unwritten : List ℕ) (stack left : List Kind) (out : List ℕ)
-    → IsWritten new_indices least start bytes rest unwritten stack out → PassesNone stack left rest after
-    → length after ≤ length bytes
-written_shorter new_indices least start bytes rest after unwritten stack left out w h =
-    let r = w.so_far.reads in
-    let long : length bytes ≡ length r.text + length rest = ap (λ (u : List ℕ). length u) r.parts
-    ∙ length-append r.text rest in
-    omega (arith, long, h.fits)
+  pub written_ended : (widths : Widths) {new : List ℕ} →
+      IsWritten new_indices (least_width widths) start bytes rest unwritten stack out → (out ≡ [] → ⊥) →
+      PassesNone stack left rest after → new ≡ out ++ take (length unwritten - length after) unwritten →
+      ChangesPrefix (RenamesTexts new_indices widths start) bytes after new
+  written_ended widths {new = new} w some h e =
+      let n : ℕ = length unwritten - length after in
+      rename_ended new_indices widths start bytes rest after stack left out new n w.so_far (w.named some) h
+      (ap (λ (u : List ℕ). length u - length after) w.here)
+      (e ∙ ap (λ (u : List ℕ). out ++ take n u) w.here)
+
+  -- what is left is no longer than the bytes
+  pub written_shorter : {least : ℕ → ℕ} → IsWritten new_indices least start bytes rest unwritten stack out →
+      PassesNone stack left rest after → length after ≤ length bytes
+  written_shorter w h =
+      let r = w.so_far.reads in
+      let long : length bytes ≡ length r.text + length rest = ap (λ (u : List ℕ). length u) r.parts
+      ∙ length-append r.text rest in
+      omega (arith, long, h.fits)
 
 pub is_malformed : (e : ScanError) (place : ℕ) → same_error e ≡ rename.Malformed place → e ≡ scan.Malformed place
 is_malformed (scan.Malformed at) place h = ap scan.Malformed (same_place at place h)

@@ -1,12 +1,11 @@
 -- A scan goes along the one way in which bytes can be a text.
 use Rattle.std.proofs.Common.{◌≡◌, ℕ, ◌+◌, ◌<◌, List, [], ◌∷◌, ◌++◌, length, Ok, refl, sym, ap, subst, ◌∙◌, arith, append_assoc, append-nil, length-append}
-use Rattle.std.proofs.lemmas.Grind.{flat_map-append}
 use Rattle.wasm_binary.specs.Leb128.{IsInteger, last, more}
 use Rattle.wasm_binary.proofs.Basics.{Reading, done, value_is, rest_is}
 use Rattle.wasm_module.specs.declared.kind.Kind.{Kind}
-use Rattle.wasm_module.specs.Immediates.{IsSigned, positive, negative, longer, Token, type_name, Begins, index, signed_index, number, byte, offset, i32, i64, raw, byte_vec, import, Runs, stop, step, AreTexts, names_of, type_names}
+use Rattle.wasm_module.specs.Immediates.{IsSigned, positive, negative, longer, Token, type_name, Begins, index, signed_index, number, byte, offset, i32, i64, raw, byte_vec, import, Runs, stop, step, AreTexts, type_names}
 use Rattle.wasm_module.specs.Steps.Heads.{Beginning, beginning, begin_at, fault}
-use Rattle.wasm_module.specs.Steps.Scans.{IsScanned}
+use Rattle.wasm_module.specs.Steps.Scans.{Reads, PassesTokens}
 use Rattle.wasm_module.proofs.Heads.{begin_sound, begin_again}
 
 -- ---- a beginning has a byte at least
@@ -45,19 +44,43 @@ shorter k bytes b rest e =
 
 -- ---- runs
 
--- one beginning more
-pub runs_on : (kinds : List Kind) (text : List ℕ) (tokens : List Token) (next : Kind) (stack : List Kind)
-    (t : List ℕ) (token : Token) (behind : List Kind) → Runs kinds text tokens (next ∷ stack) →
-    Begins next t token behind
-    → Runs kinds (text ++ t) (tokens ++ token ∷ []) (behind ++ stack)
-runs_on _ _ _ next stack t token behind (stop _) b =
-    subst (λ (u : List ℕ). Runs (next ∷ stack) u (token ∷ []) (behind ++ stack)) (append-nil t)
-    (step next behind stack (behind ++ stack) t [] token [] b (stop (behind ++ stack)))
-runs_on _ _ _ next stack t token behind (step k inner kinds _ text others first tokens h runs) b =
-    subst (λ (u : List ℕ). Runs (k ∷ kinds) u (first ∷ (tokens ++ token ∷ [])) (behind ++ stack))
-    (sym (append_assoc text others t))
-    (step k inner kinds (behind ++ stack) text (others ++ t) first (tokens ++ token ∷ []) h
-    (runs_on (inner ++ kinds) others tokens next stack t token behind runs b))
+runs_join : (start : List Kind) (text : List ℕ) (tokens : List Token) (left : List Kind)
+    (others : List ℕ) (further : List Token) (new : List Kind) → Runs start text tokens left
+    → Runs left others further new → Runs start (text ++ others) (tokens ++ further) new
+runs_join _ _ _ left others further new (stop _) b = b
+runs_join _ _ _ left others further new (step k inner kinds _ text behind first tokens h runs) b =
+    subst (λ (u : List ℕ). Runs (k ∷ kinds) u (first ∷ (tokens ++ further)) new)
+    (sym (append_assoc text behind others))
+    (step k inner kinds new text (behind ++ others) first (tokens ++ further) h
+    (runs_join (inner ++ kinds) behind tokens left others further new runs b))
+
+-- nothing was read
+pub none_read : (start : List Kind) (bytes : List ℕ) → Reads start start [] bytes bytes
+none_read start bytes = record { text = []; parts = refl; runs = stop start }
+
+-- one beginning was read
+pub one_read : (k : Kind) (stack : List Kind) (bytes rest : List ℕ) (b : Beginning)
+    (e : begin_at k bytes ≡ Ok (b, rest)) →
+    Reads (k ∷ stack) (b.more ++ stack) ((begin_sound k bytes b rest e).is_text.token ∷ []) bytes rest
+one_read k stack bytes rest b e =
+    let h = begin_sound k bytes b rest e in
+    let left = b.more ++ stack in
+    record {
+      text = h.text ++ [];
+      parts = h.parts ∙ ap (λ (u : List ℕ). u ++ rest) (sym (append-nil h.text));
+      runs = step k b.more stack left h.text [] h.is_text.token [] h.is_text.begins (stop left);
+    }
+
+-- more was read behind it
+module _ {start stack left : List Kind} {tokens further : List Token} {bytes rest after : List ℕ} where
+  pub reads_join : Reads start stack tokens bytes rest → Reads stack left further rest after →
+      Reads start left (tokens ++ further) bytes after
+  reads_join a b =
+      record {
+        text = a.text ++ b.text;
+        parts = a.parts ∙ ap (λ (u : List ℕ). a.text ++ u) b.parts ∙ sym (append_assoc a.text b.text after);
+        runs = runs_join start a.text tokens stack b.text further left a.runs b.runs;
+      }
 
 -- what is left of a text behind the beginnings that were read
 pub record Rest (left : List Kind) (bytes after : List ℕ) : Type 0 where
@@ -98,63 +121,39 @@ follows _ _ _ left rest whole all after (step k behind kinds _ text others token
     follows (behind ++ kinds) others tokens left rest f.1 f.3 after runs
     (subst (λ (u : List Kind). AreTexts (u ++ kinds) f.1 f.3) (sym s.0) f.6) s.1
 
--- ---- the loop
-
--- the bytes up to `rest` were read, these kinds are still to come, and these types were named
-pub record State (start : List Kind) (bytes rest : List ℕ) (stack : List Kind) (named : List ℕ) : Type 0 where
-  pub text : List ℕ
-  pub tokens : List Token
-  pub parts : bytes ≡ text ++ rest
-  pub runs : Runs start text tokens stack
-  pub names : named ≡ type_names tokens
-
-pub begun : (start : List Kind) (bytes : List ℕ) → State start bytes bytes start []
-begun start bytes = record { text = []; tokens = []; parts = refl; runs = stop start; names = refl }
-
-pub goes_on : (start : List Kind) (bytes rest after : List ℕ) (next : Kind) (stack new : List Kind)
-    (named later : List ℕ) (b : Beginning) → State start bytes rest (next ∷ stack) named
-    → begin_at next rest ≡ Ok (b, after) → new ≡ b.more ++ stack → later ≡ named ++ names_of b.named →
-    State start bytes after new later
-goes_on start bytes rest after next stack new named later b s e new-is later-is =
-    let t = begin_sound next rest b after e in
-    let h = t.is_text in
-    record {
-      text = s.text ++ t.text;
-      tokens = s.tokens ++ h.token ∷ [];
-      parts = s.parts ∙ ap (λ (u : List ℕ). s.text ++ u) t.parts ∙ sym (append_assoc s.text t.text after);
-      runs = subst (λ (u : List Kind). Runs start (s.text ++ t.text) (s.tokens ++ h.token ∷ []) u)
-          (sym new-is) (runs_on start s.text s.tokens next stack t.text h.token b.more s.runs h.begins);
-      names =
-          later-is ∙ ap (λ (u : List ℕ). u ++ names_of b.named) s.names
-          ∙ ap (λ o. type_names s.tokens ++ names_of o) (sym h.names)
-          ∙ ap (λ (u : List ℕ). type_names s.tokens ++ u) (sym (append-nil (names_of (type_name h.token))))
-          ∙ sym (flat_map-append (λ p. names_of (type_name p)) s.tokens (h.token ∷ []));
-    }
-
-pub scanned : (start : List Kind) (bytes rest : List ℕ) (stack : List Kind) (named : List ℕ) →
-    State start bytes rest stack named → stack ≡ [] → IsScanned start bytes rest named
-scanned start bytes rest stack named s e =
-    record {
-      text = s.text;
-      tokens = s.tokens;
-      parts = s.parts;
-      are =
-          subst (λ (u : List Kind). Runs start s.text s.tokens u) e s.runs;
-      named = s.names;
-    }
+-- ---- what no text begins
 
 no_reading : (x : Reading Beginning) (left : List ℕ) (b : Beginning) (rest : List ℕ) → x ≡ fault left →
     x ≡ Ok (b, rest) → ⊥
 no_reading x left b rest e h = absurd cc
 
+-- no text begins where none goes on behind what was read
+pub none_goes_on : (start stack : List Kind) (tokens : List Token) (bytes rest : List ℕ) →
+    Reads start stack tokens bytes rest
+    → ((text after : List ℕ) (ps : List Token) → rest ≡ text ++ after → AreTexts stack text ps → ⊥)
+    → (text after : List ℕ) (ps : List Token) → bytes ≡ text ++ after → AreTexts start text ps → ⊥
+none_goes_on start stack tokens bytes rest a none text after ps parts h =
+    let r = follows start a.text tokens stack rest text ps after a.runs h (sym a.parts ∙ parts) in
+    none r.text after r.tokens r.parts r.are
+
 pub refused : (start : List Kind) (bytes rest left : List ℕ) (next : Kind) (stack : List Kind)
-    (named : List ℕ) → State start bytes rest (next ∷ stack) named → begin_at next rest ≡ fault left
+    → PassesTokens start (next ∷ stack) bytes rest → begin_at next rest ≡ fault left
     → (text after : List ℕ) (tokens : List Token) → bytes ≡ text ++ after → AreTexts start text tokens → ⊥
-refused start bytes rest left next stack named s e text after tokens parts h =
-    let r = follows start s.text s.tokens (next ∷ stack) rest text tokens after s.runs h (sym s.parts ∙ parts)
-    in
-    let f = first_of next stack r.text r.tokens r.are in
-    let whole : rest ≡ f.0 ++ (f.1 ++ after) = r.parts ∙ ap (λ (u : List ℕ). u ++ after) f.7
+refused start bytes rest left next stack p e =
+    none_goes_on start (next ∷ stack) p.passed bytes rest p.reads
+    (λ text after tokens parts are. let f = first_of next stack text tokens are in
+    let whole : rest ≡ f.0 ++ (f.1 ++ after) = parts ∙ ap (λ (u : List ℕ). u ++ after) f.7
     ∙ append_assoc f.0 f.1 after in
     no_reading (begin_at next rest) left (beginning (type_name f.2) f.4) (f.1 ++ after) e
-    (ap (begin_at next) whole ∙ begin_again next f.0 f.2 f.4 (f.1 ++ after) f.5)
+    (ap (begin_at next) whole ∙ begin_again next f.0 f.2 f.4 (f.1 ++ after) f.5))
+
+-- ---- the loop
+
+-- the bytes up to `rest` were read, these kinds are still to come, and these types were named
+pub record State (start : List Kind) (bytes rest : List ℕ) (stack : List Kind) (named : List ℕ) : Type 0 where
+  pub tokens : List Token
+  pub reads : Reads start stack tokens bytes rest
+  pub names : named ≡ type_names tokens
+
+pub begun : (start : List Kind) (bytes : List ℕ) → State start bytes bytes start []
+begun start bytes = record { tokens = []; reads = none_read start bytes; names = refl }

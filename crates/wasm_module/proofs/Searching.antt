@@ -1,5 +1,5 @@
 -- Going on to the next index of a type.
-use Rattle.std.proofs.Common.{◌≡◌, ℕ, zero, suc, ◌+◌, ◌-◌, ◌*◌, ◌/◌, ◌^◌, ◌<◌, ◌≤◌, List, [], ◌∷◌, ◌++◌, length, Option, Some, None, Ok, cond, Bool, true, false, refl, sym, ap, subst, ◌∙◌, arith, append_assoc, append-nil, length-append}
+use Rattle.std.proofs.Common.{◌≡◌, ℕ, zero, suc, ◌+◌, ◌-◌, ◌*◌, ◌/◌, ◌^◌, ◌<◌, ◌≤◌, List, [], ◌∷◌, ◌++◌, length, Option, Some, None, Ok, cond, Bool, true, false, refl, sym, ap, subst, ◌∙◌, arith, append-nil, length-append}
 use Rattle.std.proofs.lemmas.Grind.{flat_map-append}
 use Rattle.wasm_binary.specs.Leb128.{IsInteger, last, more}
 use Rattle.wasm_module.specs.declared.kind.Space.{Space}
@@ -8,11 +8,11 @@ use Rattle.wasm_module.specs.declared.kind.Kind.{Kind}
 use Rattle.wasm_module.specs.declared.scan.ScanError.{ScanError}
 use Rattle.wasm_module.specs.declared.scan.ScanError.TheVariants as scan
 use Rattle.wasm_module.specs.declared.scan.TypeIndex.{TypeIndex}
-use Rattle.wasm_module.specs.Immediates.{Token, unsigned, signed, type_name, may_be_index, Begins, index, signed_index, number, byte, offset, i32, i64, raw, byte_vec, import, Runs, stop, step, AreTexts, names_of, type_names}
+use Rattle.wasm_module.specs.Immediates.{Token, unsigned, signed, type_name, may_be_index, Begins, index, signed_index, number, byte, offset, i32, i64, raw, byte_vec, import, names_of, type_names}
 use Rattle.wasm_module.specs.Steps.Heads.{Beginning, begin_at}
-use Rattle.wasm_module.specs.Steps.Scans.{IsRefused, Reads, token_of, PassesType, PassesNone, Passes}
+use Rattle.wasm_module.specs.Steps.Scans.{IsScanned, IsRefused, Reads, token_of, PassesTokens, PassesType, PassesNone, Passes}
 use Rattle.wasm_module.proofs.Heads.{begin_sound}
-use Rattle.wasm_module.proofs.Scanning.{State, runs_on, begins_long, shorter, follows}
+use Rattle.wasm_module.proofs.Scanning.{one_read, reads_join, none_goes_on, State, begins_long, shorter}
 
 -- ---- a token that names a type
 
@@ -82,11 +82,11 @@ not_some (Some x) h = absurd (h x refl)
 not_some None h = refl
 
 pub passes_type : (t : TypeIndex) (start : List Kind) (bytes rest after : List ℕ) (next : Kind)
-    (stack new : List Kind) (b : Beginning) → State start bytes rest (next ∷ stack) []
+    (stack new : List Kind) (b : Beginning) → PassesTokens start (next ∷ stack) bytes rest
     → begin_at next rest ≡ Ok (b, after) → new ≡ b.more ++ stack → Some t.index ≡ b.named
     → t.is_signed ≡ may_be_index next → t.length ≡ length rest - length after
     → PassesType t start new bytes after
-passes_type t start bytes rest after next stack new b s e new-is index-is signed-is long-is =
+passes_type t start bytes rest after next stack new b p e new-is index-is signed-is long-is =
     let h = begin_sound next rest b after e in
     let g = h.is_text in
     let names : type_name g.token ≡ Some t.index = g.names ∙ sym index-is in
@@ -95,22 +95,18 @@ passes_type t start bytes rest after next stack new b s e new-is index-is signed
     in
     let long : length rest ≡ length h.text + length after = ap (λ (u : List ℕ). length u) h.parts
     ∙ length-append h.text after in
-    let all : length bytes ≡ length s.text + length rest = ap (λ (u : List ℕ). length u) s.parts
-    ∙ length-append s.text rest in
+    let all : length bytes ≡ length p.reads.text + length rest = ap (λ (u : List ℕ). length u) p.reads.parts
+    ∙ length-append p.reads.text rest in
     let short = token_short next h.text g.token b.more t.index g.begins names in
     let some = begins_long next h.text g.token b.more g.begins in
     record {
-      passed = s.tokens;
+      passed = p.passed;
       text = h.text;
-      reads = record {
-        text = s.text ++ h.text;
-        parts = s.parts ∙ ap (λ (u : List ℕ). s.text ++ u) h.parts ∙ sym (append_assoc s.text h.text after);
-        runs = subst (λ (u : List Kind). Runs start (s.text ++ h.text) (s.tokens ++ token_of t h.text ∷ []) u)
-            (sym new-is)
-            (subst (λ p. Runs start (s.text ++ h.text) (s.tokens ++ p ∷ []) (b.more ++ stack)) is
-            (runs_on start s.text s.tokens next stack h.text g.token b.more s.runs g.begins));
-      };
-      none = sym s.names;
+      reads = reads_join p.reads
+          (subst (λ (u : List Kind). Reads (next ∷ stack) u (token_of t h.text ∷ []) rest after) (sym new-is)
+          (subst (λ k. Reads (next ∷ stack) (b.more ++ stack) (k ∷ []) rest after) is
+          (one_read next stack rest after b e)));
+      none = p.none;
       long = omega (arith, long, long-is);
       short = omega (arith, long, long-is, short);
       some = omega (arith, long, long-is, some);
@@ -119,57 +115,25 @@ passes_type t start bytes rest after next stack new b s e new-is index-is signed
 
 -- ---- from one search to the next
 
-pub runs_join : (start : List Kind) (text : List ℕ) (tokens : List Token) (left : List Kind)
-    (others : List ℕ) (further : List Token) (new : List Kind) → Runs start text tokens left
-    → Runs left others further new → Runs start (text ++ others) (tokens ++ further) new
-runs_join _ _ _ left others further new (stop _) b = b
-runs_join _ _ _ left others further new (step k inner kinds _ text behind first tokens h runs) b =
-    subst (λ (u : List ℕ). Runs (k ∷ kinds) u (first ∷ (tokens ++ further)) new)
-    (sym (append_assoc text behind others))
-    (step k inner kinds new text (behind ++ others) first (tokens ++ further) h
-    (runs_join (inner ++ kinds) behind tokens left others further new runs b))
+-- what was found, or that nothing was
+module _ {kinds left : List Kind} {bytes rest : List ℕ} where
+  pub found_type : {o : Option TypeIndex} {t : TypeIndex} → o ≡ Some t → Passes o kinds left bytes rest →
+      PassesType t kinds left bytes rest
+  found_type e h = subst (λ x. Passes x kinds left bytes rest) e h
 
-pub reads_join : (start stack left : List Kind) (tokens further : List Token) (bytes rest after : List ℕ) →
-    Reads start stack tokens bytes rest → Reads stack left further rest after →
-    Reads start left (tokens ++ further) bytes after
-reads_join start stack left tokens further bytes rest after a b =
-    record {
-      text = a.text ++ b.text;
-      parts = a.parts ∙ ap (λ (u : List ℕ). a.text ++ u) b.parts ∙ sym (append_assoc a.text b.text after);
-      runs = runs_join start a.text tokens stack b.text further left a.runs b.runs;
-    }
+  pub found_none : (o : Option TypeIndex) → ((t : TypeIndex) → o ≡ Some t → ⊥) →
+      Passes o kinds left bytes rest → PassesNone kinds left bytes rest
+  found_none (Some t) none h = absurd (none t refl)
+  found_none None none h = h
 
-pub found_type : (o : Option TypeIndex) (t : TypeIndex) (kinds left : List Kind) (bytes rest : List ℕ) →
-    o ≡ Some t → Passes o kinds left bytes rest → PassesType t kinds left bytes rest
-found_type o t kinds left bytes rest e h = subst (λ x. Passes x kinds left bytes rest) e h
-
-pub found_none : (o : Option TypeIndex) (kinds left : List Kind) (bytes rest : List ℕ) →
-    ((t : TypeIndex) → o ≡ Some t → ⊥) → Passes o kinds left bytes rest → PassesNone kinds left bytes rest
-found_none (Some t) kinds left bytes rest none h = absurd (none t refl)
-found_none None kinds left bytes rest none h = h
-
-pub passes_shorter : (t : TypeIndex) (kinds left : List Kind) (bytes rest : List ℕ) →
-    PassesType t kinds left bytes rest → length rest < length bytes
-passes_shorter t kinds left bytes rest h = omega (arith, h.fits, h.some)
-
--- no text begins where none goes on behind what was read
-pub none_goes_on : (start stack : List Kind) (tokens : List Token) (bytes rest : List ℕ) →
-    Reads start stack tokens bytes rest
-    → ((text after : List ℕ) (ps : List Token) → rest ≡ text ++ after → AreTexts stack text ps → ⊥)
-    → (text after : List ℕ) (ps : List Token) → bytes ≡ text ++ after → AreTexts start text ps → ⊥
-none_goes_on start stack tokens bytes rest a none text after ps parts h =
-    let r = follows start a.text tokens stack rest text ps after a.runs h (sym a.parts ∙ parts) in
-    none r.text after r.tokens r.parts r.are
+  pub passes_shorter : {t : TypeIndex} → PassesType t kinds left bytes rest → length rest < length bytes
+  passes_shorter h = omega (arith, h.fits, h.some)
 
 pub refused_behind : (start stack : List Kind) (tokens : List Token) (bytes rest : List ℕ) (e : ScanError) →
     Reads start stack tokens bytes rest → IsRefused stack rest e → IsRefused start bytes e
 refused_behind start stack tokens bytes rest (scan.Malformed place) a h =
     none_goes_on start stack tokens bytes rest a h
 refused_behind start stack tokens bytes rest scan.Memory a h = tt
-
-pub state_reads : (start : List Kind) (bytes rest : List ℕ) (stack : List Kind) (named : List ℕ)
-    (s : State start bytes rest stack named) → Reads start stack s.tokens bytes rest
-state_reads start bytes rest stack named s = record { text = s.text; parts = s.parts; runs = s.runs }
 
 pub type_names_append : (a b : List Token) → type_names (a ++ b) ≡ type_names a ++ type_names b
 type_names_append a b = flat_map-append (λ p. names_of (type_name p)) a b
@@ -183,41 +147,36 @@ token_names : (t : TypeIndex) (text : List ℕ) → type_names (token_of t text 
 token_names t text = ap (λ o. names_of o ++ []) (index_name t.is_signed text t.index)
 
 -- the names of what was passed over, and of the index behind it
-pub passed_names : (t : TypeIndex) (kinds left : List Kind) (bytes rest : List ℕ)
+pub passed_names : {t : TypeIndex} {kinds left : List Kind} {bytes rest : List ℕ}
     (h : PassesType t kinds left bytes rest) →
     type_names (h.passed ++ token_of t h.text ∷ []) ≡ t.index ∷ []
-passed_names t kinds left bytes rest h =
+passed_names {t = t} h =
     type_names_append h.passed (token_of t h.text ∷ [])
     ∙ ap (λ (u : List ℕ). u ++ type_names (token_of t h.text ∷ [])) h.none ∙ token_names t h.text
 
-pub noted : (start : List Kind) (bytes rest after : List ℕ) (stack left : List Kind)
-    (named later : List ℕ) (t : TypeIndex) → State start bytes rest stack named
-    → PassesType t stack left rest after → later ≡ named ++ t.index ∷ [] → State start bytes after left later
-noted start bytes rest after stack left named later t s h e =
-    let further = h.passed ++ token_of t h.text ∷ [] in
-    let r = reads_join start stack left s.tokens further bytes rest after
-    (state_reads start bytes rest stack named s) h.reads in
-    record {
-      text = r.text;
-      tokens = s.tokens ++ further;
-      parts = r.parts;
-      runs = r.runs;
-      names = e ∙ ap (λ (u : List ℕ). u ++ t.index ∷ []) s.names
-          ∙ ap (λ (u : List ℕ). type_names s.tokens ++ u) (sym (passed_names t stack left rest after h))
-          ∙ sym (type_names_append s.tokens further);
-    }
+module _ {start stack left : List Kind} {bytes rest after named : List ℕ}
+    (s : State start bytes rest stack named) where
+  pub noted : {later : List ℕ} {t : TypeIndex} → PassesType t stack left rest after →
+      later ≡ named ++ t.index ∷ [] → State start bytes after left later
+  noted {t = t} h e =
+      let further = h.passed ++ token_of t h.text ∷ [] in
+      record {
+        tokens = s.tokens ++ further;
+        reads = reads_join s.reads h.reads;
+        names = e ∙ ap (λ (u : List ℕ). u ++ t.index ∷ []) s.names
+            ∙ ap (λ (u : List ℕ). type_names s.tokens ++ u) (sym (passed_names h))
+            ∙ sym (type_names_append s.tokens further);
+      }
 
-pub ended : (start : List Kind) (bytes rest after : List ℕ) (stack left : List Kind) (named : List ℕ) →
-    State start bytes rest stack named → PassesNone stack left rest after → State start bytes after [] named
-ended start bytes rest after stack left named s h =
-    let r = reads_join start stack [] s.tokens h.passed bytes rest after
-    (state_reads start bytes rest stack named s) h.reads in
-    record {
-      text = r.text;
-      tokens = s.tokens ++ h.passed;
-      parts = r.parts;
-      runs = r.runs;
-      names = s.names ∙ sym (append-nil (type_names s.tokens))
-          ∙ ap (λ (u : List ℕ). type_names s.tokens ++ u) (sym h.none)
-          ∙ sym (type_names_append s.tokens h.passed);
-    }
+  pub ended : PassesNone stack left rest after → IsScanned start bytes after named
+  ended h =
+      let r = reads_join s.reads h.reads in
+      record {
+        text = r.text;
+        tokens = s.tokens ++ h.passed;
+        parts = r.parts;
+        are = r.runs;
+        named = s.names ∙ sym (append-nil (type_names s.tokens))
+            ∙ ap (λ (u : List ℕ). type_names s.tokens ++ u) (sym h.none)
+            ∙ sym (type_names_append s.tokens h.passed);
+      }

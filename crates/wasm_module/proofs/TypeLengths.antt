@@ -11,7 +11,7 @@ use Rattle.wasm_module.specs.declared.kind.Space.TheVariants as space
 use Rattle.wasm_module.specs.declared.scan.TypeIndex.{TypeIndex}
 use Rattle.wasm_module.specs.Bodies.{body}
 use Rattle.wasm_module.specs.Contents.{section_kinds}
-use Rattle.wasm_module.specs.Immediates.{Token, unsigned, signed, type_name, stop, AreTexts, names_of, type_names}
+use Rattle.wasm_module.specs.Immediates.{Token, unsigned, signed, type_name, AreTexts, names_of, type_names}
 use Rattle.wasm_module.specs.Lengths.{length_of, type_lengths, HasTypeLengths, HasBodyLengths, sized, HasCodeLengths, counted, HasContentLengths, texts, code, nameless}
 use Rattle.wasm_module.specs.NamedTypes.{code_id}
 use Rattle.wasm_module.specs.Steps.Heads.{kinds_or_none}
@@ -20,7 +20,7 @@ use Rattle.wasm_module.specs.Steps.Renaming.{Appends}
 use Rattle.wasm_module.specs.Steps.Scans.{Reads, token_of, PassesType, PassesNone}
 use Rattle.wasm_module.proofs.CodeSections.{concat_on}
 use Rattle.wasm_module.proofs.NamedTypes.{some_kinds}
-use Rattle.wasm_module.proofs.Searching.{reads_join}
+use Rattle.wasm_module.proofs.Scanning.{none_read, reads_join}
 use Rattle.wasm_module.proofs.SizedContents.{number_read, same_number, sized_taken}
 use Rattle.wasm_module.proofs.TextItems.{item_on}
 
@@ -50,10 +50,10 @@ index_length : (is_signed : Bool) (text : List ℕ) (k : ℕ) →
 index_length true text k = refl
 index_length false text k = refl
 
-passed_lengths : (t : TypeIndex) (kinds left : List Kind) (bytes rest : List ℕ)
+passed_lengths : {t : TypeIndex} {kinds left : List Kind} {bytes rest : List ℕ}
     (h : PassesType t kinds left bytes rest) →
     type_lengths (h.passed ++ token_of t h.text ∷ []) ≡ t.length ∷ []
-passed_lengths t kinds left bytes rest h =
+passed_lengths {t = t} h =
     lengths_append h.passed (token_of t h.text ∷ [])
     ∙ ap (λ (u : List ℕ). u ++ type_lengths (token_of t h.text ∷ [])) (nameless_lengths h.passed h.none)
     ∙ index_length t.is_signed h.text t.index ∙ ap (λ k. k ∷ []) h.long
@@ -71,46 +71,44 @@ pub measure_begun : (start : List Kind) (bytes old : List ℕ) → Measures star
 measure_begun start bytes old =
     record {
       tokens = [];
-      reads = record { text = []; parts = refl; runs = stop start };
+      reads = none_read start bytes;
       long = sym (append-nil old);
     }
 
-pub measured_on : (start : List Kind) (bytes rest after : List ℕ) (stack left : List Kind)
-    (old lengths new : List ℕ) (t : TypeIndex) → Measures start bytes rest stack old lengths
-    → PassesType t stack left rest after → new ≡ lengths ++ t.length ∷ []
-    → Measures start bytes after left old new
-measured_on start bytes rest after stack left old lengths new t m h e =
-    let further = h.passed ++ token_of t h.text ∷ [] in
-    record {
-      tokens = m.tokens ++ further;
-      reads = reads_join start stack left m.tokens further bytes rest after m.reads h.reads;
-      long = e ∙ ap (λ (u : List ℕ). u ++ t.length ∷ []) m.long
-          ∙ append_assoc old (type_lengths m.tokens) (t.length ∷ [])
-          ∙ ap (λ (u : List ℕ). old ++ (type_lengths m.tokens ++ u))
-          (sym (passed_lengths t stack left rest after h))
-          ∙ ap (λ (u : List ℕ). old ++ u) (sym (lengths_append m.tokens further));
-    }
+module _ {start stack left : List Kind} {bytes rest after old lengths : List ℕ}
+    (m : Measures start bytes rest stack old lengths) where
+  pub measured_on : {new : List ℕ} {t : TypeIndex} → PassesType t stack left rest after →
+      new ≡ lengths ++ t.length ∷ [] → Measures start bytes after left old new
+  measured_on {t = t} h e =
+      let further = h.passed ++ token_of t h.text ∷ [] in
+      record {
+        tokens = m.tokens ++ further;
+        reads = reads_join m.reads h.reads;
+        long = e ∙ ap (λ (u : List ℕ). u ++ t.length ∷ []) m.long
+            ∙ append_assoc old (type_lengths m.tokens) (t.length ∷ [])
+            ∙ ap (λ (u : List ℕ). old ++ (type_lengths m.tokens ++ u)) (sym (passed_lengths h))
+            ∙ ap (λ (u : List ℕ). old ++ u) (sym (lengths_append m.tokens further));
+      }
 
-pub text_measured : (start : List Kind) (bytes rest after : List ℕ) (stack left : List Kind)
-    (old lengths : List ℕ) → Measures start bytes rest stack old lengths
-    → PassesNone stack left rest after → after ≡ [] → Appends (HasTypeLengths start bytes) old lengths
-text_measured start bytes rest after stack left old lengths m h e =
-    let all = m.tokens ++ h.passed in
-    let r = reads_join start stack [] m.tokens h.passed bytes rest after m.reads h.reads in
-    let whole : r.text ≡ bytes = sym (append-nil r.text) ∙ ap (λ (u : List ℕ). r.text ++ u) (sym e)
-    ∙ sym r.parts in
-    let long : type_lengths all ≡ type_lengths m.tokens = lengths_append m.tokens h.passed
-    ∙ ap (λ (u : List ℕ). type_lengths m.tokens ++ u) (nameless_lengths h.passed h.none)
-    ∙ append-nil (type_lengths m.tokens) in
-    record {
-      text = type_lengths all;
-      is_text = record {
-        tokens = all;
-        are = subst (λ (u : List ℕ). AreTexts start u all) whole r.runs;
-        long = refl;
-      };
-      parts = m.long ∙ ap (λ (u : List ℕ). old ++ u) (sym long);
-    }
+  pub text_measured : PassesNone stack left rest after → after ≡ [] →
+      Appends (HasTypeLengths start bytes) old lengths
+  text_measured h e =
+      let all = m.tokens ++ h.passed in
+      let r = reads_join m.reads h.reads in
+      let whole : r.text ≡ bytes = sym (append-nil r.text) ∙ ap (λ (u : List ℕ). r.text ++ u) (sym e)
+      ∙ sym r.parts in
+      let long : type_lengths all ≡ type_lengths m.tokens = lengths_append m.tokens h.passed
+      ∙ ap (λ (u : List ℕ). type_lengths m.tokens ++ u) (nameless_lengths h.passed h.none)
+      ∙ append-nil (type_lengths m.tokens) in
+      record {
+        text = type_lengths all;
+        is_text = record {
+          tokens = all;
+          are = subst (λ (u : List ℕ). AreTexts start u all) whole r.runs;
+          long = refl;
+        };
+        parts = m.long ∙ ap (λ (u : List ℕ). old ++ u) (sym long);
+      }
 
 -- ---- code
 

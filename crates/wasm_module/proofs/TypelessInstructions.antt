@@ -6,42 +6,49 @@ use Rattle.wasm_module.specs.declared.kind.Kind.TheVariants as kind
 use Rattle.wasm_module.specs.declared.kind.Immediates.{Immediates}
 use Rattle.wasm_module.specs.declared.kind.Immediates.TheVariants as immediates
 use Rattle.wasm_module.specs.Opcodes.{kinds_in, opcodes}
-use Rattle.wasm_module.specs.Immediates.{Token, Runs, stop, step, type_names}
-use Rattle.wasm_module.specs.Steps.Heads.{beginning, begin_at, number_at, skip_at}
+use Rattle.wasm_module.specs.Immediates.{Token, Runs, stop, step, names_of, type_names}
+use Rattle.wasm_module.specs.Steps.Heads.{Beginning, beginning, begin_at, number_at, skip_at}
 use Rattle.wasm_module.specs.Steps.Tables.{row_kinds}
 use Rattle.wasm_module.specs.Steps.Scans.{PassesTokens, PassesInstructions, HasInstructions}
 use Rattle.wasm_module.proofs.Taking.{first_apart}
-use Rattle.wasm_module.proofs.Heads.{byte_again}
-use Rattle.wasm_module.proofs.Scanning.{State, begun, goes_on}
-use Rattle.wasm_module.proofs.Searching.{reads_join, state_reads, type_names_append}
+use Rattle.wasm_module.proofs.Heads.{begin_sound, byte_again}
+use Rattle.wasm_module.proofs.Scanning.{none_read, one_read, reads_join}
+use Rattle.wasm_module.proofs.Searching.{type_names_append}
 
 -- ---- tokens that name no type
 
-passed_of : (kinds left : List Kind) (bytes rest : List ℕ) → State kinds bytes rest left [] →
-    PassesTokens kinds left bytes rest
-passed_of kinds left bytes rest s =
-    record { passed = s.tokens; reads = state_reads kinds bytes rest left [] s; none = sym s.names }
-
 pub passed_none : (kinds : List Kind) (bytes : List ℕ) → PassesTokens kinds kinds bytes bytes
-passed_none kinds bytes = passed_of kinds kinds bytes bytes (begun kinds bytes)
+passed_none kinds bytes = record { passed = []; reads = none_read kinds bytes; none = refl }
+
+passed_first : (k : Kind) (stack : List Kind) (b : Beginning) (bytes rest : List ℕ) →
+    begin_at k bytes ≡ Ok (b, rest) → names_of b.named ≡ [] →
+    PassesTokens (k ∷ stack) (b.more ++ stack) bytes rest
+passed_first k stack b bytes rest e unnamed =
+    let h = begin_sound k bytes b rest e in
+    record {
+      passed = h.is_text.token ∷ [];
+      reads = one_read k stack bytes rest b e;
+      none =
+          ap (λ o. names_of o ++ []) h.is_text.names ∙ append-nil (names_of b.named) ∙ unnamed;
+    }
 
 pub passed_beginning : (k : Kind) (more : List Kind) (bytes rest : List ℕ) →
     begin_at k bytes ≡ Ok (beginning None more, rest) → PassesTokens (k ∷ []) more bytes rest
 passed_beginning k more bytes rest e =
-    passed_of (k ∷ []) more bytes rest
-    (goes_on (k ∷ []) bytes bytes rest k [] more [] [] (beginning None more) (begun (k ∷ []) bytes) e
-    (sym (append-nil more)) refl)
+    subst (λ (u : List Kind). PassesTokens (k ∷ []) u bytes rest) (append-nil more)
+    (passed_first k [] (beginning None more) bytes rest e refl)
 
-pub passed_joined : (kinds between left : List Kind) (bytes rest after : List ℕ) →
-    PassesTokens kinds between bytes rest → PassesTokens between left rest after →
-    PassesTokens kinds left bytes after
-passed_joined kinds between left bytes rest after p q =
-    record {
-      passed = p.passed ++ q.passed;
-      reads = reads_join kinds between left p.passed q.passed bytes rest after p.reads q.reads;
-      none =
-          type_names_append p.passed q.passed ∙ ap (λ (u : List ℕ). u ++ type_names q.passed) p.none ∙ q.none;
-    }
+module _ {kinds stack left : List Kind} {bytes rest after : List ℕ} where
+  pub passed_joined : PassesTokens kinds stack bytes rest → PassesTokens stack left rest after →
+      PassesTokens kinds left bytes after
+  passed_joined p q =
+      record {
+        passed = p.passed ++ q.passed;
+        reads = reads_join p.reads q.reads;
+        none =
+            type_names_append p.passed q.passed ∙ ap (λ (u : List ℕ). u ++ type_names q.passed) p.none
+            ∙ q.none;
+      }
 
 runs_framed : (kinds left more : List Kind) (text : List ℕ) (tokens : List Token) →
     Runs kinds text tokens left → Runs (kinds ++ more) text tokens (left ++ more)
@@ -74,20 +81,20 @@ passed_shorter kinds left bytes rest p =
     omega (arith, long)
 
 -- the next kind was taken from the stack, and tokens of it were passed over
-pub state_passed : (start : List Kind) (bytes rest after : List ℕ) (next : Kind) (stack old : List Kind) →
-    State start bytes rest old [] → old ≡ next ∷ stack →
-    PassesTokens (next ∷ []) (next ∷ []) rest after → State start bytes after (next ∷ stack) []
-state_passed start bytes rest after next stack old s e p =
-    let q = passed_joined start (next ∷ stack) (next ∷ stack) bytes rest after
-    (passed_of start (next ∷ stack) bytes rest (subst (λ (u : List Kind). State start bytes rest u []) e s))
-    (passed_framed (next ∷ []) (next ∷ []) stack rest after p) in
-    record {
-      text = q.reads.text;
-      tokens = q.passed;
-      parts = q.reads.parts;
-      runs = q.reads.runs;
-      names = sym q.none;
-    }
+pub passed_next : (start : List Kind) (bytes rest after : List ℕ) (next : Kind) (stack old : List Kind) →
+    PassesTokens start old bytes rest → old ≡ next ∷ stack →
+    PassesTokens (next ∷ []) (next ∷ []) rest after → PassesTokens start (next ∷ stack) bytes after
+passed_next start bytes rest after next stack old p e q =
+    passed_joined (subst (λ (u : List Kind). PassesTokens start u bytes rest) e p)
+    (passed_framed (next ∷ []) (next ∷ []) stack rest after q)
+
+-- and then its beginning was
+pub passed_on : (start : List Kind) (bytes rest after : List ℕ) (next : Kind) (stack new : List Kind)
+    (b : Beginning) → PassesTokens start (next ∷ stack) bytes rest → begin_at next rest ≡ Ok (b, after)
+    → new ≡ b.more ++ stack → names_of b.named ≡ [] → PassesTokens start new bytes after
+passed_on start bytes rest after next stack new b p e new-is unnamed =
+    passed_joined p (subst (λ (u : List Kind). PassesTokens (next ∷ stack) u rest after) (sym new-is)
+    (passed_first next stack b rest after e unnamed))
 
 -- ---- an alignment and an offset
 
@@ -104,7 +111,7 @@ offset_reads bytes rest e = rw e refl
 pub mem_arg_passed : (most n : ℕ) (bytes between rest : List ℕ) → u32_at bytes ≡ Ok (n, between) →
     n ≤ most → skip_at (2 ^ 64) between ≡ Ok (tt, rest) → PassesTokens (kind.MemArg most ∷ []) [] bytes rest
 mem_arg_passed most n bytes between rest e low h =
-    passed_joined (kind.MemArg most ∷ []) (kind.U64 ∷ []) [] bytes between rest
+    passed_joined
     (passed_beginning (kind.MemArg most) (kind.U64 ∷ []) bytes between
     (alignment_reads most n bytes between e low))
     (passed_beginning kind.U64 [] between rest (offset_reads between rest h))
@@ -126,8 +133,7 @@ pub instruction_passed : (opcode : ℕ) (k : Kind) (between rest : List ℕ) →
     kinds_in opcodes opcode ≡ Some (k ∷ []) → PassesTokens (k ∷ []) [] between rest →
     PassesInstructions (opcode ∷ between) rest
 instruction_passed opcode k between rest e p here has =
-    passed_joined (here ∷ []) (k ∷ here ∷ []) (here ∷ []) (opcode ∷ between) between rest
-    (opcode_passed here opcode (k ∷ []) between has e)
+    passed_joined (opcode_passed here opcode (k ∷ []) between has e)
     (passed_framed (k ∷ []) [] (here ∷ []) between rest p)
 
 pub instructions_none : (bytes : List ℕ) → PassesInstructions bytes bytes
@@ -136,7 +142,7 @@ instructions_none bytes here has = passed_none (here ∷ []) bytes
 pub instructions_joined : (bytes rest after : List ℕ) → PassesInstructions bytes rest →
     PassesInstructions rest after → PassesInstructions bytes after
 instructions_joined bytes rest after p q here has =
-    passed_joined (here ∷ []) (here ∷ []) (here ∷ []) bytes rest after (p here has) (q here has)
+    passed_joined (p here has) (q here has)
 
 -- the first byte of these, and the bytes behind it
 abbrev first_byte : List ℕ → ℕ

@@ -1,9 +1,8 @@
 use Rattle.std.proofs.Common.{◌≡◌, ◌∙◌, ℕ, List, length, sym, ap, subst, arith}
-use Rattle.wasm_module.specs.declared.renaming.RenameError.TheVariants as rename
 use Rattle.wasm_module.specs.Renaming.{least_width}
 use Rattle.wasm_module.specs.Steps.Scans.{IsRefused}
 use Rattle.wasm_module.proofs.Searching.{found_type, found_none, passes_shorter}
-use Rattle.wasm_module.proofs.Rewriting.{written_begun, written_on, written_stays, written_shorter, written_ended, rename_malformed, names_unknown, is_malformed, failure_is, error_came}
+use Rattle.wasm_module.proofs.Rewriting.{written_begun, written_fits, written_on, written_stays, written_shorter, written_ended, rename_malformed, names_unknown, is_malformed, failure_is, error_came}
 use Rattle.wasm_module.proofs.WholeTexts.{empty, not_empty}
 use Rattle.wasm_module.proofs.renaming.rename.Goals as goal
 
@@ -17,111 +16,62 @@ returns-in_err-found-clause-malformed c =
     let l = c.loop-stack in
     let r = c.from_residual in
     λ place e. let is = is_malformed c.in_err-found.field-0.0 place (failure_is r.result r.ensures.1 e) in
-    rename_malformed place c.args.new_indices.now (least_width c.args.widths) c.args.kinds c.args.input.now.now
-    l.input.now l.stack l.out.items l.invariant.so_far
+    rename_malformed l.invariant.so_far place
     (subst (λ x. IsRefused l.stack l.input.now x) is c.in_err-found.ensures.refused)
 
 pub overflow_sub-passed : goal.overflow_sub-passed
 overflow_sub-passed c =
-    let l = c.loop-stack in
-    let n = c.next_type.new in
-    let h = found_type c.in_ok-found.field-0 c.in-Some.found l.stack n.stack l.input.now n.input.now
-    c.in-Some.is c.in_ok-found.ensures.passed in
-    let here : length l.unwritten.now ≡ length l.input.now = ap (λ (u : List ℕ). length u) l.invariant.here in
-    omega (arith, h.fits, here)
+    let h = found_type c.in-Some.is c.in_ok-found.ensures.passed in
+    omega (arith, written_fits c.loop-stack.invariant h)
 
 pub overflow_sub-passed-in-Some : goal.overflow_sub-passed-in-Some
 overflow_sub-passed-in-Some c =
-    let l = c.loop-stack in
-    let n = c.next_type.new in
-    let h = found_type c.in_ok-found.field-0 c.in-Some.found l.stack n.stack l.input.now n.input.now
-    c.in-Some.is c.in_ok-found.ensures.passed in
-    let here : length l.unwritten.now ≡ length l.input.now = ap (λ (u : List ℕ). length u) l.invariant.here in
-    omega (arith, h.fits, here)
+    let h = found_type c.in-Some.is c.in_ok-found.ensures.passed in
+    omega (arith, written_fits c.loop-stack.invariant h)
 
 pub write_index-requires : goal.write_index-requires
-write_index-requires c =
-    let l = c.loop-stack in
-    let n = c.next_type.new in
-    let h = found_type c.in_ok-found.field-0 c.in-Some.found l.stack n.stack l.input.now n.input.now
-    c.in-Some.is c.in_ok-found.ensures.passed in
-    h.short
+write_index-requires c = let h = found_type c.in-Some.is c.in_ok-found.ensures.passed in h.short
 
 pub returns-in_err-write_index-clause-unknown : goal.returns-in_err-write_index-clause-unknown
 returns-in_err-write_index-clause-unknown c =
-    let l = c.loop-stack in
-    let n = c.next_type.new in
-    let h = found_type c.in_ok-found.field-0 c.in-Some.found l.stack n.stack l.input.now n.input.now
-    c.in-Some.is c.in_ok-found.ensures.passed in
+    let h = found_type c.in-Some.is c.in_ok-found.ensures.passed in
     let r = c.from_residual-in_err-write_index in
-    λ k place e. names_unknown c.args.new_indices.now (least_width c.args.widths) c.args.kinds c.args.input.now.now
-    l.input.now n.input.now l.stack n.stack l.out.items c.in-Some.found k l.invariant.so_far h
+    λ k place e. names_unknown c.loop-stack.invariant.so_far h k
     (c.in_err-write_index.ensures.unknown k place (error_came r.result r.ensures.1 e))
 
 pub loop-stack-smaller : goal.loop-stack-smaller
-loop-stack-smaller c =
-    let l = c.loop-stack in
-    let n = c.next_type.new in
-    passes_shorter c.in-Some.found l.stack n.stack l.input.now n.input.now
-    (found_type c.in_ok-found.field-0 c.in-Some.found l.stack n.stack l.input.now n.input.now c.in-Some.is
-    c.in_ok-found.ensures.passed)
+loop-stack-smaller c = passes_shorter (found_type c.in-Some.is c.in_ok-found.ensures.passed)
 
 pub loop-stack-preserved : goal.loop-stack-preserved
 loop-stack-preserved c =
-    let l = c.loop-stack in
-    let n = c.next_type.new in
-    let h = found_type c.in_ok-found.field-0 c.in-Some.found l.stack n.stack l.input.now n.input.now
-    c.in-Some.is c.in_ok-found.ensures.passed in
-    written_on c.args.new_indices.now (least_width c.args.widths) c.args.kinds c.args.input.now.now
-    l.input.now n.input.now l.unwritten.now l.stack n.stack l.out.items c.append_prefix.new.out.items
-    c.write_index.new.out.items c.in-Some.found l.invariant h c.in_ok-append_prefix.ensures
-    c.in_ok-write_index.ensures.written
+    written_on c.loop-stack.invariant (found_type c.in-Some.is c.in_ok-found.ensures.passed)
+    c.in_ok-append_prefix.ensures c.in_ok-write_index.ensures.written
 
 pub slice_bounds-extend_from_slice-count : goal.slice_bounds-extend_from_slice-count
 slice_bounds-extend_from_slice-count c =
-    let l = c.loop-stack in
-    let n = c.next_type.new in
-    let h = found_none c.in_ok-found.field-0 l.stack n.stack l.input.now n.input.now c.in_default.not-Some
-    c.in_ok-found.ensures.passed in
-    let here : length l.unwritten.now ≡ length l.input.now = ap (λ (u : List ℕ). length u) l.invariant.here in
+    let h = found_none c.in_ok-found.field-0 c.in_default.not-Some c.in_ok-found.ensures.passed in
+    let here = ap (λ (u : List ℕ). length u) c.loop-stack.invariant.here in
     omega (arith, h.fits, here)
 
 pub returns-then-is_empty-clause-stays : goal.returns-then-is_empty-clause-stays
 returns-then-is_empty-clause-stays c =
-    let l = c.loop-stack in
-    let n = c.next_type.new in
-    let h = found_none c.in_ok-found.field-0 l.stack n.stack l.input.now n.input.now c.in_default.not-Some
-    c.in_ok-found.ensures.passed in
-    written_stays c.args.new_indices.now c.args.widths c.args.kinds c.args.input.now.now
-    l.input.now n.input.now l.unwritten.now l.stack n.stack l.out.items l.invariant h
+    written_stays c.args.widths c.loop-stack.invariant
+    (found_none c.in_ok-found.field-0 c.in_default.not-Some c.in_ok-found.ensures.passed)
     (sym c.as_slice.ensures.value ∙ empty c.as_slice.result.now c.if-is_empty.ensures)
 
 pub returns-then-is_empty-clause-shorter : goal.returns-then-is_empty-clause-shorter
 returns-then-is_empty-clause-shorter c =
-    let l = c.loop-stack in
-    let n = c.next_type.new in
-    let h = found_none c.in_ok-found.field-0 l.stack n.stack l.input.now n.input.now c.in_default.not-Some
-    c.in_ok-found.ensures.passed in
-    written_shorter c.args.new_indices.now (least_width c.args.widths) c.args.kinds c.args.input.now.now
-    l.input.now n.input.now l.unwritten.now l.stack n.stack l.out.items l.invariant h
+    written_shorter c.loop-stack.invariant
+    (found_none c.in_ok-found.field-0 c.in_default.not-Some c.in_ok-found.ensures.passed)
 
 pub returns-clause-shorter : goal.returns-clause-shorter
 returns-clause-shorter c =
-    let l = c.loop-stack in
-    let n = c.next_type.new in
-    let h = found_none c.in_ok-found.field-0 l.stack n.stack l.input.now n.input.now c.in_default.not-Some
-    c.in_ok-found.ensures.passed in
-    written_shorter c.args.new_indices.now (least_width c.args.widths) c.args.kinds c.args.input.now.now
-    l.input.now n.input.now l.unwritten.now l.stack n.stack l.out.items l.invariant h
+    written_shorter c.loop-stack.invariant
+    (found_none c.in_ok-found.field-0 c.in_default.not-Some c.in_ok-found.ensures.passed)
 
 pub returns-clause-changes : goal.returns-clause-changes
 returns-clause-changes c =
-    let l = c.loop-stack in
-    let n = c.next_type.new in
-    let h = found_none c.in_ok-found.field-0 l.stack n.stack l.input.now n.input.now c.in_default.not-Some
-    c.in_ok-found.ensures.passed in
-    written_ended c.args.new_indices.now c.args.widths c.args.kinds c.args.input.now.now
-    l.input.now n.input.now l.unwritten.now l.stack n.stack l.out.items c.extend_from_slice.new.self.items
-    l.invariant
+    written_ended c.args.widths c.loop-stack.invariant
     (λ e. not_empty c.as_slice.result.now c.if-is_empty.ensures (c.as_slice.ensures.value ∙ e))
-    h c.in_ok-extend_from_slice.ensures.items
+    (found_none c.in_ok-found.field-0 c.in_default.not-Some c.in_ok-found.ensures.passed)
+    c.in_ok-extend_from_slice.ensures.items

@@ -1,21 +1,21 @@
-use Rattle.std.proofs.Common.{◌∙◌, [], sym, ap, refl, arith}
+use Rattle.std.proofs.Common.{◌∙◌, sym, ap, refl, arith}
 use Rattle.wasm_module.specs.Immediates.{names_of}
 use Rattle.wasm_module.specs.Steps.Heads.{seen}
-use Rattle.wasm_module.proofs.TypelessInstructions.{state_passed, passed_shorter}
-use Rattle.wasm_module.proofs.Scanning.{begun, goes_on, shorter, refused}
+use Rattle.wasm_module.proofs.TypelessInstructions.{passed_none, passed_next, passed_on, passed_shorter}
+use Rattle.wasm_module.proofs.Scanning.{shorter, refused}
 use Rattle.wasm_module.proofs.Searching.{passes_type, not_some, no_longer}
 use Rattle.wasm_module.proofs.scan.next_type.Goals as goal
 
 pub loop-kind-init : goal.loop-kind-init
-loop-kind-init c = begun _ _
+loop-kind-init c = passed_none _ _
 
 pub returns-in_default-read_head-clause-refused : goal.returns-in_default-read_head-clause-refused
 returns-in_default-read_head-clause-refused c =
     let l = c.loop-kind in
     let after = c.skip_typeless.new.input.now in
     λ text rest tokens parts h. refused c.args.stack.now c.args.input.now.now after
-    c.read_head.new.input.now c.in-Some.kind c.next_kind.new.self []
-    (state_passed c.args.stack.now c.args.input.now.now l.input.now after c.in-Some.kind
+    c.read_head.new.input.now c.in-Some.kind c.next_kind.new.self
+    (passed_next c.args.stack.now c.args.input.now.now l.input.now after c.in-Some.kind
     c.next_kind.new.self l.stack l.invariant c.in-Some.ensures c.skip_typeless.ensures)
     c.in_default-read_head.ensures text rest tokens parts h
 
@@ -30,7 +30,7 @@ returns-in-Some-2-clause-passed c =
     let e = c.in_ok-index.ensures in
     passes_type _ c.args.stack.now c.args.input.now.now after c.read_head.new.input.now c.in-Some.kind
     c.next_kind.new.self c.take_in.new.stack (seen c.in-Some-read_head.head)
-    (state_passed c.args.stack.now c.args.input.now.now l.input.now after c.in-Some.kind
+    (passed_next c.args.stack.now c.args.input.now.now l.input.now after c.in-Some.kind
     c.next_kind.new.self l.stack l.invariant c.in-Some.ensures c.skip_typeless.ensures)
     c.in-Some-read_head.ensures e.stack (sym c.in-Some-2.is ∙ e.named) c.may_be_index.ensures refl
 
@@ -47,9 +47,9 @@ loop-kind-preserved c =
     let l = c.loop-kind in
     let after = c.skip_typeless.new.input.now in
     let e = c.in_ok-index.ensures in
-    goes_on c.args.stack.now c.args.input.now.now after c.read_head.new.input.now c.in-Some.kind
-    c.next_kind.new.self c.take_in.new.stack [] [] (seen c.in-Some-read_head.head)
-    (state_passed c.args.stack.now c.args.input.now.now l.input.now after c.in-Some.kind
+    passed_on c.args.stack.now c.args.input.now.now after c.read_head.new.input.now c.in-Some.kind
+    c.next_kind.new.self c.take_in.new.stack (seen c.in-Some-read_head.head)
+    (passed_next c.args.stack.now c.args.input.now.now l.input.now after c.in-Some.kind
     c.next_kind.new.self l.stack l.invariant c.in-Some.ensures c.skip_typeless.ensures)
     c.in-Some-read_head.ensures e.stack
-    (ap names_of (sym (not_some c.in_ok-index.field-0 c.in_default-2.not-Some) ∙ e.named))
+    (ap names_of (sym e.named ∙ not_some c.in_ok-index.field-0 c.in_default-2.not-Some))

@@ -1,7 +1,6 @@
-use Rattle.std.proofs.Common.{[], refl}
 use Rattle.std.proofs.lemmas.Result.{err_from_is_err_and}
-use Rattle.wasm_module.proofs.Scanning.{begun, scanned}
-use Rattle.wasm_module.proofs.Searching.{found_type, found_none, passes_shorter, refused_behind, state_reads, noted, ended}
+use Rattle.wasm_module.proofs.Scanning.{begun}
+use Rattle.wasm_module.proofs.Searching.{found_type, found_none, passes_shorter, refused_behind, noted, ended}
 use Rattle.wasm_module.proofs.scan.scan.Goals as goal
 
 pub loop-stack-init : goal.loop-stack-init
@@ -13,31 +12,16 @@ returns-in_err-found-clause-refused c =
     let p = err_from_is_err_and c.from_residual.result c.from_residual.ensures.1 in
     rw (p.1, p.2) (refused_behind c.args.kinds l.stack l.invariant.tokens c.args.input.now.now l.input.now
     c.in_err-found.field-0.0
-    (state_reads c.args.kinds c.args.input.now.now l.input.now l.stack l.named.items l.invariant)
-    c.in_err-found.ensures.refused)
+    l.invariant.reads c.in_err-found.ensures.refused)
 
 pub loop-stack-smaller : goal.loop-stack-smaller
-loop-stack-smaller c =
-    let l = c.loop-stack in
-    let n = c.next_type.new in
-    passes_shorter c.in-Some.found l.stack n.stack l.input.now n.input.now
-    (found_type c.in_ok-found.field-0 c.in-Some.found l.stack n.stack l.input.now n.input.now c.in-Some.is
-    c.in_ok-found.ensures.passed)
+loop-stack-smaller c = passes_shorter (found_type c.in-Some.is c.in_ok-found.ensures.passed)
 
 pub loop-stack-preserved : goal.loop-stack-preserved
 loop-stack-preserved c =
-    let l = c.loop-stack in
-    let n = c.next_type.new in
-    noted c.args.kinds c.args.input.now.now l.input.now n.input.now l.stack n.stack l.named.items
-    c.note.new.named.items c.in-Some.found l.invariant
-    (found_type c.in_ok-found.field-0 c.in-Some.found l.stack n.stack l.input.now n.input.now c.in-Some.is
-    c.in_ok-found.ensures.passed) c.in_ok-note.ensures
+    noted c.loop-stack.invariant (found_type c.in-Some.is c.in_ok-found.ensures.passed) c.in_ok-note.ensures
 
 pub returns-clause-found : goal.returns-clause-found
 returns-clause-found c =
-    let l = c.loop-stack in
-    let n = c.next_type.new in
-    scanned c.args.kinds c.args.input.now.now n.input.now [] l.named.items
-    (ended c.args.kinds c.args.input.now.now l.input.now n.input.now l.stack n.stack l.named.items l.invariant
-    (found_none c.in_ok-found.field-0 l.stack n.stack l.input.now n.input.now c.in_default.not-Some
-    c.in_ok-found.ensures.passed)) refl
+    ended c.loop-stack.invariant
+    (found_none c.in_ok-found.field-0 c.in_default.not-Some c.in_ok-found.ensures.passed)
