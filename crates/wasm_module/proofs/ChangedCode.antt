@@ -35,67 +35,65 @@ pub record CutBehind (bytes content rest after : List ℕ) : Type 0 where
   pub wide : length size ≡ length bytes - length after
   pub fits : length after ≤ length bytes
 
-pub cut_at : (bytes : List ℕ) (n : ℕ) (after content rest : List ℕ) → u32_at bytes ≡ Ok (n, after) →
-    n ≤ length after → content ≡ take n after → rest ≡ drop n after → CutBehind bytes content rest after
-cut_at bytes n after content rest e fits prefix back =
-    let t = u32_sound bytes n after e in
-    let long : length content ≡ n = ap (λ (u : List ℕ). length u) prefix ∙ length-take-le n after fits in
-    let all : after ≡ content ++ rest = sym (take-append-drop n after)
-    ∙ ap (λ (u : List ℕ). u ++ drop n after) (sym prefix) ∙ ap (λ (u : List ℕ). content ++ u) (sym back) in
-    let many : length bytes ≡ length t.text + length after = ap (λ (u : List ℕ). length u) t.parts
-    ∙ length-append t.text after in
-    record {
-      size = t.text;
-      cut = record {
-        is_size = subst (λ (m : ℕ). IsU32 t.text m) (sym long) t.is_text;
-        parts = t.parts ∙ ap (λ (u : List ℕ). t.text ++ u) all;
-      };
-      wide = omega (arith, many);
-      fits = omega (arith, many);
-    }
+module _ {bytes after content rest : List ℕ} {n : ℕ} where
+  pub cut_at : u32_at bytes ≡ Ok (n, after) → n ≤ length after → content ≡ take n after → rest ≡ drop n after
+      → CutBehind bytes content rest after
+  cut_at e fits prefix back =
+      let t = u32_sound bytes n after e in
+      let long : length content ≡ n = ap (λ (u : List ℕ). length u) prefix ∙ length-take-le n after fits in
+      let all : after ≡ content ++ rest = sym (take-append-drop n after)
+      ∙ ap (λ (u : List ℕ). u ++ drop n after) (sym prefix) ∙ ap (λ (u : List ℕ). content ++ u) (sym back) in
+      let many : length bytes ≡ length t.text + length after = ap (λ (u : List ℕ). length u) t.parts
+      ∙ length-append t.text after in
+      record {
+        size = t.text;
+        cut = record {
+          is_size = subst (λ (m : ℕ). IsU32 t.text m) (sym long) t.is_text;
+          parts = t.parts ∙ ap (λ (u : List ℕ). t.text ++ u) all;
+        };
+        wide = omega (arith, many);
+        fits = omega (arith, many);
+      }
 
 pub least_fits : (w : Widths) (n : ℕ) → n ≤ 5 → least_width w n ≤ 5
 least_fits widths.Shortest n le = omega arith
 least_fits widths.Kept n le = le
 
-pub size_fits : (w : Widths) (bytes content rest after : List ℕ) → CutBehind bytes content rest after →
-    least_width w (length bytes - length after) ≤ 5
-size_fits w bytes content rest after c =
-    least_fits w (length bytes - length after)
-    (omega (arith, integer_short 0x80 c.size (length content) c.cut.is_size, c.wide))
+module _ {bytes content rest after : List ℕ} (c : CutBehind bytes content rest after) where
+  pub size_fits : (w : Widths) → least_width w (length bytes - length after) ≤ 5
+  size_fits w =
+      least_fits w (length bytes - length after)
+      (omega (arith, integer_short 0x80 c.size (length content) c.cut.is_size, c.wide))
 
-pub sized_stays : (w : Widths) (R : Change) (bytes content rest after : List ℕ) →
-    CutBehind bytes content rest after → R content content [] → KeepsPrefix (ChangesSized w R) bytes rest
-sized_stays w R bytes content rest after c r =
-    record {
-      text = c.size ++ content;
-      parts = c.cut.parts ∙ sym (append_assoc c.size content rest);
-      stays = stays c.size content c.cut.is_size r;
-    }
+  pub sized_stays : (w : Widths) (R : Change) → R content content [] → KeepsPrefix (ChangesSized w R) bytes rest
+  sized_stays w R r =
+      record {
+        text = c.size ++ content;
+        parts = c.cut.parts ∙ sym (append_assoc c.size content rest);
+        stays = stays c.size content c.cut.is_size r;
+      }
 
-pub sized_changes : (w : Widths) (R : Change) (bytes content rest after new old out : List ℕ) →
-    CutBehind bytes content rest after → Changes R content new → old ≡ []
-    → Appends (IsSized (least_width w (length bytes - length after)) new) old out →
-    ChangesPrefix (ChangesSized w R) bytes rest out
-sized_changes w R bytes content rest after new old out c r nothing a =
-    let s = a.is_text in
-    let is : out ≡ s.size ++ new = a.parts ∙ ap (λ (u : List ℕ). u ++ a.text) nothing ∙ s.parts in
-    let t = subst (λ (n : ℕ). IsTextOf 0x80 (least_width w n) s.size (length new)) (sym c.wide) s.is_size in
-    record {
-      text = c.size ++ content;
-      parts = c.cut.parts ∙ sym (append_assoc c.size content rest);
-      changes = record {
-        names = r.names;
-        becomes = subst (λ (u : List ℕ). ChangesSized w R (c.size ++ content) u r.names) (sym is)
-            (resized c.size content s.size new r.names c.cut.is_size r.becomes r.is_naming t);
-        is_naming = r.is_naming;
-      };
-    }
+  pub sized_changes : (w : Widths) (R : Change) (new old out : List ℕ) → Changes R content new → old ≡ []
+      → Appends (IsSized (least_width w (length bytes - length after)) new) old out →
+      ChangesPrefix (ChangesSized w R) bytes rest out
+  sized_changes w R new old out r nothing a =
+      let s = a.is_text in
+      let is : out ≡ s.size ++ new = a.parts ∙ ap (λ (u : List ℕ). u ++ a.text) nothing ∙ s.parts in
+      let t = subst (λ (n : ℕ). IsTextOf 0x80 (least_width w n) s.size (length new)) (sym c.wide) s.is_size in
+      record {
+        text = c.size ++ content;
+        parts = c.cut.parts ∙ sym (append_assoc c.size content rest);
+        changes = record {
+          names = r.names;
+          becomes = subst (λ (u : List ℕ). ChangesSized w R (c.size ++ content) u r.names) (sym is)
+              (resized c.size content s.size new r.names c.cut.is_size r.becomes r.is_naming t);
+          is_naming = r.is_naming;
+        };
+      }
 
-pub sized_so : (F : List ℕ → Type 0) (bytes content rest after : List ℕ) →
-    CutBehind bytes content rest after → F content → InSized F bytes
-sized_so F bytes content rest after c f =
-    subst (λ (u : List ℕ). InSized F u) (sym c.cut.parts) (in_content c.size content rest c.cut.is_size f)
+  pub sized_so : (F : List ℕ → Type 0) → F content → InSized F bytes
+  sized_so F f =
+      subst (λ (u : List ℕ). InSized F u) (sym c.cut.parts) (in_content c.size content rest c.cut.is_size f)
 
 pub too_long : (R : Change) (content new : List ℕ) → Changes R content new → 2 ^ 32 ≤ length new →
     BecomesTooLong R content

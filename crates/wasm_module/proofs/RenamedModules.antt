@@ -207,26 +207,18 @@ is_placed bytes texts rest s left e n =
       cut = next_whole s n.size n.others bytes s.offset behind refl n.content_begins;
     }
 
-abbrev pub next_text : (Done : Passing) (bytes : List ℕ) (old left : List PlacedSection) (out : List ℕ)
-    (s : PlacedSection) → Walks Done bytes old out → old ≡ s ∷ left → List ℕ
-next_text Done bytes old left out s w e =
-    let n = placed_first bytes w.texts w.rest (length header + length w.texts) old left s refl w.places e in
-    s.framed.id ∷ (n.size ++ s.framed.content)
+module _ {Done : Passing} {bytes : List ℕ} {old left : List PlacedSection} {out : List ℕ} {s : PlacedSection}
+    (w : Walks Done bytes old out) (e : old ≡ s ∷ left) where
+  pub next_of : IsNext bytes w.texts w.rest s left
+  next_of = placed_first bytes w.texts w.rest (length header + length w.texts) old left s refl w.places e
 
-pub section_placed : (Done : Passing) (bytes : List ℕ) (old left : List PlacedSection) (out : List ℕ)
-    (s : PlacedSection) (w : Walks Done bytes old out) (e : old ≡ s ∷ left) →
-    IsPlaced bytes s (next_text Done bytes old left out s w e)
-section_placed Done bytes old left out s w e =
-    is_placed bytes w.texts w.rest s left w.parts
-    (placed_first bytes w.texts w.rest (length header + length w.texts) old left s refl w.places e)
+  pub section_placed : IsPlaced bytes s (s.framed.id ∷ (next_of.size ++ s.framed.content))
+  section_placed = is_placed bytes w.texts w.rest s left w.parts next_of
 
-pub section_whole : (Done : Passing) (bytes : List ℕ) (old left : List PlacedSection) (out : List ℕ)
-    (s : PlacedSection) (text : List ℕ) → Walks Done bytes old out → old ≡ s ∷ left
-    → text ≡ slice_range bytes s.offset (s.content_offset + length s.framed.content)
-    → IsSection text s.framed
-section_whole Done bytes old left out s text w e cut =
-    let p = section_placed Done bytes old left out s w e in
-    subst (λ (u : List ℕ). IsSection u s.framed) (sym (cut ∙ p.cut)) p.whole
+  pub section_whole : {text : List ℕ} →
+      text ≡ slice_range bytes s.offset (s.content_offset + length s.framed.content) → IsSection text s.framed
+  section_whole cut =
+      subst (λ (u : List ℕ). IsSection u s.framed) (sym (cut ∙ section_placed.cut)) section_placed.whole
 
 -- ---- from section to section
 
@@ -247,25 +239,27 @@ walk_begun Done bytes all out m places e done =
       written = e ∙ ap (take (length header)) p.1 ∙ take_at header p.0 (length header) refl;
     }
 
-pub walk_on : (Done : Passing) (bytes : List ℕ) (old left : List PlacedSection) (out new_out more : List ℕ)
-    (s : PlacedSection) (text : List ℕ) (w : Walks Done bytes old out) → old ≡ s ∷ left
-    → text ≡ slice_range bytes s.offset (s.content_offset + length s.framed.content)
-    → new_out ≡ out ++ more → Done (w.texts ++ text) (w.new ++ more) left → Walks Done bytes left new_out
-walk_on Done bytes old left out new_out more s text w e cut is done =
-    let n = placed_first bytes w.texts w.rest (length header + length w.texts) old left s refl w.places e in
-    let whole : List ℕ = s.framed.id ∷ (n.size ++ s.framed.content) in
-    let same : text ≡ whole = cut ∙ (is_placed bytes w.texts w.rest s left w.parts n).cut in
-    record {
-      texts = w.texts ++ whole;
-      rest = n.others;
-      new = w.new ++ more;
-      parts =
-          w.parts ∙ ap (λ (u : List ℕ). header ++ (w.texts ++ u)) n.parts
-          ∙ ap (λ (u : List ℕ). header ++ u) (sym (append_assoc w.texts whole n.others));
-      places = n.places;
-      done = subst (λ (u : List ℕ). Done (w.texts ++ u) (w.new ++ more) left) same done;
-      written = is ∙ ap (λ (u : List ℕ). u ++ more) w.written ∙ append_assoc header w.new more;
-    }
+module _ {Done : Passing} {bytes : List ℕ} {old left : List PlacedSection} {out : List ℕ} {s : PlacedSection}
+    (w : Walks Done bytes old out) (e : old ≡ s ∷ left) where
+  pub walk_on : {new_out text : List ℕ} (more : List ℕ)
+      → text ≡ slice_range bytes s.offset (s.content_offset + length s.framed.content)
+      → new_out ≡ out ++ more → Done (w.texts ++ text) (w.new ++ more) left → Walks Done bytes left new_out
+  walk_on {text = text} more cut is done =
+      let n = next_of w e in
+      let whole : List ℕ = s.framed.id ∷ (n.size ++ s.framed.content) in
+      let p = section_placed w e in
+      let same : text ≡ whole = cut ∙ p.cut in
+      record {
+        texts = w.texts ++ whole;
+        rest = n.others;
+        new = w.new ++ more;
+        parts =
+            w.parts ∙ ap (λ (u : List ℕ). header ++ (w.texts ++ u)) n.parts
+            ∙ ap (λ (u : List ℕ). header ++ u) (sym (append_assoc w.texts whole n.others));
+        places = n.places;
+        done = subst (λ (u : List ℕ). Done (w.texts ++ u) (w.new ++ more) left) same done;
+        written = is ∙ ap (λ (u : List ℕ). u ++ more) w.written ∙ append_assoc header w.new more;
+      }
 
 -- ---- sections that are renamed
 
@@ -286,23 +280,24 @@ pub none_renamed : (types : List ℕ) (new_indices : NewIndices) (widths : Width
 none_renamed types new_indices widths all =
     record { count = 0; names = []; many = omega arith; renames = none }
 
-pub module_on : (types : List ℕ) (new_indices : NewIndices) (widths : Widths) (bytes : List ℕ)
-    (all old left : List PlacedSection) (out new_out : List ℕ) (s : PlacedSection) (text : List ℕ)
-    → IsBegun types new_indices widths bytes all old out → old ≡ s ∷ left
-    → text ≡ slice_range bytes s.offset (s.content_offset + length s.framed.content)
-    → Appends (λ new. TurnsInto (RenamesSection types new_indices widths) text new) out new_out
-    → IsBegun types new_indices widths bytes all left new_out
-module_on types new_indices widths bytes all old left out new_out s text w e cut a =
-    let long : length old ≡ suc (length left) = ap (λ (u : List PlacedSection). length u) e in
-    walk_on (Renamed types new_indices widths all) bytes old left out new_out a.text s text w e cut a.parts
-    (record {
-      count = w.done.count + 1;
-      names = w.done.names ++ a.is_text.names;
-      many = omega (arith, w.done.many, long);
-      renames =
-          change_on (RenamesSection types new_indices widths) w.done.count w.texts w.new w.done.names text
-          a.text a.is_text.names w.done.renames a.is_text.becomes;
-    })
+module _ {types : List ℕ} {new_indices : NewIndices} {widths : Widths} {bytes : List ℕ}
+    {all old left : List PlacedSection} {out : List ℕ} {s : PlacedSection}
+    (w : IsBegun types new_indices widths bytes all old out) (e : old ≡ s ∷ left) where
+  pub module_on : {text new_out : List ℕ}
+      → text ≡ slice_range bytes s.offset (s.content_offset + length s.framed.content)
+      → Appends (λ new. TurnsInto (RenamesSection types new_indices widths) text new) out new_out
+      → IsBegun types new_indices widths bytes all left new_out
+  module_on {text = text} cut a =
+      let long : length old ≡ suc (length left) = ap (λ (u : List PlacedSection). length u) e in
+      walk_on w e a.text cut a.parts
+      (record {
+        count = w.done.count + 1;
+        names = w.done.names ++ a.is_text.names;
+        many = omega (arith, w.done.many, long);
+        renames =
+            change_on (RenamesSection types new_indices widths) w.done.count w.texts w.new w.done.names text
+            a.text a.is_text.names w.done.renames a.is_text.becomes;
+      })
 
 -- how many sections there are
 many_sections : (all : List PlacedSection) → length (framing all) ≡ length all
@@ -384,82 +379,65 @@ malformed_next others indices w count id size content rest h bad c =
     first_is _ _ _ _ (next m text after new new_after names more r rs) e is =
         malformed_section others indices w text new names id size content after rest h r is bad
 
-pub module_malformed : (types : List ℕ) (new_indices : NewIndices) (widths : Widths) (bytes : List ℕ)
-    (all old left : List PlacedSection) (out : List ℕ) (s : PlacedSection) → IsModule bytes (framing all)
-    → IsBegun types new_indices widths bytes all old out → old ≡ s ∷ left
-    → IsMalformedSection s.framed.id s.framed.content → CanNotBeRenamed bytes
-module_malformed types new_indices widths bytes all old left out s m w e bad others indices v new r =
-    let n = placed_first bytes w.texts w.rest (length header + length w.texts) old left s refl w.places e in
-    let sections : r.sections ≡ framing all = one_module bytes r.sections (framing all) r.is_module m in
-    let many : length r.sections ≡ length (framing all) = ap (λ (u : List Section). length u) sections in
-    let long : length old ≡ suc (length left) = ap (λ (u : List PlacedSection). length u) e in
-    let total : length r.sections ≡ w.done.count + suc (length left) = omega (
-      arith,
-      many,
-      many_sections all,
-      w.done.many,
-      long,
-    ) in
-    let texts-are : r.texts ≡ w.texts ++ w.rest = append_cancel_left header r.texts (w.texts ++ w.rest)
-    (sym r.parts ∙ w.parts) in
-    let c = changed_behind (RenamesSection types new_indices widths) (RenamesSection others indices v)
-    (ends_alike types new_indices widths others indices v) w.done.count (suc (length left)) (length r.sections)
-    w.texts w.rest r.texts w.new w.done.names r.new_texts r.names total texts-are w.done.renames r.renames in
-    malformed_next others indices v (length left) s.framed.id n.size s.framed.content n.others n.is_size bad
-    (subst (λ (u : List ℕ). Changed (RenamesSection others indices v) (suc (length left)) u) n.parts c)
+module _ {types : List ℕ} {new_indices : NewIndices} {widths : Widths} {bytes : List ℕ}
+    {all old left : List PlacedSection} {out : List ℕ} {s : PlacedSection} (m : IsModule bytes (framing all))
+    (w : IsBegun types new_indices widths bytes all old out) (e : old ≡ s ∷ left) where
+  total : length (framing all) ≡ w.done.count + suc (length left)
+  total =
+      let long : length old ≡ suc (length left) = ap (λ (u : List PlacedSection). length u) e in
+      omega (arith, many_sections all, w.done.many, long)
 
-pub first_section : (types : List ℕ) (new_indices : NewIndices) (widths : Widths) (F : List ℕ → Type 0)
-    (bytes : List ℕ)
-    (all old left : List PlacedSection) (out : List ℕ) (s : PlacedSection) → IsModule bytes (framing all) →
-    (w : IsBegun types new_indices widths bytes all old out) → old ≡ s ∷ left → F w.rest
-    → FirstSectionIn types new_indices widths F bytes
-first_section types new_indices widths F bytes all old left out s m w e found =
-    let long : length old ≡ suc (length left) = ap (λ (u : List PlacedSection). length u) e in
-    let total : length (framing all) ≡ w.done.count + suc (length left) = omega (
-      arith,
-      many_sections all,
-      w.done.many,
-      long,
-    ) in
-    record {
-      sections = framing all;
-      is_module = m;
-      texts = w.texts ++ w.rest;
-      parts = w.parts;
-      first =
-          first_behind (RenamesSection types new_indices widths) F w.done.count w.texts w.new w.done.names w.done.renames
-          (length (framing all)) w.rest (omega (arith, total)) found;
-    }
+  pub module_malformed : IsMalformedSection s.framed.id s.framed.content → CanNotBeRenamed bytes
+  module_malformed bad others indices v new r =
+      let n = next_of w e in
+      let sections : r.sections ≡ framing all = one_module bytes r.sections (framing all) r.is_module m in
+      let many : length r.sections ≡ w.done.count + suc (length left) = ap (λ (u : List Section). length u)
+      sections ∙ total in
+      let texts-are : r.texts ≡ w.texts ++ w.rest = append_cancel_left header r.texts (w.texts ++ w.rest)
+      (sym r.parts ∙ w.parts) in
+      let c = changed_behind (RenamesSection types new_indices widths) (RenamesSection others indices v)
+      (ends_alike types new_indices widths others indices v) w.done.count (suc (length left))
+      (length r.sections) w.texts w.rest r.texts w.new w.done.names r.new_texts r.names many texts-are
+      w.done.renames r.renames in
+      malformed_next others indices v (length left) s.framed.id n.size s.framed.content n.others n.is_size bad
+      (subst (λ (u : List ℕ). Changed (RenamesSection others indices v) (suc (length left)) u) n.parts c)
 
-pub module_unknown : (types : List ℕ) (new_indices : NewIndices) (widths : Widths) (k : ℕ) (bytes : List ℕ)
-    (all old left : List PlacedSection) (out : List ℕ) (s : PlacedSection) → IsModule bytes (framing all)
-    → IsBegun types new_indices widths bytes all old out → old ≡ s ∷ left
-    → SectionNamesUnknown new_indices widths k s.framed.id s.framed.content
-    → ModuleNamesUnknown types new_indices widths k bytes
-module_unknown types new_indices widths k bytes all old left out s m w e u =
-    let n = placed_first bytes w.texts w.rest (length header + length w.texts) old left s refl w.places e in
-    let F : List ℕ → Type 0 = InContent (λ id. NamesUnknownIn id new_indices widths k) in
-    let found : F w.rest = subst F (sym n.parts)
-    (in_content_of (λ id. NamesUnknownIn id new_indices widths k) s.framed.id n.size s.framed.content n.others u.other
-    n.is_size u.unknown) in
-    first_section types new_indices widths F bytes all old left out s m w e found
+  first_section : (F : List ℕ → Type 0) → F w.rest → FirstSectionIn types new_indices widths F bytes
+  first_section F found =
+      record {
+        sections = framing all;
+        is_module = m;
+        texts = w.texts ++ w.rest;
+        parts = w.parts;
+        first =
+            first_behind (RenamesSection types new_indices widths) F w.done.count w.texts w.new w.done.names
+            w.done.renames (length (framing all)) w.rest (omega (arith, total)) found;
+      }
 
-pub module_too_long : (types : List ℕ) (new_indices : NewIndices) (widths : Widths) (bytes : List ℕ)
-    (all old left : List PlacedSection) (out : List ℕ) (s : PlacedSection) (text : List ℕ)
-    → IsModule bytes (framing all) → IsBegun types new_indices widths bytes all old out → old ≡ s ∷ left
-    → text ≡ slice_range bytes s.offset (s.content_offset + length s.framed.content)
-    → SectionBecomesTooLong types new_indices widths text
-    → ModuleBecomesTooLong types new_indices widths bytes
-module_too_long types new_indices widths bytes all old left out s text m w e cut h =
-    let n = placed_first bytes w.texts w.rest (length header + length w.texts) old left s refl w.places e in
-    let whole : List ℕ = s.framed.id ∷ (n.size ++ s.framed.content) in
-    let same : text ≡ whole = cut ∙ (is_placed bytes w.texts w.rest s left w.parts n).cut in
-    let found : SectionBecomesTooLong types new_indices widths w.rest =
-    subst (λ (u : List ℕ). SectionBecomesTooLong types new_indices widths u) (sym n.parts)
-    (too_long_longer types new_indices widths whole n.others
-    (subst (λ (u : List ℕ). SectionBecomesTooLong types new_indices widths u) same h)) in
-    first_section types new_indices widths (SectionBecomesTooLong types new_indices widths) bytes all old left
-    out s m w e found
+  pub module_unknown : (k : ℕ) → SectionNamesUnknown new_indices widths k s.framed.id s.framed.content →
+      ModuleNamesUnknown types new_indices widths k bytes
+  module_unknown k u =
+      let n = next_of w e in
+      let F : List ℕ → Type 0 = InContent (λ id. NamesUnknownIn id new_indices widths k) in
+      let found : F w.rest = subst F (sym n.parts)
+      (in_content_of (λ id. NamesUnknownIn id new_indices widths k) s.framed.id n.size s.framed.content
+      n.others u.other n.is_size u.unknown) in
+      first_section F found
+
+  pub module_too_long : {text : List ℕ}
+      → text ≡ slice_range bytes s.offset (s.content_offset + length s.framed.content)
+      → SectionBecomesTooLong types new_indices widths text
+      → ModuleBecomesTooLong types new_indices widths bytes
+  module_too_long {text = text} cut h =
+      let n = next_of w e in
+      let p = section_placed w e in
+      let whole : List ℕ = s.framed.id ∷ (n.size ++ s.framed.content) in
+      let same : text ≡ whole = cut ∙ p.cut in
+      let found : SectionBecomesTooLong types new_indices widths w.rest =
+      subst (λ (u : List ℕ). SectionBecomesTooLong types new_indices widths u) (sym n.parts)
+      (too_long_longer types new_indices widths whole n.others
+      (subst (λ (u : List ℕ). SectionBecomesTooLong types new_indices widths u) same h)) in
+      first_section (SectionBecomesTooLong types new_indices widths) found
 
 -- an unknown type stays unknown with equal new indices, and the types play no role
 pub unknown_for : (types : List ℕ) (new_indices others : NewIndices) (widths : Widths) (k : ℕ) (bytes : List ℕ)

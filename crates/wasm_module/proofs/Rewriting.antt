@@ -210,7 +210,7 @@ module _ {new_indices : NewIndices} {least : ℕ → ℕ} {start stack : List Ki
     (s : Renaming new_indices least start bytes rest stack out) where
   pub rename_malformed : (place : ℕ) → IsRefused stack rest (scan.Malformed place) → BeginsNoText start bytes
   rename_malformed place h =
-      let k = refused_behind start stack s.tokens bytes rest (scan.Malformed place) s.reads h in
+      let k = refused_behind (scan.Malformed place) s.reads h in
       λ text after parts tokens are. k text after tokens parts are
 
 abbrev pub some_map : (ℕ → Option ℕ) → Option (ℕ → Option ℕ)

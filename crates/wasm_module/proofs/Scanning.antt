@@ -128,24 +128,23 @@ no_reading : (x : Reading Beginning) (left : List ℕ) (b : Beginning) (rest : L
 no_reading x left b rest e h = absurd cc
 
 -- no text begins where none goes on behind what was read
-pub none_goes_on : (start stack : List Kind) (tokens : List Token) (bytes rest : List ℕ) →
-    Reads start stack tokens bytes rest
-    → ((text after : List ℕ) (ps : List Token) → rest ≡ text ++ after → AreTexts stack text ps → ⊥)
-    → (text after : List ℕ) (ps : List Token) → bytes ≡ text ++ after → AreTexts start text ps → ⊥
-none_goes_on start stack tokens bytes rest a none text after ps parts h =
-    let r = follows start a.text tokens stack rest text ps after a.runs h (sym a.parts ∙ parts) in
-    none r.text after r.tokens r.parts r.are
+module _ {start stack : List Kind} {tokens : List Token} {bytes rest : List ℕ} where
+  pub none_goes_on : Reads start stack tokens bytes rest
+      → ((text after : List ℕ) (ps : List Token) → rest ≡ text ++ after → AreTexts stack text ps → ⊥)
+      → (text after : List ℕ) (ps : List Token) → bytes ≡ text ++ after → AreTexts start text ps → ⊥
+  none_goes_on a none text after ps parts h =
+      let r = follows start a.text tokens stack rest text ps after a.runs h (sym a.parts ∙ parts) in
+      none r.text after r.tokens r.parts r.are
 
-pub refused : (start : List Kind) (bytes rest left : List ℕ) (next : Kind) (stack : List Kind)
-    → PassesTokens start (next ∷ stack) bytes rest → begin_at next rest ≡ fault left
-    → (text after : List ℕ) (tokens : List Token) → bytes ≡ text ++ after → AreTexts start text tokens → ⊥
-refused start bytes rest left next stack p e =
-    none_goes_on start (next ∷ stack) p.passed bytes rest p.reads
-    (λ text after tokens parts are. let f = first_of next stack text tokens are in
-    let whole : rest ≡ f.0 ++ (f.1 ++ after) = parts ∙ ap (λ (u : List ℕ). u ++ after) f.7
-    ∙ append_assoc f.0 f.1 after in
-    no_reading (begin_at next rest) left (beginning (type_name f.2) f.4) (f.1 ++ after) e
-    (ap (begin_at next) whole ∙ begin_again next f.0 f.2 f.4 (f.1 ++ after) f.5))
+module _ {start stack : List Kind} {bytes rest : List ℕ} {next : Kind} where
+  pub refused : (left : List ℕ) → PassesTokens start (next ∷ stack) bytes rest → begin_at next rest ≡ fault left
+      → (text after : List ℕ) (tokens : List Token) → bytes ≡ text ++ after → AreTexts start text tokens → ⊥
+  refused left p e =
+      none_goes_on p.reads (λ text after tokens parts are. let f = first_of next stack text tokens are in
+      let whole : rest ≡ f.0 ++ (f.1 ++ after) = parts ∙ ap (λ (u : List ℕ). u ++ after) f.7
+      ∙ append_assoc f.0 f.1 after in
+      no_reading (begin_at next rest) left (beginning (type_name f.2) f.4) (f.1 ++ after) e
+      (ap (begin_at next) whole ∙ begin_again next f.0 f.2 f.4 (f.1 ++ after) f.5))
 
 -- ---- the loop
 

@@ -81,37 +81,37 @@ pub not_some : (o : Option ℕ) → ((x : ℕ) → o ≡ Some x → ⊥) → o �
 not_some (Some x) h = absurd (h x refl)
 not_some None h = refl
 
-pub passes_type : (t : TypeIndex) (start : List Kind) (bytes rest after : List ℕ) (next : Kind)
-    (stack new : List Kind) (b : Beginning) → PassesTokens start (next ∷ stack) bytes rest
-    → begin_at next rest ≡ Ok (b, after) → new ≡ b.more ++ stack → Some t.index ≡ b.named
-    → t.is_signed ≡ may_be_index next → t.length ≡ length rest - length after
-    → PassesType t start new bytes after
-passes_type t start bytes rest after next stack new b p e new-is index-is signed-is long-is =
-    let h = begin_sound next rest b after e in
-    let g = h.is_text in
-    let names : type_name g.token ≡ Some t.index = g.names ∙ sym index-is in
-    let is : g.token ≡ token_of t h.text = token_is next h.text g.token b.more t.index g.begins names
-    ∙ ap (λ x. cond x (signed space.Type h.text t.index) (unsigned space.Type h.text t.index)) (sym signed-is)
-    in
-    let long : length rest ≡ length h.text + length after = ap (λ (u : List ℕ). length u) h.parts
-    ∙ length-append h.text after in
-    let all : length bytes ≡ length p.reads.text + length rest = ap (λ (u : List ℕ). length u) p.reads.parts
-    ∙ length-append p.reads.text rest in
-    let short = token_short next h.text g.token b.more t.index g.begins names in
-    let some = begins_long next h.text g.token b.more g.begins in
-    record {
-      passed = p.passed;
-      text = h.text;
-      reads = reads_join p.reads
-          (subst (λ (u : List Kind). Reads (next ∷ stack) u (token_of t h.text ∷ []) rest after) (sym new-is)
-          (subst (λ k. Reads (next ∷ stack) (b.more ++ stack) (k ∷ []) rest after) is
-          (one_read next stack rest after b e)));
-      none = p.none;
-      long = omega (arith, long, long-is);
-      short = omega (arith, long, long-is, short);
-      some = omega (arith, long, long-is, some);
-      fits = omega (arith, long, long-is, all);
-    }
+module _ {start stack new : List Kind} {bytes rest after : List ℕ} {next : Kind} {b : Beginning} where
+  pub passes_type : (t : TypeIndex) → PassesTokens start (next ∷ stack) bytes rest →
+      begin_at next rest ≡ Ok (b, after) → new ≡ b.more ++ stack → Some t.index ≡ b.named →
+      t.is_signed ≡ may_be_index next → t.length ≡ length rest - length after →
+      PassesType t start new bytes after
+  passes_type t p e new-is index-is signed-is long-is =
+      let h = begin_sound next rest b after e in
+      let g = h.is_text in
+      let names : type_name g.token ≡ Some t.index = g.names ∙ sym index-is in
+      let is : g.token ≡ token_of t h.text = token_is next h.text g.token b.more t.index g.begins names
+      ∙ ap (λ x. cond x (signed space.Type h.text t.index) (unsigned space.Type h.text t.index)) (sym signed-is)
+      in
+      let long : length rest ≡ length h.text + length after = ap (λ (u : List ℕ). length u) h.parts
+      ∙ length-append h.text after in
+      let all : length bytes ≡ length p.reads.text + length rest = ap (λ (u : List ℕ). length u) p.reads.parts
+      ∙ length-append p.reads.text rest in
+      let short = token_short next h.text g.token b.more t.index g.begins names in
+      let some = begins_long next h.text g.token b.more g.begins in
+      record {
+        passed = p.passed;
+        text = h.text;
+        reads = reads_join p.reads
+            (subst (λ (u : List Kind). Reads (next ∷ stack) u (token_of t h.text ∷ []) rest after) (sym new-is)
+            (subst (λ k. Reads (next ∷ stack) (b.more ++ stack) (k ∷ []) rest after) is
+            (one_read next stack rest after b e)));
+        none = p.none;
+        long = omega (arith, long, long-is);
+        short = omega (arith, long, long-is, short);
+        some = omega (arith, long, long-is, some);
+        fits = omega (arith, long, long-is, all);
+      }
 
 -- ---- from one search to the next
 
@@ -129,11 +129,11 @@ module _ {kinds left : List Kind} {bytes rest : List ℕ} where
   pub passes_shorter : {t : TypeIndex} → PassesType t kinds left bytes rest → length rest < length bytes
   passes_shorter h = omega (arith, h.fits, h.some)
 
-pub refused_behind : (start stack : List Kind) (tokens : List Token) (bytes rest : List ℕ) (e : ScanError) →
-    Reads start stack tokens bytes rest → IsRefused stack rest e → IsRefused start bytes e
-refused_behind start stack tokens bytes rest (scan.Malformed place) a h =
-    none_goes_on start stack tokens bytes rest a h
-refused_behind start stack tokens bytes rest scan.Memory a h = tt
+module _ {start stack : List Kind} {tokens : List Token} {bytes rest : List ℕ} where
+  pub refused_behind : (e : ScanError) → Reads start stack tokens bytes rest → IsRefused stack rest e →
+      IsRefused start bytes e
+  refused_behind (scan.Malformed place) a h = none_goes_on a h
+  refused_behind scan.Memory a h = tt
 
 pub type_names_append : (a b : List Token) → type_names (a ++ b) ≡ type_names a ++ type_names b
 type_names_append a b = flat_map-append (λ p. names_of (type_name p)) a b

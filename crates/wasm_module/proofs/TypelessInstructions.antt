@@ -73,28 +73,28 @@ passed_framed kinds left more bytes rest p =
       none = p.none;
     }
 
-pub passed_shorter : (kinds left : List Kind) (bytes rest : List ℕ) → PassesTokens kinds left bytes rest →
-    length rest ≤ length bytes
-passed_shorter kinds left bytes rest p =
-    let long : length bytes ≡ length p.reads.text + length rest = ap (λ (u : List ℕ). length u) p.reads.parts
-    ∙ length-append p.reads.text rest in
-    omega (arith, long)
+module _ {kinds left : List Kind} {bytes rest : List ℕ} where
+  pub passed_shorter : PassesTokens kinds left bytes rest → length rest ≤ length bytes
+  passed_shorter p =
+      let long : length bytes ≡ length p.reads.text + length rest = ap (λ (u : List ℕ). length u) p.reads.parts
+      ∙ length-append p.reads.text rest in
+      omega (arith, long)
 
--- the next kind was taken from the stack, and tokens of it were passed over
-pub passed_next : (start : List Kind) (bytes rest after : List ℕ) (next : Kind) (stack old : List Kind) →
-    PassesTokens start old bytes rest → old ≡ next ∷ stack →
-    PassesTokens (next ∷ []) (next ∷ []) rest after → PassesTokens start (next ∷ stack) bytes after
-passed_next start bytes rest after next stack old p e q =
-    passed_joined (subst (λ (u : List Kind). PassesTokens start u bytes rest) e p)
-    (passed_framed (next ∷ []) (next ∷ []) stack rest after q)
+module _ {start stack : List Kind} {bytes rest after : List ℕ} {next : Kind} where
+  -- the next kind was taken from the stack, and tokens of it were passed over
+  pub passed_next : {old : List Kind} → PassesTokens start old bytes rest → old ≡ next ∷ stack →
+      PassesTokens (next ∷ []) (next ∷ []) rest after → PassesTokens start (next ∷ stack) bytes after
+  passed_next p e q =
+      passed_joined (subst (λ (u : List Kind). PassesTokens start u bytes rest) e p)
+      (passed_framed (next ∷ []) (next ∷ []) stack rest after q)
 
--- and then its beginning was
-pub passed_on : (start : List Kind) (bytes rest after : List ℕ) (next : Kind) (stack new : List Kind)
-    (b : Beginning) → PassesTokens start (next ∷ stack) bytes rest → begin_at next rest ≡ Ok (b, after)
-    → new ≡ b.more ++ stack → names_of b.named ≡ [] → PassesTokens start new bytes after
-passed_on start bytes rest after next stack new b p e new-is unnamed =
-    passed_joined p (subst (λ (u : List Kind). PassesTokens (next ∷ stack) u rest after) (sym new-is)
-    (passed_first next stack b rest after e unnamed))
+  -- and then its beginning was
+  pub passed_on : {new : List Kind} {b : Beginning} → PassesTokens start (next ∷ stack) bytes rest →
+      begin_at next rest ≡ Ok (b, after) → new ≡ b.more ++ stack → names_of b.named ≡ [] →
+      PassesTokens start new bytes after
+  passed_on {b = b} p e new-is unnamed =
+      passed_joined p (subst (λ (u : List Kind). PassesTokens (next ∷ stack) u rest after) (sym new-is)
+      (passed_first next stack b rest after e unnamed))
 
 -- ---- an alignment and an offset
 
@@ -180,7 +180,7 @@ pub shorter_behind_first : (k : Kind) (bytes rest : List ℕ) → 1 ≤ length b
 shorter_behind_first k bytes rest some p =
     let long : length bytes ≡ suc (length (behind_first bytes)) = ap (λ (u : List ℕ). length u)
     (first_apart bytes some) in
-    omega (arith, long, passed_shorter (k ∷ []) [] (behind_first bytes) rest p)
+    omega (arith, long, passed_shorter p)
 
 -- ---- what has instructions
 
@@ -208,4 +208,4 @@ instructions_of k here bytes rest is has p =
 
 pub instructions_shorter : (bytes rest : List ℕ) → PassesInstructions bytes rest → length rest ≤ length bytes
 instructions_shorter bytes rest p =
-    passed_shorter (kind.Expression ∷ []) (kind.Expression ∷ []) bytes rest (p kind.Expression expression_has)
+    passed_shorter (p kind.Expression expression_has)

@@ -1,6 +1,5 @@
 use Rattle.std.proofs.Common.{rules}
 use Rattle.wasm_module.specs.Customs.{none}
-use Rattle.wasm_module.specs.Sections.{placed}
 use Rattle.wasm_module.proofs.RenamedModules.{section_placed, section_whole, walk_begun, walk_on}
 use Rattle.wasm_module.proofs.Descriptions.{Stripped, stripped_push}
 use Rattle.wasm_module.proofs.customs.copy_others.Goals as goal
@@ -16,36 +15,24 @@ loop-section-init c = (
 
 pub section_text-text-requires-clause-ordered : goal.section_text-text-requires-clause-ordered
 section_text-text-requires-clause-ordered c =
-    let s = c.in-Some.section in
-    let p = section_placed Stripped c.args.bytes.now c.loop-section.left c.next.new.self c.loop-section.out.items
-    (placed s.offset s.content_offset s.id s.content.now) c.loop-section.invariant.2 c.in-Some.ensures.steps
-    in
+    let p = section_placed c.loop-section.invariant.2 c.in-Some.ensures.steps in
     p.ordered
 
 pub section_text-text-requires-clause-fits : goal.section_text-text-requires-clause-fits
 section_text-text-requires-clause-fits c =
-    let s = c.in-Some.section in
-    let p = section_placed Stripped c.args.bytes.now c.loop-section.left c.next.new.self c.loop-section.out.items
-    (placed s.offset s.content_offset s.id s.content.now) c.loop-section.invariant.2 c.in-Some.ensures.steps
-    in
+    let p = section_placed c.loop-section.invariant.2 c.in-Some.ensures.steps in
     p.fits
 
 pub copy_other-requires : goal.copy_other-requires
 copy_other-requires c =
-    let s = c.in-Some.section in
-    section_whole Stripped c.args.bytes.now c.loop-section.left c.next.new.self c.loop-section.out.items
-    (placed s.offset s.content_offset s.id s.content.now) c.section_text-text.result.now
-    c.loop-section.invariant.2 c.in-Some.ensures.steps c.section_text-text.ensures
+    section_whole c.loop-section.invariant.2 c.in-Some.ensures.steps c.section_text-text.ensures
 
 pub loop-section-preserved : goal.loop-section-preserved
 loop-section-preserved c =
-    let s = c.in-Some.section in
     let w = c.loop-section.invariant.2 in
     let written = c.in_ok-copy_other.ensures in (
       tt,
       tt,
-      walk_on Stripped c.args.bytes.now c.loop-section.left c.next.new.self c.loop-section.out.items
-          c.copy_other.new.out.items written.text (placed s.offset s.content_offset s.id s.content.now)
-          c.section_text-text.result.now w c.in-Some.ensures.steps c.section_text-text.ensures written.parts
+      walk_on w c.in-Some.ensures.steps written.text c.section_text-text.ensures written.parts
           (stripped_push w.texts w.new c.section_text-text.result.now written.text w.done written.is_text),
     )

@@ -11,12 +11,8 @@ loop-kind-init c = passed_none _ _
 
 pub returns-in_default-read_head-clause-refused : goal.returns-in_default-read_head-clause-refused
 returns-in_default-read_head-clause-refused c =
-    let l = c.loop-kind in
-    let after = c.skip_typeless.new.input.now in
-    λ text rest tokens parts h. refused c.args.stack.now c.args.input.now.now after
-    c.read_head.new.input.now c.in-Some.kind c.next_kind.new.self
-    (passed_next c.args.stack.now c.args.input.now.now l.input.now after c.in-Some.kind
-    c.next_kind.new.self l.stack l.invariant c.in-Some.ensures c.skip_typeless.ensures)
+    λ text rest tokens parts h. refused _
+    (passed_next c.loop-kind.invariant c.in-Some.ensures c.skip_typeless.ensures)
     c.in_default-read_head.ensures text rest tokens parts h
 
 pub overflow_sub-result : goal.overflow_sub-result
@@ -25,13 +21,8 @@ overflow_sub-result c = no_longer c.in-Some.kind c.skip_typeless.new.input.now (
 
 pub returns-in-Some-2-clause-passed : goal.returns-in-Some-2-clause-passed
 returns-in-Some-2-clause-passed c =
-    let l = c.loop-kind in
-    let after = c.skip_typeless.new.input.now in
     let e = c.in_ok-index.ensures in
-    passes_type _ c.args.stack.now c.args.input.now.now after c.read_head.new.input.now c.in-Some.kind
-    c.next_kind.new.self c.take_in.new.stack (seen c.in-Some-read_head.head)
-    (passed_next c.args.stack.now c.args.input.now.now l.input.now after c.in-Some.kind
-    c.next_kind.new.self l.stack l.invariant c.in-Some.ensures c.skip_typeless.ensures)
+    passes_type _ (passed_next c.loop-kind.invariant c.in-Some.ensures c.skip_typeless.ensures)
     c.in-Some-read_head.ensures e.stack (sym c.in-Some-2.is ∙ e.named) c.may_be_index.ensures refl
 
 pub loop-kind-smaller : goal.loop-kind-smaller
@@ -39,17 +30,11 @@ loop-kind-smaller c =
     let after = c.skip_typeless.new.input.now in
     let less = shorter c.in-Some.kind after (seen c.in-Some-read_head.head) c.read_head.new.input.now
     c.in-Some-read_head.ensures in
-    let passed = passed_shorter _ _ c.loop-kind.input.now after c.skip_typeless.ensures in
-    omega (arith, less, passed)
+    omega (arith, less, passed_shorter c.skip_typeless.ensures)
 
 pub loop-kind-preserved : goal.loop-kind-preserved
 loop-kind-preserved c =
-    let l = c.loop-kind in
-    let after = c.skip_typeless.new.input.now in
     let e = c.in_ok-index.ensures in
-    passed_on c.args.stack.now c.args.input.now.now after c.read_head.new.input.now c.in-Some.kind
-    c.next_kind.new.self c.take_in.new.stack (seen c.in-Some-read_head.head)
-    (passed_next c.args.stack.now c.args.input.now.now l.input.now after c.in-Some.kind
-    c.next_kind.new.self l.stack l.invariant c.in-Some.ensures c.skip_typeless.ensures)
+    passed_on (passed_next c.loop-kind.invariant c.in-Some.ensures c.skip_typeless.ensures)
     c.in-Some-read_head.ensures e.stack
     (ap names_of (sym e.named ∙ not_some c.in_ok-index.field-0 c.in_default-2.not-Some))

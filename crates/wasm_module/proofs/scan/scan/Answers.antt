@@ -8,11 +8,9 @@ loop-stack-init c = rw c.new-named.ensures.items (begun _ _)
 
 pub returns-in_err-found-clause-refused : goal.returns-in_err-found-clause-refused
 returns-in_err-found-clause-refused c =
-    let l = c.loop-stack in
     let p = err_from_is_err_and c.from_residual.result c.from_residual.ensures.1 in
-    rw (p.1, p.2) (refused_behind c.args.kinds l.stack l.invariant.tokens c.args.input.now.now l.input.now
-    c.in_err-found.field-0.0
-    l.invariant.reads c.in_err-found.ensures.refused)
+    rw (p.1, p.2)
+    (refused_behind c.in_err-found.field-0.0 c.loop-stack.invariant.reads c.in_err-found.ensures.refused)
 
 pub loop-stack-smaller : goal.loop-stack-smaller
 loop-stack-smaller c = passes_shorter (found_type c.in-Some.is c.in_ok-found.ensures.passed)
