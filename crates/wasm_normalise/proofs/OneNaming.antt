@@ -135,7 +135,7 @@ sections_left _ _ (next_stripped _ _ rest news (left_out text s h d) hs) =
       left = r.left;
       before = next_item text rest s r.all h r.before;
       after = r.after;
-      name = λ names k. left_out_names s r.all r.left names d.is_custom r.name k;
+      name = λ names k. left_out_names s r.all r.left names d.describes.is_custom r.name k;
     }
 sections_left _ _ (next_stripped _ _ rest news (kept text s h d) hs) =
     let r = sections_left rest news hs in
