@@ -1,4 +1,4 @@
-use Rattle.std.proofs.Common.{◌≡◌, ◌∙◌, ℕ, List, length, sym, ap, subst, arith}
+use Rattle.std.proofs.Common.{◌∙◌, ℕ, List, length, sym, ap, subst, arith}
 use Rattle.wasm_module.specs.Renaming.{least_width}
 use Rattle.wasm_module.specs.Steps.Scans.{IsRefused}
 use Rattle.wasm_module.proofs.Searching.{found_type, found_none, passes_shorter}
