@@ -1,10 +1,10 @@
 //! Functions that call another one of their type.
 use crate::assertions::{are, assert_equal};
-use crate::bodies::{entry_is_of, function_type, has};
+use crate::bodies::{function_type, has};
 use std::alloc::{AllocError, Global};
 use std::process::Abort;
 use walrus_functions::LocalFunction;
-use walrus_ir::{InstrSeqType, LocalId, ModuleLocals};
+use walrus_ir::{LocalId, ModuleLocals};
 use walrus_passes::adapter;
 use walrus_types::{Id, ModuleTypes, TypeId, ValType};
 
@@ -48,28 +48,4 @@ fn an_adapter_reads_its_parameters_and_calls(rt: HostRuntime) {
     );
     assert!(rt; has_type(&locals, 1, ValType::I32));
     assert!(rt; has_type(&locals, 2, ValType::F64));
-}
-
-#[test]
-fn an_adapter_has_an_entry_of_the_results(rt: HostRuntime) {
-    let mut types = ModuleTypes::new(rt.alloc());
-    let mut locals = ModuleLocals::new(rt.alloc());
-    types.add(&[], &[ValType::I64]).expect(&rt, "memory");
-    let func = adapt(&rt, rt.alloc(), &mut types, &mut locals, 0).expect(&rt, "memory");
-    assert!(rt; func.args.is_empty());
-    entry_is_of(&rt, &func, InstrSeqType::MultiValue(TypeId::from_index(1)));
-    let entry_ty = types.find_for_function_entry(&[ValType::I64]);
-    assert_equal(&rt, entry_ty, Some(TypeId::from_index(1)));
-}
-
-#[test]
-fn an_adapter_finds_the_type_of_its_entry(rt: HostRuntime) {
-    let mut types = ModuleTypes::new(rt.alloc());
-    let mut locals = ModuleLocals::new(rt.alloc());
-    types.add(&[], &[ValType::I64]).expect(&rt, "memory");
-    let held = types.add_entry_ty(&[ValType::I64]).expect(&rt, "memory");
-    let func = adapt(&rt, rt.alloc(), &mut types, &mut locals, 0).expect(&rt, "memory");
-    entry_is_of(&rt, &func, InstrSeqType::MultiValue(held));
-    assert_equal(&rt, types.live_ids().expect(&rt, "memory").len(), 2);
-    assert!(rt; types.contains(func.ty()) && types.contains(held));
 }

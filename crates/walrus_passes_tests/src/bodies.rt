@@ -6,14 +6,9 @@ use crate::assertions::{are, assert_equal};
 use std::alloc::{AllocError, Global};
 use std::process::Abort;
 use walrus_functions::{BuildError, FunctionBuilder, LocalFunction, LocalFunctions};
-use walrus_ir::{Instr, InstrLocId, InstrSeqType, LoadKind, LocalId, MemArg, UnaryOp, Value};
+use walrus_ir::{Instr, InstrLocId, InstrSeqType, LocalId, Value};
 use walrus_passes::{replace_with, snip};
 use walrus_types::{FunctionId, Id, ModuleTypes, TypeId, ValType};
-
-pub(crate) const ARG: MemArg = MemArg {
-    align: 4,
-    offset: 0,
-};
 
 // The sequence of an index has instructions of this text, which is made again after a refusal.
 pub(crate) fn has(
@@ -49,12 +44,8 @@ fn add_instr(text: &mut String, instr: &Instr) -> Result<(), AllocError> {
         Instr::LocalGet(x) => ("local.get", x.local.index()),
         Instr::LocalSet(x) => ("local.set", x.local.index()),
         Instr::TableGet(x) => ("table.get", x.table.index()),
-        Instr::Load(x) if x.kind == LoadKind::V128 && x.arg == ARG => {
-            ("v128.load", x.memory.index())
-        }
         Instr::Const(x) => return add_value(text, x.value),
         Instr::Unreachable(_) => return text.push_str("unreachable"),
-        Instr::Unop(x) if x.op == UnaryOp::I32WrapI64 => return text.push_str("i32.wrap_i64"),
         _ => return text.push_str("another"),
     };
     Ok(write!(text, "{word} {number}")?)
@@ -85,7 +76,7 @@ pub(crate) fn function_type(rt: &impl Abort, types: &ModuleTypes, index: usize) 
 }
 
 // A function `f` that takes an `i32` as the local 3 and leaves 7.
-pub(crate) fn seven(alloc: Global) -> Result<LocalFunction, BuildError> {
+fn seven(alloc: Global) -> Result<LocalFunction, BuildError> {
     let mut types = ModuleTypes::new(alloc);
     let mut f = FunctionBuilder::new(alloc, &mut types, &[ValType::I32], &[ValType::I32])?;
     f.name(String::from_str(alloc, "f")?);
@@ -157,19 +148,6 @@ fn a_snipped_function_is_unreachable(rt: HostRuntime) {
     snip_first(&rt, rt.alloc(), &mut funcs).expect(&rt, "memory");
     is(&rt, rt.alloc(), &funcs, 0, "unreachable");
     is(&rt, rt.alloc(), &funcs, 1, "i32 7");
-}
-
-#[test]
-fn a_snipped_entry_keeps_its_type(rt: HostRuntime) {
-    let mut funcs = sevens(rt.alloc(), 2).expect(&rt, "memory");
-    snip_first(&rt, rt.alloc(), &mut funcs).expect(&rt, "memory");
-    let id: FunctionId = Id::from_index(0);
-    assert!(rt; funcs.contains(id));
-    entry_is_of(
-        &rt,
-        funcs.get(id),
-        InstrSeqType::MultiValue(TypeId::from_index(1)),
-    );
 }
 
 #[test]

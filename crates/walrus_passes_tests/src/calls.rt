@@ -5,7 +5,7 @@ use crate::used_types::enter;
 use std::alloc::Global;
 use std::process::Abort;
 use walrus_functions::{BuildError, FunctionBuilder, LocalFunction};
-use walrus_ir::{Id, Instr, InstrLocId, InstrSeqType, ReturnCall};
+use walrus_ir::{Id, Instr, InstrSeqType, ReturnCall};
 use walrus_passes::{map_instrs, redirect_calls, snip_calls};
 use walrus_types::{FunctionId, TypeId, ValType};
 
@@ -68,13 +68,6 @@ fn snipped_calls_and_references_are_unreachable(rt: HostRuntime) {
 }
 
 #[test]
-fn without_functions_nothing_is_snipped(rt: HostRuntime) {
-    let mut func = calling(rt.alloc()).expect(&rt, "memory");
-    snip_calls(&mut func, &[]);
-    both_are(&rt, rt.alloc(), &func, BUILT);
-}
-
-#[test]
 fn redirected_calls_and_references_name_the_other_function(rt: HostRuntime) {
     let mut func = calling(rt.alloc()).expect(&rt, "memory");
     for _ in 0..2 {
@@ -101,33 +94,4 @@ fn a_closure_changes_what_it_picks(rt: HostRuntime) {
     make_room(&mut func);
     let changed = "call 5, ref.func 5, call 7, ref.func 6, return_call 5, return_call 6";
     both_are(&rt, rt.alloc(), &func, changed);
-}
-
-// The location of the third instruction of the entry, and that of its end.
-fn locations(func: &LocalFunction) -> Option<(InstrLocId, InstrLocId)> {
-    let entry = Id::from_index(0);
-    if !func.contains_block(entry) {
-        return None;
-    }
-    let seq = func.block(entry);
-    let (_, third) = seq.instrs.get(2)?;
-    Some((*third, seq.end))
-}
-
-fn locate(rt: &impl Abort, func: &mut LocalFunction) {
-    let entry = Id::from_index(0);
-    assert!(rt; func.contains_block(entry));
-    let seq = func.block_mut(entry);
-    seq.end = InstrLocId::new(80);
-    assert!(rt; seq.instrs.len() > 2);
-    seq.instrs[2].1 = InstrLocId::new(70);
-}
-
-#[test]
-fn a_snipped_call_keeps_its_location(rt: HostRuntime) {
-    let mut func = calling(rt.alloc()).expect(&rt, "memory");
-    locate(&rt, &mut func);
-    snip_calls(&mut func, &[id(6)]);
-    let found = locations(&func);
-    assert!(rt; found == Some((InstrLocId::new(70), InstrLocId::new(80))));
 }

@@ -1,13 +1,13 @@
 //! Functions that convert what they pass to another one, and what it returns.
 ghost use Rattle.walrus_functions.specs.Building.{function_of, IsKnown, Stays, StayKnown};
 
-use crate::adapters::{adapt, has_type};
+use crate::adapters::has_type;
 use crate::assertions::{are, assert_equal};
 use crate::bodies::{entry_is_of, function_type, has};
 use std::alloc::{AllocError, Global};
 use std::process::Abort;
 use walrus_functions::{BuildError, InstrSeqBuilder, LocalFunction};
-use walrus_ir::{Instr, InstrSeqType, LocalId, ModuleLocals, TableGet, UnaryOp};
+use walrus_ir::{Instr, InstrSeqType, LocalId, ModuleLocals, TableGet};
 use walrus_passes::adapter_between;
 use walrus_types::{Id, ModuleTypes, RefType, TypeId, ValType};
 
@@ -133,88 +133,4 @@ fn results_are_stored_from_the_last_to_the_first(rt: HostRuntime) {
     assert!(rt; has_type(&locals, 0, ValType::I64));
     assert!(rt; has_type(&locals, 1, ValType::F32));
     assert!(rt; has_type(&locals, 2, ValType::F64));
-}
-
-// Without results, an adapter whose conversions read the locals is the plain one.
-#[test]
-fn plain_conversions_make_the_plain_adapter(rt: HostRuntime) {
-    let mut types = ModuleTypes::new(rt.alloc());
-    let mut locals = ModuleLocals::new(rt.alloc());
-    types
-        .add(&[ValType::I32, ValType::F64], &[])
-        .expect(&rt, "memory");
-    let text = "local.get 0, local.get 1, call 9";
-    let func = adapt_plainly(&rt, rt.alloc(), &mut types, &mut locals).expect(&rt, "memory");
-    is(&rt, rt.alloc(), &func, &[0, 1], text);
-    let mut others = ModuleLocals::new(rt.alloc());
-    let plain = adapt(&rt, rt.alloc(), &mut types, &mut others, 0).expect(&rt, "memory");
-    is(&rt, rt.alloc(), &plain, &[0, 1], text);
-}
-
-// The first parameter becomes two. A conversion is told which one it is for.
-#[test]
-fn a_conversion_may_leave_several_values(rt: HostRuntime) {
-    let mut types = ModuleTypes::new(rt.alloc());
-    let mut locals = ModuleLocals::new(rt.alloc());
-    types
-        .add(&[ValType::I32, ValType::I32, ValType::F64], &[])
-        .expect(&rt, "memory");
-    types
-        .add(&[ValType::I64, ValType::F64], &[])
-        .expect(&rt, "memory");
-    let func_ty = function_type(&rt, &types, 0);
-    let ty = function_type(&rt, &types, 1);
-    let func = adapter_between(
-        rt.alloc(),
-        &mut types,
-        &mut locals,
-        Id::from_index(9),
-        func_ty,
-        ty,
-        |body, place, local| pass(body, place, local),
-        |body, _, local| body.local_get(local),
-    )
-    .expect(&rt, "memory");
-    let text = "local.get 0, i32.wrap_i64, local.get 0, i32.wrap_i64, local.get 1, call 9";
-    is(&rt, rt.alloc(), &func, &[0, 1], text);
-}
-
-// Leaves two numbers for the first parameter, and any other one as it is.
-fn pass(body: &mut InstrSeqBuilder<'_>, place: usize, local: LocalId) -> Result<(), BuildError>
-    requires { IsKnown body.old }
-    ensures same { Stays body.old body.new }
-    ensures known { StayKnown (function_of body.old) (function_of body.new) }
-{
-    if place > 0 {
-        return body.local_get(local);
-    }
-    body.local_get(local)?;
-    body.unop(UnaryOp::I32WrapI64)?;
-    body.local_get(local)?;
-    body.unop(UnaryOp::I32WrapI64)
-}
-
-// An error of a conversion is passed on. By then the locals and the type of the entry are there.
-#[test]
-fn an_error_of_a_conversion_is_returned(rt: HostRuntime) {
-    let mut types = ModuleTypes::new(rt.alloc());
-    let mut locals = ModuleLocals::new(rt.alloc());
-    types
-        .add(&[ValType::I32], &[ValType::I64])
-        .expect(&rt, "memory");
-    let ty = function_type(&rt, &types, 0);
-    let adapted = adapter_between(
-        rt.alloc(),
-        &mut types,
-        &mut locals,
-        Id::from_index(9),
-        ty,
-        ty,
-        |_, _, _| Err(BuildError::Position),
-        |body, _, local| body.local_get(local),
-    );
-    assert!(rt; matches!(&adapted, Err(BuildError::Position)));
-    assert!(rt; locals.contains(Id::from_index(1)));
-    let entry_ty = types.find_for_function_entry(&[ValType::I64]);
-    assert_equal(&rt, entry_ty, Some(TypeId::from_index(1)));
 }

@@ -23,11 +23,7 @@ mod refusals;
 #[cfg(test)]
 mod sections;
 #[cfg(test)]
-mod snipping;
-#[cfg(test)]
 mod speed;
-#[cfg(test)]
-mod unreachable;
 #[cfg(test)]
 mod unused_types;
 #[cfg(test)]

@@ -2,17 +2,16 @@
 //! Each request for memory of these tests may be refused, one in a run, and they still pass.
 use crate::adapters::adapt;
 use crate::assertions::{are, assert_equal, hold_just};
-use crate::bodies::{eight, has, is, replace_first, sevens, snip_first};
+use crate::bodies::{eight, function_type, has, is, replace_first, sevens, snip_first};
 use crate::conversions::{adapt_handles, handle_types, with_handles};
 use crate::index_maps::{are as are_indices, read};
-use crate::unreachable::unreachable;
 use crate::unused_types::{delete_all_but, table};
 use crate::used_types::{locals, nested_function};
 use std::alloc::{AllocError, Global};
 use std::process::Abort;
 use walrus_functions::{BuildError, LocalFunction};
 use walrus_ir::{LocalId, ModuleLocals};
-use walrus_passes::{new_indices, used_types};
+use walrus_passes::{new_indices, unreachable_function, used_types};
 use walrus_types::{Id, ModuleTypes, TypeId, ValType};
 
 // Which of the first seven ids are live.
@@ -204,6 +203,18 @@ fn a_refused_list_of_used_types_is_made_again(rt: HostRuntime) {
         .or_else(|_| used_types(alloc, &func, &locals))
         .expect(&rt, "memory");
     assert!(rt; used.is_some_and(|ids| hold_just(ids.as_slice(), &[7, 2, 3, 6])));
+}
+
+// The function of the type of this index, which has to be a function type.
+fn unreachable(
+    rt: &impl Abort,
+    alloc: Global,
+    types: &mut ModuleTypes,
+    locals: &mut ModuleLocals,
+    index: usize,
+) -> Result<LocalFunction, AllocError> {
+    let ty = function_type(rt, types, index);
+    unreachable_function(alloc, types, locals, ty)
 }
 
 // The function that must not be run. After a refusal the table has the type and up to one more,

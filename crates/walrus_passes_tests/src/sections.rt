@@ -1,6 +1,6 @@
 //! Sections of a few groups, for the tests of types.
 use std::alloc::{AllocError, Global};
-use walrus_types::{CompAt, EntryAt, Field, GroupAt, Heap, Listed, Reference, Storage, Val};
+use walrus_types::{CompAt, EntryAt, GroupAt, Listed};
 
 fn function(alloc: Global) -> CompAt {
     CompAt::Function {
@@ -15,31 +15,13 @@ fn structure(alloc: Global) -> CompAt {
     }
 }
 
-// A struct with a nullable reference to the type of this index.
-fn namer(alloc: Global, index: u32) -> Result<CompAt, AllocError> {
-    let reference = Field {
-        element_type: Storage::Val(Val::Ref(Reference {
-            nullable: true,
-            heap_type: Heap::Concrete(index),
-        })),
-        mutable: false,
-    };
-    Ok(CompAt::Struct {
-        fields: Listed::from_vec(vec![in alloc; reference]?),
-    })
-}
-
-// A final type without a supertype.
-fn entry(comp: CompAt) -> EntryAt {
-    EntryAt {
+// The group of a final type without a supertype.
+fn single(comp: CompAt) -> GroupAt {
+    GroupAt::Single(EntryAt {
         comp,
         is_final: true,
         supertype: None,
-    }
-}
-
-pub(crate) fn single(comp: CompAt) -> GroupAt {
-    GroupAt::Single(entry(comp))
+    })
 }
 
 // A group of a section.
@@ -54,13 +36,6 @@ fn make_group(alloc: Global, group: Group) -> GroupAt {
         Group::Function => single(function(alloc)),
         Group::Struct => single(structure(alloc)),
     }
-}
-
-// Two structs, of which the first names the type of this index.
-pub(crate) fn pair(alloc: Global, index: u32) -> Result<GroupAt, AllocError> {
-    let first = entry(namer(alloc, index)?);
-    let second = entry(structure(alloc));
-    Ok(GroupAt::Rec(Listed::from_vec(vec![in alloc; first, second]?)))
 }
 
 // The section of these groups.
