@@ -61,7 +61,8 @@ pub(crate) fn heap_call(heap_type: &HeapType) -> HookCall {
     }
 }
 
-/// A line for each instruction, with the fields that were reported of it.
+/// A line for each instruction, with the fields that were reported of it: types, memories and
+/// segments, and `other` for any other field.
 pub(crate) fn fields_of(rt: &impl Abort, alloc: Global, calls: &[HookCall]) -> String {
     let mut text = String::new(alloc);
     for call in calls {
@@ -73,22 +74,12 @@ pub(crate) fn fields_of(rt: &impl Abort, alloc: Global, calls: &[HookCall]) -> S
 fn add_field(rt: &impl Abort, text: &mut String, call: HookCall) {
     let (kind, number) = match call {
         HookCall::Start(_) | HookCall::End(_) => return,
-        HookCall::Seq(index) => (" seq ", index),
-        HookCall::Local(index) => (" local ", index),
         HookCall::Memory(index) => (" memory ", index),
-        HookCall::Table(index) => (" table ", index),
-        HookCall::Global(index) => (" global ", index),
-        HookCall::Function(index) => (" function ", index),
         HookCall::Data(index) => (" data ", index),
         HookCall::Element(index) => (" element ", index),
-        HookCall::Tag(index) => (" tag ", index),
         HookCall::Ty(index) => (" type ", index),
-        HookCall::ConcreteHeap(index) => (" heap ", index),
-        HookCall::AbstractHeap(_) | HookCall::ExactHeap(_) => (" heap ", 90),
-        HookCall::Value(Value::I32(1)) => (" value ", 1),
-        HookCall::Value(Value::F64(bits)) => (" value ", bits as usize),
-        HookCall::Value(_) => (" value ", 90),
-        _ => return text.push('\n').expect(rt, "memory"),
+        HookCall::Other => return text.push('\n').expect(rt, "memory"),
+        _ => return text.push_str(" other").expect(rt, "memory"),
     };
     write!(text, "{kind}{number}").expect(rt, "memory");
 }

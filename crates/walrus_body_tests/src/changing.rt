@@ -7,7 +7,7 @@ mod walks;
 
 use crate::assertions::assert_equal;
 use crate::bodies::{NOTHING, add, assert_nested, chain, id, instrs_of};
-use std::alloc::{AllocError, Global};
+use std::alloc::Global;
 use std::process::Abort;
 use walrus_arena::Id;
 use walrus_body::{LocalFunction, VisitorMut, WalkError, dfs_pre_order_mut};

@@ -1,5 +1,5 @@
-//! Tests of the nesting check and of the walks through the public calls of `walrus_body`, and
-//! functions of a user with contracts of their own.
+//! Tests of the nesting check and of the walks through the public calls of `walrus_body`, and a
+//! function of a user with a contract of its own.
 //!
 //! The crate depends on `walrus_arena`, `walrus_types`, `walrus_ir` and `walrus_body` alone, as a
 //! user's crate does, and its clauses find all definitions in the specs of these four. The tests
@@ -18,8 +18,6 @@ mod bodies;
 mod calls;
 #[cfg(test)]
 mod changing;
-#[cfg(test)]
-mod contracts;
 #[cfg(test)]
 mod fields;
 #[cfg(test)]

@@ -20,7 +20,7 @@ pub(crate) enum Change {
     DropAtEnd,
     /// The hook of instructions adds one to a constant of type i32.
     AddToConstants,
-    /// Each field that it may change becomes the number of its report, counted from zero.
+    /// Each type, memory and segment becomes the number of its report, counted from zero.
     NumberFields,
 }
 
@@ -131,8 +131,7 @@ impl VisitorMut for Changer {
     }
 
     fn visit_function_id_mut(&mut self, id: &mut FunctionId) -> Result<(), Full> {
-        *id = Id::from_index(self.report(HookCall::Function(id.index()), id.index())?);
-        Ok(())
+        self.log.add(HookCall::Function(id.index()))
     }
 
     fn visit_type_id_mut(&mut self, id: &mut TypeId) -> Result<(), Full> {
@@ -141,18 +140,15 @@ impl VisitorMut for Changer {
     }
 
     fn visit_table_id_mut(&mut self, id: &mut TableId) -> Result<(), Full> {
-        *id = Id::from_index(self.report(HookCall::Table(id.index()), id.index())?);
-        Ok(())
+        self.log.add(HookCall::Table(id.index()))
     }
 
     fn visit_local_id_mut(&mut self, id: &mut LocalId) -> Result<(), Full> {
-        *id = Id::from_index(self.report(HookCall::Local(id.index()), id.index())?);
-        Ok(())
+        self.log.add(HookCall::Local(id.index()))
     }
 
     fn visit_global_id_mut(&mut self, id: &mut GlobalId) -> Result<(), Full> {
-        *id = Id::from_index(self.report(HookCall::Global(id.index()), id.index())?);
-        Ok(())
+        self.log.add(HookCall::Global(id.index()))
     }
 
     fn visit_memory_id_mut(&mut self, id: &mut MemoryId) -> Result<(), Full> {
@@ -171,24 +167,14 @@ impl VisitorMut for Changer {
     }
 
     fn visit_tag_id_mut(&mut self, id: &mut TagId) -> Result<(), Full> {
-        *id = Id::from_index(self.report(HookCall::Tag(id.index()), id.index())?);
-        Ok(())
+        self.log.add(HookCall::Tag(id.index()))
     }
 
     fn visit_heap_type_mut(&mut self, ty: &mut HeapType) -> Result<(), Full> {
-        if let HeapType::Concrete(id) = ty {
-            *id = Id::from_index(self.report(HookCall::ConcreteHeap(id.index()), id.index())?);
-            return Ok(());
-        }
         self.log.add(heap_call(ty))
     }
 
     fn visit_value_mut(&mut self, value: &mut Value) -> Result<(), Full> {
-        if let Value::F64(bits) = value {
-            let call = HookCall::Value(Value::F64(*bits));
-            *bits = self.report(call, *bits as usize)? as u64;
-            return Ok(());
-        }
         self.log.add(HookCall::Value(*value))
     }
 }

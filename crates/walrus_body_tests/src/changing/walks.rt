@@ -20,7 +20,7 @@ fn adder(alloc: Global, limit: usize) -> Adder {
 }
 
 // A whole walk adds one to the constants of each sequence as often as it visits the sequence, and
-// changes nothing else.
+// changes nothing else. Another walk may follow at once.
 fn add_to_constants(
     alloc: Global,
     visitor: &mut Adder,
@@ -115,42 +115,6 @@ fn a_refused_hook_leaves_what_the_hooks_before_it_did(rt: HostRuntime) {
         assert_equal(&rt, visitor.log.calls.len(), limit);
         assert_equal(&rt, constant(&func), Some(left));
     }
-}
-
-// Two walks after one check add to the constant of the shared sequence, which is 5. The first one
-// has this limit and this answer. The second one is whole, and leaves this constant.
-fn walk_twice(
-    rt: &impl Abort,
-    alloc: Global,
-    limit: usize,
-    answer: Result<(), WalkError<Full>>,
-    left: i32,
-) {
-    let mut func = shared(rt, alloc);
-    let mut cut = adder(alloc, limit);
-    let mut whole = adder(alloc, ALL);
-    assert_nested(rt, alloc, &func);
-    let start = Id::from_index(0);
-    let once = add_to_constants(alloc, &mut cut, &mut func, start);
-    let again = add_to_constants(alloc, &mut whole, &mut func, start);
-    assert_equal(rt, once, answer);
-    assert_equal(rt, again, Ok(()));
-    assert_equal(rt, cut.log.calls.len(), limit);
-    assert_equal(rt, whole.log.calls.len(), 15);
-    assert_equal(rt, constant(&func), Some(left));
-}
-
-// A whole walk makes 15 hook calls, and adds one to the constant at each of two visits.
-#[test]
-fn two_walks_need_one_check(rt: HostRuntime) {
-    walk_twice(&rt, rt.alloc(), 15, Ok(()), 9);
-}
-
-// The first walk is refused after the constant was visited once.
-#[test]
-fn a_walk_after_a_refused_one_needs_no_check(rt: HostRuntime) {
-    let refused = Err(WalkError::Hook(Full(10)));
-    walk_twice(&rt, rt.alloc(), 10, refused, 8);
 }
 
 // How many of the calls are for types, and how many for starts.

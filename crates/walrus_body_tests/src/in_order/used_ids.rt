@@ -15,7 +15,7 @@ fn reference(index: usize) -> RefType {
 }
 
 // Sequence 0 names sequence 1, in which the rest stands.
-pub(super) fn body(rt: &impl Abort, alloc: Global) -> LocalFunction {
+fn body(rt: &impl Abort, alloc: Global) -> LocalFunction {
     let mut f = empty(alloc);
     let table = table_of_catches(alloc).expect(rt, "memory");
     let outer = vec![in alloc; table].expect(rt, "memory");
@@ -80,17 +80,6 @@ fn each_kind_has_its_list(rt: HostRuntime) {
     hold(&rt, ids.tables.as_slice(), &[7, 3]);
     hold(&rt, ids.tags.as_slice(), &[4, 12]);
     hold(&rt, ids.instr_seqs.as_slice(), &[1]);
-}
-
-#[test]
-fn each_kind_has_its_list_too(rt: HostRuntime) {
-    let alloc = rt.alloc();
-    let ids = collected(&rt, alloc);
-    hold(&rt, ids.locals.as_slice(), &[8]);
-    hold(&rt, ids.memories.as_slice(), &[1]);
-    hold(&rt, ids.data_segments.as_slice(), &[2]);
-    hold(&rt, ids.elements.as_slice(), &[4]);
-    assert_equal(&rt, ids.globals.len(), 0);
 }
 
 #[test]

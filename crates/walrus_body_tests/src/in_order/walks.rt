@@ -34,13 +34,6 @@ fn a_refusing_hook_cuts_the_walk(rt: HostRuntime) {
 }
 
 #[test]
-fn a_walk_error_can_be_copied(rt: HostRuntime) {
-    let error = WalkError::Hook(Full(3));
-    let copy = error;
-    assert_equal(&rt, copy, error);
-}
-
-#[test]
 fn labels_of_a_try_table_are_not_entered(rt: HostRuntime) {
     let alloc = rt.alloc();
     let func = try_table_function(&rt, alloc);
