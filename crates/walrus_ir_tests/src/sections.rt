@@ -1,9 +1,8 @@
-//! Small sections judged.
+//! Groups that can be read, and groups that cannot.
 use crate::assertions::assert_equal;
 use std::alloc::{AllocError, Global};
-use walrus_normal_form_check::is_normal_form;
 use walrus_sections::{ReadError, first_error};
-use walrus_ty::{CompAt, EntryAt, FieldAt, GroupAt, HeapAt, Listed, RefAt, StorageAt, ValAt};
+use walrus_ty::{CompAt, EntryAt, FieldAt, HeapAt, Listed, RefAt, StorageAt, ValAt};
 
 fn entry(comp: CompAt) -> EntryAt {
     EntryAt {
@@ -33,31 +32,6 @@ fn link(alloc: Global, index: u32) -> Result<EntryAt, AllocError> {
     Ok(entry(CompAt::Struct {
         fields: Listed::from_vec(fields),
     }))
-}
-
-fn array(val: ValAt) -> EntryAt {
-    entry(CompAt::Array {
-        field: FieldAt {
-            element_type: StorageAt::Val(val),
-            mutable: false,
-        },
-    })
-}
-
-#[test]
-fn types_out_of_order_are_turned(rt: HostRuntime) {
-    let alloc = rt.alloc();
-    let given = [
-        GroupAt::Single(array(ValAt::I32)),
-        GroupAt::Single(func(alloc)),
-    ];
-    let turned = [
-        GroupAt::Single(func(alloc)),
-        GroupAt::Single(array(ValAt::I32)),
-    ];
-    assert!(rt; is_normal_form(alloc, &given, &turned, &[1, 0]).expect(&rt, "memory"));
-    assert!(rt; !is_normal_form(alloc, &given, &given, &[0, 1]).expect(&rt, "memory"));
-    assert!(rt; !is_normal_form(alloc, &given, &turned, &[0, 1]).expect(&rt, "memory"));
 }
 
 #[test]

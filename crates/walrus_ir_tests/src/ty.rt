@@ -7,6 +7,4 @@ mod indices;
 mod listed;
 mod referenced;
 mod refusals;
-mod value;
 mod views;
-mod walrus_examples;

@@ -3,7 +3,7 @@ use crate::assertions::assert_equal;
 use std::alloc::{AllocError, Global};
 use walrus_ir::{
     ConstExpr, ConstOp, ConstOpAt, FromRecordError, Heap, Id, IdsToIndices, IndicesToIds, Listed,
-    NoIndex, Reference, ToRecordError, Value,
+    Reference, Value,
 };
 
 // Global index 0 is the global 5. It gets it again after a refusal.
@@ -112,57 +112,4 @@ fn a_null_reference_is_read_as_nullable(rt: HostRuntime) {
     assert!(rt; expr == ConstExpr::RefNull(ty));
     let ops = expr.to_ops(alloc, &indices).expect(&rt, "memory");
     assert!(rt; ops.as_slice() == null.as_slice());
-}
-
-#[test]
-fn functions_are_named_by_index(rt: HostRuntime) {
-    let alloc = rt.alloc();
-    let mut ids = IndicesToIds::new(alloc);
-    ids.push_func(Id::from_index(9)).expect(&rt, "memory");
-    let expr = ConstExpr::eval(alloc, &[ConstOpAt::RefFunc(0)], &ids).expect(&rt, "memory");
-    assert!(rt; expr == ConstExpr::RefFunc(Id::from_index(9)));
-    let refused = expr.to_ops(alloc, &IdsToIndices::new(alloc)).err();
-    let missing = NoIndex::OfFunc(Id::from_index(9));
-    assert_equal(&rt, refused, Some(ToRecordError::NoIndex(missing)));
-}
-
-#[test]
-fn the_first_unknown_index_is_named(rt: HostRuntime) {
-    let ids = two_types(rt.alloc()).expect(&rt, "memory");
-    let ops = [
-        ConstOpAt::StructNewDefault(1),
-        ConstOpAt::ArrayNewFixed { ty: 7, len: 2 },
-        ConstOpAt::RefFunc(6),
-    ];
-    let refused = ConstExpr::eval(rt.alloc(), &ops, &ids).err();
-    assert_equal(&rt, refused, Some(FromRecordError::UnknownIndex(7)));
-}
-
-// An expression that names the type 3, a global, the type 1 and the type 3 again.
-fn of_two_types(alloc: Global) -> Result<ConstExpr, AllocError> {
-    let null = Reference {
-        nullable: true,
-        heap_type: Heap::Exact(Id::from_index(3)),
-    };
-    let len = 2;
-    let ty = Id::from_index(1);
-    let mut ops = Vec::with_capacity(alloc, 4)?;
-    ops.push_reserved(ConstOp::StructNew(Id::from_index(3)));
-    ops.push_reserved(ConstOp::GlobalGet(Id::from_index(4)));
-    ops.push_reserved(ConstOp::ArrayNewFixed { ty, len });
-    ops.push_reserved(ConstOp::RefNull(null));
-    Ok(ConstExpr::Extended(Listed::from_vec(ops)))
-}
-
-#[test]
-fn types_are_referenced_in_order(rt: HostRuntime) {
-    let alloc = rt.alloc();
-    let mut list = vec![in alloc; Id::from_index(9)].expect(&rt, "memory");
-    let expr = of_two_types(alloc).expect(&rt, "memory");
-    expr.referenced_types(&mut list).expect(&rt, "memory");
-    ConstExpr::RefFunc(Id::from_index(8))
-        .referenced_types(&mut list)
-        .expect(&rt, "memory");
-    let want = [9, 3, 1, 3].map(|index| Id::from_index(index));
-    assert!(rt; list.as_slice() == want.as_slice());
 }

@@ -1,5 +1,5 @@
-//! Instructions from the structs of nested ones, and equal instructions.
-use walrus_ir::{Block, Call, Id, IfElse, Instr, Listed, Loop, RefFunc, Try, TryTable};
+//! Instructions from the structs of nested ones.
+use walrus_ir::{Block, Id, IfElse, Instr, Listed, Loop, Try, TryTable};
 
 #[test]
 fn structs_become_their_instructions(rt: HostRuntime) {
@@ -22,14 +22,4 @@ fn structs_become_their_instructions(rt: HostRuntime) {
         matches!(&instr, Instr::IfElse(x)
         if x.consequent.index() == 1 && x.alternative.index() == 2)
     );
-}
-
-#[test]
-fn instructions_are_equal_where_all_their_parts_are(rt: HostRuntime) {
-    let func = Id::from_index(3);
-    let call = Instr::Call(Call { func });
-    assert!(rt; call == Instr::Call(Call { func }));
-    assert!(rt; call != Instr::RefFunc(RefFunc { func }));
-    let func = Id::from_index(4);
-    assert!(rt; call != Instr::Call(Call { func }));
 }

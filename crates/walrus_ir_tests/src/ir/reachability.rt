@@ -1,8 +1,7 @@
 //! After which instructions nothing is reached.
 use walrus_ir::{
-    Block, Br, BrIf, BrOnNonNull, BrOnNull, BrTable, Call, CallRef, DropInstr, Id, IfElse, Instr,
-    Listed, Loop, Rethrow, Return, ReturnCall, ReturnCallIndirect, ReturnCallRef, Throw, ThrowRef,
-    Unreachable,
+    Block, Br, BrIf, BrOnNonNull, BrOnNull, Call, CallRef, DropInstr, Id, IfElse, Instr, Loop,
+    Rethrow, Return, ReturnCall, ReturnCallIndirect, ReturnCallRef, Throw, ThrowRef, Unreachable,
 };
 
 fn stops(instr: &Instr) -> bool {
@@ -23,15 +22,6 @@ fn branches(rt: HostRuntime) {
         alternative: block,
     };
     assert!(rt; !stops(&Instr::from(both)));
-}
-
-#[test]
-fn tables_of_branches(rt: HostRuntime) {
-    let table = BrTable {
-        blocks: Listed::from_vec(Vec::new(rt.alloc())),
-        default: Id::from_index(0),
-    };
-    assert!(rt; stops(&Instr::BrTable(table)));
 }
 
 #[test]

@@ -33,10 +33,3 @@ fn floats_print_all_their_bits(rt: HostRuntime) {
     );
     prints(&rt, alloc, &Value::F64(0), "0x0000000000000000");
 }
-
-#[test]
-fn constants_are_equal_where_their_bits_are(rt: HostRuntime) {
-    assert_equal(&rt, Value::F32(0x7fc00000), Value::F32(0x7fc00000));
-    assert!(rt; Value::F32(0) != Value::F32(0x80000000));
-    assert!(rt; Value::I32(0) != Value::F32(0));
-}

@@ -3,8 +3,8 @@ use crate::assertions::prints;
 use std::alloc::{AllocError, Global};
 use std::process::Abort;
 use walrus_ty::{
-    AbstractHeapType, ArrayType, CompositeType, Field, FieldType, FunctionType, Heap, HeapType, Id,
-    Listed, RefType, Reference, Storage, StorageType, StructType, Val, ValType,
+    AbstractHeapType, ArrayType, Field, FieldType, FunctionType, Heap, HeapType, Id, Listed,
+    RefType, Reference, Storage, StorageType, StructType, Val, ValType,
 };
 
 fn reference(nullable: bool, heap_type: HeapType) -> RefType {
@@ -75,37 +75,6 @@ fn exactly_third() -> HeapType {
 }
 
 #[test]
-fn references_to_functions_and_what_the_host_gives(rt: HostRuntime) {
-    let alloc = rt.alloc();
-    let texts = ["funcref", "(ref func)", "func", "(mut funcref)"];
-    four_forms(&rt, alloc, AbstractHeapType::Func, texts);
-    let texts = ["nullfuncref", "(ref nofunc)", "nofunc", "(mut nullfuncref)"];
-    four_forms(&rt, alloc, AbstractHeapType::NoFunc, texts);
-    let texts = ["externref", "(ref extern)", "extern", "(mut externref)"];
-    four_forms(&rt, alloc, AbstractHeapType::Extern, texts);
-    let texts = [
-        "nullexternref",
-        "(ref noextern)",
-        "noextern",
-        "(mut nullexternref)",
-    ];
-    four_forms(&rt, alloc, AbstractHeapType::NoExtern, texts);
-}
-
-#[test]
-fn references_to_what_can_be_looked_into(rt: HostRuntime) {
-    let alloc = rt.alloc();
-    let texts = ["anyref", "(ref any)", "any", "(mut anyref)"];
-    four_forms(&rt, alloc, AbstractHeapType::Any, texts);
-    let texts = ["nullref", "(ref none)", "none", "(mut nullref)"];
-    four_forms(&rt, alloc, AbstractHeapType::None, texts);
-    let texts = ["eqref", "(ref eq)", "eq", "(mut eqref)"];
-    four_forms(&rt, alloc, AbstractHeapType::Eq, texts);
-    let texts = ["structref", "(ref struct)", "struct", "(mut structref)"];
-    four_forms(&rt, alloc, AbstractHeapType::Struct, texts);
-}
-
-#[test]
 fn references_to_arrays_small_integers_and_exceptions(rt: HostRuntime) {
     let alloc = rt.alloc();
     let texts = ["arrayref", "(ref array)", "array", "(mut arrayref)"];
@@ -142,32 +111,6 @@ fn exact_types_of_the_module_say_so(rt: HostRuntime) {
         &reference(false, exactly_third()),
         "(ref exact 3)",
     );
-}
-
-#[test]
-fn integers_print_their_names(rt: HostRuntime) {
-    let alloc = rt.alloc();
-    let (int, long): (ValType, ValType) = (Val::I32, Val::I64);
-    prints(&rt, alloc, &int, "i32");
-    prints(&rt, alloc, &long, "i64");
-}
-
-#[test]
-fn floats_and_vectors_print_their_names(rt: HostRuntime) {
-    let alloc = rt.alloc();
-    let (float, double, vector): (ValType, ValType, ValType) = (Val::F32, Val::F64, Val::V128);
-    prints(&rt, alloc, &float, "f32");
-    prints(&rt, alloc, &double, "f64");
-    prints(&rt, alloc, &vector, "v128");
-}
-
-#[test]
-fn packed_fields_print_their_names(rt: HostRuntime) {
-    let alloc = rt.alloc();
-    let (byte_type, short_type): (StorageType, StorageType) = (Storage::I8, Storage::I16);
-    prints(&rt, alloc, &byte_type, "i8");
-    prints(&rt, alloc, &short_type, "i16");
-    prints(&rt, alloc, &byte(), "(mut i8)");
 }
 
 #[test]
@@ -216,17 +159,4 @@ fn array_types_print_their_field(rt: HostRuntime) {
         field: fixed(Storage::I8),
     };
     prints(&rt, alloc, &bytes, "(array i8)");
-}
-
-#[test]
-fn composite_types_print_what_they_are(rt: HostRuntime) {
-    let alloc = rt.alloc();
-    let functions = CompositeType::Function(function(alloc, &[], &[]).expect(&rt, "memory"));
-    prints(&rt, alloc, &functions, "(func)");
-    let structs = CompositeType::Struct(structure(alloc, &[]).expect(&rt, "memory"));
-    prints(&rt, alloc, &structs, "(struct)");
-    let doubles = CompositeType::Array(ArrayType {
-        field: fixed(Storage::Val(Val::F64)),
-    });
-    prints(&rt, alloc, &doubles, "(array f64)");
 }

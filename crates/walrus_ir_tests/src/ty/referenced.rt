@@ -1,12 +1,9 @@
 //! Which ids a type is made with, and in which order.
 use crate::assertions::assert_equal;
-use crate::fixtures::{field, reference};
+use crate::fixtures::reference;
 use std::alloc::Global;
 use std::process::Abort;
-use walrus_ty::{
-    ArrayType, CompositeType, FieldType, FunctionType, Heap, Id, Listed, Reference, Storage,
-    StructType, Type, TypeId, Val,
-};
+use walrus_ty::{CompositeType, FunctionType, Heap, Id, Reference, Type, TypeId, Val};
 
 fn ty(alloc: Global, kind: CompositeType, supertype: Option<TypeId>) -> Type {
     Type::new(alloc, Id::from_index(9), kind, true, supertype)
@@ -36,31 +33,4 @@ fn the_supertype_comes_first_and_repeats_are_kept(rt: HostRuntime) {
     let kind = CompositeType::Function(FunctionType::new(params, results));
     let made = ty(alloc, kind, Some(Id::from_index(2)));
     makes(&rt, alloc, &made, &[7, 2, 1, 1, 0]);
-}
-
-#[test]
-fn fields_come_in_order(rt: HostRuntime) {
-    let alloc = rt.alloc();
-    let (first, second, third) = (field(reference(4)), field(Val::I32), field(reference(3)));
-    let fields = vec![in alloc; first, second, third].expect(&rt, "memory");
-    let fields = Listed::from_vec(fields);
-    let made = ty(alloc, CompositeType::Struct(StructType { fields }), None);
-    makes(&rt, alloc, &made, &[7, 4, 3]);
-    let array = CompositeType::Array(ArrayType {
-        field: field(reference(5)),
-    });
-    let made = ty(alloc, array, Some(Id::from_index(6)));
-    makes(&rt, alloc, &made, &[7, 6, 5]);
-}
-
-#[test]
-fn a_type_may_be_made_with_no_id(rt: HostRuntime) {
-    let array = CompositeType::Array(ArrayType {
-        field: FieldType {
-            element_type: Storage::I8,
-            mutable: true,
-        },
-    });
-    let made = ty(rt.alloc(), array, None);
-    makes(&rt, rt.alloc(), &made, &[7]);
 }
