@@ -13,7 +13,6 @@ mod nested;
 mod plain;
 mod refusals;
 mod texts;
-mod walrus_examples;
 
 use crate::assertions::assert_equal;
 use std::alloc::{AllocError, Global};
@@ -22,7 +21,7 @@ use texts::has;
 use walrus_functions::{
     BuildError, FunctionBuilder, InstrSeqBuilder, LocalFunction, LocalFunctions,
 };
-use walrus_ir::{BinaryOp, Block, DropInstr, Instr, InstrSeqType, UnaryOp, Unreachable, Value};
+use walrus_ir::{BinaryOp, DropInstr, Instr, InstrSeqType, UnaryOp, Unreachable, Value};
 use walrus_types::{Id, ModuleTypes};
 
 const NOTHING: InstrSeqType = InstrSeqType::Simple(None);

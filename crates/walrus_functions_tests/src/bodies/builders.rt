@@ -41,13 +41,6 @@ fn a_dangling_sequence_becomes_the_entry(rt: HostRuntime) {
 }
 
 #[test]
-fn an_instruction_is_added(rt: HostRuntime) {
-    builds(&rt, rt.alloc(), "(block 0)", Ok(()), |b| {
-        b.instr(Instr::Block(Block { seq: b.id() }))
-    });
-}
-
-#[test]
 fn an_instruction_goes_before_another(rt: HostRuntime) {
     builds(&rt, rt.alloc(), "(drop, unreachable)", Ok(()), |b| {
         b.unreachable()?;

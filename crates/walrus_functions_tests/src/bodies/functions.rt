@@ -61,24 +61,6 @@ fn a_block_is_written(rt: HostRuntime) {
 }
 
 #[test]
-fn functions_are_listed_in_the_order_of_their_ids(rt: HostRuntime) {
-    let alloc = rt.alloc();
-    let mut funcs = LocalFunctions::new(alloc);
-    assert!(rt; funcs.is_empty());
-    let args = vec![in alloc; Id::from_index(7)].expect(&rt, "memory");
-    let f = begin(alloc).expect(&rt, "memory");
-    assert!(rt; f.finish(args, &mut funcs).is_ok());
-    let f = begin(alloc).expect(&rt, "memory");
-    assert!(rt; f.finish(Vec::new(alloc), &mut funcs).is_ok());
-    assert!(rt; funcs.len() == 2 && !funcs.is_empty());
-    let mut counts = Vec::new(alloc);
-    for func in funcs.iter() {
-        counts.push(func.args.len()).expect(&rt, "memory");
-    }
-    assert_equal(&rt, counts.as_slice(), [1, 0].as_slice());
-}
-
-#[test]
 fn a_builder_is_read(rt: HostRuntime) {
     let alloc = rt.alloc();
     let mut f = FunctionBuilder::without_entry(alloc, Id::from_index(3));
@@ -91,42 +73,4 @@ fn a_builder_is_read(rt: HostRuntime) {
     let id = seq.id();
     assert_equal(&rt, f.seq_count(), 1);
     assert_equal(&rt, f.seq(id).instrs.len(), 1);
-}
-
-#[test]
-fn ids_come_after_those_of_imported_functions(rt: HostRuntime) {
-    let alloc = rt.alloc();
-    let mut funcs = LocalFunctions::new_after(alloc, 2);
-    let f = begin(alloc).expect(&rt, "memory");
-    let added = f.finish(Vec::new(alloc), &mut funcs);
-    let id = Id::from_index(2);
-    assert_equal(&rt, added.ok(), Some(id));
-    assert!(rt; !funcs.contains(Id::from_index(1)) && !funcs.contains(Id::from_index(3)));
-    assert!(rt; funcs.contains(id));
-    assert_equal(&rt, funcs.get(id).block_count(), 1);
-    assert_equal(&rt, funcs.len(), 1);
-}
-
-#[test]
-fn no_id_comes_after_the_last(rt: HostRuntime) {
-    let alloc = rt.alloc();
-    let mut funcs = LocalFunctions::new_after(alloc, usize::MAX);
-    let f = begin(alloc).expect(&rt, "memory");
-    let added = f.finish(Vec::new(alloc), &mut funcs);
-    assert_equal(&rt, added.ok(), Some(Id::from_index(usize::MAX)));
-    let f = begin(alloc).expect(&rt, "memory");
-    assert!(rt; f.finish(Vec::new(alloc), &mut funcs).is_err());
-    assert_equal(&rt, funcs.len(), 1);
-}
-
-#[test]
-fn a_function_is_built_further(rt: HostRuntime) {
-    let f = begin(rt.alloc()).expect(&rt, "memory");
-    let mut func = f.local_func(Vec::new(rt.alloc()));
-    let entry = func.entry_block();
-    assert_equal(&rt, func.builder().func_body_id(), entry);
-    let mut body = func.builder_mut().func_body();
-    body.unreachable().expect(&rt, "memory");
-    assert!(rt; func.contains_block(entry));
-    assert_equal(&rt, func.block(entry).instrs.len(), 1);
 }
