@@ -1,8 +1,6 @@
-//! Texts of the specification's grammar with their meaning, and what is no text.
+//! Texts of the specification's grammar, and what is no text.
 mod around;
 mod changed;
-mod compiled;
-mod encoding;
 mod integers;
 mod modules;
 mod names;
@@ -12,11 +10,9 @@ mod speed;
 mod unsupported;
 
 use crate::assertions::assert_equal;
-use std::alloc::{AllocError, Global};
+use std::alloc::Global;
 use std::process::Abort;
-use walrus_ty::{
-    AbstractHeapType, CompAt, EntryAt, FieldAt, GroupAt, HeapAt, Listed, RefAt, StorageAt, ValAt,
-};
+use walrus_ty::{CompAt, EntryAt, FieldAt, GroupAt, HeapAt, RefAt, StorageAt, ValAt};
 use wasm_binary::{DecodeError, Expected, decode_types, type_section};
 
 /// What is wrong with the bytes.
@@ -80,11 +76,4 @@ fn array_of(nullable: bool, heap_type: HeapAt) -> GroupAt {
         nullable,
         heap_type,
     })))
-}
-
-fn function(alloc: Global, params: &[ValAt], results: &[ValAt]) -> Result<CompAt, AllocError> {
-    Ok(CompAt::Function {
-        params: Listed::from_vec(params.to_vec(alloc)?),
-        results: Listed::from_vec(results.to_vec(alloc)?),
-    })
 }

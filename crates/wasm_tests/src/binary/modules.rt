@@ -20,56 +20,6 @@ fn faults(rt: &impl Abort, bytes: &[u8], offset: usize, expected: Expected) {
 }
 
 #[test]
-fn the_shortest_module_has_no_types(rt: HostRuntime) {
-    has_none(&rt, &[0, 0x61, 0x73, 0x6D, 1, 0, 0, 0]);
-}
-
-#[test]
-fn types_come_after_the_header(rt: HostRuntime) {
-    let bytes = [0, 0x61, 0x73, 0x6D, 1, 0, 0, 0, 1, 4, 1, 0x60, 0, 0];
-    stands_at(&rt, &bytes, 10, 14);
-    let empty = [0, 0x61, 0x73, 0x6D, 1, 0, 0, 0, 1, 0];
-    stands_at(&rt, &empty, 10, 10);
-}
-
-#[test]
-fn custom_sections_stand_anywhere(rt: HostRuntime) {
-    let bytes = [
-        0, 0x61, 0x73, 0x6D, 1, 0, 0, 0, 0, 3, 1, 0x61, 7, 0, 2, 1, 0x61, 1, 1, 0, 0, 2, 1, 0x62,
-    ];
-    stands_at(&rt, &bytes, 19, 20);
-    let alone = [0, 0x61, 0x73, 0x6D, 1, 0, 0, 0, 0, 2, 1, 0x61];
-    has_none(&rt, &alone);
-}
-
-#[test]
-fn all_sections_in_their_order(rt: HostRuntime) {
-    let bytes = [
-        0, 0x61, 0x73, 0x6D, 1, 0, 0, 0, 1, 1, 0, 2, 1, 0, 3, 1, 0, 4, 1, 0, 5, 1, 0, 13, 1, 0, 6,
-        1, 0, 7, 1, 0, 8, 1, 0, 9, 1, 0, 12, 1, 0, 10, 1, 0, 11, 1, 0,
-    ];
-    stands_at(&rt, &bytes, 10, 11);
-}
-
-#[test]
-fn a_module_without_types(rt: HostRuntime) {
-    let bytes = [0, 0x61, 0x73, 0x6D, 1, 0, 0, 0, 3, 1, 0, 10, 1, 0];
-    has_none(&rt, &bytes);
-}
-
-#[test]
-fn no_section_comes_before_an_earlier_one(rt: HostRuntime) {
-    let types = [0, 0x61, 0x73, 0x6D, 1, 0, 0, 0, 2, 1, 0, 1, 1, 0];
-    faults(&rt, &types, 11, Expected::LaterSection);
-    let tags = [0, 0x61, 0x73, 0x6D, 1, 0, 0, 0, 6, 1, 0, 13, 1, 0];
-    faults(&rt, &tags, 11, Expected::LaterSection);
-    let counts = [0, 0x61, 0x73, 0x6D, 1, 0, 0, 0, 10, 1, 0, 12, 1, 0];
-    faults(&rt, &counts, 11, Expected::LaterSection);
-    let codes = [0, 0x61, 0x73, 0x6D, 1, 0, 0, 0, 11, 1, 0, 10, 1, 0];
-    faults(&rt, &codes, 11, Expected::LaterSection);
-}
-
-#[test]
 fn no_second_type_section(rt: HostRuntime) {
     let next = [0, 0x61, 0x73, 0x6D, 1, 0, 0, 0, 1, 1, 0, 1, 1, 0];
     faults(&rt, &next, 11, Expected::LaterSection);
@@ -83,43 +33,6 @@ fn no_other_ids(rt: HostRuntime) {
     faults(&rt, &bytes, 8, Expected::SectionId);
     let last = [0, 0x61, 0x73, 0x6D, 1, 0, 0, 0, 1, 0, 0xFF];
     faults(&rt, &last, 10, Expected::SectionId);
-}
-
-#[test]
-fn sizes_end_within_the_module(rt: HostRuntime) {
-    let one_more = [0, 0x61, 0x73, 0x6D, 1, 0, 0, 0, 1, 5, 1, 0x60, 0, 0];
-    faults(&rt, &one_more, 14, Expected::Content);
-    let greatest = [
-        0, 0x61, 0x73, 0x6D, 1, 0, 0, 0, 0, 0xFF, 0xFF, 0xFF, 0xFF, 0x0F, 1,
-    ];
-    faults(&rt, &greatest, 15, Expected::Content);
-}
-
-#[test]
-fn sizes_may_be_padded_to_five_bytes(rt: HostRuntime) {
-    let five = [
-        0, 0x61, 0x73, 0x6D, 1, 0, 0, 0, 1, 0x81, 0x80, 0x80, 0x80, 0x00, 0,
-    ];
-    stands_at(&rt, &five, 14, 15);
-    let six = [
-        0, 0x61, 0x73, 0x6D, 1, 0, 0, 0, 1, 0x81, 0x80, 0x80, 0x80, 0x80, 0x00, 0,
-    ];
-    faults(&rt, &six, 13, Expected::Integer);
-    let wide = [
-        0, 0x61, 0x73, 0x6D, 1, 0, 0, 0, 1, 0x81, 0x80, 0x80, 0x80, 0x10, 0,
-    ];
-    faults(&rt, &wide, 13, Expected::Integer);
-}
-
-#[test]
-fn headers_are_exact(rt: HostRuntime) {
-    let text = [0x28, 0x6D, 0x6F, 0x64, 0x75, 0x6C, 0x65, 0x29];
-    faults(&rt, &text, 0, Expected::Magic);
-    faults(&rt, &[0, 0x61, 0x73, 0x6E, 1, 0, 0, 0], 3, Expected::Magic);
-    let component = [0, 0x61, 0x73, 0x6D, 0x0D, 0, 1, 0];
-    faults(&rt, &component, 4, Expected::Version);
-    let later = [0, 0x61, 0x73, 0x6D, 1, 0, 0, 1];
-    faults(&rt, &later, 7, Expected::Version);
 }
 
 #[test]

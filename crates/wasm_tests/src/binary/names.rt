@@ -19,20 +19,3 @@ fn names_of_sections(rt: HostRuntime) {
     // a name that is not UTF-8
     assert!(rt; custom_section_name(&[0, 2, 1, 0xFF]) == Some([0xFF].as_slice()));
 }
-
-#[test]
-fn sections_without_a_name(rt: HostRuntime) {
-    // no bytes, and an id alone
-    assert!(rt; custom_section_name(&[]).is_none());
-    assert!(rt; custom_section_name(&[0]).is_none());
-    // another section
-    assert!(rt; custom_section_name(&[1, 3, 2, 0x68, 0x69]).is_none());
-    // no content
-    assert!(rt; custom_section_name(&[0, 0]).is_none());
-    // a name that goes past the section, and one past the end of the bytes
-    assert!(rt; custom_section_name(&[0, 2, 2, 0x68, 0x69]).is_none());
-    assert!(rt; custom_section_name(&[0, 3, 2, 0x68]).is_none());
-    // sizes that are no integers
-    assert!(rt; custom_section_name(&[0, 0x80]).is_none());
-    assert!(rt; custom_section_name(&[0, 3, 0x80, 0x80, 0x80]).is_none());
-}

@@ -71,28 +71,6 @@ fn the_first_of_two_faults_of_a_module_decides(rt: HostRuntime) {
 }
 
 #[test]
-fn sections_out_of_order_are_malformed(rt: HostRuntime) {
-    // code before functions
-    let order = [0, 0x61, 0x73, 0x6D, 1, 0, 0, 0, 10, 1, 0, 3, 2, 1, 9];
-    is_malformed(&rt, &order, 1, 11);
-    // tags come before globals, and data count before code
-    let tags = [
-        0, 0x61, 0x73, 0x6D, 1, 0, 0, 0, 13, 3, 1, 0, 0, 6, 1, 0, 12, 1, 0, 10, 1, 1,
-    ];
-    is_malformed(&rt, &tags, 1, 22);
-    // no section has id 14
-    let other = [0, 0x61, 0x73, 0x6D, 1, 0, 0, 0, 14, 0, 3, 2, 1, 9];
-    is_malformed(&rt, &other, 1, 8);
-}
-
-#[test]
-fn bytes_without_a_header_are_no_module(rt: HostRuntime) {
-    is_malformed(&rt, &[], 0, 0);
-    is_malformed(&rt, &[0, 0x61, 0x73, 0x6D, 1, 0, 0], 0, 7);
-    is_malformed(&rt, &[0, 0x61, 0x73, 0x6D, 2, 0, 0, 0, 3, 2, 1, 0], 0, 4);
-}
-
-#[test]
 fn named_types_has_the_same_places(rt: HostRuntime) {
     let alloc = rt.alloc();
     // functions with a surplus byte
