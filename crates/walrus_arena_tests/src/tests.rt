@@ -3,7 +3,7 @@
 use std::alloc::{AllocError, Global};
 use std::process::Abort;
 use std::test::Fail;
-use walrus_arena::{ArenaSet, HashKeys, Id, IdHashMap, IdHashSet, Tombstone, TombstoneArena};
+use walrus_arena::{ArenaSet, HashKeys, Id, IdHashMap, Tombstone, TombstoneArena};
 
 mod arena;
 mod deletions;

@@ -58,34 +58,6 @@ fn delete_tells_its_item_once(rt: HostRuntime) {
     assert_equal(&rt, count.get(), 1);
 }
 
-// An item that holds a value until its `on_delete` is called.
-#[derive(Drop)]
-struct Holder {
-    held: Option<Rc<()>>,
-}
-
-impl Tombstone for Holder {
-    fn on_delete(&mut self) {
-        self.held = None;
-    }
-}
-
-#[test]
-fn can_delete(rt: HostRuntime) {
-    let held = Rc::new(rt.alloc(), ()).expect(&rt, "memory");
-    let mut arena = TombstoneArena::new(rt.alloc());
-    assert_equal(&rt, Rc::strong_count(&held), 1);
-    let holder = Holder {
-        held: Some(held.clone().expect(&rt, "memory")),
-    };
-    let id = arena.alloc(holder).expect(&rt, "memory");
-    assert_equal(&rt, Rc::strong_count(&held), 2);
-    assert!(rt; arena.contains(id));
-    arena.delete(id).expect(&rt, "memory");
-    assert_equal(&rt, Rc::strong_count(&held), 1);
-    assert!(rt; !arena.contains(id));
-}
-
 #[test]
 #[tactic(auto, using(walrus_arena::proofs::ArenaLemmas::distinct_pair))]
 fn delete_all_tells_each_item_once(rt: HostRuntime) {

@@ -98,39 +98,6 @@ fn a_replaced_value_takes_the_entry(rt: HostRuntime) {
 }
 
 #[test]
-fn many_new_values_leave_the_map(rt: HostRuntime) {
-    let mut set = two_equal(rt.alloc()).expect(&rt, "memory");
-    let values = vec![in rt.alloc(); make_tagged(1, 1), make_tagged(2, 2)].expect(&rt, "memory");
-    let ids = set.alloc_all(values).expect(&rt, "memory");
-    assert_equal(&rt, ids.len(), 2);
-    assert_equal(&rt, set.next_id().index(), 4);
-    assert_equal(&rt, index_of(&set, 1), Some(0));
-    assert_equal(&rt, index_of(&set, 2), None);
-}
-
-#[test]
-fn a_registered_value_takes_the_entry_of_an_equal_one(rt: HostRuntime) {
-    let mut set = two_equal(rt.alloc()).expect(&rt, "memory");
-    assert_equal(
-        &rt,
-        set.alloc_and_register(make_tagged(1, 40))
-            .expect(&rt, "memory")
-            .index(),
-        2,
-    );
-    assert_equal(&rt, index_of(&set, 1), Some(2));
-    assert_equal(&rt, note_of(&rt, &set, 0), 10);
-    assert_equal(
-        &rt,
-        set.alloc_and_register(make_tagged(2, 50))
-            .expect(&rt, "memory")
-            .index(),
-        3,
-    );
-    assert_equal(&rt, index_of(&set, 2), Some(3));
-}
-
-#[test]
 fn a_slot_can_be_dead_from_the_start(rt: HostRuntime) {
     let mut set = two_equal(rt.alloc()).expect(&rt, "memory");
     assert_equal(
