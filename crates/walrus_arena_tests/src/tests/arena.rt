@@ -107,6 +107,19 @@ fn iter_goes_over_the_live_items(rt: HostRuntime) {
     assert_equal(&rt, live[1].index(), 2);
 }
 
+// An arena whose allocator is another handle than `Global`.
+#[test]
+fn an_arena_by_a_lent_allocator(rt: HostRuntime) {
+    let alloc = rt.alloc();
+    let mut arena = TombstoneArena::new(&alloc);
+    assert_equal(
+        &rt,
+        arena.alloc(make_tagged(1, 1)).expect(&rt, "memory").index(),
+        0,
+    );
+    assert_equal(&rt, arena.live_ids().expect(&rt, "memory").len(), 1);
+}
+
 #[test]
 fn a_clone_has_the_same_items_and_the_same_next_id(rt: HostRuntime) {
     let mut arena = three_items(rt.alloc()).expect(&rt, "memory");
