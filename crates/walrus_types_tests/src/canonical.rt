@@ -1,11 +1,11 @@
-//! Sections whose canonical form is known, and refusals of sections and roots.
+//! Sections whose canonical form is known.
 mod refusals;
 
-use crate::assertions::{assert_equal, is_right};
+use crate::assertions::is_right;
 use crate::fixtures::{columns, numbers_again, section_again};
 use std::alloc::Global;
 use std::process::Abort;
-use walrus_canonical::{CanonicalError, GroupAt, HashKeys, ReadError, canonicalise, entry_count};
+use walrus_canonical::{CanonicalError, GroupAt, HashKeys, canonicalise};
 
 // The canonical form of the section of this text. It is asked for again after a refusal of memory.
 fn canonical_again(
@@ -102,37 +102,4 @@ fn canonical_forms_of_whole_sections(rt: HostRuntime) {
 #[test]
 fn canonical_forms_of_what_roots_need(rt: HostRuntime) {
     are_needed(&rt, rt.alloc(), OF_ROOTS);
-}
-
-#[test]
-fn the_first_unknown_root_is_refused(rt: HostRuntime) {
-    let refused = canonical_again(rt.alloc(), "f si", Some(&[1, 5, 7])).err();
-    assert_equal(&rt, refused, Some(CanonicalError::UnknownRoot { index: 5 }));
-}
-
-#[test]
-fn a_section_is_refused_before_a_root(rt: HostRuntime) {
-    let refused = canonical_again(rt.alloc(), "f s2", Some(&[5])).err();
-    let bad = ReadError::BadIndex {
-        entry: 1,
-        index: 2,
-        end: 2,
-    };
-    assert_equal(&rt, refused, Some(CanonicalError::Section(bad)));
-}
-
-#[test]
-fn entries_of_all_groups_are_counted(rt: HostRuntime) {
-    let alloc = rt.alloc();
-    let none = section_again(alloc, "").expect(&rt, "memory");
-    let several = section_again(alloc, "f ( ) ( si f s2 ) f").expect(&rt, "memory");
-    let bad = section_again(alloc, "f ( f s3 ) f").expect(&rt, "memory");
-    let error = ReadError::BadIndex {
-        entry: 2,
-        index: 3,
-        end: 3,
-    };
-    assert_equal(&rt, entry_count(none.as_slice()), Ok(0));
-    assert_equal(&rt, entry_count(several.as_slice()), Ok(5));
-    assert_equal(&rt, entry_count(bad.as_slice()), Err(error));
 }

@@ -24,13 +24,6 @@ and of one that names another        | si f0 f    | si f0 f    | 0 1 2
 repeats are dropped                  | f f s0 s1  | f s0       | 0 0 1 1
 ";
 
-// Normal forms beside outputs that keep every law but one.
-const ACCEPTED: &str = "\
-a single | f     | f     | 0
-a rec    | ( f ) | ( f ) | 0
-a repeat | f f   | f     | 0 0
-";
-
 // First definitions and `Rec`s that are not kept. Then, for some laws, a section and a map that keep
 // every other law, and would be a second normal form without it. Then anchors that leave their
 // places, or are passed, and types that name themselves and are merged, or sorted by the wrong names.
@@ -111,18 +104,6 @@ fn accepts_one_rec(alloc: Global, [text, output, map]: [&str; 3]) -> Result<bool
 }
 
 #[test]
-fn normal_forms_are_accepted(rt: HostRuntime) {
-    for row in ACCEPTED.lines() {
-        let [name, text, output, map, _] = columns(row);
-        is_right(
-            &rt,
-            name,
-            accepts(rt.alloc(), [text, output, map]) == Ok(true),
-        );
-    }
-}
-
-#[test]
 fn all_other_outputs_are_refused(rt: HostRuntime) {
     for row in REFUSED.lines() {
         let [name, text, output, map, _] = columns(row);
@@ -143,17 +124,6 @@ fn worked_normal_forms_are_accepted(rt: HostRuntime) {
         is_right(&rt, name, accepts(rt.alloc(), row) == Ok(true));
         is_right(&rt, name, accepts_one_rec(rt.alloc(), row) == Ok(false));
         is_right(&rt, name, accepts_one_more(rt.alloc(), row) == Ok(false));
-    }
-}
-
-#[test]
-fn no_section_of_types_becomes_empty(rt: HostRuntime) {
-    for row in WORKED.lines() {
-        let [name, text, output, map, _] = columns(row);
-        if !output.is_empty() {
-            is_right(&rt, name, accepts(rt.alloc(), [text, "", map]) == Ok(false));
-            is_right(&rt, name, accepts(rt.alloc(), [text, "", ""]) == Ok(false));
-        }
     }
 }
 

@@ -5,7 +5,7 @@ use crate::assertions::{assert_equal, is_right};
 use crate::fixtures::{columns, section};
 use std::alloc::Global;
 use std::process::Abort;
-use walrus_types::{GroupAt, HashKeys, ReadError, same_up_to_moves};
+use walrus_types::{HashKeys, ReadError, same_up_to_moves};
 
 fn are_same(alloc: Global, a: &str, b: &str) -> Result<bool, ReadError> {
     let first = section(alloc, a)?;
@@ -52,20 +52,6 @@ fn sections_that_moves_join(rt: HostRuntime) {
 #[test]
 fn sections_that_differ(rt: HostRuntime) {
     are_all(&rt, rt.alloc(), DIFFERENT, false);
-}
-
-#[test]
-fn sections_that_differ_in_a_supertype(rt: HostRuntime) {
-    let alloc = rt.alloc();
-    let plain = section(alloc, "o si").expect(&rt, "memory");
-    let mut sub = section(alloc, "o si").expect(&rt, "memory");
-    if let Some(GroupAt::Single(entry)) = sub.get_mut(1) {
-        entry.supertype = Some(0);
-    } else {
-        panic!(rt; "no entry that stands alone");
-    }
-    let same = same_up_to_moves(alloc, HashKeys::fixed(), plain.as_slice(), sub.as_slice());
-    assert!(rt; !same.expect(&rt, "memory"));
 }
 
 fn bad(index: u32) -> Result<bool, ReadError> {

@@ -1,6 +1,5 @@
 //! Sections whose normal form is known, and refusals of sections.
 mod refusals;
-mod short_sections;
 
 use crate::assertions::{assert_equal, is_right};
 use crate::fixtures::{columns, entry, numbers_again, section_again};

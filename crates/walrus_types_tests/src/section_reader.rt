@@ -22,18 +22,6 @@ fn read(rt: &impl Abort, alloc: Global, text: &str) -> (ModuleTypes, Vec<TypeId>
     parse_types(alloc, HashKeys::fixed(), groups.as_slice()).expect(rt, "memory")
 }
 
-// This entry names the index, and not one before the end.
-fn is_refused(rt: &impl Abort, alloc: Global, text: &str, index: u32, end: u32) {
-    let groups = section(alloc, text).expect(rt, "memory");
-    let refused = parse_types(alloc, HashKeys::fixed(), groups.as_slice()).err();
-    let wanted = ReadError::BadIndex {
-        entry: 0,
-        index,
-        end,
-    };
-    assert_equal(rt, refused, Some(wanted));
-}
-
 // Pushes the groups of this text, until one is refused.
 fn push(
     rt: &impl Abort,
@@ -86,18 +74,6 @@ fn an_empty_group_is_kept(rt: HostRuntime) {
     assert_equal(&rt, ids.len(), 0);
     assert_equal(&rt, types.rec_groups().len(), 1);
     assert!(rt; is(&types.rec_groups()[0], &[], true));
-}
-
-#[test]
-fn names_may_point_forward_within_their_group(rt: HostRuntime) {
-    let (_, ids) = read(&rt, rt.alloc(), "( s1 f ) s2");
-    assert!(rt; are(ids.as_slice(), &[0, 1, 2]));
-}
-
-#[test]
-fn an_index_past_its_group_is_refused(rt: HostRuntime) {
-    is_refused(&rt, rt.alloc(), "s1", 1, 1);
-    is_refused(&rt, rt.alloc(), "( s2 f )", 2, 2);
 }
 
 #[test]

@@ -1,5 +1,6 @@
 //! Canonical forms where memory is refused.
 use super::*;
+use crate::assertions::assert_equal;
 
 const SECTION: &str = "one section | si f ( f ) s0 s4 | f si s1 s3 | 1 0 0 2 3";
 

@@ -1,27 +1,6 @@
-//! What is read of a table and of its types.
-use super::calls::make_all;
+//! What is read of types.
 use super::*;
 use crate::assertions::assert_equal;
-
-const TABLES: &str = "\
-a new table has no types
-    live_ids =
-    iter =
-    rec_groups =
-    find func = none
-iter goes over the live types
-    add func = 0
-    add func i = 1
-    add func l = 2
-    iter = 0 1 2
-    delete 1
-    iter = 0 2
-";
-
-#[test]
-fn tables_are_read(rt: HostRuntime) {
-    make_all(&rt, rt.alloc(), TABLES);
-}
 
 // Two parameters and one result.
 #[test]

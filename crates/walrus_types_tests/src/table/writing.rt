@@ -1,7 +1,6 @@
 //! Types that are written in place.
 use super::calls::make_all;
 use super::*;
-use crate::assertions::assert_equal;
 use walrus_arena::Tombstone;
 
 const TABLES: &str = "\
@@ -43,21 +42,4 @@ fn a_dead_type_gives_back_its_lists(rt: HostRuntime) {
     ty.on_delete();
     assert!(rt; *ty.kind() == function(alloc));
     assert!(rt; !ty.is_final);
-}
-
-#[test]
-fn a_type_lends_its_lists(rt: HostRuntime) {
-    let mut types = ModuleTypes::new(rt.alloc());
-    types
-        .add(&[Val::I32], &[Val::F32, Val::F64])
-        .expect(&rt, "memory");
-    let mut ty = first(&rt, &types).expect(&rt, "memory");
-    if let CompositeType::Function(_) = ty.kind() {
-        assert!(rt; ty.params() == [Val::I32].as_slice());
-        assert!(rt; ty.results() == [Val::F32, Val::F64].as_slice());
-    } else {
-        panic!(rt; "no function type");
-    }
-    *ty.kind_mut() = function(rt.alloc());
-    assert!(rt; *ty.kind() == function(rt.alloc()));
 }
