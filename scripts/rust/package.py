@@ -16,7 +16,8 @@ import wording
 
 HERE = os.path.dirname(os.path.abspath(__file__))
 ROOT = os.path.dirname(os.path.dirname(HERE))
-# What is written as it is: the root of the crate, the stand-in for the toolchain's standard library, and tests of guards.
+# What is written as it is: the root of the crate, the stand-in for the toolchain's standard library, and tests
+# that Rust alone has.
 AS_IT_IS = f'{HERE}/crate'
 ROOTS = ['src/lib.rt', 'src/main.rt']
 # What takes the place of lines, by file.
