@@ -21,6 +21,8 @@ def with_conversions(enum):
 
 # By file: a pattern for lines of the rewritten text, and what takes their place.
 REPLACED = [
+    # A program is told that its standard output is closed.
+    ('src/main.rt', r'#!\[forbid(.*\n.*\n)', '#![deny\\1\n#[path = "../../closed_output.rs"]\nmod closed_output;\n'),
     # A hook that is left out does nothing.
     *((path, r'( +fn \w+\([^;{]*\) -> Result<\(\), Self::Error>)\s*;', r'\1 {\n        Ok(())\n    }')
       for path in ('src/visitor.rt', 'src/visitor_mut.rt')),
