@@ -1,6 +1,6 @@
-//! What walrus does with the bodies of the module `speed` in walrus_body_tests.
+//! What walrus does with the bodies of steps.rs.
 //!
-//! `bodies --beside PROGRAM` runs what this file compiles to in a Cargo project that depends
+//! `steps --beside PROGRAM` runs what this file compiles to in a Cargo project that depends
 //! on walrus 0.28.0. Its arguments are a shape and a step: `flat` or `nested`, and `built`, `walked`
 //! or `changed`.
 use walrus::ir::{

@@ -112,7 +112,7 @@ fn table_of_catches(alloc: Global, words: &str) -> Result<Instr, AllocError> {
     }))
 }
 
-fn instr(alloc: Global, words: &str, are_loops: bool) -> Result<Instr, AllocError> {
+fn instr(alloc: Global, words: &str) -> Result<Instr, AllocError> {
     let first = id_at(words, 1);
     match words.split_whitespace().next().unwrap_or("") {
         "if" => Ok(Instr::IfElse(IfElse {
@@ -120,42 +120,38 @@ fn instr(alloc: Global, words: &str, are_loops: bool) -> Result<Instr, AllocErro
             alternative: id_at(words, 2),
         })),
         "br" => Ok(Instr::Br(Br { block: first })),
+        "loop" => Ok(Instr::Loop(Loop { seq: first })),
         "try" => attempt(alloc, words),
         "try_table" => table_of_catches(alloc, words),
-        _ if are_loops => Ok(Instr::Loop(Loop { seq: first })),
         _ => Ok(Instr::Block(Block { seq: first })),
     }
 }
 
-fn instrs(alloc: Global, text: &str, are_loops: bool) -> Result<Vec<Instr>, AllocError> {
+fn instrs(alloc: Global, text: &str) -> Result<Vec<Instr>, AllocError> {
     let mut instrs = Vec::new(alloc);
     for words in text.split(',') {
         if !words.trim().is_empty() {
-            instrs.push(instr(alloc, words, are_loops)?)?;
+            instrs.push(instr(alloc, words)?)?;
         }
     }
     Ok(instrs)
 }
 
 /// The function of this text: its sequences with a `;` between two, each with the function type of its
-/// own number, and their instructions with a `,`. An instruction is `block`, `if`, `br`, `try` or
-/// `try_table`, and numbers of sequences. In place of blocks there may be loops.
-pub(crate) fn body(
-    alloc: Global,
-    text: &str,
-    are_loops: bool,
-) -> Result<LocalFunction, BuildError> {
+/// own number, and their instructions with a `,`. An instruction is `block`, `loop`, `if`, `br`,
+/// `try` or `try_table`, and numbers of sequences.
+pub(crate) fn body(alloc: Global, text: &str) -> Result<LocalFunction, BuildError> {
     let mut f = empty(alloc);
     for (index, sequence) in text.split(';').enumerate() {
-        let instrs = instrs(alloc, sequence, are_loops)?;
+        let instrs = instrs(alloc, sequence)?;
         add(alloc, &mut f, InstrSeqType::MultiValue(id(index)), instrs)?;
     }
     Ok(f.local_func(Vec::new(alloc)))
 }
 
-/// The same with blocks. It is built again after a refusal.
+/// The same. It is built again after a refusal.
 pub(crate) fn body_again(alloc: Global, text: &str) -> Result<LocalFunction, BuildError> {
-    body(alloc, text, false).or_else(|_| body(alloc, text, false))
+    body(alloc, text).or_else(|_| body(alloc, text))
 }
 
 /// The body is nested, from the sequence 0 on.

@@ -30,5 +30,3 @@ mod lists;
 mod log;
 #[cfg(test)]
 mod nesting;
-#[cfg(test)]
-mod speed;

@@ -13,9 +13,9 @@ use walrus_ir::InstrSeqId;
 // Of two faults the first in the order of the instructions is answered.
 const BODIES: &str = "\
 a sequence named twice stands once           | block 1; if 2 2;              | 0 | nested 2 1 0
-a cycle is answered                          | block 1; block 2; block 1     | 0 | cycle 0 1 2 back to 1
+a cycle is answered                          | block 1; block 2; loop 1      | 0 | cycle 0 1 2 back to 1
 a sequence that holds itself is a cycle      | block 0                       | 0 | cycle 0 back to 0
-an unknown sequence is answered              | block 9                       | 0 | unknown 0 9
+an unknown sequence is answered              | loop 9                        | 0 | unknown 0 9
 an unknown start is answered                 |                               | 5 | unknown 5
 a branch is no child                         | br 0                          | 0 | nested 0
 an unknown sequence comes before a cycle     | block 9, block 0              | 0 | unknown 0 9
@@ -55,9 +55,9 @@ fn add_ids(text: &mut String, word: &str, seqs: &[InstrSeqId]) -> Result<(), All
 }
 
 // The answer for the body of the row is that of the row.
-fn is_answered(rt: &impl Abort, alloc: Global, row: &str, are_loops: bool) {
+fn is_answered(rt: &impl Abort, alloc: Global, row: &str) {
     let [name, text, start, wanted] = columns(row);
-    let func = body(alloc, text, are_loops).expect(rt, "memory");
+    let func = body(alloc, text).expect(rt, "memory");
     let start = id(start.trim().parse().ok().unwrap_or(0));
     let answer = check_nesting(alloc, &func, start).expect(rt, "memory");
     let answer = said(alloc, &answer).expect(rt, "memory");
@@ -67,8 +67,7 @@ fn is_answered(rt: &impl Abort, alloc: Global, row: &str, are_loops: bool) {
 #[test]
 fn bodies_are_judged(rt: HostRuntime) {
     for row in BODIES.lines() {
-        is_answered(&rt, rt.alloc(), row, false);
-        is_answered(&rt, rt.alloc(), row, true);
+        is_answered(&rt, rt.alloc(), row);
     }
 }
 
@@ -88,7 +87,7 @@ fn levels(rt: &impl Abort, alloc: Global, more: &str) -> LocalFunction {
     for next in 2..61 {
         write!(text, "block {next}, block {next};").expect(rt, "memory");
     }
-    body(alloc, text.as_str(), false).expect(rt, "memory")
+    body(alloc, text.as_str()).expect(rt, "memory")
 }
 
 // Every path anew would be 2^60 steps.

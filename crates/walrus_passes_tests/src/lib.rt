@@ -23,8 +23,6 @@ mod refusals;
 #[cfg(test)]
 mod sections;
 #[cfg(test)]
-mod speed;
-#[cfg(test)]
 mod unused_types;
 #[cfg(test)]
 mod used_types;

@@ -19,7 +19,7 @@ fn structure(alloc: Global, name: Option<usize>) -> Result<CompositeType, AllocE
     }))
 }
 
-pub(crate) fn reference_field(id: TypeId) -> FieldType {
+fn reference_field(id: TypeId) -> FieldType {
     Field {
         element_type: Storage::Val(Val::Ref(Reference {
             nullable: true,
@@ -77,15 +77,4 @@ fn deletes(rt: &impl Abort, alloc: Global, index: usize, dead: &[usize], live: &
 #[test]
 fn a_supertype_is_needed(rt: HostRuntime) {
     deletes(&rt, rt.alloc(), 1, &[2, 3, 4, 5], &[0, 1]);
-}
-
-pub(crate) fn structures(
-    alloc: Global,
-    count: usize,
-) -> Result<Vec<(CompositeType, bool, Option<TypeId>)>, AllocError> {
-    let mut members = Vec::new(alloc);
-    for _ in 0..count {
-        members.push((structure(alloc, None)?, true, None))?;
-    }
-    Ok(members)
 }

@@ -9,31 +9,31 @@ pub use indices_to_ids::IndicesToIds;
 use walrus_id::Id;
 
 /// A function of a module, of which this layer knows only ids.
-#[derive(Clone, Copy, Debug)]
+#[derive(Clone, Copy, PartialEq, Eq, PartialOrd, Ord, Hash, Debug)]
 pub struct Function;
 
 /// A global of a module, of which this layer knows only ids.
-#[derive(Clone, Copy, Debug)]
+#[derive(Clone, Copy, PartialEq, Eq, PartialOrd, Ord, Hash, Debug)]
 pub struct Global;
 
 /// A memory of a module, of which this layer knows only ids.
-#[derive(Clone, Copy, Debug)]
+#[derive(Clone, Copy, PartialEq, Eq, PartialOrd, Ord, Hash, Debug)]
 pub struct Memory;
 
 /// A table of a module, of which this layer knows only ids.
-#[derive(Clone, Copy, Debug)]
+#[derive(Clone, Copy, PartialEq, Eq, PartialOrd, Ord, Hash, Debug)]
 pub struct Table;
 
 /// A data segment of a module, of which this layer knows only ids.
-#[derive(Clone, Copy, Debug)]
+#[derive(Clone, Copy, PartialEq, Eq, PartialOrd, Ord, Hash, Debug)]
 pub struct Data;
 
 /// An element segment of a module, of which this layer knows only ids.
-#[derive(Clone, Copy, Debug)]
+#[derive(Clone, Copy, PartialEq, Eq, PartialOrd, Ord, Hash, Debug)]
 pub struct Element;
 
 /// A tag of a module, of which this layer knows only ids.
-#[derive(Clone, Copy, Debug)]
+#[derive(Clone, Copy, PartialEq, Eq, PartialOrd, Ord, Hash, Debug)]
 pub struct Tag;
 
 /// The id of a type in a `ModuleTypes`.

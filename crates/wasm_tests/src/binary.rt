@@ -6,7 +6,6 @@ mod modules;
 mod names;
 mod productions;
 mod refusals;
-mod speed;
 mod unsupported;
 
 use crate::assertions::assert_equal;

@@ -7,7 +7,6 @@ mod outdated;
 mod refusals;
 mod renamed_modules;
 mod renaming;
-mod speed;
 mod unknown_customs;
 mod unread_names;
 
