@@ -1,10 +1,7 @@
-//! Types as data, lists, conversions, index maps and printed texts.
+//! Types as data: their printed texts, and what is made again where memory was refused.
 mod convert;
-mod deleted;
 mod display;
 mod error;
 mod indices;
-mod listed;
-mod referenced;
 mod refusals;
 mod views;

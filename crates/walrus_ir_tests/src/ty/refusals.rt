@@ -3,24 +3,13 @@ use crate::assertions::assert_equal;
 use crate::fixtures::{are, clone_again, field, list, name_again, reference};
 use std::alloc::{AllocError, Global};
 use std::process::Abort;
-use walrus_ty::{
-    CompositeType, FunctionType, Listed, StructType, SubType, Type, TypeId, Val, ValType,
-};
+use walrus_ty::{CompositeType, FunctionType, Listed, StructType, SubType, Type, TypeId, Val};
 
-fn function(alloc: Global) -> Result<FunctionType, AllocError> {
+// The type 9, a function type with a name and a supertype.
+pub(super) fn named(alloc: Global) -> Result<Type, AllocError> {
     let params = list(alloc, &[reference(3)])?;
-    Ok(FunctionType::new(params, list(alloc, &[Val::I32, reference(5)])?))
-}
-
-fn structure(alloc: Global) -> Result<StructType, AllocError> {
-    let fields = list(alloc, &[field(reference(3)), field(Val::I32)])?;
-    Ok(StructType {
-        fields: Listed::from_vec(fields),
-    })
-}
-
-// A type of this kind with a name and a supertype.
-fn named(alloc: Global, kind: CompositeType) -> Result<Type, AllocError> {
+    let kind = FunctionType::new(params, list(alloc, &[Val::I32, reference(5)])?);
+    let kind = CompositeType::Function(kind);
     let supertype = Some(TypeId::from_index(2));
     let mut ty = Type::new(alloc, TypeId::from_index(9), kind, false, supertype);
     ty.name = Some(name_again(alloc)?);
@@ -28,139 +17,58 @@ fn named(alloc: Global, kind: CompositeType) -> Result<Type, AllocError> {
 }
 
 #[test]
-fn a_refused_clone_of_a_list_comes_when_it_is_asked_for_again(rt: HostRuntime) {
-    let vals = [reference(3), Val::I32];
-    let source = Listed::from_vec(list(rt.alloc(), &vals).expect(&rt, "memory"));
-    let copy = clone_again(&source).expect(&rt, "memory");
-    assert!(rt; copy.as_slice() == vals.as_slice());
-    assert!(rt; source.as_slice() == vals.as_slice());
-}
-
-#[test]
-fn a_refused_clone_of_a_kind_comes_when_it_is_asked_for_again(rt: HostRuntime) {
-    let alloc = rt.alloc();
-    let source = function(alloc).expect(&rt, "memory");
-    let copy = clone_again(&source).expect(&rt, "memory");
-    assert!(rt; copy == source);
-    assert!(rt;
-        clone_again(&CompositeType::Function(source)).expect(&rt, "memory")
-            == CompositeType::Function(copy)
-    );
-    let source = structure(alloc).expect(&rt, "memory");
-    let copy = clone_again(&source).expect(&rt, "memory");
-    assert!(rt; copy == source);
-    assert!(rt;
-        clone_again(&CompositeType::Struct(source)).expect(&rt, "memory")
-            == CompositeType::Struct(copy)
-    );
-}
-
-#[test]
 fn a_refused_clone_of_a_type_comes_when_it_is_asked_for_again(rt: HostRuntime) {
-    let alloc = rt.alloc();
-    let source = named(
-        alloc,
-        CompositeType::Function(function(alloc).expect(&rt, "memory")),
-    )
-    .expect(&rt, "memory");
+    let source = named(rt.alloc()).expect(&rt, "memory");
     let copy = clone_again(&source).expect(&rt, "memory");
     assert!(rt; copy == source);
-    assert_equal(&rt, copy.id().index(), 9);
     assert!(rt; copy.name.is_some_and(|name| name.as_str() == "x"));
 }
 
 #[test]
 fn a_refused_clone_of_a_sub_type_comes_when_it_is_asked_for_again(rt: HostRuntime) {
-    let alloc = rt.alloc();
+    let fields = list(rt.alloc(), &[field(reference(3)), field(Val::I32)]).expect(&rt, "memory");
+    let fields = Listed::from_vec(fields);
     let source = SubType {
-        kind: CompositeType::Struct(structure(alloc).expect(&rt, "memory")),
+        kind: CompositeType::Struct(StructType { fields }),
         is_final: true,
-        supertype: Some(TypeId::from_index(4)),
+        supertype: None,
     };
-    let copy = clone_again(&source).expect(&rt, "memory");
-    assert!(rt; copy.kind == source.kind && copy.is_final);
-    assert_equal(&rt, copy.supertype, source.supertype);
+    assert!(rt; clone_again(&source).expect(&rt, "memory").kind == source.kind);
 }
 
-// Puts a reference to the type of the next number at the end. After a refusal the list must be as
-// it was, and the call is made again.
-fn push_again(rt: &impl Abort, list: &mut Listed<ValType>, next: usize) -> Result<(), AllocError> {
-    if list.push(reference(next)).is_ok() {
-        return Ok(());
+// Puts the number at the end, and is asked again after a refusal.
+fn push_again(rt: &impl Abort, list: &mut Listed<u32>, item: u32) {
+    if list.push(item).is_err() {
+        list.push(item).expect(rt, "memory");
     }
-    assert!(rt; holds_numbered(list, next));
-    list.push(reference(next))
 }
 
-// Whether the list has references to this many types in order.
-fn holds_numbered(list: &Listed<ValType>, count: usize) -> bool {
-    for (index, value) in list.as_slice().iter().enumerate() {
-        if *value != reference(index) {
-            return false;
-        }
+// The same at the front.
+fn insert_again(rt: &impl Abort, list: &mut Listed<u32>, item: u32) {
+    if list.insert(0, item).is_err() {
+        list.insert(0, item).expect(rt, "memory");
     }
-    list.len() == count
 }
 
 #[test]
-fn a_refused_item_is_not_in_its_list(rt: HostRuntime) {
+fn a_refused_item_is_put_into_its_list_when_it_is_given_again(rt: HostRuntime) {
     let mut list = Listed::from_vec(Vec::new(rt.alloc()));
-    for index in 0..10usize {
-        push_again(&rt, &mut list, index).expect(&rt, "memory");
-        assert!(rt; holds_numbered(&list, index + 1));
-    }
-}
-
-// Puts an `i32` in the middle. After a refusal the list must be as it was, and the call is made
-// again.
-fn insert_again(
-    rt: &impl Abort,
-    list: &mut Listed<ValType>,
-    before: &[ValType],
-) -> Result<(), AllocError> {
-    let middle = list.len() / 2;
-    if list.insert(middle, Val::I32).is_ok() {
-        return Ok(());
-    }
-    assert!(rt; list.as_slice() == before);
-    list.insert(middle, Val::I32)
+    push_again(&rt, &mut list, 3);
+    push_again(&rt, &mut list, 4);
+    assert_equal(&rt, list.as_slice(), [3, 4].as_slice());
+    assert!(rt; list.len() == 2);
+    assert_equal(&rt, list.remove(1), 4);
+    let mut list = Listed::from_vec(Vec::new(rt.alloc()));
+    insert_again(&rt, &mut list, 7);
+    assert_equal(&rt, list.as_slice(), [7].as_slice());
 }
 
 #[test]
-fn a_refused_insert_leaves_its_list(rt: HostRuntime) {
-    let before = [reference(3), reference(5)];
-    let mut vals = Listed::from_vec(list(rt.alloc(), &before).expect(&rt, "memory"));
-    insert_again(&rt, &mut vals, &before).expect(&rt, "memory");
-    assert!(rt; vals.as_slice() == [reference(3), Val::I32, reference(5)].as_slice());
-}
-
-// Puts the types that the type names at the end. After a refusal the list must be as it was, and
-// the call is made again.
-fn name_types_again(
-    rt: &impl Abort,
-    ty: &Type,
-    list: &mut Vec<TypeId>,
-    before: &[usize],
-) -> Result<(), AllocError> {
-    if ty.referenced_types(list).is_ok() {
-        return Ok(());
+fn refused_names_of_a_type_come_when_they_are_asked_for_again(rt: HostRuntime) {
+    let ty = named(rt.alloc()).expect(&rt, "memory");
+    let mut list = Vec::new(rt.alloc());
+    if ty.referenced_types(&mut list).is_err() {
+        ty.referenced_types(&mut list).expect(&rt, "memory");
     }
-    assert!(rt; are(list.as_slice(), before));
-    ty.referenced_types(list)
-}
-
-#[test]
-fn refused_names_of_a_type_are_not_in_the_list(rt: HostRuntime) {
-    let alloc = rt.alloc();
-    let made = named(
-        alloc,
-        CompositeType::Function(function(alloc).expect(&rt, "memory")),
-    )
-    .expect(&rt, "memory");
-    let named = [2, 3, 5, 2, 3, 5, 2, 3, 5, 2, 3, 5];
-    let mut list = Vec::new(alloc);
-    for round in 0..4usize {
-        name_types_again(&rt, &made, &mut list, &named[..3 * round]).expect(&rt, "memory");
-    }
-    assert!(rt; are(list.as_slice(), &named));
+    assert!(rt; are(list.as_slice(), &[2, 3, 5]));
 }
