@@ -1,10 +1,12 @@
-//! Instructions, locals and constant expressions: what no contract says, such as how many operators
-//! there are, tests that fail where an edit makes a call wrong, and calls that are made again where
-//! memory was refused.
+//! Instructions, locals and constant expressions: worked values, what no contract says, such as how
+//! many operators there are, tests that fail where an edit makes a call wrong, and calls that are
+//! made again where memory was refused.
 mod binary_ops;
+mod const_exprs;
 mod conversions;
 mod examples;
 mod instr_seq_type;
+mod locals;
 mod locations;
 mod printed;
 mod reachability;

@@ -3,5 +3,6 @@ mod convert;
 mod display;
 mod error;
 mod indices;
+mod referenced;
 mod refusals;
 mod views;

@@ -1,51 +1,75 @@
 //! The printed text of types, in the words of the WebAssembly text format.
 use crate::assertions::prints;
-use std::alloc::{AllocError, Global};
+use crate::fixtures::{field, list};
 use walrus_ty::{
-    ArrayType, CompositeType, Field, FieldType, FunctionType, Heap, Id, Listed, Reference, Storage,
-    StorageType, StructType, Val,
+    AbstractHeapType, ArrayType, FieldType, FunctionType, Heap, HeapType, Id, Listed, RefType,
+    Reference, Storage, StructType, Val,
 };
 
-fn field(element_type: StorageType, mutable: bool) -> FieldType {
-    Field {
-        element_type,
-        mutable,
+fn reference(nullable: bool, heap_type: HeapType) -> RefType {
+    Reference {
+        nullable,
+        heap_type,
     }
 }
 
-fn function(alloc: Global) -> Result<FunctionType, AllocError> {
-    let params = vec![in alloc; Val::I32, Val::I64]?;
-    Ok(FunctionType::new(params, vec![in alloc; Val::F32]?))
+fn mutable(element_type: Storage<Id<walrus_ty::Type>>) -> FieldType {
+    FieldType {
+        element_type,
+        mutable: true,
+    }
+}
+
+fn exactly_third() -> HeapType {
+    Heap::Exact(Id::from_index(3))
+}
+
+#[test]
+fn heap_types(rt: HostRuntime) {
+    let third: HeapType = Heap::Concrete(Id::from_index(3));
+    let small: HeapType = Heap::Abstract(AbstractHeapType::I31);
+    prints(&rt, rt.alloc(), &exactly_third(), "exact 3");
+    prints(&rt, rt.alloc(), &third, "3");
+    prints(&rt, rt.alloc(), &small, "i31");
+}
+
+#[test]
+fn references(rt: HostRuntime) {
+    let none = Heap::Abstract(AbstractHeapType::NoExn);
+    prints(&rt, rt.alloc(), &reference(true, none), "nullexnref");
+    prints(&rt, rt.alloc(), &reference(false, none), "(ref noexn)");
+    let third = reference(false, exactly_third());
+    prints(&rt, rt.alloc(), &third, "(ref exact 3)");
+}
+
+#[test]
+fn function_types(rt: HostRuntime) {
+    let alloc = rt.alloc();
+    let nothing = FunctionType::new(Vec::new(alloc), Vec::new(alloc));
+    prints(&rt, alloc, &nothing, "(func)");
+    let vector = list(alloc, &[Val::V128]).expect(&rt, "memory");
+    let answers = FunctionType::new(Vec::new(alloc), vector);
+    prints(&rt, alloc, &answers, "(func (result v128))");
 }
 
 #[test]
 fn function_types_print_parameters_before_results(rt: HostRuntime) {
-    let alloc = rt.alloc();
-    let ty = function(alloc).expect(&rt, "memory");
-    prints(&rt, alloc, &ty, "(func (param i32 i64) (result f32))");
+    let params = list(rt.alloc(), &[Val::I32, Val::I64]).expect(&rt, "memory");
+    let results = list(rt.alloc(), &[Val::Ref(RefType::FUNCREF)]).expect(&rt, "memory");
+    let both = FunctionType::new(params, results);
+    let text = "(func (param i32 i64) (result funcref))";
+    prints(&rt, rt.alloc(), &both, text);
 }
 
 #[test]
-fn struct_types_print_their_fields(rt: HostRuntime) {
-    let alloc = rt.alloc();
-    let fields = vec![in alloc;
-        field(Storage::Val(Val::I32), false),
-        field(Storage::I8, true),
-    ];
-    let ty = StructType {
-        fields: Listed::from_vec(fields.expect(&rt, "memory")),
+fn struct_and_array_types(rt: HostRuntime) {
+    let fields = [field(Val::I32), mutable(Storage::I8)];
+    let fields = Listed::from_vec(list(rt.alloc(), &fields).expect(&rt, "memory"));
+    let text = "(struct (field i32) (field (mut i8)))";
+    prints(&rt, rt.alloc(), &StructType { fields }, text);
+    let element = Storage::Val(Val::Ref(reference(true, exactly_third())));
+    let array = ArrayType {
+        field: mutable(element),
     };
-    prints(&rt, alloc, &ty, "(struct (field i32) (field (mut i8)))");
-}
-
-// The text of the array type has those of all types that are in it.
-#[test]
-fn array_types_print_their_field(rt: HostRuntime) {
-    let third = Val::Ref(Reference {
-        nullable: true,
-        heap_type: Heap::Exact(Id::from_index(3)),
-    });
-    let field = field(Storage::Val(third), true);
-    let ty = CompositeType::Array(ArrayType { field });
-    prints(&rt, rt.alloc(), &ty, "(array (mut (ref null exact 3)))");
+    prints(&rt, rt.alloc(), &array, "(array (mut (ref null exact 3)))");
 }
