@@ -35,9 +35,10 @@ fn heap_types(rt: HostRuntime) {
 
 #[test]
 fn references(rt: HostRuntime) {
-    let none = Heap::Abstract(AbstractHeapType::NoExn);
-    prints(&rt, rt.alloc(), &reference(true, none), "nullexnref");
-    prints(&rt, rt.alloc(), &reference(false, none), "(ref noexn)");
+    let nullable = reference(true, Heap::Abstract(AbstractHeapType::NoExn));
+    prints(&rt, rt.alloc(), &nullable, "nullexnref");
+    let other = reference(false, Heap::Abstract(AbstractHeapType::NoExn));
+    prints(&rt, rt.alloc(), &other, "(ref noexn)");
     let third = reference(false, exactly_third());
     prints(&rt, rt.alloc(), &third, "(ref exact 3)");
 }
