@@ -1,6 +1,5 @@
 //! Modules that are written again only if nothing can be wrong in the result. The modules are
 //! put together by hand from the specification's grammar.
-use std::alloc::Global;
 use std::test::*;
 use wasm_normalise::{
     HashKeys, Hazard, NormaliseModuleError, NormaliseOptions, StrictError, strict_canonical_module,
@@ -9,23 +8,12 @@ use wasm_normalise::{
 // a custom section with the name "x"
 const UNKNOWN: [u8; 12] = [0, 0x61, 0x73, 0x6D, 1, 0, 0, 0, 0, 2, 1, b'x'];
 
-// a custom section "name" whose subsection has no size
-const UNREAD: [u8; 16] = [
-    0, 0x61, 0x73, 0x6D, 1, 0, 0, 0, 0, 6, 4, b'n', b'a', b'm', b'e', 4,
-];
-
-/// The error of bytes of which no module is made.
-fn error_of(alloc: Global, bytes: &[u8]) -> Option<StrictError> {
-    let options = NormaliseOptions::default();
-    strict_canonical_module(alloc, HashKeys::fixed(), bytes, options, &[]).err()
-}
-
 #[test]
 fn a_hazard_is_an_error(rt: HostRuntime) {
+    let options = NormaliseOptions::default();
+    let new = strict_canonical_module(rt.alloc(), HashKeys::fixed(), &UNKNOWN, options, &[]);
     let unknown = StrictError::Hazard(Hazard::UnknownSection { offset: 8 });
-    assert!(rt; error_of(rt.alloc(), &UNKNOWN) == Some(unknown));
-    let unread = StrictError::Hazard(Hazard::UnreadNames { offset: 8 });
-    assert!(rt; error_of(rt.alloc(), &UNREAD) == Some(unread));
+    assert!(rt; new.err() == Some(unknown));
 }
 
 #[test]

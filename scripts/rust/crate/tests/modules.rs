@@ -250,6 +250,39 @@ fn the_first_fault_of_code_decides() {
     }
 }
 
+#[test]
+fn the_first_fault_of_a_module_decides() {
+    let malformed = |offset| RenameError::Malformed { offset };
+    let unknown = |index, offset| RenameError::UnknownType { index, offset };
+    // a type, functions of types 0 and 1, a custom section, and two bodies, one with no instruction
+    let several: &[u8] = &[
+        1, 4, 1, 0x60, 0, 0, 3, 0x83, 0, 2, 0, 1, 0, 2, 1, 0x61, 10, 8, 2, 2, 0, 0x0B, 3, 0, 0xFF,
+        0x0B,
+    ];
+    let rows: [(&[u8], u32, RenameError); 6] = [
+        (several, 1, unknown(1, 19)),
+        (several, 2, malformed(32)),
+        // a function of type 0, and a code section that is cut off or not there
+        (&[3, 2, 1, 0, 10, 5], 0, malformed(14)),
+        (&[3, 2, 1, 0], 0, unknown(0, 11)),
+        // a function of type 5 before no instruction, and a byte too many before call_ref 5
+        (&[3, 2, 1, 5, 10, 5, 1, 3, 0, 0xFF, 0x0B], 1, unknown(5, 11)),
+        (&[3, 3, 1, 0, 0, 10, 6, 1, 4, 0, 0x14, 5, 0x0B], 1, malformed(12)),
+    ];
+    for (sections, count, error) in rows {
+        assert_eq!(check_module(&module(sections), count), Err(error));
+    }
+    assert_eq!(check_module(&module(&several[..16]), 2), Ok(()));
+    let rows: [(&[u8], usize); 3] = [
+        (&[3, 3, 1, 0, 0], 12),
+        (&[10, 8, 2, 2, 0, 0x0B, 3, 0, 0xFF, 0x0B], 16),
+        (&[10, 8, 2, 2], 12),
+    ];
+    for (sections, offset) in rows {
+        assert_eq!(named_types(&module(sections)), Err(ScanError::Malformed { offset }));
+    }
+}
+
 /// Each body calls a function of type 0, which gets this index.
 #[test]
 fn a_size_that_spans_an_index_is_written_again() {

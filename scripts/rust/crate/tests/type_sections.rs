@@ -115,10 +115,13 @@ fn integers_have_up_to_32_bits_and_may_be_padded() {
 #[test]
 fn what_is_no_text_of_types_is_refused_where_it_goes_wrong() {
     use Expected::*;
-    let rows: [(&[u8], usize, Expected); 20] = [
+    let rows: [(&[u8], usize, Expected); 26] = [
+        (&[0xFF, 0xFF, 0xFF, 0xFF, 0x0F], 5, RecType),
+        (&[0x80, 0x80, 0x80, 0x80, 0x80, 0], 4, Integer),
         (&[0x80, 0x80, 0x80, 0x80, 0x10], 4, Integer),
         (&[0x80, 0x80, 0x80, 0x80, 0x40], 4, Integer),
         (&[1, 0x5E, 0x64, 0x40, 0], 3, HeapType),
+        (&[1, 0x5E, 0x63, 0x7F, 0], 3, HeapType),
         (&[1, 0x5E, 0x64, 0xF0, 0x7F, 0], 4, Integer),
         (&[1, 0x5E, 0x64, 0xFF, 0xFF, 0xFF, 0xFF, 0x7F, 0], 7, Integer),
         (&[1, 0x5E, 0x64, 0xFF, 0xFF, 0xFF, 0xFF, 0x2F, 0], 7, Integer),
@@ -136,6 +139,9 @@ fn what_is_no_text_of_types_is_refused_where_it_goes_wrong() {
         (&[1, 0x5E, 0x7D, 0x7D], 3, Mutability),
         (&[1, 0x61, 0], 1, CompType),
         (&[1, 0x4E, 1, 0x4E, 0], 3, CompType),
+        (&[1, 0x4F, 1, 0, 0x4E, 0], 4, CompType),
+        (&[1, 0x50, 0, 0x50, 0, 0x5E, 0x78, 0], 3, CompType),
+        (&[1, 0x5E, 0x78, 0, 0x5E], 4, End),
     ];
     for (bytes, offset, expected) in rows {
         assert_eq!(decode_types(bytes), malformed(offset, expected));
@@ -303,7 +309,11 @@ fn the_type_section_is_found() {
 #[test]
 fn what_is_no_module_is_refused_where_it_goes_wrong() {
     use Expected::*;
-    let rows: [(&[u8], usize, Expected); 9] = [
+    let rows: [(&[u8], usize, Expected); 13] = [
+        (&[14, 1, 0], 8, SectionId),
+        (&[1, 0, 0xFF], 10, SectionId),
+        (&[1, 1, 0, 1, 1, 0], 11, LaterSection),
+        (&[1, 1, 0, 0, 1, 0, 1, 1, 0], 14, LaterSection),
         (&[2, 1, 0, 1, 1, 0], 11, LaterSection),
         (&[6, 1, 0, 13, 1, 0], 11, LaterSection),
         (&[10, 1, 0, 12, 1, 0], 11, LaterSection),
@@ -327,8 +337,27 @@ fn what_is_no_module_is_refused_where_it_goes_wrong() {
         assert_eq!(sections(&bytes).err(), Some(DecodeError::Malformed { offset, expected }));
         assert_eq!(strip_descriptions(&bytes), malformed(offset, expected));
         assert_eq!(find_unknown_custom(&bytes, &[]), malformed(offset, expected));
+        assert_eq!(find_unread_names(&bytes, 0), malformed(offset, expected));
         assert_eq!(check_module(&bytes, 0), Err(RenameError::Malformed { offset }));
         assert_eq!(named_types(&bytes), Err(ScanError::Malformed { offset }));
+    }
+}
+
+#[test]
+fn each_beginning_of_a_module_lacks_only_more_bytes() {
+    use Expected::*;
+    // a custom section, a type section and a function section
+    let bytes = module(&[0, 2, 1, 0x61, 1, 4, 1, 0x60, 0, 0, 3, 2, 1, 0]);
+    for offset in 0..bytes.len() {
+        let wanted = match offset {
+            0..4 => Some(Magic),
+            4..8 => Some(Version),
+            9 | 13 | 19 => Some(Integer),
+            10 | 11 | 14..18 | 20..22 => Some(Content),
+            _ => None,
+        };
+        let error = wanted.map(|expected| DecodeError::Malformed { offset, expected });
+        assert_eq!(type_section(&bytes[..offset]).err(), error);
     }
 }
 
