@@ -1,8 +1,8 @@
-//! Functions whose body is replaced.
+//! Functions whose body is replaced, for the tests of refusals.
 ghost use Rattle.std.specs.Prelude.{IsSome};
 ghost use Rattle.walrus_types.specs.Table.{signature_at};
 
-use crate::assertions::{are, assert_equal};
+use crate::assertions::assert_equal;
 use std::alloc::{AllocError, Global};
 use std::process::Abort;
 use walrus_functions::{BuildError, FunctionBuilder, LocalFunction, LocalFunctions};
@@ -10,19 +10,17 @@ use walrus_ir::{Instr, InstrLocId, InstrSeqType, LocalId, Value};
 use walrus_passes::{replace_with, snip};
 use walrus_types::{FunctionId, Id, ModuleTypes, TypeId, ValType};
 
-// The sequence of an index has instructions of this text, which is made again after a refusal.
-pub(crate) fn has(
-    rt: &impl Abort,
-    alloc: Global,
-    func: &LocalFunction,
-    index: usize,
-    expected: &str,
-) {
-    let id = Id::from_index(index);
-    assert!(rt; func.contains_block(id));
+// The function is of one sequence, of instructions of this text, which is made again after a
+// refusal.
+pub(crate) fn has(rt: &impl Abort, alloc: Global, func: &LocalFunction, expected: &str) {
+    let id = Id::from_index(0);
+    assert!(rt; func.contains_block(id) && func.block_count() == 1);
     let instrs = func.block(id).instrs.as_slice();
-    let text = text_of(alloc, instrs).or_else(|_| text_of(alloc, instrs));
-    assert_equal(rt, text.expect(rt, "memory").as_str(), expected);
+    let text = match text_of(alloc, instrs) {
+        Ok(text) => text,
+        Err(_) => text_of(alloc, instrs).expect(rt, "memory"),
+    };
+    assert_equal(rt, text.as_str(), expected);
 }
 
 fn text_of(alloc: Global, instrs: &[(Instr, InstrLocId)]) -> Result<String, AllocError> {
@@ -39,11 +37,9 @@ fn text_of(alloc: Global, instrs: &[(Instr, InstrLocId)]) -> Result<String, Allo
 fn add_instr(text: &mut String, instr: &Instr) -> Result<(), AllocError> {
     let (word, number) = match instr {
         Instr::Call(x) => ("call", x.func.index()),
-        Instr::ReturnCall(x) => ("return_call", x.func.index()),
         Instr::RefFunc(x) => ("ref.func", x.func.index()),
         Instr::LocalGet(x) => ("local.get", x.local.index()),
         Instr::LocalSet(x) => ("local.set", x.local.index()),
-        Instr::TableGet(x) => ("table.get", x.table.index()),
         Instr::Const(x) => return add_value(text, x.value),
         Instr::Unreachable(_) => return text.push_str("unreachable"),
         _ => return text.push_str("another"),
@@ -56,14 +52,6 @@ fn add_value(text: &mut String, value: Value) -> Result<(), AllocError> {
         Value::I32(n) => Ok(write!(text, "i32 {n}")?),
         _ => text.push_str("another"),
     }
-}
-
-// The entry of the function is the sequence 0, which is of this type.
-pub(crate) fn entry_is_of(rt: &impl Abort, func: &LocalFunction, ty: InstrSeqType) {
-    let entry = Id::from_index(0);
-    assert_equal(rt, func.entry(), Some(Id::from_index(0)));
-    assert!(rt; func.contains_block(entry));
-    assert_equal(rt, func.block(entry).ty, ty);
 }
 
 // The id of this index, which has to be of a function type.
@@ -85,19 +73,24 @@ fn seven(alloc: Global) -> Result<LocalFunction, BuildError> {
     Ok(f.local_func(third_local(alloc)?))
 }
 
-pub(crate) fn third_local(alloc: Global) -> Result<Vec<LocalId>, AllocError> {
+fn third_local(alloc: Global) -> Result<Vec<LocalId>, AllocError> {
     Ok(vec![in alloc; Id::from_index(3)]?)
 }
 
-// Such functions, so many.
-pub(crate) fn sevens(alloc: Global, count: usize) -> Result<LocalFunctions, BuildError> {
+fn one_seven(alloc: Global) -> Result<LocalFunctions, BuildError> {
     let mut funcs = LocalFunctions::new(alloc);
-    for _ in 0..count {
-        if funcs.add(seven(alloc)?).is_err() {
-            return Err(BuildError::Memory);
-        }
+    if funcs.add(seven(alloc)?).is_err() {
+        return Err(BuildError::Memory);
     }
     Ok(funcs)
+}
+
+// Such a function as the function 0. It is made again after a refusal.
+pub(crate) fn sevens(alloc: Global) -> Result<LocalFunctions, BuildError> {
+    match one_seven(alloc) {
+        Ok(funcs) => Ok(funcs),
+        Err(_) => one_seven(alloc),
+    }
 }
 
 // A builder of a body that leaves 8.
@@ -129,32 +122,12 @@ pub(crate) fn snip_first(
     snip(alloc, funcs, id)
 }
 
-// The function of an index has this name and argument, and these instructions.
-pub(crate) fn is(rt: &impl Abort, alloc: Global, funcs: &LocalFunctions, index: usize, text: &str) {
-    let id: FunctionId = Id::from_index(index);
+// The function 0 has the name and the argument that it had, and these instructions.
+pub(crate) fn is(rt: &impl Abort, alloc: Global, funcs: &LocalFunctions, text: &str) {
+    let id: FunctionId = Id::from_index(0);
     assert!(rt; funcs.contains(id));
     let func = funcs.get(id);
     assert_equal(rt, func.name(), Some("f"));
-    assert!(rt; are(func.args.as_slice(), &[3]));
-    assert_equal(rt, func.ty().index(), 0);
-    assert_equal(rt, func.block_count(), 1);
-    has(rt, alloc, func, 0, text);
-}
-
-#[test]
-fn a_snipped_function_is_unreachable(rt: HostRuntime) {
-    let mut funcs = sevens(rt.alloc(), 2).expect(&rt, "memory");
-    is(&rt, rt.alloc(), &funcs, 0, "i32 7");
-    snip_first(&rt, rt.alloc(), &mut funcs).expect(&rt, "memory");
-    is(&rt, rt.alloc(), &funcs, 0, "unreachable");
-    is(&rt, rt.alloc(), &funcs, 1, "i32 7");
-}
-
-#[test]
-fn a_replaced_function_has_the_body_that_was_built(rt: HostRuntime) {
-    let mut funcs = sevens(rt.alloc(), 2).expect(&rt, "memory");
-    let f = eight(rt.alloc()).expect(&rt, "memory");
-    replace_first(&rt, rt.alloc(), &mut funcs, f).expect(&rt, "memory");
-    is(&rt, rt.alloc(), &funcs, 0, "i32 8");
-    is(&rt, rt.alloc(), &funcs, 1, "i32 7");
+    assert_equal(rt, func.args.as_slice(), [Id::from_index(3)].as_slice());
+    has(rt, alloc, func, text);
 }

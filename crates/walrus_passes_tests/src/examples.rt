@@ -1,7 +1,7 @@
 //! Examples in the documentation of `walrus_unused` and `walrus_passes`: their lines are the same as in
 //! the tests here. Where an example hands an error on, the tests stop instead, which is proved sooner.
 //! Where it compares by `assert_eq!`, they call `assert_equal`.
-use crate::assertions::{are, assert_equal, hold_just};
+use crate::assertions::assert_equal;
 use crate::index_maps::TWICE;
 use crate::sections::section;
 use crate::unused_types::table;
@@ -25,7 +25,7 @@ fn a_struct_that_nothing_names_is_deleted(rt: HostRuntime) {
 }
 
 // A function of the type 2 of the table, which makes a struct of type 0.
-fn maker(alloc: Global) -> Result<LocalFunction, BuildError> {
+pub(crate) fn maker(alloc: Global) -> Result<LocalFunction, BuildError> {
     let mut f = FunctionBuilder::without_entry(alloc, TypeId::from_index(2));
     let mut body = f.dangling_instr_seq(InstrSeqType::MultiValue(TypeId::from_index(5)))?;
     body.struct_new(TypeId::from_index(0))?;
@@ -50,14 +50,7 @@ fn what_a_function_and_a_global_use_is_kept(rt: HostRuntime) {
     init.referenced_types(&mut roots).expect(&rt, "memory");
     assert!(rt; types.contains_all(roots.as_slice()));
     let deleted = delete_unused_types(alloc, &mut types, roots.as_slice()).expect(&rt, "memory");
-    assert!(rt; hold_just(roots.as_slice(), &[2, 5, 0, 3]));
-    assert!(rt; are(deleted.as_slice(), &[1]));
-    assert!(rt;
-        are(
-            types.live_ids().expect(&rt, "memory").as_slice(),
-            &[0, 2, 3, 4, 5]
-        )
-    );
+    assert_equal(&rt, deleted.as_slice(), [TypeId::from_index(1)].as_slice());
 }
 
 #[test]

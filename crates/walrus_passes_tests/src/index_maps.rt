@@ -1,4 +1,4 @@
-//! A section with a repeat, and lists of new indices.
+//! A section with a repeat.
 use crate::sections::{Group, section};
 use std::alloc::Global;
 use walrus_types::{HashKeys, ModuleTypes, ReadError, TypeId, parse_types};
@@ -9,9 +9,4 @@ pub(crate) const TWICE: [Group; 3] = [Group::Struct, Group::Function, Group::Str
 
 pub(crate) fn read(alloc: Global) -> Result<(ModuleTypes, Vec<TypeId>), ReadError> {
     parse_types(alloc, HashKeys::fixed(), section(alloc, &TWICE)?.as_slice())
-}
-
-// Whether these are the new indices.
-pub(crate) fn are(new: &[Option<u32>], expected: &[Option<u32>]) -> bool {
-    new.len() == expected.len() && new.iter().zip(expected).all(|(a, b)| *a == *b)
 }

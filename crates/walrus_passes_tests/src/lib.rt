@@ -5,8 +5,6 @@
 #![tactic(auto)]
 
 #[cfg(test)]
-mod adapters;
-#[cfg(test)]
 mod assertions;
 #[cfg(test)]
 mod bodies;
@@ -24,5 +22,3 @@ mod refusals;
 mod sections;
 #[cfg(test)]
 mod unused_types;
-#[cfg(test)]
-mod used_types;

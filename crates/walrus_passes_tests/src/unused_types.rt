@@ -1,5 +1,4 @@
-//! Which types are deleted.
-use crate::assertions::are;
+//! Tables of which types are deleted.
 use std::alloc::{AllocError, Global};
 use std::process::Abort;
 use walrus_passes::delete_unused_types;
@@ -58,23 +57,4 @@ pub(crate) fn delete_all_but(
     let root = TypeId::from_index(index);
     assert!(rt; types.contains(root));
     delete_unused_types(alloc, types, &[root])
-}
-
-// The live types are the types of these indices.
-fn live_are(rt: &impl Abort, types: &ModuleTypes, indices: &[usize]) {
-    let live = types.live_ids().expect(rt, "memory");
-    assert!(rt; are(live.as_slice(), indices));
-}
-
-// Deletes what the type does not need, which has to be the types of these indices.
-fn deletes(rt: &impl Abort, alloc: Global, index: usize, dead: &[usize], live: &[usize]) {
-    let mut types = table(alloc).expect(rt, "memory");
-    let deleted = delete_all_but(rt, alloc, &mut types, index).expect(rt, "memory");
-    assert!(rt; are(deleted.as_slice(), dead));
-    live_are(rt, &types, live);
-}
-
-#[test]
-fn a_supertype_is_needed(rt: HostRuntime) {
-    deletes(&rt, rt.alloc(), 1, &[2, 3, 4, 5], &[0, 1]);
 }

@@ -350,10 +350,10 @@ fn each_beginning_of_a_module_lacks_only_more_bytes() {
     let bytes = module(&[0, 2, 1, 0x61, 1, 4, 1, 0x60, 0, 0, 3, 2, 1, 0]);
     for offset in 0..bytes.len() {
         let wanted = match offset {
-            0..4 => Some(Magic),
-            4..8 => Some(Version),
+            0..=3 => Some(Magic),
+            4..=7 => Some(Version),
             9 | 13 | 19 => Some(Integer),
-            10 | 11 | 14..18 | 20..22 => Some(Content),
+            10 | 11 | 14..=17 | 20..=21 => Some(Content),
             _ => None,
         };
         let error = wanted.map(|expected| DecodeError::Malformed { offset, expected });
