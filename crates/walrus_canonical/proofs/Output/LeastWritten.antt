@@ -2,13 +2,9 @@
 use Rattle.std.proofs.Common.{◌≡◌, ℕ, Bool, true, false, ◌+◌, ◌-◌, ◌^◌, ◌<◌, ◌≤◌, List, [], ◌∷◌, ◌++◌, length, map, slice_get, Some, inl, inr, ◌∙◌, refl, sym, ap, subst, Contains, arith}
 use Rattle.std.specs.Prelude.{min}
 use Rattle.std.specs.BTreeMap.Range.{IsLtBy}
-use Rattle.std.specs.List.{All}
-use Rattle.std.specs.Map.{keys_of}
-use Rattle.std.specs.declared.cmp.Ordering.TheVariants.{Less}
 use Rattle.std.proofs.lemmas.Bool.{cases_lt, cases_eq}
 use Rattle.std.proofs.lemmas.Bool.Decides.{nat_tests}
 use Rattle.std.proofs.lemmas.List.{length-map, get_or_past}
-use Rattle.std.proofs.lemmas.List.Elements.{All-contains}
 use Rattle.std.proofs.lemmas.Option.{same_Some, slice_get_within}
 use Rattle.walrus_ty.specs.declared.records.EntryAt.{EntryAt}
 use Rattle.walrus_ty.specs.Definition.{Definition, rename}
@@ -27,7 +23,6 @@ use Rattle.walrus_canonical.specs.Steps.Waits.{AreWaits}
 use Rattle.walrus_canonical.specs.Steps.WrittenIndices.{GivesIndices}
 use Rattle.walrus_canonical.specs.Steps.Writing.{Task, release_of, IsBegun, IsReadyAs, IsQueue, IsReady, AreOpen, CanRelease, IsReleasing, IsWriting, HasWritten, with_slots, settled}
 use Rattle.walrus_canonical.proofs.Reading.Containing.{contained_first}
-use Rattle.walrus_canonical.proofs.Forms.Indices.{contained-map}
 use Rattle.walrus_canonical.proofs.Equality.EqualTypes.{groups_of, named_of, named_there}
 use Rattle.walrus_canonical.proofs.Output.LeastReady.{outer_name, least}
 use Rattle.walrus_canonical.proofs.Waits.ClassWaits.{waits_for}
@@ -97,7 +92,7 @@ module _ (task : Task) (waits : List Wait) (are : AreWaits task.classes waits) (
     (counts : List ℕ) (opens : AreOpen task waits done done 0 counts) (now : List Class)
     (ds : List Definition) (place : ℕ) (rest : List (List Definition × ℕ))
     (queue : IsQueue task done new_index (IsReady task done counts) now ((ds, place) ∷ rest))
-    (greater : All (IsLtBy definitions_cmp ds) (keys_of rest))
+    (above : (es : List Definition) (d : ℕ) → Contains rest (es, d) → IsLtBy definitions_cmp ds es)
     (first count end : ℕ) (first_is : (k : Class) → slice_get now place ≡ Some k → first ≡ k.first)
     (entries : List EntryAt) (shows : shown_definitions (map entry_definition entries) ≡ ds)
     (count_is : count ≡ length entries) (end_is : end ≡ min (first + count) 18446744073709551615)
@@ -163,11 +158,6 @@ module _ (task : Task) (waits : List Wait) (are : AreWaits task.classes waits) (
       (subst (λ (u : ℕ). GivesIndices new_index newer first u next) s
       (given (omega (arith, fits, b.one_each, s, e)) small))
 
-  above : (es : List Definition) (d : ℕ) → Contains rest (es, d) → definitions_cmp ds es ≡ Less
-  above es d m =
-      All-contains (IsLtBy definitions_cmp ds) (keys_of rest) es greater
-      (contained-map (λ (x : List Definition × ℕ). x.0) rest (es, d) m)
-
   abbrev final : List Definition
   final = map (rename (settled next)) ds
 
@@ -205,7 +195,7 @@ module _ (task : Task) (waits : List Wait) (are : AreWaits task.classes waits) (
 
   pub queue_now : IsQueue task after newer (IsReady task after counts) now rest
   queue_now = subst (λ (u : ℕ → Bool). IsQueue task u newer (IsReady task u counts) now rest) same_after
-      (one_written task done new_index newer counts now place class ds rest queue at undone above
+      (one_written task done new_index newer counts now place class ds rest queue at undone
       (same_indices task done before new_index newer next b place class at undone ds q long gives))
 
   pub open_now : AreOpen task waits done after 0 counts

@@ -2,6 +2,8 @@
 use Rattle.std.proofs.Common.{◌≡◌, ℕ, Bool, true, false, ◌+◌, ◌<◌, ◌≤◌, List, [], ◌∷◌, ◌++◌, length, map, slice_get, Some, ◌⊎◌, inl, inr, ◌∙◌, refl, sym, ap, arith}
 use Rattle.std.proofs.lemmas.Bool.{cases_eq}
 use Rattle.std.proofs.lemmas.Option.{slice_get_within, slice_get-get_or}
+use Rattle.std.specs.Prelude.{nat_eq}
+use Rattle.std.proofs.lemmas.Map.Keys.{IsDistinct-from_apart}
 use Rattle.walrus_ty.specs.Definition.{Definition, rename}
 use Rattle.walrus_ty.specs.Groups.{Section}
 use Rattle.walrus_ty.specs.Records.{entry_definition}
@@ -115,7 +117,7 @@ pub none_opened :
 none_opened task new_index counts = record {
   queued = λ ds c m. absurd (omega (arith, m.1));
   there = λ c r. absurd (omega (arith, r.1));
-  once = λ ds es c m n. absurd (omega (arith, m.1));
+  once = IsDistinct-from_apart nat_eq [] (λ i j d less below. absurd (omega (arith, below)));
   firsts = λ c class is. (class, is, refl);
   left = λ c class is none undone. is;
 }

@@ -1,20 +1,26 @@
 -- The queue of the groups that are ready: one more, and one less.
-use Rattle.std.proofs.Common.{◌≡◌, ℕ, Bool, true, false, ◌+◌, ◌<◌, List, [], ◌∷◌, ◌++◌, length, map, slice_get, Some, ◌⊎◌, inl, inr, ◌∙◌, refl, sym, ap, subst, Contains}
-use Rattle.std.specs.declared.cmp.Ordering.TheVariants.{Less}
+use Rattle.std.proofs.Common.{◌≡◌, ℕ, Bool, true, false, ◌+◌, ◌<◌, List, [], ◌∷◌, ◌++◌, length, map, slice_get, Some, ◌⊎◌, inl, inr, ◌∙◌, refl, sym, ap, subst, Contains, arith}
+use Rattle.std.specs.Prelude.{nat_eq}
+use Rattle.std.specs.List.{IsDistinct, list_any}
+use Rattle.std.specs.List.Sorted.{IsPermutation}
 use Rattle.std.proofs.lemmas.List.Elements.{Contains-append_left, Contains-append_right, Contains-append_cases}
+use Rattle.std.proofs.lemmas.Bool.Decides.{nat_tests}
+use Rattle.std.proofs.lemmas.Cmp.{nat_eq_equiv}
+use Rattle.std.proofs.lemmas.List.{map-append}
+use Rattle.std.proofs.lemmas.List.Sorted.{Contains-permutation, IsPermutation-sym}
+use Rattle.std.proofs.lemmas.Map.Keys.{IsDistinct-push, IsDistinct-tail}
 use Rattle.std.proofs.lemmas.Option.{same_Some}
 use Rattle.walrus_ty.specs.Definition.{Definition}
 use Rattle.walrus_ty.specs.Groups.{Section}
 use Rattle.walrus_canonical.specs.declared.classes.Class.{Class}
 use Rattle.walrus_canonical.specs.Steps.Classes.{slot_of}
-use Rattle.walrus_canonical.specs.Steps.Queues.{AreApart, HaveSame}
-use Rattle.walrus_canonical.specs.Steps.Shown.{definitions_cmp}
+use Rattle.walrus_canonical.specs.Steps.Queues.{AreApart, HasEachOnce}
 use Rattle.walrus_canonical.specs.Steps.Writing.{Task, IsBegun, IsReadyAs, IsQueue, IsReady, with_slots}
 use Rattle.walrus_canonical.proofs.Reading.Containing.{contained_first, contained_later, contained_cases, contained_none}
 use Rattle.walrus_canonical.proofs.Reading.NeededGroups.{class_at, first_at}
 use Rattle.walrus_canonical.proofs.Output.ReadyGroups.{ready_stays}
 use Rattle.walrus_canonical.proofs.Output.ReadyOrder.{one_place, same_class}
-use Rattle.walrus_canonical.proofs.Forms.Orders.{not_itself}
+use Rattle.walrus_canonical.proofs.Output.OrderedQueues.{no_other, once_too, places}
 use Rattle.walrus_canonical.proofs.Output.WrittenSlots.{still_done, was_undone, first_written, other_first}
 
 abbrev Entry : Type 0
@@ -46,12 +52,13 @@ told_anew task done new_index ready newer now queue q forth back = record {
 -- the same queue in another order
 pub queued_anew :
     (task : Task) (done : ℕ → Bool) (new_index : List ℕ) (ready : ℕ → Type 0) (now : List Class)
-    (queue other : List Entry) → IsQueue task done new_index ready now queue → HaveSame queue other →
+    (queue other : List Entry) → IsQueue task done new_index ready now queue → IsPermutation queue other →
     IsQueue task done new_index ready now other
 queued_anew task done new_index ready now queue other q same = record {
-  queued = λ ds c m. q.queued ds c ((same (ds, c)).1 m);
-  there = λ c r. (let z = q.there c r in (z.0, (same (z.0, c)).0 z.1));
-  once = λ ds es c m n. q.once ds es c ((same (ds, c)).1 m) ((same (es, c)).1 n);
+  queued = λ ds c m. q.queued ds c
+      (Contains-permutation other queue (ds, c) (IsPermutation-sym queue other same) m);
+  there = λ c r. (let z = q.there c r in (z.0, Contains-permutation queue other (z.0, c) same z.1));
+  once = once_too queue other same q.once;
   firsts = q.firsts;
   left = q.left;
 }
@@ -61,18 +68,36 @@ pub queue_apart :
     (task : Task) (done : ℕ → Bool) (before : Section) (new_index : List ℕ) (next : ℕ) →
     IsBegun task done before new_index next → (counts : List ℕ) (now : List Class) (queue : List Entry) →
     IsQueue task done new_index (IsReady task done counts) now queue → AreApart queue
-queue_apart task done before new_index next b counts now queue q ds c d m n =
-    let y = q.queued ds c m in
-    let z = q.queued ds d n in
-    one_place task c d y.1.0 z.1.0 y.1.1 z.1.1
-    (same_class task done before new_index next b y.1.0 z.1.0 ds ds y.1.2 z.1.2
-    (undone y.0.0 y.1.0 c y.0.1 y.1.1 y.0.2) (undone z.0.0 z.1.0 d z.0.1 z.1.1 z.0.2) refl)
+queue_apart task done before new_index next b counts now queue q = (
+  q.once,
+  λ ds c d m n. (
+      let y = q.queued ds c m in
+      let z = q.queued ds d n in
+      one_place task c d y.1.0 z.1.0 y.1.1 z.1.1
+      (same_class task done before new_index next b y.1.0 z.1.0 ds ds y.1.2 z.1.2
+      (undone y.0.0 y.1.0 c y.0.1 y.1.1 y.0.2) (undone z.0.0 z.1.0 d z.0.1 z.1.1 z.0.2) refl)),
+)
   where
     undone :
         (k l : Class) (e : ℕ) → slice_get task.classes e ≡ Some k → slice_get task.classes e ≡ Some l →
         done k.first ≡ false → done l.first ≡ false
     undone k l e p r u =
         let same : k ≡ l = same_Some k l (sym p ∙ r) in ap (λ (x : Class). done x.first) (sym same) ∙ u
+
+not_among :
+    (es : List Entry) (c : ℕ) → ((ds : List Definition) → Contains es (ds, c) → ⊥) →
+    list_any (nat_eq c) (places es) ≡ false
+not_among [] c none = refl
+not_among (e ∷ es) c none =
+    go (nat_eq c e.1) refl (not_among es c (λ ds m. none ds (contained_later es e (ds, c) m)))
+  where
+    go :
+        (b : Bool) → nat_eq c e.1 ≡ b → list_any (nat_eq c) (places es) ≡ false →
+        list_any (nat_eq c) (places (e ∷ es)) ≡ false
+    go true h rest =
+        let is : c ≡ e.1 = grind (arith, nat_tests, h) in
+        absurd (none e.0 (subst (λ (n : ℕ). Contains (e ∷ es) (e.0, n)) (sym is) (contained_first es e)))
+    go false h rest = rw h rest
 
 -- ---- one more
 
@@ -109,20 +134,10 @@ module _ (task : Task) (done : ℕ → Bool) (new_index : List ℕ) (ready : ℕ
     | inr old ↦ (let z = q.queued es d old in (inl z.0, z.1))
   ]
 
-  once_now :
-      (es fs : List Definition) (d : ℕ) → Contains longer (es, d) →
-      Contains longer (fs, d) → es ≡ fs
-  once_now es fs d m n = elim (pushed_cases queue (ds, c) (es, d) m) [
-    | inl is ↦ (let p = parts es d is in elim (pushed_cases queue (ds, c) (fs, d) n) [
-      | inl is_too ↦ sym p.0 ∙ (parts fs d is_too).0
-      | inr old ↦ absurd (not_queued fs (subst (λ (u : ℕ). Contains queue (fs, u)) (sym p.1) old))
-    ])
-    | inr old ↦ elim (pushed_cases queue (ds, c) (fs, d) n) [
-      | inl is ↦ absurd (not_queued es (subst (λ (u : ℕ). Contains queue (es, u)) (sym (parts fs d is).1)
-          old))
-      | inr old_too ↦ q.once es fs d old old_too
-    ]
-  ]
+  once_now : HasEachOnce longer
+  once_now = subst (λ (ns : List ℕ). IsDistinct nat_eq ns)
+      (sym (map-append (λ (x : Entry). x.1) queue ((ds, c) ∷ [])))
+      (IsDistinct-push nat_eq_equiv (places queue) c q.once (not_among queue c not_queued))
 
   firsts_now :
       (d : ℕ) (other : Class) → slice_get task.classes d ≡ Some other → (k : Class)
@@ -158,7 +173,6 @@ module _ (task : Task) (done : ℕ → Bool) (new_index newer counts : List ℕ)
     (class : Class) (ds : List Definition) (rest : List Entry)
     (q : IsQueue task done new_index (IsReady task done counts) now ((ds, c) ∷ rest))
     (at : slice_get task.classes c ≡ Some class) (undone : done class.first ≡ false)
-    (above : (es : List Definition) (d : ℕ) → Contains rest (es, d) → definitions_cmp ds es ≡ Less)
     (same : (x : ℕ) → done x ≡ true → x < task.slot_count → slot_of new_index x ≡ slot_of newer x) where
   abbrev end : ℕ
   end = class.first + length class.entries
@@ -170,9 +184,7 @@ module _ (task : Task) (done : ℕ → Bool) (new_index newer counts : List ℕ)
   filled_now = first_written task done c class at
 
   not_first : (es : List Definition) → Contains rest (es, c) → ⊥
-  not_first es m =
-      let is = q.once ds es c (contained_first rest (ds, c)) (contained_later rest (ds, c) (es, c) m) in
-      not_itself ds (ap (definitions_cmp ds) is ∙ above es c m)
+  not_first es m = no_other (ds, c) rest q.once (es, c) m refl
 
   ready_forth : (d : ℕ) → IsReady task done counts d → ¬ (d ≡ c) → IsReady task more counts d
   ready_forth d r apart = (
@@ -212,8 +224,7 @@ module _ (task : Task) (done : ℕ → Bool) (new_index newer counts : List ℕ)
             | inr later ↦ later
           ],
         ));
-    once = λ es fs d m n. q.once es fs d (contained_later rest (ds, c) (es, d) m)
-        (contained_later rest (ds, c) (fs, d) n);
+    once = IsDistinct-tail nat_eq c (places rest) q.once;
     firsts = q.firsts;
     left = λ d other at_d none opens. (
         let apart : d ≡ c → ⊥ = λ e. (

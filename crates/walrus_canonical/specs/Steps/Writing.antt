@@ -12,6 +12,7 @@ use Rattle.walrus_canonical.specs.EqualTypes.{IsMember, NamesOutside, AreEqual}
 use Rattle.walrus_canonical.specs.Greedy.{IsBeginning}
 use Rattle.walrus_canonical.specs.Keys.{IsKey}
 use Rattle.walrus_canonical.specs.Listing.{AreIndices, IsCanonical, NewIndices}
+use Rattle.walrus_canonical.specs.Steps.Queues.{HasEachOnce}
 use Rattle.walrus_canonical.specs.Steps.Classes.{slot_of, AreClasses}
 use Rattle.walrus_canonical.specs.Steps.Marks.{IsMarked, MarkNeeds}
 use Rattle.walrus_canonical.specs.Steps.Waits.{AreWaits, open_count}
@@ -87,7 +88,7 @@ pub record IsQueue (task : Task) (done : ℕ → Bool) (new_index : List ℕ) (r
       (ds : List Definition) (c : ℕ) → Contains queue (ds, c) → ready c × ((class : Class)
       × (slice_get task.classes c ≡ Some class) × IsReadyAs task done new_index class ds)
   pub there : (c : ℕ) → ready c → (ds : List Definition) × Contains queue (ds, c)
-  pub once : (ds es : List Definition) (c : ℕ) → Contains queue (ds, c) → Contains queue (es, c) → ds ≡ es
+  pub once : HasEachOnce queue
   pub firsts :
       (c : ℕ) (class : Class) → slice_get task.classes c ≡ Some class → (k : Class)
       × (slice_get now c ≡ Some k) × (k.first ≡ class.first)
