@@ -1,14 +1,15 @@
 //! Which classes wait for which slots.
-ghost use Rattle.std.specs.Prelude.{◌≡◌, ◌+◌, ◌<◌, ◌≤◌, ◌^◌, ◌++◌, ◌↔◌, ℕ, length, OnOk, IfOk, slice_get, Some};
+ghost use Rattle.std.specs.Prelude.{◌≡◌, ◌+◌, ◌<◌, ◌≤◌, ◌^◌, ◌++◌, ◌↔◌, ℕ, List, length, OnOk, IfOk, slice_get, Some};
 ghost use Rattle.std.specs.List.{flat_map};
 ghost use Rattle.std.specs.List.Sorted.{IsNonDecreasingBy};
 ghost use Rattle.walrus_canonical.specs.declared.waiting.Wait.{Wait};
-ghost use Rattle.walrus_canonical.specs.Steps.Waits.{AreCounts, AreWaits, class_waits, wait_at, waits_from};
+ghost use Rattle.walrus_canonical.specs.Steps.Waits.{AreCounts, AreStarts, AreWaits, class_waits, wait_at, waits_from};
 
 use crate::classes::Class;
 use crate::names::push_names;
 use crate::renaming::own_base;
 use std::alloc::{AllocError, Global};
+use std::marker::Model;
 
 /// That a class names a slot of another one, so that it can be written only after it.
 #[derive(Clone, Copy)]
@@ -21,7 +22,79 @@ pub(crate) struct Wait {
 
 /// All pairs of a class and a slot of another one that it names, in the order of the slots. A pair
 /// stands there as often as the class names the slot.
-pub(crate) fn waits_of(alloc: Global, classes: &[Class]) -> Result<Vec<Wait>, AllocError>
+#[derive(Drop)]
+pub(crate) struct Waits {
+    pairs: Vec<Wait>,
+    // How many pairs name a slot before each one, as far as slots are named.
+    starts: Vec<usize>,
+}
+
+impl Model for Waits {
+    ghost use Rattle.std.specs.Prelude.{List, length};
+    ghost use Rattle.std.specs.List.Sorted.{IsNonDecreasingBy};
+    ghost use Rattle.walrus_canonical.specs.declared.waiting.Wait.{Wait};
+    ghost use Rattle.walrus_canonical.specs.Steps.Waits.{AreStarts};
+
+    ghost Value = { List Wait };
+
+    ghost view = { λ w. w.pairs.items };
+
+    ghost invariant = { λ w. IsNonDecreasingBy (λ (p : Wait). p.named) w.pairs.items →
+        AreStarts w.pairs.items (length w.pairs.items) w.starts.items };
+}
+
+impl Waits {
+    fn new(alloc: Global, pairs: Vec<Wait>) -> Result<Waits, AllocError>
+        ensures { IfOk result (λ waits. waits ≡ pairs.items) }
+    {
+        let mut starts = Vec::new(alloc);
+        for at in 0..pairs.len() {
+            push_starts(&mut starts, pairs[at].named, at)?;
+        }
+        Ok(Waits { pairs, starts })
+    }
+
+    pub(crate) fn as_slice(&self) -> &[Wait]
+        ensures { result.now ≡ self.now }
+    {
+        self.pairs.as_slice()
+    }
+
+    /// How many of the pairs name a slot before this one.
+    pub(crate) fn before(&self, slot: usize) -> usize
+        ensures bound { result ≤ length self.now }
+        ensures before { IsNonDecreasingBy (λ (w : Wait). w.named) self.now → (at : ℕ) (wait : Wait) →
+            slice_get self.now at ≡ Some wait → (at < result) ↔ (wait.named < slot) }
+    {
+        if slot < self.starts.len() {
+            self.starts[slot].min(self.pairs.len())
+        } else {
+            self.pairs.len()
+        }
+    }
+}
+
+// Pushes this start for each slot up to the named one that has none.
+fn push_starts(starts: &mut Vec<usize>, named: u32, start: usize) -> Result<(), AllocError>
+    ensures { OnOk result ((pairs : List Wait) (wait : Wait) →
+        IsNonDecreasingBy (λ (w : Wait). w.named) pairs → slice_get pairs start ≡ Some wait →
+        wait.named ≡ named → AreStarts pairs start starts.old.items →
+        AreStarts pairs (start + 1) starts.new.items) }
+{
+    for _slot in starts.len()..named as usize + 1 {
+        starts.push(start)?;
+    }
+    Ok(())
+}
+
+/// The pairs of these classes.
+pub(crate) fn waits_of(alloc: Global, classes: &[Class]) -> Result<Waits, AllocError>
+    ensures { IfOk result (λ waits. AreWaits classes.now waits) }
+{
+    Waits::new(alloc, sorted_waits(alloc, classes)?)
+}
+
+fn sorted_waits(alloc: Global, classes: &[Class]) -> Result<Vec<Wait>, AllocError>
     ensures { IfOk result (λ waits. AreWaits classes.now waits.items) }
 {
     let mut waits = unsorted_waits(alloc, classes)?;
@@ -113,13 +186,4 @@ fn add_one(counts: &mut Vec<usize>, place: usize)
     if place < counts.len() {
         counts[place] = counts[place].wrapping_add(1);
     }
-}
-
-/// How many of the pairs, which are in the order of the slots, name a slot before this one.
-pub(crate) fn waits_before(waits: &[Wait], slot: usize) -> usize
-    ensures bound { result ≤ length waits.now }
-    ensures before { IsNonDecreasingBy (λ (w : Wait). w.named) waits.now → (at : ℕ) (wait : Wait) →
-        slice_get waits.now at ≡ Some wait → (at < result) ↔ (wait.named < slot) }
-{
-    waits.partition_point(|wait| (wait.named as usize) < slot)
 }

@@ -21,7 +21,7 @@ use crate::entries::plain_group;
 use crate::queue::ReadyQueue;
 use crate::ready::ReadyGroup;
 use crate::renaming::{Renaming, number_after, own_base, rename_entries};
-use crate::waiting::{Wait, wait_counts, waits_before, waits_of};
+use crate::waiting::{Waits, wait_counts, waits_of};
 use std::alloc::{AllocError, Global};
 use std::mem;
 use walrus_ty::{EntryAt, GroupAt, Listed};
@@ -64,7 +64,7 @@ fn write_classes(
     let counts = wait_counts(alloc, waits.as_slice(), class_count)?;
     let writer = Writer::new(alloc, classes, counts, slot_count)?;
     let writer = writer.with_ready(alloc)?;
-    let writer = writer.with_all(alloc, waits.as_slice(), index_count)?;
+    let writer = writer.with_all(alloc, &waits, index_count)?;
     Ok(writer.finish())
 }
 
@@ -161,7 +161,7 @@ impl Writer {
     }
 
     // Writes all classes, of which the section has at most so many.
-    fn with_all(self, alloc: Global, waits: &[Wait], count: usize) -> Result<Writer, AllocError>
+    fn with_all(self, alloc: Global, waits: &Waits, count: usize) -> Result<Writer, AllocError>
         ensures { IfOk result (λ w. (task : Task) → AreWaits task.classes waits.now →
             (index_space task.section).count ≤ count →
             IsWriting task waits.now (λ x. false) [] self →
@@ -176,7 +176,7 @@ impl Writer {
 
     // Writes the least class that is ready, if there is one, and makes those ready that waited for it
     // alone.
-    fn write_least(&mut self, alloc: Global, waits: &[Wait]) -> Result<(), AllocError>
+    fn write_least(&mut self, alloc: Global, waits: &Waits) -> Result<(), AllocError>
         ensures { OnOk result ((task : Task) (done : ℕ → Bool) (before : Section) →
             AreWaits task.classes waits.now → IsWriting task waits.now done before self.old →
             HasWritten task waits.now done before self.old self.new) }
@@ -224,7 +224,7 @@ impl Writer {
         alloc: Global,
         first: usize,
         end: usize,
-        waits: &[Wait],
+        waits: &Waits,
     ) -> Result<(), AllocError>
         ensures { OnOk result ((task : Task) (done : ℕ → Bool) (before : Section) →
             CanRelease task (release_of waits.now done (with_slots done first end)) →
@@ -232,8 +232,8 @@ impl Writer {
             IsReleasing task (release_of waits.now done (with_slots done first end)) before 0 self.old →
             IsWriting task waits.now (with_slots done first end) before self.new) }
     {
-        for at in waits_before(waits, first)..waits_before(waits, end) {
-            self.wait_less(alloc, waits[at].waiting)?;
+        for at in waits.before(first)..waits.before(end) {
+            self.wait_less(alloc, waits.as_slice()[at].waiting)?;
         }
         Ok(())
     }

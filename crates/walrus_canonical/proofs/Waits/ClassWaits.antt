@@ -1,7 +1,7 @@
 -- The waits of classes, and how many there are.
-use Rattle.std.proofs.Common.{◌≡◌, ℕ, zero, suc, Bool, true, false, ◌+◌, ◌<◌, List, [], ◌∷◌, ◌++◌, length, take, slice_get, Some, inl, inr, ◌∙◌, refl, sym, ap, subst, cond, nat_lt, Contains, append_assoc, append-nil, arith}
+use Rattle.std.proofs.Common.{◌≡◌, ℕ, zero, suc, Bool, true, false, ◌+◌, ◌<◌, ◌≤◌, List, [], ◌∷◌, ◌++◌, length, length-append, take, slice_get, Some, ◌⊎◌, inl, inr, ◌∙◌, refl, sym, ap, subst, cond, nat_lt, Contains, append_assoc, append-nil, arith}
 use Rattle.std.specs.Prelude.{◌↔◌}
-use Rattle.std.specs.List.Sorted.{IsPartitionPoint}
+use Rattle.std.specs.List.Sorted.{IsNonDecreasingBy}
 use Rattle.std.proofs.lemmas.Bool.{cases_lt}
 use Rattle.std.proofs.lemmas.Bool.Decides.{nat_tests}
 use Rattle.std.proofs.lemmas.List.Elements.{Contains-append_left, Contains-append_right, Contains-append_cases}
@@ -10,7 +10,7 @@ use Rattle.std.proofs.lemmas.Option.{same_Some, slice_get_within, get_or_from_sl
 use Rattle.walrus_canonical.specs.declared.classes.Class.{Class}
 use Rattle.walrus_canonical.specs.declared.waiting.Wait.{Wait}
 use Rattle.walrus_canonical.specs.Steps.Shown.{own_base}
-use Rattle.walrus_canonical.specs.Steps.Waits.{wait_at, names_in, class_waits, waits_from, AreWaits}
+use Rattle.walrus_canonical.specs.Steps.Waits.{wait_at, names_in, class_waits, waits_from, AreStarts, AreWaits}
 use Rattle.walrus_canonical.proofs.Reading.Containing.{contained_first, contained_cases, contained_none, in_flat, flat_in}
 
 -- ---- one class more
@@ -139,22 +139,63 @@ wait_there classes waits a place slot s =
 
 -- ---- the waits before a slot
 
-pub before_point :
-    (waits : List Wait) (slot point : ℕ) →
-    IsPartitionPoint (λ (w : Wait). nat_lt w.named slot ≡ true) (λ (w : Wait). nat_lt w.named slot ≡ false)
-    waits point → (at : ℕ) (w : Wait) → slice_get waits at ≡ Some w → (at < point) ↔ (w.named < slot)
-before_point waits slot point p at w is = (
-  λ low. (
-      let e = p.0 at w (omega arith) low in
-      let here = get_or_from_slice_get waits at w w is in
-      let t : nat_lt w.named slot ≡ true = ap (λ (v : Wait). nat_lt v.named slot) (sym here) ∙ e in
-      grind (arith, nat_tests, t)),
-  λ less. elim (cases_lt at point) [
-    | inl low ↦ low
-    | inr over ↦ absurd (
-        let e = p.1 at w over (slice_get_within waits at w is) in
-        let here = get_or_from_slice_get waits at w w is in
-        let f : nat_lt w.named slot ≡ false = ap (λ (v : Wait). nat_lt v.named slot) (sym here) ∙ e in
-        grind (arith, nat_tests, f, less))
-  ],
-)
+pushed_at :
+    (ns : List ℕ) (n k m : ℕ) → slice_get (ns ++ n ∷ []) k ≡ Some m →
+    (slice_get ns k ≡ Some m) ⊎ ((k ≡ length ns) × (n ≡ m))
+pushed_at [] n zero m e = inr (refl, same_Some n m e)
+pushed_at [] n (suc k) m e = absurd cc
+pushed_at (o ∷ ns) n zero m e = inl e
+pushed_at (o ∷ ns) n (suc k) m e = elim (pushed_at ns n k m e) [
+  | inl old ↦ inl old
+  | inr new ↦ (let at = new.0 in inr (omega (arith, at), new.1))
+]
+
+module _ (waits : List Wait) (rising : IsNonDecreasingBy (λ (w : Wait). w.named) waits) (known : ℕ)
+    (starts : List ℕ) (are : AreStarts waits known starts) where
+  -- the next slot is not past the slot that the next pair names
+  pub one_start :
+      (wait : Wait) → slice_get waits known ≡ Some wait → length starts ≤ wait.named →
+      AreStarts waits known (starts ++ known ∷ [])
+  one_start wait there room = record {
+    each = λ slot start at w here is. elim (pushed_at starts known slot start here) [
+      | inl old ↦ are.each slot start at w old is
+      | inr new ↦ (
+        λ less. (let s = are.small at w (omega (arith, less, new.1)) is in omega (arith, s, new.0)),
+        λ less. elim (cases_lt at known) [
+          | inl low ↦ omega (arith, low, new.1)
+          | inr over ↦ absurd (omega (arith, new.0, room, less, over_named at w is over))
+        ],
+      )
+    ];
+    small = λ at w low is. (
+        let s = are.small at w low is in omega (arith, s, length-append starts (known ∷ [])));
+  }
+    where
+      over_named : (at : ℕ) (w : Wait) → slice_get waits at ≡ Some w → known ≤ at → wait.named ≤ w.named
+      over_named at w is over =
+          let r = rising known at wait over (slice_get_within waits at w is) in
+          rw (get_or_from_slice_get waits known wait wait there, get_or_from_slice_get waits at w wait is)
+          at r
+
+  pub one_more_known :
+      (wait : Wait) → slice_get waits known ≡ Some wait → wait.named < length starts →
+      AreStarts waits (known + 1) starts
+  one_more_known wait there room = record {
+    each = are.each;
+    small = λ at w low is. elim (cases_lt at known) [
+      | inl less ↦ are.small at w less is
+      | inr over ↦ (
+          let same : at ≡ known = omega (arith, low, over) in
+          let one : w ≡ wait = same_Some w wait (sym is ∙ (ap (slice_get waits) same ∙ there)) in
+          rw one room)
+    ];
+  }
+
+pub before_all :
+    (waits : List Wait) (starts : List ℕ) → AreStarts waits (length waits) starts → (slot : ℕ) →
+    length starts ≤ slot → (at : ℕ) (wait : Wait) → slice_get waits at ≡ Some wait →
+    (at < length waits) ↔ (wait.named < slot)
+before_all waits starts are slot past at wait is =
+    let low = slice_get_within waits at wait is in
+    let small = are.small at wait low is in
+    (λ _. omega (arith, small, past), λ _. low)

@@ -1,6 +1,6 @@
 -- Which classes wait for which slots.
 -- Of this crate's own.
-use Rattle.std.specs.Prelude.{◌≡◌, ℕ, suc, Bool, false, ◌+◌, ◌<◌, nat_eq, nat_lt, cond, List, [], ◌∷◌, ◌++◌, length, Some, slice_get}
+use Rattle.std.specs.Prelude.{◌≡◌, ◌↔◌, ℕ, suc, Bool, false, ◌+◌, ◌<◌, nat_eq, nat_lt, cond, List, [], ◌∷◌, ◌++◌, length, Some, slice_get}
 use Rattle.std.specs.List.{flat_map}
 use Rattle.std.specs.List.Sorted.{IsPermutation, IsNonDecreasingBy}
 use Rattle.walrus_ty.specs.Definition.{names_of}
@@ -44,3 +44,11 @@ pub record AreCounts (waits : List Wait) (class_count : ℕ) (counts : List ℕ)
   pub long : length counts ≡ class_count
   pub each :
       (place : ℕ) → place < class_count → slice_get counts place ≡ Some (open_count (λ x. false) waits place)
+
+-- a list has for each slot how many of the pairs name a slot before it, as far as the pairs before this
+-- place name slots
+pub record AreStarts (waits : List Wait) (known : ℕ) (starts : List ℕ) : Type 0 where
+  pub each :
+      (slot start at : ℕ) (wait : Wait) → slice_get starts slot ≡ Some start →
+      slice_get waits at ≡ Some wait → (at < start) ↔ (wait.named < slot)
+  pub small : (at : ℕ) (wait : Wait) → at < known → slice_get waits at ≡ Some wait → wait.named < length starts

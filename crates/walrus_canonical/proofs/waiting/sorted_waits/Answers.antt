@@ -1,7 +1,7 @@
 use Rattle.std.proofs.Common.{rules}
 use Rattle.std.proofs.lemmas.List.Sorted.{IsNonDecreasingBy-from_sort_by_key}
 use Rattle.walrus_canonical.specs.declared.waiting.Wait.{Wait}
-use Rattle.walrus_canonical.proofs.waiting.waits_of.Goals as goal
+use Rattle.walrus_canonical.proofs.waiting.sorted_waits.Goals as goal
 
 pub returns : goal.returns
 returns c = record {
