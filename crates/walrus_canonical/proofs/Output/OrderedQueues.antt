@@ -12,7 +12,7 @@ use Rattle.std.specs.Map.{keys_of}
 use Rattle.std.specs.Ordering.{match_ordering, is_lt, is_gt, ordering_reverse}
 use Rattle.std.proofs.Math.Seq.{get_or-append_seam}
 use Rattle.std.proofs.lemmas.Cmp.{lists_total, nat_eq_equiv, upto}
-use Rattle.std.proofs.lemmas.List.{get_or_append_left, map-append}
+use Rattle.std.proofs.lemmas.List.{get_or_append_left, map-append, nil_from_length}
 use Rattle.std.proofs.lemmas.List.Elements.{All-contains, All-from_recursion, Contains-append_left, Contains-append_cases}
 use Rattle.std.proofs.lemmas.List.Sorted.{Contains-permutation, IsPermutation-refl, IsPermutation-sym, IsPermutation-trans, IsPermutation-cons, IsPermutation-middle, IsPermutation-map, IsPermutation-to_front, IsPermutation-append_left, IsPermutation-append_right, IsPermutation-append_comm, IsStrictWeakOrder-flip, length_permutation, ranks_by, sorted_far}
 use Rattle.std.proofs.lemmas.Option.{same_Some, slice_get_read}
@@ -320,12 +320,11 @@ pub taken_after :
     (old mid new : List Entry) (o : Option Entry) → (AreApart old → IsPermutation old mid) →
     TakesLeast mid new o → TakesLeast old new o
 taken_after old mid new None put takes = λ apart. (
-    let z = takes (apart_too old mid (put apart) apart) in
-    (nothing old (sym (length_permutation old mid (put apart)) ∙ ap (λ (xs : List Entry). length xs) z.0), z.1))
-  where
-    nothing : (xs : List Entry) → length xs ≡ 0 → xs ≡ []
-    nothing [] h = refl
-    nothing (x ∷ xs) h = absurd (omega (arith, h))
+    let z = takes (apart_too old mid (put apart) apart) in (
+      nil_from_length old (sym (length_permutation old mid (put apart))
+          ∙ ap (λ (xs : List Entry). length xs) z.0),
+      z.1,
+    ))
 taken_after old mid new (Some e) put takes = λ apart. (
     let z = takes (apart_too old mid (put apart) apart) in
     (IsPermutation-trans old mid (e ∷ new) (put apart) z.0, z.1))

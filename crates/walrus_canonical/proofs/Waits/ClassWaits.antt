@@ -1,6 +1,5 @@
 -- The waits of classes, and how many there are.
 use Rattle.std.proofs.Common.{◌≡◌, ℕ, zero, suc, Bool, true, false, ◌+◌, ◌<◌, ◌≤◌, List, [], ◌∷◌, ◌++◌, length, length-append, take, slice_get, Some, ◌⊎◌, inl, inr, ◌∙◌, refl, sym, ap, subst, cond, nat_lt, Contains, append_assoc, append-nil, arith}
-use Rattle.std.specs.Prelude.{◌↔◌}
 use Rattle.std.specs.List.Sorted.{IsNonDecreasingBy}
 use Rattle.std.proofs.lemmas.Bool.{cases_lt}
 use Rattle.std.proofs.lemmas.Bool.Decides.{nat_tests}
@@ -190,12 +189,3 @@ module _ (waits : List Wait) (rising : IsNonDecreasingBy (λ (w : Wait). w.named
           rw one room)
     ];
   }
-
-pub before_all :
-    (waits : List Wait) (starts : List ℕ) → AreStarts waits (length waits) starts → (slot : ℕ) →
-    length starts ≤ slot → (at : ℕ) (wait : Wait) → slice_get waits at ≡ Some wait →
-    (at < length waits) ↔ (wait.named < slot)
-before_all waits starts are slot past at wait is =
-    let low = slice_get_within waits at wait is in
-    let small = are.small at wait low is in
-    (λ _. omega (arith, small, past), λ _. low)
