@@ -1,7 +1,7 @@
-//! That each call for one instruction can add it.
+//! The calls that add one instruction, with what they add.
 ghost use Rattle.walrus_functions.specs.Building.{IsKnown};
 
-use super::texts::{ANY, ARG, is};
+use super::texts::{ANY, ARG};
 use super::*;
 use walrus_ir::{LoadKind, StoreKind};
 
@@ -103,10 +103,12 @@ fn add_another(
 pub(super) type Rows = &'static [(PlainCall, &'static str)];
 
 pub(super) const ROWS: Rows = &[
+    (PlainCall::Instr, "drop"),
+    (PlainCall::InstrAt, "unreachable"),
     (PlainCall::I32Const, "i32 -1"),
     (PlainCall::I64Const, "i64 -2"),
-    (PlainCall::F32Const, "f32 3"),
-    (PlainCall::F64Const, "f64 4"),
+    (PlainCall::F32Const, "f32 0x00000003"),
+    (PlainCall::F64Const, "f64 0x0000000000000004"),
     (PlainCall::Const, "v128 5"),
     (PlainCall::LocalGet, "local.get 7"),
     (PlainCall::LocalSet, "local.set 7"),
@@ -134,24 +136,3 @@ pub(super) const ROWS: Rows = &[
     (PlainCall::StructNew, "struct.new 7"),
     (PlainCall::ArrayNew, "array.new 7"),
 ];
-
-// The calls add these instructions to a new function, one after another.
-fn add_each(rt: &impl Abort, alloc: Global, rows: Rows) {
-    let mut f = begin(alloc).expect(rt, "memory");
-    let entry = f.func_body_id();
-    for (call, _) in rows {
-        assert!(rt; f.contains_seq(entry));
-        add(alloc, &mut f.instr_seq(entry), *call).expect(rt, "memory");
-    }
-    assert!(rt; f.contains_seq(entry));
-    let body = f.instr_seq(entry);
-    assert_equal(rt, body.instrs().len(), rows.len());
-    for ((instr, _), (_, text)) in body.instrs().iter().zip(rows) {
-        is(rt, alloc, instr, text);
-    }
-}
-
-#[test]
-fn each_call_adds_its_instruction(rt: HostRuntime) {
-    add_each(&rt, rt.alloc(), ROWS);
-}

@@ -1,19 +1,22 @@
 //! Refused memory: what a refused call leaves, and that it goes through when it is made again.
 //! Each request for memory of these tests may be refused, one in a run, and they still pass.
-ghost use Rattle.std.specs.Prelude.{◌≤◌, IfOk, IsSome};
+ghost use Rattle.std.specs.Prelude.{IfOk, IsSome};
 ghost use Rattle.walrus_functions.specs.Building.{function_of, IsKnown, Stays, StayKnown};
 
 use super::*;
 use crate::assertions::assert_equal;
 use std::cell::Cell;
-use walrus_ir::{InstrLocId, InstrSeqId, LocalId};
+use walrus_ir::{InstrSeqId, LocalId};
 use walrus_types::{FunctionId, ValType};
 
 // A function with an entry. It is made again after a refusal.
 pub(super) fn begin_again(alloc: Global) -> Result<FunctionBuilder, AllocError>
     ensures { IfOk result (λ f. IsSome f.entry) }
 {
-    begin(alloc).or_else(|_| begin(alloc))
+    match begin(alloc) {
+        Ok(f) => Ok(f),
+        Err(_) => begin(alloc),
+    }
 }
 
 // A table with the function type that takes an `i64`.
@@ -23,34 +26,19 @@ fn table(alloc: Global) -> Result<ModuleTypes, AllocError> {
     Ok(types)
 }
 
-// Whether the table has this many types, each alone in its group: the type of `table`, the
-// function type from `i32` to `i64`, and the type of its body.
-fn has_types(types: &ModuleTypes, count: usize) -> bool {
-    let found = [
-        types.find(&[ValType::I64], &[]),
-        types.find(&[ValType::I32], &[ValType::I64]),
-        types.find_for_function_entry(&[ValType::I64]),
-    ];
-    let wanted = [0, 1, 2].map(|at| if at < count {
-        Some(Id::from_index(at))
-    } else {
-        None
-    });
-    let live = [0, 1, 2, 3].map(|at| types.contains(Id::from_index(at)));
-    found == wanted
-        && live == [0, 1, 2, 3].map(|at| at < count)
-        && types.find(&[], &[]).is_none()
-        && are_alone(types, count)
-}
-
-// Whether there are this many groups, each of the type of its number alone.
-fn are_alone(types: &ModuleTypes, count: usize) -> bool {
-    for (at, group) in types.rec_groups().iter().enumerate() {
-        if group.is_explicit || group.types.as_slice() != [Id::from_index(at)].as_slice() {
-            return false;
-        }
+// How many of three types the table has: the type of `table`, the function type from `i32` to
+// `i64`, and the type of its body.
+fn found(types: &ModuleTypes) -> usize {
+    if types.find(&[ValType::I64], &[]).is_none() {
+        return 0;
     }
-    types.rec_groups().len() == count
+    if types.find(&[ValType::I32], &[ValType::I64]).is_none() {
+        return 1;
+    }
+    match types.find_for_function_entry(&[ValType::I64]) {
+        None => 2,
+        Some(_) => 3,
+    }
 }
 
 // A function that takes an `i32` and leaves an `i64`. After a refusal the table must have no more
@@ -66,48 +54,53 @@ fn new_again(
     if let Ok(f) = FunctionBuilder::new(alloc, types, &params, &results) {
         return Ok(f);
     }
-    assert!(rt; has_types(types, 1) || has_types(types, 2) || has_types(types, 3));
+    assert!(rt; found(types) > 0 && found(types) == types.rec_groups().len());
     FunctionBuilder::new(alloc, types, &params, &results)
 }
 
 #[test]
 fn a_refused_new_leaves_up_to_two_types(rt: HostRuntime) {
-    let mut types = table(rt.alloc())
-        .or_else(|_| table(rt.alloc()))
-        .expect(&rt, "memory");
+    let mut types = match table(rt.alloc()) {
+        Ok(types) => types,
+        Err(_) => table(rt.alloc()).expect(&rt, "memory"),
+    };
     let f = new_again(&rt, rt.alloc(), &mut types).expect(&rt, "memory");
-    assert!(rt; has_types(&types, 3));
+    assert!(rt; found(&types) == 3 && types.rec_groups().len() == 3);
     assert_equal(&rt, f.entry(), Some(Id::from_index(0)));
-    let func = f.local_func(Vec::new(rt.alloc()));
-    assert_equal(&rt, func.ty().index(), 1);
-    assert_equal(&rt, func.block_count(), 1);
+    assert_equal(&rt, f.ty().index(), 1);
+    assert_equal(&rt, f.seq_count(), 1);
+}
+
+// The id of a new sequence.
+fn dangling(f: &mut FunctionBuilder) -> Result<usize, BuildError> {
+    Ok(f.dangling_instr_seq(NOTHING)?.id().index())
 }
 
 // The id of a new sequence. After a refusal there must be no new sequence, and the call is made
 // again.
-fn dangling_again(
-    rt: &impl Abort,
-    f: &mut FunctionBuilder,
-    next: usize,
-) -> Result<usize, BuildError> {
-    if let Ok(dangling) = f.dangling_instr_seq(NOTHING) {
-        return Ok(dangling.id().index());
+fn dangling_again(rt: &impl Abort, f: &mut FunctionBuilder) -> usize {
+    let count = f.seq_count();
+    if let Ok(id) = dangling(f) {
+        return id;
     }
-    assert!(rt; !f.contains_seq(Id::from_index(next)));
-    let dangling = f.dangling_instr_seq(NOTHING)?;
-    Ok(dangling.id().index())
+    assert_equal(rt, f.seq_count(), count);
+    dangling(f).expect(rt, "memory")
 }
 
 #[test]
 fn a_refused_dangling_sequence_is_not_there(rt: HostRuntime) {
-    let mut f = FunctionBuilder::without_entry(rt.alloc(), Id::from_index(0));
-    for next in 0..20usize {
-        assert!(rt; !f.contains_seq(Id::from_index(next)));
-        let id = dangling_again(&rt, &mut f, next).expect(&rt, "memory");
-        assert_equal(&rt, id, next);
-        assert!(rt; f.contains_seq(Id::from_index(next)));
+    let mut f = FunctionBuilder::without_entry(rt.alloc(), Id::from_index(3));
+    for next in 0..5usize {
+        assert_equal(&rt, dangling_again(&rt, &mut f), next);
     }
-    assert_equal(&rt, f.local_func(Vec::new(rt.alloc())).block_count(), 20);
+    assert_equal(&rt, f.ty(), Id::from_index(3));
+    let last: InstrSeqId = Id::from_index(4);
+    assert!(rt; f.contains_seq(last));
+    f.set_entry(last);
+    assert_equal(&rt, f.func_body_id().index(), 4);
+    let func = f.local_func(Vec::new(rt.alloc()));
+    assert_equal(&rt, func.block_count(), 5);
+    assert!(rt; func.contains_block(Id::from_index(4)));
 }
 
 // Calls that add an instruction with sequences inside.
@@ -121,79 +114,70 @@ enum NestedCall {
     IfElseAt,
 }
 
-// Fills a new sequence with one instruction. It counts its steps: 0 before it runs, 1 before the
-// instruction is added, and then 2.
+// Fills a new sequence with one instruction. It counts a step when it is called, and one when the
+// instruction is added.
 fn fill(body: &mut InstrSeqBuilder<'_>, steps: &Cell<usize>) -> Result<(), BuildError>
     requires { IsKnown body.old }
     ensures same { Stays body.old body.new }
     ensures known { StayKnown (function_of body.old) (function_of body.new) }
 {
-    steps.set(1);
+    steps.set(steps.get().wrapping_add(1));
     body.drop()?;
-    steps.set(2);
+    steps.set(steps.get().wrapping_add(1));
     Ok(())
 }
 
-// Makes the call. The steps of the first closure, and of the second if there is one.
+// Makes the call.
 fn nest(
     body: &mut InstrSeqBuilder<'_>,
     call: NestedCall,
-    first: &Cell<usize>,
-    second: &Cell<usize>,
+    steps: &Cell<usize>,
 ) -> Result<(), BuildError> {
     match call {
-        NestedCall::Block => body.block(NOTHING, |b| fill(b, first)),
-        NestedCall::Loop => body.loop_(NOTHING, |b| fill(b, first)),
-        NestedCall::IfElse => body.if_else(NOTHING, |b| fill(b, first), |b| fill(b, second)),
-        NestedCall::BlockAt => body.block_at(0, NOTHING, |b| fill(b, first)),
-        NestedCall::LoopAt => body.loop_at(0, NOTHING, |b| fill(b, first)),
-        NestedCall::IfElseAt => {
-            body.if_else_at(0, NOTHING, |b| fill(b, first), |b| fill(b, second))
-        }
+        NestedCall::Block => body.block(NOTHING, |b| fill(b, steps)),
+        NestedCall::Loop => body.loop_(NOTHING, |b| fill(b, steps)),
+        NestedCall::IfElse => body.if_else(NOTHING, |b| fill(b, steps), |b| fill(b, steps)),
+        NestedCall::BlockAt => body.block_at(0, NOTHING, |b| fill(b, steps)),
+        NestedCall::LoopAt => body.loop_at(0, NOTHING, |b| fill(b, steps)),
+        NestedCall::IfElseAt => body.if_else_at(0, NOTHING, |b| fill(b, steps), |b| fill(b, steps)),
     }
 }
 
-// How many sequences the function has, up to a thousand.
-fn seq_count(f: &FunctionBuilder) -> usize
-    ensures { result ≤ 1000 }
-{
-    for index in 0..1000usize {
-        if !f.contains_seq(Id::from_index(index)) {
-            return index;
-        }
+// How many instructions the sequence has, if there is one with this id.
+fn len_of(f: &FunctionBuilder, index: usize) -> Option<usize> {
+    let id: InstrSeqId = Id::from_index(index);
+    if f.contains_seq(id) {
+        Some(f.seq(id).instrs.len())
+    } else {
+        None
     }
-    1000
 }
 
-// 0 where there is no such sequence, and else one more than it has instructions. Of a sequence that
-// `fill` was called for these are its steps.
-fn steps_shown(f: &mut FunctionBuilder, id: InstrSeqId) -> usize {
-    if !f.contains_seq(id) {
-        return 0;
+// What the steps of the closures must have left in the first or second new sequence.
+fn left(steps: usize) -> Option<usize> {
+    match steps {
+        0 => None,
+        1 => Some(0),
+        _ => Some(1),
     }
-    let seq = f.instr_seq(id);
-    seq.instrs().len() + 1
 }
 
 // Whether the newest instruction of the entry, to which only this call has added, is the one of the
 // call, over new sequences from this id on.
-fn has_added(rt: &impl Abort, f: &mut FunctionBuilder, call: NestedCall, next: usize) -> bool
-    requires { next ≤ 1000 }
-{
-    assert!(rt; f.contains_seq(Id::from_index(0)));
-    let entry = f.instr_seq(Id::from_index(0));
+fn has_added(f: &FunctionBuilder, call: NestedCall, next: usize) -> bool {
+    let entry: InstrSeqId = Id::from_index(0);
+    if !f.contains_seq(entry) {
+        return false;
+    }
+    let instrs = f.seq(entry).instrs.as_slice();
     let newest = match call {
-        NestedCall::Block | NestedCall::Loop | NestedCall::IfElse => entry.instrs().last(),
-        _ => entry.instrs().first(),
+        NestedCall::Block | NestedCall::Loop | NestedCall::IfElse => instrs.last(),
+        _ => instrs.first(),
     };
-    match (call, newest) {
-        (NestedCall::Block | NestedCall::BlockAt, Some((Instr::Block(x), _))) => {
-            x.seq.index() == next
-        }
-        (NestedCall::Loop | NestedCall::LoopAt, Some((Instr::Loop(x), _))) => x.seq.index() == next,
-        (NestedCall::IfElse | NestedCall::IfElseAt, Some((Instr::IfElse(x), _))) => {
-            x.consequent.index() == next && x.alternative.index() == next + 1
-        }
+    match newest {
+        Some((Instr::Block(x), _)) => x.seq.index() == next,
+        Some((Instr::Loop(x), _)) => x.seq.index() == next,
+        Some((Instr::IfElse(x), _)) => x.consequent.index() == next,
         _ => false,
     }
 }
@@ -201,15 +185,13 @@ fn has_added(rt: &impl Abort, f: &mut FunctionBuilder, call: NestedCall, next: u
 // Makes the call for the entry. Whatever it returns, the new sequences must be the ones that the
 // closures were called for, each with what they put into it.
 fn nest_once(rt: &impl Abort, f: &mut FunctionBuilder, call: NestedCall) -> Result<(), BuildError> {
-    let (first, second) = (Cell::new(0), Cell::new(0));
-    let next = seq_count(f);
-    assert!(rt; f.contains_seq(Id::from_index(0)));
-    let mut entry = f.instr_seq(Id::from_index(0));
-    let answer = nest(&mut entry, call, &first, &second);
-    assert_equal(rt, steps_shown(f, Id::from_index(next)), first.get());
-    assert_equal(rt, steps_shown(f, Id::from_index(next + 1)), second.get());
-    assert!(rt; !f.contains_seq(Id::from_index(next + 2)));
-    assert_equal(rt, has_added(rt, f, call, next), answer.is_ok());
+    let steps = Cell::new(0);
+    let next = f.seq_count();
+    assert!(rt; f.contains_seq(Id::from_index(0)) && next < 1000);
+    let answer = nest(&mut f.instr_seq(Id::from_index(0)), call, &steps);
+    assert_equal(rt, len_of(f, next), left(steps.get()));
+    assert_equal(rt, len_of(f, next + 1), left(steps.get().saturating_sub(2)));
+    assert_equal(rt, has_added(f, call, next), answer.is_ok());
     answer
 }
 
@@ -220,39 +202,33 @@ fn nest_again(
     f: &mut FunctionBuilder,
     call: NestedCall,
 ) -> Result<(), BuildError> {
-    let before = steps_shown(f, Id::from_index(0));
+    let before = len_of(f, 0);
     let answer = nest_once(rt, f, call);
     if answer.is_ok() {
         return answer;
     }
     assert_equal(rt, answer, Err(BuildError::Memory));
-    assert_equal(rt, steps_shown(f, Id::from_index(0)), before);
+    assert_equal(rt, len_of(f, 0), before);
     nest_once(rt, f, call)
 }
 
-// Makes the call nine times.
-fn nests_nine(rt: &impl Abort, alloc: Global, call: NestedCall) {
+// Makes the call five times.
+fn nests_five(rt: &impl Abort, alloc: Global, call: NestedCall) {
     let mut f = begin_again(alloc).expect(rt, "memory");
-    for _ in 0..9 {
+    for _ in 0..5 {
         nest_again(rt, &mut f, call).expect(rt, "memory");
     }
-    let func = f.local_func(Vec::new(alloc));
-    assert!(rt; func.contains_block(Id::from_index(0)));
-    assert_equal(rt, func.block(Id::from_index(0)).instrs.len(), 9);
+    assert_equal(rt, len_of(&f, 0), Some(5));
 }
 
 #[test]
 fn a_refused_nested_call_keeps_its_sequences(rt: HostRuntime) {
-    nests_nine(&rt, rt.alloc(), NestedCall::Block);
-    nests_nine(&rt, rt.alloc(), NestedCall::Loop);
-    nests_nine(&rt, rt.alloc(), NestedCall::IfElse);
-}
-
-#[test]
-fn a_refused_nested_call_before_others_keeps_its_sequences(rt: HostRuntime) {
-    nests_nine(&rt, rt.alloc(), NestedCall::BlockAt);
-    nests_nine(&rt, rt.alloc(), NestedCall::LoopAt);
-    nests_nine(&rt, rt.alloc(), NestedCall::IfElseAt);
+    nests_five(&rt, rt.alloc(), NestedCall::Block);
+    nests_five(&rt, rt.alloc(), NestedCall::Loop);
+    nests_five(&rt, rt.alloc(), NestedCall::IfElse);
+    nests_five(&rt, rt.alloc(), NestedCall::BlockAt);
+    nests_five(&rt, rt.alloc(), NestedCall::LoopAt);
+    nests_five(&rt, rt.alloc(), NestedCall::IfElseAt);
 }
 
 // One parameter. It is made again after a refusal.
@@ -272,7 +248,11 @@ fn named_again(alloc: Global) -> Result<FunctionBuilder, BuildError> {
     if body.drop().is_err() {
         body.drop()?;
     }
-    f.name(String::from_str(alloc, "f").or_else(|_| String::from_str(alloc, "f"))?);
+    let name = match String::from_str(alloc, "f") {
+        Ok(name) => name,
+        Err(_) => String::from_str(alloc, "f")?,
+    };
+    f.name(name);
     Ok(f)
 }
 
@@ -317,25 +297,19 @@ fn is_added(
     is_whole(rt, alloc, funcs.get(id));
 }
 
+// The first function is finished, and the others are added, of which the fifth needs more room.
 #[test]
-fn a_refused_finish_hands_the_function_back(rt: HostRuntime) {
+fn a_refused_function_is_handed_back(rt: HostRuntime) {
     let alloc = rt.alloc();
     let mut funcs = LocalFunctions::new(alloc);
     for next in 0..5usize {
         let f = named_again(alloc).expect(&rt, "memory");
-        let answer = f.finish(args_again(alloc).expect(&rt, "memory"), &mut funcs);
-        is_added(&rt, alloc, &mut funcs, answer, next);
-    }
-}
-
-#[test]
-fn a_refused_add_hands_the_function_back(rt: HostRuntime) {
-    let alloc = rt.alloc();
-    let mut funcs = LocalFunctions::new(alloc);
-    for next in 0..5usize {
-        let f = named_again(alloc).expect(&rt, "memory");
-        let func = f.local_func(args_again(alloc).expect(&rt, "memory"));
-        let answer = funcs.add(func);
+        let args = args_again(alloc).expect(&rt, "memory");
+        let answer = if next == 0 {
+            f.finish(args, &mut funcs)
+        } else {
+            funcs.add(f.local_func(args))
+        };
         is_added(&rt, alloc, &mut funcs, answer, next);
     }
 }

@@ -18,14 +18,20 @@ pub(super) const ANY: RefType = RefType {
 
 // The function has this text. The text is made again after a refusal.
 pub(super) fn has(rt: &impl Abort, alloc: Global, func: &LocalFunction, expected: &str) {
-    let text = text_of(alloc, func).or_else(|_| text_of(alloc, func));
-    assert_equal(rt, text.expect(rt, "memory").as_str(), expected);
+    let text = match text_of(alloc, func) {
+        Ok(text) => text,
+        Err(_) => text_of(alloc, func).expect(rt, "memory"),
+    };
+    assert_equal(rt, text.as_str(), expected);
 }
 
 // The same of an instruction alone.
 pub(super) fn is(rt: &impl Abort, alloc: Global, instr: &Instr, expected: &str) {
-    let text = text_of_one(alloc, instr).or_else(|_| text_of_one(alloc, instr));
-    assert_equal(rt, text.expect(rt, "memory").as_str(), expected);
+    let text = match text_of_one(alloc, instr) {
+        Ok(text) => text,
+        Err(_) => text_of_one(alloc, instr).expect(rt, "memory"),
+    };
+    assert_equal(rt, text.as_str(), expected);
 }
 
 fn text_of(alloc: Global, func: &LocalFunction) -> Result<String, AllocError> {
@@ -101,13 +107,14 @@ fn add_other(text: &mut String, instr: &Instr) -> Result<(), AllocError> {
 }
 
 fn add_value(text: &mut String, value: Value) -> Result<(), AllocError> {
-    match value {
-        Value::I32(n) => Ok(write!(text, "i32 {n}")?),
-        Value::I64(n) => Ok(write!(text, "i64 {n}")?),
-        Value::F32(bits) => Ok(write!(text, "f32 {bits}")?),
-        Value::F64(bits) => Ok(write!(text, "f64 {bits}")?),
-        Value::V128(bits) => Ok(write!(text, "v128 {bits}")?),
-    }
+    let word = match value {
+        Value::I32(_) => "i32",
+        Value::I64(_) => "i64",
+        Value::F32(_) => "f32",
+        Value::F64(_) => "f64",
+        Value::V128(_) => "v128",
+    };
+    Ok(write!(text, "{word} {value}")?)
 }
 
 fn word_of(instr: &Instr) -> &'static str {
