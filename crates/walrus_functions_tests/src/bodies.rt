@@ -7,6 +7,7 @@ ghost use Rattle.walrus_functions.specs.declared.function_builder.instr_seq_buil
 mod calls;
 mod examples;
 mod front_page;
+mod functions;
 mod nested;
 mod plain;
 mod printed;
@@ -33,11 +34,13 @@ fn begin(alloc: Global) -> Result<FunctionBuilder, AllocError>
     FunctionBuilder::new(alloc, &mut types, &[], &[])
 }
 
-// The text of a new function once the closure has filled its entry.
+// What the closure returns, called on the entry of a new function, and the text of the function as
+// it is then.
 fn builds<F: FnOnce(&mut InstrSeqBuilder<'_>) -> Result<(), BuildError>>(
     rt: &impl Abort,
     alloc: Global,
     text: &str,
+    outcome: Result<(), BuildError>,
     fill: F,
 )
     requires { (b : MutBor Builder) → IsKnown b.now → IsSome (function_of b.now).entry
@@ -45,6 +48,7 @@ fn builds<F: FnOnce(&mut InstrSeqBuilder<'_>) -> Result<(), BuildError>>(
 {
     let mut f = begin(alloc).expect(rt, "memory");
     let mut entry = f.func_body();
-    fill(&mut entry).expect(rt, "memory");
+    let answer = fill(&mut entry);
+    assert_equal(rt, answer, outcome);
     has(rt, alloc, &f.local_func(Vec::new(alloc)), text);
 }

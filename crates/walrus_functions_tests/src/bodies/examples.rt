@@ -37,14 +37,14 @@ fn add_drop(body: &mut InstrSeqBuilder<'_>) -> Result<(), BuildError>
 
 #[test]
 fn a_closure_that_stays_in_a_known_sequence(rt: HostRuntime) {
-    builds(&rt, rt.alloc(), "(block 1)(drop)", |b| {
+    builds(&rt, rt.alloc(), "(block 1)(drop)", Ok(()), |b| {
         b.block(NOTHING, |block| add_drop(block))
     });
 }
 
 #[test]
 fn a_loop_in_a_block(rt: HostRuntime) {
-    builds(&rt, rt.alloc(), "(block 1)(loop 2)(br 2)", |b| {
+    builds(&rt, rt.alloc(), "(block 1)(loop 2)(br 2)", Ok(()), |b| {
         add_endless_loop(b)
     });
 }
